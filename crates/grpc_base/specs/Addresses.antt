@@ -1,0 +1,26 @@
+-- Lists of addresses: in order, none twice, at most 64.
+use Rattle.std.specs.Prelude.{◌≡◌, ◌≤◌, ℕ, Bool, List, [], ◌∷◌, ◌++◌, length, ◌==◌, ◌&&◌, if◌then◌else◌}
+use Rattle.std.specs.List.{Contains, list_any}
+use Rattle.grpc_base.specs.declared.address.Address.{Address}
+
+-- how many addresses a list may have
+abbrev pub address_limit : ℕ
+address_limit = 64
+
+-- no address stands again behind itself
+abbrev pub IsWithoutRepeats : List Address → Type 0
+IsWithoutRepeats [] = Unit {0}
+IsWithoutRepeats (a ∷ rest) = (Contains rest a → ⊥) × IsWithoutRepeats rest
+
+-- what every list of addresses keeps
+pub record IsAddressList (addresses : List Address) : Type 0 where
+  pub no_repeats : IsWithoutRepeats addresses
+  pub within : length addresses ≤ address_limit
+
+-- whether a list has this address
+abbrev pub has_address : List Address → Address → Bool
+has_address addresses a = list_any (λ b. (b.ip == a.ip) && (b.port == a.port)) addresses
+
+-- the list with an address at its end, unless it is there
+abbrev pub with_address : List Address → Address → List Address
+with_address addresses a = if has_address addresses a then addresses else addresses ++ a ∷ []

@@ -1,0 +1,8 @@
+pub mod Addresses
+pub mod Backoff
+pub mod Codes
+pub mod Conns
+pub mod Kinds
+pub mod Limits
+pub mod Metadata
+pub mod Requests

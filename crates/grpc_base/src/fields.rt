@@ -1,0 +1,146 @@
+// Header fields in order, as a header list and as the metadata of a call.
+ghost use Rattle.std.specs.Prelude.{◌≡◌, ◌++◌, ◌∷◌, [], length, IfOk, OnOk, OnErr, IsTrue, ◌↔◌};
+
+use crate::{NoMemory, Octets};
+use std::alloc::Global;
+use std::marker::Model;
+
+/// One header field.
+#[derive(Debug, Drop, PartialEq, Eq)]
+pub struct Field {
+    pub name: Octets,
+    pub value: Octets,
+}
+
+impl Field {
+    /// The same field; its bytes are shared.
+    pub fn share(&self) -> Result<Field, NoMemory>
+        ensures { IfOk result (λ f. f ≡ self.now) }
+    {
+        let name = self.name.share()?;
+        let value = self.value.share()?;
+        Ok(Field { name, value })
+    }
+}
+
+/// A header list: fields in their order, a name as often as it was sent (RFC 9113, section 8.2).
+#[derive(Debug, Drop)]
+pub struct Fields {
+    fields: Vec<Field>,
+}
+
+impl Model for Fields {
+    ghost use Rattle.std.specs.Prelude.{List};
+    ghost use Rattle.grpc_base.specs.declared.fields.Field.{Field};
+
+    ghost Value = { List Field };
+
+    ghost view = { λ f. f.fields.items };
+}
+
+impl Fields {
+    /// The empty list.
+    pub fn new(alloc: Global) -> Fields
+        ensures { result ≡ [] }
+    {
+        Fields {
+            fields: Vec::new(alloc),
+        }
+    }
+
+    /// Appends a field. On out of memory the list is as before.
+    pub fn push(&mut self, field: Field) -> Result<(), NoMemory>
+        ensures ok { OnOk result (self.new ≡ self.old ++ field ∷ []) }
+        ensures err { OnErr result (self.new ≡ self.old) }
+    {
+        self.fields.push(field)?;
+        Ok(())
+    }
+
+    /// The fields in their order.
+    pub fn as_slice(&self) -> &[Field]
+        ensures { result.now ≡ self.now }
+    {
+        self.fields.as_slice()
+    }
+
+    /// How many fields there are.
+    pub fn len(&self) -> usize
+        ensures { result ≡ length self.now }
+    {
+        self.fields.len()
+    }
+
+    /// Whether there are none.
+    pub fn is_empty(&self) -> bool
+        ensures { IsTrue result ↔ (self.now ≡ []) }
+    {
+        self.fields.is_empty()
+    }
+}
+
+/// Metadata of a call or of a response: pairs of a name and its bytes, in order.
+/// The value of a name that ends in `-bin` is its raw bytes.
+#[derive(Debug, Drop)]
+pub struct Metadata {
+    pairs: Vec<Field>,
+}
+
+impl Model for Metadata {
+    ghost use Rattle.std.specs.Prelude.{List};
+    ghost use Rattle.grpc_base.specs.declared.fields.Field.{Field};
+
+    ghost Value = { List Field };
+
+    ghost view = { λ m. m.pairs.items };
+}
+
+impl Metadata {
+    /// The empty list.
+    pub fn new(alloc: Global) -> Metadata
+        ensures { result ≡ [] }
+    {
+        Metadata {
+            pairs: Vec::new(alloc),
+        }
+    }
+
+    /// The pairs of this vector, as a response has them; no rule for requests is tested.
+    pub fn of_vec(pairs: Vec<Field>) -> Metadata
+        ensures { result ≡ pairs.items }
+    {
+        Metadata { pairs }
+    }
+
+    /// The same pairs; their bytes are shared.
+    pub fn copy(&self, alloc: Global) -> Result<Metadata, NoMemory>
+        ensures { IfOk result (λ m. m ≡ self.now) }
+    {
+        let mut pairs = Vec::with_capacity(alloc, self.pairs.len())?;
+        for pair in &self.pairs {
+            pairs.push(pair.share()?)?;
+        }
+        Ok(Metadata { pairs })
+    }
+
+    /// The pairs in their order.
+    pub fn as_slice(&self) -> &[Field]
+        ensures { result.now ≡ self.now }
+    {
+        self.pairs.as_slice()
+    }
+
+    /// How many pairs there are.
+    pub fn len(&self) -> usize
+        ensures { result ≡ length self.now }
+    {
+        self.pairs.len()
+    }
+
+    /// Whether there are none.
+    pub fn is_empty(&self) -> bool
+        ensures { IsTrue result ↔ (self.now ≡ []) }
+    {
+        self.pairs.is_empty()
+    }
+}

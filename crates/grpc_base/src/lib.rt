@@ -1,0 +1,28 @@
+// The plain data that every layer of the channel speaks in, each range and rule kept by its type.
+#![tactic(auto)]
+
+mod address;
+mod code;
+mod event;
+mod fields;
+mod items;
+mod kind;
+mod memory;
+mod moment;
+mod octets;
+mod plan;
+mod request;
+mod text;
+
+pub use address::{Address, AddressList, ListFull};
+pub use code::{Code, CodeSet};
+pub use event::{ConfigFault, Conn, EndCause, Entry, Event, JsonFault, Reply, Stamped};
+pub use fields::{Field, Fields, Metadata};
+pub use items::Items;
+pub use kind::{Kind, KindSet, Pick};
+pub use memory::NoMemory;
+pub use moment::{Duration, Moment};
+pub use octets::Octets;
+pub use plan::{CallPlan, Chosen, HedgePolicy, MessageLimit, Pushback, RetryPolicy, Throttle};
+pub use request::{Request, RequestFault};
+pub use text::Text;
