@@ -1,0 +1,2 @@
+// The top call of the program: reads a script, runs the channel on it and writes the report.
+#![tactic(auto)]
