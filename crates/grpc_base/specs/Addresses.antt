@@ -1,5 +1,5 @@
 -- Lists of addresses: in order, none twice, at most 64.
-use Rattle.std.specs.Prelude.{◌≡◌, ◌≤◌, ℕ, Bool, List, [], ◌∷◌, ◌++◌, length, ◌==◌, ◌&&◌, if◌then◌else◌}
+use Rattle.std.specs.Prelude.{◌≡◌, ◌≤◌, ℕ, ◌/◌, ◌%◌, ◌^◌, decimal, Bool, List, [], ◌∷◌, ◌++◌, length, ◌==◌, ◌&&◌, if◌then◌else◌}
 use Rattle.std.specs.List.{Contains, list_any}
 use Rattle.grpc_base.specs.declared.address.Address.{Address}
 
@@ -24,3 +24,9 @@ has_address addresses a = list_any (λ b. (b.ip == a.ip) && (b.port == a.port)) 
 -- the list with an address at its end, unless it is there
 abbrev pub with_address : List Address → Address → List Address
 with_address addresses a = if has_address addresses a then addresses else addresses ++ a ∷ []
+
+-- an address as four numbers and a port: `a.b.c.d:port`
+abbrev pub address_text : Address → List ℕ
+address_text a =
+    decimal (a.ip / 2 ^ 24) ++ 46 ∷ decimal (a.ip / 2 ^ 16 % 256) ++ 46 ∷ decimal (a.ip / 2 ^ 8 % 256) ++ 46 ∷ decimal (a.ip % 256)
+      ++ 58 ∷ decimal a.port

@@ -1,5 +1,5 @@
 // A list of values, which contracts see as a list and not as a buffer with room.
-ghost use Rattle.std.specs.Prelude.{◌≡◌, ◌<◌, ◌≤◌, [], ◌++◌, ◌∷◌, List, ℕ, length, take, IfOk, OnOk, OnErr, IsTrue, ◌↔◌, slice_get, slice_set, option_map};
+ghost use Rattle.std.specs.Prelude.{◌≡◌, ◌<◌, ◌≤◌, [], ◌++◌, ◌∷◌, List, ℕ, length, take, IfOk, OnOk, OnErr, IsTrue, ◌↔◌, IfNone, option_to_list, slice_get, slice_set, option_map};
 ghost use Rattle.std.specs.Option.{option_copied};
 
 use crate::NoMemory;
@@ -54,6 +54,22 @@ impl<T> Items<T> {
     {
         self.items.push(value)?;
         Ok(())
+    }
+
+    /// Makes room for so many more values. The list is as before, whatever the answer.
+    pub fn reserve(&mut self, more: usize) -> Result<(), NoMemory>
+        ensures { self.new ≡ self.old }
+    {
+        self.items.try_reserve(more)?;
+        Ok(())
+    }
+
+    /// Takes the last value off.
+    pub fn pop(&mut self) -> Option<T>
+        ensures some { self.old ≡ self.new ++ option_to_list result }
+        ensures none { IfNone result (self.new ≡ []) }
+    {
+        self.items.pop()
     }
 
     /// Puts another value at a place, which counts from 0.
