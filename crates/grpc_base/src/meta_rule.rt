@@ -13,7 +13,7 @@ use std::fmt;
 pub enum MetaFault {
     /// The name is not 1 to 256 of `a` to `z`, `0` to `9`, `-`, `_` and `.`, or the protocol uses it itself.
     BadName,
-    /// The name does not end in `-bin`, and the value is not visible ASCII with single spaces inside.
+    /// The name does not end in `-bin`, and the value has a byte outside 0x20 to 0x7E or a space at an end.
     BadValue,
     /// With this pair the metadata would come to more than 14,336 bytes as it is sent.
     TooLong,
