@@ -5,4 +5,5 @@ pub mod Conns
 pub mod Kinds
 pub mod Limits
 pub mod Metadata
+pub mod Numbers
 pub mod Requests

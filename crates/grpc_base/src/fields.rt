@@ -1,7 +1,9 @@
 // Header fields in order, as a header list and as the metadata of a call.
-ghost use Rattle.std.specs.Prelude.{◌≡◌, ◌++◌, ◌∷◌, [], length, IfOk, OnOk, OnErr, IsTrue, ◌↔◌};
+ghost use Rattle.std.specs.Prelude.{◌≡◌, ◌<◌, ◌+◌, ◌++◌, ◌∷◌, [], length, IfOk, OnOk, OnErr, Err, IsTrue, ◌↔◌};
+ghost use Rattle.grpc_base.specs.Metadata.{IsMetaName, IsMetaValue, IsRequestMetadata, meta_limit, meta_size, pair_size};
 
-use crate::{NoMemory, Octets};
+use crate::meta_rule::{has_room, is_meta_name, is_meta_value};
+use crate::{MetaFault, NoMemory, Octets};
 use std::alloc::Global;
 use std::marker::Model;
 
@@ -110,6 +112,31 @@ impl Metadata {
         ensures { result ≡ pairs.items }
     {
         Metadata { pairs }
+    }
+
+    /// Appends a pair of a request's metadata. On a refusal or out of memory the list is as before.
+    pub fn push(&mut self, name: &[u8], value: &[u8]) -> Result<(), MetaFault>
+        ensures ok { OnOk result (self.new ≡ self.old ++ record { name = name.now; value = value.now } ∷ []) }
+        ensures err { OnErr result (self.new ≡ self.old) }
+        ensures bad_name { (result ≡ Err MetaFault.BadName) ↔ (IsMetaName name.now → ⊥) }
+        ensures bad_value { (result ≡ Err MetaFault.BadValue) ↔ (IsMetaName name.now × (IsMetaValue name.now value.now → ⊥)) }
+        ensures too_long { (result ≡ Err MetaFault.TooLong) ↔ (IsMetaName name.now × IsMetaValue name.now value.now × (meta_limit < meta_size self.old + pair_size (record { name = name.now; value = value.now }))) }
+        ensures kept { OnOk result (IsRequestMetadata self.old → IsRequestMetadata self.new) }
+    {
+        if !is_meta_name(name) {
+            return Err(MetaFault::BadName);
+        }
+        if !is_meta_value(name, value) {
+            return Err(MetaFault::BadValue);
+        }
+        if !has_room(self.pairs.as_slice(), name, value) {
+            return Err(MetaFault::TooLong);
+        }
+        let alloc = *self.pairs.allocator();
+        let name = Octets::of_slice(alloc, name)?;
+        let value = Octets::of_slice(alloc, value)?;
+        self.pairs.push(Field { name, value })?;
+        Ok(())
     }
 
     /// The same pairs; their bytes are shared.
