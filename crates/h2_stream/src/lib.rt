@@ -1,0 +1,12 @@
+//! One HTTP/2 stream as an endpoint keeps it: its state and its two flow-control windows (RFC 9113, sections 5.1, 5.2
+//! and 6.9).
+#![tactic(auto)]
+
+pub mod error_code;
+mod fault;
+mod state;
+mod stream;
+
+pub use fault::StreamFault;
+pub use state::StreamState;
+pub use stream::Stream;
