@@ -4,8 +4,11 @@
 
 pub mod error_code;
 mod fault;
+pub mod laws;
 mod state;
 mod stream;
+#[cfg(test)]
+mod tests;
 
 pub use fault::StreamFault;
 pub use state::StreamState;

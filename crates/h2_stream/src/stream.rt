@@ -34,7 +34,8 @@ impl Stream {
     pub fn new(send: i64, receive: i64) -> Self
         requires send_is_window { IsWindow send }
         requires receive_is_window { IsWindow receive }
-        ensures { result ≡ opened send receive }
+        ensures opened { result ≡ opened send receive }
+        ensures bounds { IsWithinBounds result }
     {
         Stream {
             state: StreamState::Open,
@@ -54,7 +55,8 @@ impl Stream {
 
     /// Whether the peer's head has come.
     pub fn has_head(&self) -> bool
-        ensures { result ≡ self.now.head }
+        ensures head { result ≡ self.now.head }
+        ensures bounds { IsWithinBounds self.now }
     {
         self.head
     }
@@ -68,13 +70,11 @@ impl Stream {
         ensures same { OnErr result (self.new ≡ self.old) }
         ensures bounds { IsWithinBounds self.new }
     {
-        if self.state.is_closed_remotely() {
-            return Ok(());
+        match (self.state.is_closed_remotely(), self.head, end) {
+            (true, _, _) => return Ok(()),
+            (false, true, false) => return Err(StreamFault::Stream(PROTOCOL_ERROR)),
+            (false, _, _) => self.head = true,
         }
-        if self.head && !end {
-            return Err(StreamFault::Stream(PROTOCOL_ERROR));
-        }
-        self.head = true;
         if end {
             self.state = self.state.after_remote_end();
         }
@@ -87,6 +87,7 @@ impl Stream {
         ensures err { IfErr result (λ fault. data_step self.old len end ≡ Err fault) }
         ensures same { OnErr result (self.new ≡ self.old) }
         ensures bounds { IsWithinBounds self.new }
+        ensures bounds_before { IsWithinBounds self.old }
     {
         if self.state.is_closed_remotely() {
             return Ok(());
@@ -149,7 +150,8 @@ impl Stream {
 
     /// How many octets of DATA may be sent now: 0 after END_STREAM was sent, and under a negative window.
     pub fn may_send(&self) -> u32
-        ensures { result ≡ sendable self.now }
+        ensures sendable { result ≡ sendable self.now }
+        ensures bounds { IsWithinBounds self.now }
     {
         if self.state.is_closed_locally() {
             0
