@@ -30,8 +30,8 @@ pub fn ended_takes_nothing_more()
     ensures closed { (s : StreamView) (events : List Event) → is_closed s.state ≡ true → TakesNothing s events }
 {}
 
-/// Who calls `shift` with the next initial window size less the one before always meets its condition, on each stream
-/// that isn't closed and began with the initial size of its time (RFC 9113, section 6.9.2).
+/// A stream that begins with the peer's initial window size, and is told each change of it until it is closed, always
+/// meets the condition of `shift` (RFC 9113, section 6.9.2).
 pub fn shifts_are_allowed()
     ensures opened { (initial receive : ℤ) → HasRoom initial (opened initial receive) }
     ensures kept { (initial : ℤ) (s : StreamView) (event : Event) → IsWindow initial → HasRoom initial s →

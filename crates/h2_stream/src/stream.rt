@@ -11,11 +11,18 @@ use std::marker::Model;
 const LARGEST_WINDOW: i64 = 0x7fff_ffff;
 
 /// One stream, from the HEADERS that open it on.
+///
+/// What comes of the peer too late to mean anything is passed over: it is answered Ok and changes nothing. That is a
+/// header block or DATA after the peer's END_STREAM, and WINDOW_UPDATE or a change of the initial window size once both
+/// sides have ended the stream. A fault changes nothing either.
 #[derive(Debug, Drop)]
 pub struct Stream {
     state: StreamState,
+    /// Whether the peer's first header block has come.
     head: bool,
+    /// How many octets of DATA the peer still takes. A smaller initial window size can make it negative.
     send: i64,
+    /// How many octets of DATA the peer may still send.
     receive: i64,
 }
 
@@ -30,7 +37,7 @@ impl Model for Stream {
 }
 
 impl Stream {
-    /// A stream that HEADERS have just opened, with the windows in octets that each side begins with.
+    /// A stream that HEADERS have just opened, with the octets of DATA that each side may send at first.
     pub fn new(send: i64, receive: i64) -> Self
         requires send_is_window { IsWindow send }
         requires receive_is_window { IsWindow receive }
@@ -63,7 +70,8 @@ impl Stream {
 
     /// A header block of the peer, without or with END_STREAM: its head or its trailers (RFC 9113, section 8.1).
     ///
-    /// An interim response (a `:status` from 100 to 199 before the head) is none of them and isn't handed over.
+    /// A second block without END_STREAM is a PROTOCOL_ERROR of the stream. An interim response (a `:status` from 100 to
+    /// 199 before the head) is neither head nor trailers, and isn't handed over.
     pub fn on_headers(&mut self, end: bool) -> Result<(), StreamFault>
         ensures ok { OnOk result (headers_step self.old end ≡ Ok self.new) }
         ensures err { IfErr result (λ fault. headers_step self.old end ≡ Err fault) }
@@ -82,6 +90,8 @@ impl Stream {
     }
 
     /// DATA of the peer that counts `len` octets, its padding included (RFC 9113, section 6.9.1).
+    ///
+    /// Before a head it is a PROTOCOL_ERROR of the stream, and beyond the receive window a FLOW_CONTROL_ERROR of it.
     pub fn on_data(&mut self, len: u32, end: bool) -> Result<(), StreamFault>
         ensures ok { OnOk result (data_step self.old len end ≡ Ok self.new) }
         ensures err { IfErr result (λ fault. data_step self.old len end ≡ Err fault) }
@@ -107,6 +117,9 @@ impl Stream {
     }
 
     /// WINDOW_UPDATE of the peer by this many octets (RFC 9113, section 6.9).
+    ///
+    /// An increment of 0 is a PROTOCOL_ERROR of the stream, and one that lifts the send window above 2^31-1 a
+    /// FLOW_CONTROL_ERROR of it.
     pub fn on_window(&mut self, by: u32) -> Result<(), StreamFault>
         ensures ok { OnOk result (window_step self.old by ≡ Ok self.new) }
         ensures err { IfErr result (λ fault. window_step self.old by ≡ Err fault) }
@@ -129,6 +142,8 @@ impl Stream {
 
     /// The change of all send windows with the peer's SETTINGS_INITIAL_WINDOW_SIZE: the new size less the one before
     /// (RFC 9113, section 6.9.2). The window may become negative.
+    ///
+    /// A change that lifts it above 2^31-1 is a FLOW_CONTROL_ERROR of the link.
     pub fn shift(&mut self, by: i64) -> Result<(), StreamFault>
         requires at_most { by ≤ℤ largest_window }
         requires at_least { neg_ℤ largest_window ≤ℤ (self.old.send +ℤ by) }
