@@ -1,0 +1,3 @@
+mod Choices
+pub mod Accounts
+pub mod Endings

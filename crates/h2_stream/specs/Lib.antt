@@ -1,0 +1,4 @@
+pub mod Stream
+pub mod State
+pub mod Steps
+pub mod Runs
