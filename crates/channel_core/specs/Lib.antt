@@ -1,0 +1,4 @@
+pub mod Core
+pub mod FirstCall
+pub mod Steps
+pub mod Wire
