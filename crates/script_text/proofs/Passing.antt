@@ -49,8 +49,8 @@ pub Passes-then : (a b c : Option (List ℕ)) (x y z t u : List ℕ) → Passes 
 Passes-then a b c x y z t u p q = record {
   front = p.front ++ q.front;
   joined =
-  sym (append_assoc x t u) ∙ ap (λ (v : List ℕ). v ++ u) p.joined ∙ append_assoc p.front y u
-  ∙ ap (λ (v : List ℕ). p.front ++ v) q.joined ∙ sym (append_assoc p.front q.front z);
+      sym (append_assoc x t u) ∙ ap (λ (v : List ℕ). v ++ u) p.joined ∙ append_assoc p.front y u
+      ∙ ap (λ (v : List ℕ). p.front ++ v) q.joined ∙ sym (append_assoc p.front q.front z);
   taken = Appends-append a b c p.front q.front (p.front ++ q.front) p.taken q.taken refl;
 }
 
@@ -71,10 +71,12 @@ AppendsFront-behind a b c x y t u p h =
     sym (append_assoc x t u) ∙ ap (λ (v : List ℕ). v ++ u) p.joined ∙ append_assoc p.front y u in
     let size : length (p.front ++ (y ++ u)) ≡ length p.front + length (y ++ u) = length-append p.front (y ++ u) in
     let within : h.0 ≤ length (y ++ u) = h.1 in
-    subst (λ (v : List ℕ). AppendsFront a c v) (sym whole)
-    (length p.front + h.0, omega (arith, size, within),
-    Appends-append a b c p.front (take h.0 (y ++ u)) (take (length p.front + h.0) (p.front ++ (y ++ u))) p.taken h.2
-    (sym (take-behind p.front (y ++ u) h.0)))
+    subst (λ (v : List ℕ). AppendsFront a c v) (sym whole) (
+      length p.front + h.0,
+      omega (arith, size, within),
+      Appends-append a b c p.front (take h.0 (y ++ u)) (take (length p.front + h.0) (p.front ++ (y ++ u))) p.taken h.2
+          (sym (take-behind p.front (y ++ u) h.0)),
+    )
 
 -- ---- a loop over the values of a list, a line for each
 

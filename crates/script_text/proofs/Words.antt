@@ -104,5 +104,5 @@ word_behind pushed out link word e =
     ∙ append_assoc out (spaced (codes "ping" ∷ link ∷ [])) (32 ∷ word)
     ∙ ap (λ (t : List ℕ). out ++ t) (ping_words link word)
   where
-  ping_words : (link word : List ℕ) → spaced (codes "ping" ∷ link ∷ []) ++ 32 ∷ word ≡ spaced (codes "ping" ∷ link ∷ word ∷ [])
-  ping_words link word = simp (append_assoc, append-nil) refl
+    ping_words : (link word : List ℕ) → spaced (codes "ping" ∷ link ∷ []) ++ 32 ∷ word ≡ spaced (codes "ping" ∷ link ∷ word ∷ [])
+    ping_words link word = simp (append_assoc, append-nil) refl

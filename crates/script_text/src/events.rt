@@ -44,7 +44,13 @@ pub fn append_numbered(out: &mut Vec<u8>, name: &[u8], number: u64) -> Result<()
 }
 
 /// Appends a name, a number and bytes.
-fn append_bytes(alloc: Global, out: &mut Vec<u8>, name: &[u8], number: u32, bytes: &Octets) -> Result<(), NoMemory>
+fn append_bytes(
+    alloc: Global,
+    out: &mut Vec<u8>,
+    name: &[u8],
+    number: u32,
+    bytes: &Octets,
+) -> Result<(), NoMemory>
     ensures { OnOk result (out.new.items ≡ out.old.items ++ spaced (name.now ∷ decimal number ∷ hex_or_dash bytes.now ∷ [])) }
 {
     append_numbered(out, name, number as u64)?;
@@ -63,7 +69,12 @@ fn append_begin(alloc: Global, out: &mut Vec<u8>, request: &Request) -> Result<(
 }
 
 /// Appends the words of this answer of the resolver.
-fn append_resolved(alloc: Global, out: &mut Vec<u8>, addresses: &AddressList, config: &Option<Octets>) -> Result<(), NoMemory>
+fn append_resolved(
+    alloc: Global,
+    out: &mut Vec<u8>,
+    addresses: &AddressList,
+    config: &Option<Octets>,
+) -> Result<(), NoMemory>
     ensures { OnOk result (out.new.items ≡ out.old.items ++ spaced (codes "resolved" ∷ addresses_text addresses.now ∷ config_text config.now ∷ [])) }
 {
     append_word(out, b"resolved")?;

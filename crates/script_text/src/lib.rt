@@ -10,3 +10,6 @@ mod rows;
 mod texts;
 
 pub use report::{ReportFault, write_report};
+
+#[cfg(test)]
+mod tests;

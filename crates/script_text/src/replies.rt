@@ -7,7 +7,9 @@ ghost use Rattle.script_text.specs.Spelling.{reply_words, cause_text, config_fau
 use crate::events::append_numbered;
 use crate::numbers::{append_digits, append_number, append_word};
 use crate::texts::{append_address, append_hex_word, append_meta, append_text};
-use grpc_base::{Address, Code, ConfigFault, EndCause, JsonFault, Metadata, NoMemory, Octets, Reply, Text};
+use grpc_base::{
+    Address, Code, ConfigFault, EndCause, JsonFault, Metadata, NoMemory, Octets, Reply, Text,
+};
 use std::alloc::Global;
 
 /// Appends a reply's words.
@@ -20,13 +22,22 @@ pub fn append_reply(alloc: Global, out: &mut Vec<u8>, reply: &Reply) -> Result<(
         Reply::Full { held } => append_numbered(out, b"full", *held as u64),
         Reply::Head { meta } => append_head(alloc, out, meta),
         Reply::Message { octets } => append_octets(alloc, out, b"message", octets),
-        Reply::End { code, text, meta, cause } => append_end(alloc, out, *code, text, meta, *cause),
+        Reply::End {
+            code,
+            text,
+            meta,
+            cause,
+        } => append_end(alloc, out, *code, text, meta, *cause),
         Reply::NotYet => append_word(out, b"notyet"),
         Reply::BadConfig { fault } => {
             append_word(out, b"badconfig")?;
             append_config_fault(out, fault)
         }
-        Reply::Dial { sub, address, until } => append_dial(out, *sub, address, *until),
+        Reply::Dial {
+            sub,
+            address,
+            until,
+        } => append_dial(out, *sub, address, *until),
         Reply::Link { link } => append_numbered(out, b"link", *link as u64),
         Reply::Octets { octets } => append_octets(alloc, out, b"octets", octets),
         Reply::Refused { refusal } => append_numbered(out, b"refused", *refusal as u64),
@@ -34,7 +45,12 @@ pub fn append_reply(alloc: Global, out: &mut Vec<u8>, reply: &Reply) -> Result<(
 }
 
 /// Appends a name and bytes.
-fn append_octets(alloc: Global, out: &mut Vec<u8>, name: &[u8], octets: &Octets) -> Result<(), NoMemory>
+fn append_octets(
+    alloc: Global,
+    out: &mut Vec<u8>,
+    name: &[u8],
+    octets: &Octets,
+) -> Result<(), NoMemory>
     ensures { OnOk result (out.new.items ≡ out.old.items ++ spaced (name.now ∷ hex_or_dash octets.now ∷ [])) }
 {
     append_word(out, name)?;
@@ -50,7 +66,14 @@ fn append_head(alloc: Global, out: &mut Vec<u8>, meta: &Metadata) -> Result<(), 
 }
 
 /// Appends the words of the end of a call.
-fn append_end(alloc: Global, out: &mut Vec<u8>, code: Code, text: &Text, meta: &Metadata, cause: EndCause) -> Result<(), NoMemory>
+fn append_end(
+    alloc: Global,
+    out: &mut Vec<u8>,
+    code: Code,
+    text: &Text,
+    meta: &Metadata,
+    cause: EndCause,
+) -> Result<(), NoMemory>
     ensures { OnOk result (out.new.items ≡ out.old.items ++ spaced (codes "end" ∷ decimal (code_number code) ∷ percent_text text.now ∷ meta_text meta.now ∷ cause_text cause ∷ [])) }
 {
     append_numbered(out, b"end", code.number() as u64)?;

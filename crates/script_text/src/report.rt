@@ -35,7 +35,13 @@ impl From<NoMemory> for ReportFault {
 }
 
 /// Writes the report of a session.
-pub fn write_report<K: Sink>(alloc: Global, journal: &Journal, ledger: &Ledger, target: &Text, sink: &mut K) -> Result<(), ReportFault>
+pub fn write_report<K: Sink>(
+    alloc: Global,
+    journal: &Journal,
+    ledger: &Ledger,
+    target: &Text,
+    sink: &mut K,
+) -> Result<(), ReportFault>
     ensures ok { OnOk result (Appends (K.taken sink.old) (K.taken sink.new) (report_of target.now journal.now ledger.now)) }
     ensures err { OnErr result (AppendsFront (K.taken sink.old) (K.taken sink.new) (report_of target.now journal.now ledger.now)) }
     ensures write { (result ≡ Err ReportFault.Write) → Rises (K.faults sink.old) (K.faults sink.new) }
@@ -86,7 +92,12 @@ fn append_end(out: &mut Vec<u8>, journal: &Journal, ledger: &Ledger) -> Result<(
 }
 
 /// Writes the lines of these entries behind what waits.
-fn write_entries<K: Sink>(alloc: Global, entries: &[Entry], out: &mut Vec<u8>, sink: &mut K) -> Result<(), ReportFault>
+fn write_entries<K: Sink>(
+    alloc: Global,
+    entries: &[Entry],
+    out: &mut Vec<u8>,
+    sink: &mut K,
+) -> Result<(), ReportFault>
     ensures ok { OnOk result (Passes (K.taken sink.old) out.old.items (K.taken sink.new) out.new.items (lines_text (map entry_text entries.now))) }
     ensures err { OnErr result (AppendsFront (K.taken sink.old) (K.taken sink.new) (out.old.items ++ lines_text (map entry_text entries.now))) }
     ensures write { (result ≡ Err ReportFault.Write) → Rises (K.faults sink.old) (K.faults sink.new) }

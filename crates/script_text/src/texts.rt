@@ -131,7 +131,11 @@ pub fn append_wait(out: &mut Vec<u8>, wait: Option<bool>) -> Result<(), NoMemory
 }
 
 /// Appends a service config in hex behind a space, or a dash.
-pub fn append_config(alloc: Global, out: &mut Vec<u8>, config: &Option<Octets>) -> Result<(), NoMemory>
+pub fn append_config(
+    alloc: Global,
+    out: &mut Vec<u8>,
+    config: &Option<Octets>,
+) -> Result<(), NoMemory>
     ensures { OnOk result (out.new.items ≡ out.old.items ++ 32 ∷ config_text config.now) }
 {
     match config {
