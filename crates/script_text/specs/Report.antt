@@ -62,7 +62,7 @@ ended_words (Some e) = decimal e.entry ∷ decimal (code_number e.code) ∷ push
 abbrev pub row_text : Row → List ℕ
 row_text r =
     words (codes "row" ∷ decimal r.call ∷ decimal r.number ∷ kind_text r.kind ∷ decimal r.due
-      ∷ placed_words r.placed ++ number_or_dash r.stream ∷ ended_words r.ended ++ number_or_dash r.committed ∷ [])
+    ∷ placed_words r.placed ++ number_or_dash r.stream ∷ ended_words r.ended ++ number_or_dash r.committed ∷ [])
 
 -- the end line: how many entries, calls, rows and links there are
 abbrev pub end_text : Journal → Ledger → List ℕ

@@ -31,9 +31,9 @@ abbrev pub parted : ℕ → List ℕ → List (List ℕ)
 parted byte [] = [] ∷ []
 parted byte (b ∷ bytes) = if b == byte then [] ∷ parted byte bytes else behind b (parted byte bytes)
   where
-  behind : ℕ → List (List ℕ) → List (List ℕ)
-  behind b [] = (b ∷ []) ∷ []
-  behind b (part ∷ parts) = (b ∷ part) ∷ parts
+    behind : ℕ → List (List ℕ) → List (List ℕ)
+    behind b [] = (b ∷ []) ∷ []
+    behind b (part ∷ parts) = (b ∷ part) ∷ parts
 
 -- the fields of a line: what stands between its spaces
 abbrev pub fields : List ℕ → List (List ℕ)
@@ -68,7 +68,7 @@ hex_or_dash (b ∷ bytes) = hex_digits (b ∷ bytes)
 abbrev pub word_bytes : ℕ → List ℕ
 word_bytes w =
     (w / 2 ^ 56) % 256 ∷ (w / 2 ^ 48) % 256 ∷ (w / 2 ^ 40) % 256 ∷ (w / 2 ^ 32) % 256
-      ∷ (w / 2 ^ 24) % 256 ∷ (w / 2 ^ 16) % 256 ∷ (w / 2 ^ 8) % 256 ∷ w % 256 ∷ []
+    ∷ (w / 2 ^ 24) % 256 ∷ (w / 2 ^ 16) % 256 ∷ (w / 2 ^ 8) % 256 ∷ w % 256 ∷ []
 
 -- a text: visible ASCII but for the percent sign stands for itself, any other byte is written as % and two digits
 abbrev pub percent_byte : ℕ → List ℕ
@@ -84,7 +84,7 @@ percent_text (b ∷ (c ∷ rest)) = flat_map percent_byte (b ∷ (c ∷ rest))
 abbrev pub address_text : Address → List ℕ
 address_text a =
     decimal (a.ip / 2 ^ 24) ++ 46 ∷ decimal (a.ip / 2 ^ 16 % 256) ++ 46 ∷ decimal (a.ip / 2 ^ 8 % 256) ++ 46 ∷ decimal (a.ip % 256)
-      ++ 58 ∷ decimal a.port
+    ++ 58 ∷ decimal a.port
 
 -- addresses with commas, a dash where there are none
 abbrev pub addresses_text : List Address → List ℕ
@@ -133,7 +133,7 @@ event_words event.Shutdown = codes "shutdown" ∷ []
 abbrev pub event_names : List (List ℕ)
 event_names =
     codes "begin" ∷ codes "send" ∷ codes "finish" ∷ codes "take" ∷ codes "cancel" ∷ codes "resolved" ∷ codes "unresolved" ∷ codes "dial"
-      ∷ codes "up" ∷ codes "nodial" ∷ codes "arrived" ∷ codes "lost" ∷ codes "drain" ∷ codes "ping" ∷ codes "tick" ∷ codes "shutdown" ∷ []
+    ∷ codes "up" ∷ codes "nodial" ∷ codes "arrived" ∷ codes "lost" ∷ codes "drain" ∷ codes "ping" ∷ codes "tick" ∷ codes "shutdown" ∷ []
 
 -- a line of a script: the moment, the random word and the event
 abbrev pub stamped_text : Stamped → List ℕ

@@ -1,2 +1,15 @@
 // Scripts and reports as texts: how an event, a reply and a row are spelled, and the report of a session.
 #![tactic(auto)]
+
+mod events;
+mod numbers;
+mod output;
+mod replies;
+mod report;
+mod rows;
+mod texts;
+
+pub use report::{ReportFault, write_report};
+
+#[cfg(test)]
+mod tests;

@@ -1,0 +1,108 @@
+-- Joined texts as what a writer appends: the first one, and each other behind the byte.
+use Rattle.std.proofs.Common.{◌≡◌, ℕ, ◌+◌, ◌-◌, ◌<◌, ◌≤◌, List, [], ◌∷◌, ◌++◌, length, get_or, take, drop, refl, sym, ap, ◌∙◌, append_assoc, arith}
+use Rattle.std.specs.Prelude.{map, codes, flat_map}
+use Rattle.std.proofs.lemmas.List.{append-nil, map-append, take_all, take_more, take-append-drop}
+use Rattle.std.proofs.lemmas.Grind.{flat_map-append, common_steps}
+use Rattle.attempt_ledger.specs.declared.journal.Journal.{Journal}
+use Rattle.attempt_ledger.specs.declared.row.Row.{Row}
+use Rattle.grpc_base.specs.declared.event.Entry.{Entry}
+use Rattle.attempt_ledger.specs.declared.ledger.Ledger.{Ledger}
+use Rattle.script_text.specs.Output.{spaced}
+use Rattle.script_text.specs.Report.{channel_text, entry_text, row_text, end_text, lines_text, report_of}
+use Rattle.grpc_base.specs.declared.address.Address.{Address}
+use Rattle.grpc_base.specs.declared.fields.Field.{Field}
+use Rattle.script_text.specs.Spelling.{joined, words, address_text, addresses_text, pair_text, meta_text}
+
+-- texts made of the values of a list
+pub joined-map : {X : Type 0} (byte : ℕ) (f : X → List ℕ) (x : X) (xs : List X) → joined byte (map f (x ∷ xs)) ≡ f x ++ flat_map (λ y. byte ∷ f y) xs
+joined-map byte f x [] = sym (append-nil (f x))
+joined-map byte f x (y ∷ ys) = ap (λ t. f x ++ byte ∷ t) (joined-map byte f y ys)
+
+-- words
+pub words_are : (w : List ℕ) (ws : List (List ℕ)) → words (w ∷ ws) ≡ w ++ spaced ws
+words_are w [] = sym (append-nil w)
+words_are w (v ∷ vs) = ap (λ t. w ++ 32 ∷ t) (words_are v vs)
+
+pub spaced-append : (vs ws : List (List ℕ)) → spaced (vs ++ ws) ≡ spaced vs ++ spaced ws
+spaced-append vs ws = flat_map-append (λ (w : List ℕ). 32 ∷ w) vs ws
+
+-- addresses and pairs by their first and the others
+pub addresses_parts : (xs : List Address) (d : Address) → 1 ≤ length xs → addresses_text xs ≡ address_text (get_or xs 0 d) ++ flat_map (λ a. 44 ∷ address_text a) (take (length xs - 1) (drop 1 xs))
+addresses_parts [] d some = absurd (omega arith)
+addresses_parts (x ∷ rest) d some =
+    joined-map 44 address_text x rest
+    ∙ ap (λ (t : List Address). address_text x ++ flat_map (λ a. 44 ∷ address_text a) t) (sym (take_all (length (x ∷ rest) - 1) rest (omega arith)))
+
+pub meta_parts : (xs : List Field) (d : Field) → 1 ≤ length xs → meta_text xs ≡ pair_text (get_or xs 0 d) ++ flat_map (λ f. 44 ∷ pair_text f) (take (length xs - 1) (drop 1 xs))
+meta_parts [] d some = absurd (omega arith)
+meta_parts (x ∷ rest) d some =
+    joined-map 44 pair_text x rest
+    ∙ ap (λ (t : List Field). pair_text x ++ flat_map (λ f. 44 ∷ pair_text f) t) (sym (take_all (length (x ∷ rest) - 1) rest (omega arith)))
+
+-- the words of an entry
+pub entry_parts : (moment word : List ℕ) (event reply : List (List ℕ)) → words (moment ∷ word ∷ event ++ codes "=" ∷ reply) ≡ moment ++ 32 ∷ word ++ spaced event ++ 32 ∷ codes "=" ++ spaced reply
+entry_parts moment word event reply =
+    let rest : spaced (event ++ codes "=" ∷ reply) ≡ spaced event ++ spaced (codes "=" ∷ reply) = spaced-append event (codes "=" ∷ reply) in
+    words_are moment (word ∷ event ++ codes "=" ∷ reply)
+    ∙ ap (λ t. moment ++ (32 ∷ word ++ t)) rest
+    ∙ simp append_assoc refl
+
+-- the words of a row
+pub row_parts : (call number kind due : List ℕ) (placed : List (List ℕ)) (stream : List ℕ) (ended : List (List ℕ)) (committed : List ℕ) → words (codes "row" ∷ call ∷ number ∷ kind ∷ due ∷ placed ++ stream ∷ ended ++ committed ∷ []) ≡ codes "row" ++ 32 ∷ call ++ 32 ∷ number ++ 32 ∷ kind ++ 32 ∷ due ++ spaced placed ++ 32 ∷ stream ++ spaced ended ++ 32 ∷ committed
+row_parts call number kind due placed stream ended committed =
+    let last : spaced (committed ∷ []) ≡ 32 ∷ committed = append-nil (32 ∷ committed) in
+    let rest : spaced (placed ++ stream ∷ ended ++ committed ∷ []) ≡ spaced placed ++ spaced (stream ∷ ended) ++ 32 ∷ committed =
+    spaced-append (placed ++ stream ∷ ended) (committed ∷ [])
+    ∙ ap (λ t. t ++ spaced (committed ∷ [])) (spaced-append placed (stream ∷ ended))
+    ∙ ap (λ t. spaced placed ++ spaced (stream ∷ ended) ++ t) last in
+    words_are (codes "row") (call ∷ number ∷ kind ∷ due ∷ placed ++ stream ∷ ended ++ committed ∷ [])
+    ∙ ap (λ t. codes "row" ++ (32 ∷ call ++ (32 ∷ number ++ (32 ∷ kind ++ (32 ∷ due ++ t))))) rest
+    ∙ simp append_assoc refl
+
+-- the lines of one value more
+pub lines_more : {X : Type 0} (f : X → List ℕ) (xs : List X) (i : ℕ) (d : X) → i < length xs → lines_text (map f (take (i + 1) xs)) ≡ lines_text (map f (take i xs)) ++ (f (get_or xs i d) ++ 10 ∷ [])
+lines_more f xs i d within =
+    ap (λ t. lines_text (map f t)) (take_more xs i d within)
+    ∙ ap lines_text (map-append f (take i xs) (get_or xs i d ∷ []))
+    ∙ flat_map-append (λ (line : List ℕ). line ++ 10 ∷ []) (map f (take i xs)) (f (get_or xs i d) ∷ [])
+    ∙ ap (λ t. lines_text (map f (take i xs)) ++ t) (append-nil (f (get_or xs i d) ++ 10 ∷ []))
+
+-- the lines of a front and of the rest
+pub lines_parts : {X : Type 0} (f : X → List ℕ) (xs : List X) (i : ℕ) → lines_text (map f xs) ≡ lines_text (map f (take i xs)) ++ lines_text (map f (drop i xs))
+lines_parts f xs i =
+    ap (λ t. lines_text (map f t)) (sym (take-append-drop i xs))
+    ∙ ap lines_text (map-append f (take i xs) (drop i xs))
+    ∙ flat_map-append (λ (line : List ℕ). line ++ 10 ∷ []) (map f (take i xs)) (map f (drop i xs))
+
+-- the front of a report, part by part
+pub report_parts : (target : List ℕ) (journal : Journal) (ledger : Ledger) → report_of target journal ledger ≡ (channel_text target ++ 10 ∷ []) ++ ((lines_text (map entry_text journal.entries) ++ lines_text (map row_text ledger.rows)) ++ (end_text journal ledger ++ 10 ∷ []))
+report_parts target journal ledger =
+    let line : List ℕ → List ℕ = λ l. l ++ 10 ∷ [] in
+    let front : List (List ℕ) = channel_text target ∷ map entry_text journal.entries in
+    let rows : List (List ℕ) = map row_text ledger.rows in
+    let last : List ℕ = end_text journal ledger in
+    flat_map-append line (front ++ rows) (last ∷ [])
+    ∙ ap (λ t. t ++ flat_map line (last ∷ [])) (flat_map-append line front rows)
+    ∙ ap (λ t. flat_map line front ++ flat_map line rows ++ t) (append-nil (line last))
+    ∙ ap (λ t. t ++ line last) (append_assoc (line (channel_text target)) (flat_map line (map entry_text journal.entries)) (flat_map line rows))
+    ∙ append_assoc (line (channel_text target)) (flat_map line (map entry_text journal.entries) ++ flat_map line rows) (line last)
+
+pub report_is : (target : List ℕ) (journal : Journal) (ledger : Ledger) (none channel : List ℕ) (entries : List Entry) (rows : List Row) → none ≡ [] → channel ≡ none ++ channel_text target ++ 10 ∷ [] → entries ≡ journal.entries → rows ≡ ledger.rows → report_of target journal ledger ≡ channel ++ ((lines_text (map entry_text entries) ++ lines_text (map row_text rows)) ++ (end_text journal ledger ++ 10 ∷ []))
+report_is target journal ledger none channel entries rows nothing c e r =
+    let last : List ℕ = end_text journal ledger ++ 10 ∷ [] in
+    let first : channel ≡ channel_text target ++ 10 ∷ [] = c ∙ ap (λ (t : List ℕ). t ++ channel_text target ++ 10 ∷ []) nothing in
+    report_parts target journal ledger
+    ∙ ap (λ (t : List ℕ). t ++ ((lines_text (map entry_text journal.entries) ++ lines_text (map row_text ledger.rows)) ++ last)) (sym first)
+    ∙ ap (λ (es : List Entry). channel ++ ((lines_text (map entry_text es) ++ lines_text (map row_text ledger.rows)) ++ last)) (sym e)
+    ∙ ap (λ (rs : List Row). channel ++ ((lines_text (map entry_text entries) ++ lines_text (map row_text rs)) ++ last)) (sym r)
+
+-- a word behind the two that name a PING
+pub word_behind : (pushed out link word : List ℕ) → pushed ≡ out ++ spaced (codes "ping" ∷ link ∷ []) ++ 32 ∷ [] → pushed ++ word ≡ out ++ spaced (codes "ping" ∷ link ∷ word ∷ [])
+word_behind pushed out link word e =
+    ap (λ (t : List ℕ). t ++ word) e
+    ∙ append_assoc (out ++ spaced (codes "ping" ∷ link ∷ [])) (32 ∷ []) word
+    ∙ append_assoc out (spaced (codes "ping" ∷ link ∷ [])) (32 ∷ word)
+    ∙ ap (λ (t : List ℕ). out ++ t) (ping_words link word)
+  where
+    ping_words : (link word : List ℕ) → spaced (codes "ping" ∷ link ∷ []) ++ 32 ∷ word ≡ spaced (codes "ping" ∷ link ∷ word ∷ [])
+    ping_words link word = simp (append_assoc, append-nil) refl

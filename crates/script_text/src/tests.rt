@@ -1,0 +1,405 @@
+// Reports whose lines are written out by the formats' rules, and sinks that fail.
+use crate::{ReportFault, write_report};
+use attempt_ledger::{CallSeen, Journal, Ledger, LinkSeen, Placed, Row, RowCause, RowEnd, RowKind};
+use gate_io::MemSink;
+use grpc_base::{
+    Address, AddressList, Code, ConfigFault, Conn, EndCause, Entry, Event, Field, Items, JsonFault,
+    Metadata, Moment, NoMemory, Octets, Pushback, Reply, Request, Text,
+};
+use std::alloc::Global;
+use std::test::Fail;
+
+const LINES: &[u8] = b"channel 1 ipv4:127.0.0.1:50051
+0 0 begin /a.B/C yes 1000 - = call 1
+1 18446744073709551615 send 1 6869 = done
+1 0 send 1 - = full 65536
+1 0 finish 1 = notyet
+1 0 take 1 = head a:78,b-bin:
+1 0 cancel 1 = message 6f6b
+1 0 resolved - - = badconfig 1 1:17
+1 0 resolved 127.0.0.1:50051,10.0.0.2:1 7b7d = badconfig 2 methodConfig[0].timeout
+1 0 unresolved = badconfig 5 -
+1 0 dial = dial 1 127.0.0.1:50051 20000000000
+1 0 up 1 = link 1
+1 0 nodial 2 = refused 5
+1 0 arrived 1 00ff = octets -
+1 0 lost 1 = octets 0a
+1 0 drain 1 65536 = end 5 a%20b%25- a:78,b-bin: row
+1 0 ping 1 0000000000000102 = end 14 %2D a:78,b-bin: deadline
+1 0 tick = end 0 - a:78,b-bin: cancelled
+1 0 shutdown = end 2 !$&~%7F%FF%0A a:78,b-bin: shut
+1 0 tick = end 13 - a:78,b-bin: request
+1 0 tick = end 13 - a:78,b-bin: response
+1 0 tick = end 14 - a:78,b-bin: noconfig
+1 0 tick = badconfig 1 2:0
+1 0 tick = badconfig 1 3:9
+1 0 tick = badconfig 1 4:10
+1 0 tick = badconfig 1 5:65536
+1 0 tick = badconfig 3 methodConfig[0]
+1 0 tick = badconfig 4 methodConfig[1].name[0]
+row 1 1 first 2 6 1 1 1 1 10 0 - 77 status 10
+row 1 2 retry 18446744073709551615 - - - - - - - - - - -
+row 2 1 hedge 3 6 2 3 4 5 9 14 250 78 cut -
+row 2 1 transparent 3 6 2 3 4 - 9 16 stop 0 unsent 11
+end 27 2 4 3
+";
+
+/// Appends an entry at moment 1 with the word 0.
+fn step(entries: &mut Items<Entry>, event: Event, reply: Reply) -> Result<(), Fail> {
+    let moment = Moment::new(1).ok_or("moment")?;
+    entries.push(Entry {
+        moment,
+        word: 0,
+        event,
+        reply,
+        state: Conn::Ready,
+    })?;
+    Ok(())
+}
+
+fn tick(entries: &mut Items<Entry>, fault: ConfigFault) -> Result<(), Fail> {
+    step(entries, Event::Tick, Reply::BadConfig { fault })
+}
+
+/// Two pairs, one of them with an empty value.
+fn pairs(alloc: Global) -> Result<Metadata, Fail> {
+    let mut pairs = Vec::new(alloc);
+    for (name, value) in [(b"a".as_slice(), b"x".as_slice()), (b"b-bin", b"")] {
+        let name = Octets::of_slice(alloc, name)?;
+        let value = Octets::of_slice(alloc, value)?;
+        pairs.push(Field { name, value })?;
+    }
+    Ok(Metadata::of_vec(pairs))
+}
+
+fn end(alloc: Global, code: Code, text: &[u8], cause: EndCause) -> Result<Reply, Fail> {
+    let text = Text::of_slice(alloc, text)?;
+    let meta = pairs(alloc)?;
+    Ok(Reply::End {
+        code,
+        text,
+        meta,
+        cause,
+    })
+}
+
+/// What the application asks for.
+fn push_calls(alloc: Global, entries: &mut Items<Entry>) -> Result<(), Fail> {
+    let path = Text::of_slice(alloc, b"/a.B/C")?;
+    let request = Request::new(path, Metadata::new(alloc), Some(true), Some(1000))?;
+    let moment = Moment::new(0).ok_or("moment")?;
+    entries.push(Entry {
+        moment,
+        word: 0,
+        event: Event::Begin { request },
+        reply: Reply::Call { call: 1 },
+        state: Conn::Idle,
+    })?;
+    let moment = Moment::new(1).ok_or("moment")?;
+    let message = Octets::of_slice(alloc, b"hi")?;
+    entries.push(Entry {
+        moment,
+        word: u64::MAX,
+        event: Event::Send { call: 1, message },
+        reply: Reply::Done,
+        state: Conn::Idle,
+    })?;
+    let message = Octets::new();
+    step(
+        entries,
+        Event::Send { call: 1, message },
+        Reply::Full { held: 65_536 },
+    )?;
+    step(entries, Event::Finish { call: 1 }, Reply::NotYet)?;
+    let meta = pairs(alloc)?;
+    step(entries, Event::Take { call: 1 }, Reply::Head { meta })?;
+    let octets = Octets::of_slice(alloc, b"ok")?;
+    step(
+        entries,
+        Event::Cancel { call: 1 },
+        Reply::Message { octets },
+    )
+}
+
+/// What the resolver and the dials say.
+fn push_links(alloc: Global, entries: &mut Items<Entry>) -> Result<(), Fail> {
+    let fault = ConfigFault::Json {
+        fault: JsonFault::Syntax { at: 17 },
+    };
+    let addresses = AddressList::new();
+    let config = None;
+    step(
+        entries,
+        Event::Resolved { addresses, config },
+        Reply::BadConfig { fault },
+    )?;
+    let local = Address {
+        ip: 2_130_706_433,
+        port: 50_051,
+    };
+    let other = Address {
+        ip: 167_772_162,
+        port: 1,
+    };
+    let mut addresses = AddressList::new();
+    let _ = addresses.push(local);
+    let _ = addresses.push(other);
+    let config = Some(Octets::of_slice(alloc, b"{}")?);
+    let fault = ConfigFault::Field {
+        path: Text::of_slice(alloc, b"methodConfig[0].timeout")?,
+    };
+    step(
+        entries,
+        Event::Resolved { addresses, config },
+        Reply::BadConfig { fault },
+    )?;
+    let fault = ConfigFault::NoSupportedPolicy;
+    step(entries, Event::ResolveFailed, Reply::BadConfig { fault })?;
+    let until = 20_000_000_000;
+    let dial = Reply::Dial {
+        sub: 1,
+        address: local,
+        until,
+    };
+    step(entries, Event::TakeDial, dial)?;
+    step(entries, Event::LinkUp { sub: 1 }, Reply::Link { link: 1 })?;
+    step(
+        entries,
+        Event::DialFailed { sub: 2 },
+        Reply::Refused { refusal: 5 },
+    )
+}
+
+/// What the links and the clock say.
+fn push_octets(alloc: Global, entries: &mut Items<Entry>) -> Result<(), Fail> {
+    let piece = Octets::of_slice(alloc, &[0, 255])?;
+    let octets = Octets::new();
+    step(
+        entries,
+        Event::Arrived { link: 1, piece },
+        Reply::Octets { octets },
+    )?;
+    let octets = Octets::of_slice(alloc, b"\n")?;
+    step(
+        entries,
+        Event::LinkLost { link: 1 },
+        Reply::Octets { octets },
+    )?;
+    let reply = end(alloc, Code::NotFound, b"a b%-", EndCause::Row)?;
+    step(
+        entries,
+        Event::Drain {
+            link: 1,
+            room: 65_536,
+        },
+        reply,
+    )?;
+    let reply = end(alloc, Code::Unavailable, b"-", EndCause::Deadline)?;
+    step(entries, Event::Ping { link: 1, word: 258 }, reply)?;
+    step(
+        entries,
+        Event::Tick,
+        end(alloc, Code::Ok, b"", EndCause::Cancelled)?,
+    )?;
+    let reply = end(alloc, Code::Unknown, b"!$&~\x7f\xff\n", EndCause::Shut)?;
+    step(entries, Event::Shutdown, reply)?;
+    step(
+        entries,
+        Event::Tick,
+        end(alloc, Code::Internal, b"", EndCause::Request)?,
+    )?;
+    step(
+        entries,
+        Event::Tick,
+        end(alloc, Code::Internal, b"", EndCause::Response)?,
+    )?;
+    step(
+        entries,
+        Event::Tick,
+        end(alloc, Code::Unavailable, b"", EndCause::NoConfig)?,
+    )
+}
+
+/// The other faults of a service config.
+fn push_faults(alloc: Global, entries: &mut Items<Entry>) -> Result<(), Fail> {
+    for fault in [
+        JsonFault::RepeatedKey { at: 0 },
+        JsonFault::TooDeep { at: 9 },
+        JsonFault::Number { at: 10 },
+        JsonFault::TooLong,
+    ] {
+        tick(entries, ConfigFault::Json { fault })?;
+    }
+    let path = Text::of_slice(alloc, b"methodConfig[0]")?;
+    tick(entries, ConfigFault::BothPolicies { path })?;
+    let path = Text::of_slice(alloc, b"methodConfig[1].name[0]")?;
+    tick(entries, ConfigFault::RepeatedName { path })
+}
+
+/// An end at this entry.
+fn ended(
+    alloc: Global,
+    entry: u64,
+    code: Code,
+    pushback: Pushback,
+    seen: u64,
+    cause: RowCause,
+) -> Result<RowEnd, Fail> {
+    let moment = Moment::new(4).ok_or("moment")?;
+    Ok(RowEnd {
+        entry,
+        moment,
+        code,
+        text: Text::new(alloc),
+        meta: Metadata::new(alloc),
+        pushback,
+        unseen: false,
+        seen,
+        cause,
+        tokens: None,
+        word: None,
+    })
+}
+
+/// A placing at entry 6.
+fn placed(generation: u32, sub: u32, link: u32) -> Result<Placed, Fail> {
+    let moment = Moment::new(3).ok_or("moment")?;
+    Ok(Placed {
+        entry: 6,
+        moment,
+        generation,
+        sub,
+        link,
+    })
+}
+
+/// The rows of the first call.
+fn push_first_rows(alloc: Global, rows: &mut Items<Row>) -> Result<(), Fail> {
+    let placed = placed(1, 1, 1)?;
+    let end = ended(alloc, 10, Code::Ok, Pushback::None, 77, RowCause::Status)?;
+    rows.push(Row {
+        call: 1,
+        number: 1,
+        kind: RowKind::First,
+        due: 2,
+        placed: Some(placed),
+        stream: Some(1),
+        ended: Some(end),
+        committed: Some(10),
+    })?;
+    rows.push(Row {
+        call: 1,
+        number: 2,
+        kind: RowKind::Retry,
+        due: u64::MAX,
+        placed: None,
+        stream: None,
+        ended: None,
+        committed: None,
+    })?;
+    Ok(())
+}
+
+/// The rows of the second call.
+fn push_second_rows(alloc: Global, rows: &mut Items<Row>) -> Result<(), Fail> {
+    let hedge = placed(2, 3, 4)?;
+    let end = ended(
+        alloc,
+        9,
+        Code::Unavailable,
+        Pushback::After(250),
+        78,
+        RowCause::Cut,
+    )?;
+    rows.push(Row {
+        call: 2,
+        number: 1,
+        kind: RowKind::Hedge,
+        due: 3,
+        placed: Some(hedge),
+        stream: Some(5),
+        ended: Some(end),
+        committed: None,
+    })?;
+    let again = placed(2, 3, 4)?;
+    let end = ended(
+        alloc,
+        9,
+        Code::Unauthenticated,
+        Pushback::Stop,
+        0,
+        RowCause::Unsent,
+    )?;
+    rows.push(Row {
+        call: 2,
+        number: 1,
+        kind: RowKind::Transparent,
+        due: 3,
+        placed: Some(again),
+        stream: None,
+        ended: Some(end),
+        committed: Some(11),
+    })?;
+    Ok(())
+}
+
+/// The session whose report is `LINES`.
+fn session(alloc: Global) -> Result<(Journal, Ledger), Fail> {
+    let mut journal = Journal::new(alloc);
+    push_calls(alloc, &mut journal.entries)?;
+    push_links(alloc, &mut journal.entries)?;
+    push_octets(alloc, &mut journal.entries)?;
+    push_faults(alloc, &mut journal.entries)?;
+    let mut ledger = Ledger::new(alloc);
+    push_first_rows(alloc, &mut ledger.rows)?;
+    push_second_rows(alloc, &mut ledger.rows)?;
+    for begun in [1, 2] {
+        ledger.calls.push(CallSeen {
+            begun,
+            configured: None,
+            made: Items::new(alloc),
+            end: None,
+        })?;
+    }
+    for sub in [1, 2, 3] {
+        ledger.links.push(LinkSeen {
+            sub,
+            up: 3,
+            gone: None,
+            read: 0,
+        })?;
+    }
+    Ok((journal, ledger))
+}
+
+#[test]
+fn each_kind_of_line_is_as_the_formats_say(rt: HostRuntime) -> Result<(), Fail> {
+    let alloc = rt.alloc();
+    let (journal, ledger) = session(alloc)?;
+    let target = Text::of_slice(alloc, b"ipv4:127.0.0.1:50051")?;
+    let mut sink = MemSink::new(alloc, usize::MAX, Vec::new(alloc));
+    assert_eq!(rt;
+        write_report(alloc, &journal, &ledger, &target, &mut sink),
+        Ok(())
+    );
+    assert_eq!(rt; sink.taken(), LINES);
+    Ok(())
+}
+
+#[test]
+fn a_write_that_fails_leaves_a_front(rt: HostRuntime) -> Result<(), Fail> {
+    let alloc = rt.alloc();
+    let (journal, ledger) = session(alloc)?;
+    let target = Text::of_slice(alloc, b"ipv4:127.0.0.1:50051")?;
+    for (failing, front) in [
+        (1, b"".as_slice()),
+        (2, b"channel 1 "),
+        (3, b"channel 1 ipv4:127.0"),
+    ] {
+        let mut sink = MemSink::new(alloc, 10, vec![in alloc; failing]?);
+        let answer = write_report(alloc, &journal, &ledger, &target, &mut sink);
+        assert_eq!(rt; answer, Err(ReportFault::Write));
+        assert_eq!(rt; sink.taken(), front);
+    }
+    Ok(())
+}
