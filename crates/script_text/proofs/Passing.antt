@@ -2,7 +2,6 @@
 use Rattle.std.proofs.Common.{◌≡◌, ℕ, suc, ◌+◌, ◌<◌, ◌≤◌, Option, Some, None, List, [], ◌∷◌, ◌++◌, length, get_or, take, drop, refl, sym, ap, subst, ◌∙◌, append_assoc, arith}
 use Rattle.std.specs.Prelude.{map, Result, Ok, Err, OnErr}
 use Rattle.std.proofs.lemmas.List.{append-nil, take-append-le, length-append}
-use Rattle.std.proofs.lemmas.Grind.{common_steps}
 use Rattle.gate_io.specs.Outside.{Appends, AppendsFront}
 use Rattle.gate_io.proofs.AppendLaws.{Appends-append}
 use Rattle.script_text.specs.Output.{Passes}

@@ -14,7 +14,6 @@ use Rattle.grpc_base.specs.declared.event.JsonFault.{JsonFault}
 use Rattle.grpc_base.specs.declared.event.JsonFault.TheVariants as json
 use Rattle.grpc_base.specs.declared.event.Stamped.{Stamped}
 use Rattle.grpc_base.specs.Codes.{code_number}
-use Rattle.grpc_base.specs.Requests.{RequestSeen}
 
 -- texts with one byte between each and the next
 abbrev pub joined : ℕ → List (List ℕ) → List ℕ

@@ -24,10 +24,13 @@ const LINES: &[u8] = b"channel 1 ipv4:127.0.0.1:50051
 1 0 nodial 2 = refused 5
 1 0 arrived 1 00ff = octets -
 1 0 lost 1 = octets 0a
-1 0 drain 1 65536 = end 5 a%20b%25- a:78,b-bin: row
-1 0 ping 1 0000000000000102 = end 14 %2D a:78,b-bin: deadline
+1 0 drain 1 65536 = done
+1 0 ping 1 0000000000000102 = done
+1 0 shutdown = done
+1 0 tick = end 5 a%20b%25- a:78,b-bin: row
+1 0 tick = end 14 %2D a:78,b-bin: deadline
 1 0 tick = end 0 - a:78,b-bin: cancelled
-1 0 shutdown = end 2 !$&~%7F%FF%0A a:78,b-bin: shut
+1 0 tick = end 2 !$&~%7F%FF%0A a:78,b-bin: shut
 1 0 tick = end 13 - a:78,b-bin: request
 1 0 tick = end 13 - a:78,b-bin: response
 1 0 tick = end 14 - a:78,b-bin: noconfig
@@ -41,8 +44,18 @@ row 1 1 first 2 6 1 1 1 1 10 0 - 77 status 10
 row 1 2 retry 18446744073709551615 - - - - - - - - - - -
 row 2 1 hedge 3 6 2 3 4 5 9 14 250 78 cut -
 row 2 1 transparent 3 6 2 3 4 - 9 16 stop 0 unsent 11
-end 27 2 4 3
+end 30 2 4 3
 ";
+
+const LOCAL: Address = Address {
+    ip: 2_130_706_433,
+    port: 50_051,
+};
+
+const OTHER: Address = Address {
+    ip: 167_772_162,
+    port: 1,
+};
 
 /// Appends an entry at moment 1 with the word 0.
 fn step(entries: &mut Items<Entry>, event: Event, reply: Reply) -> Result<(), Fail> {
@@ -70,17 +83,6 @@ fn pairs(alloc: Global) -> Result<Metadata, Fail> {
         pairs.push(Field { name, value })?;
     }
     Ok(Metadata::of_vec(pairs))
-}
-
-fn end(alloc: Global, code: Code, text: &[u8], cause: EndCause) -> Result<Reply, Fail> {
-    let text = Text::of_slice(alloc, text)?;
-    let meta = pairs(alloc)?;
-    Ok(Reply::End {
-        code,
-        text,
-        meta,
-        cause,
-    })
 }
 
 /// What the application asks for.
@@ -121,8 +123,8 @@ fn push_calls(alloc: Global, entries: &mut Items<Entry>) -> Result<(), Fail> {
     )
 }
 
-/// What the resolver and the dials say.
-fn push_links(alloc: Global, entries: &mut Items<Entry>) -> Result<(), Fail> {
+/// What the resolver says.
+fn push_results(alloc: Global, entries: &mut Items<Entry>) -> Result<(), Fail> {
     let fault = ConfigFault::Json {
         fault: JsonFault::Syntax { at: 17 },
     };
@@ -133,33 +135,27 @@ fn push_links(alloc: Global, entries: &mut Items<Entry>) -> Result<(), Fail> {
         Event::Resolved { addresses, config },
         Reply::BadConfig { fault },
     )?;
-    let local = Address {
-        ip: 2_130_706_433,
-        port: 50_051,
-    };
-    let other = Address {
-        ip: 167_772_162,
-        port: 1,
-    };
     let mut addresses = AddressList::new();
-    let _ = addresses.push(local);
-    let _ = addresses.push(other);
+    let _ = addresses.push(LOCAL);
+    let _ = addresses.push(OTHER);
     let config = Some(Octets::of_slice(alloc, b"{}")?);
-    let fault = ConfigFault::Field {
-        path: Text::of_slice(alloc, b"methodConfig[0].timeout")?,
-    };
+    let path = Text::of_slice(alloc, b"methodConfig[0].timeout")?;
+    let fault = ConfigFault::Field { path };
     step(
         entries,
         Event::Resolved { addresses, config },
         Reply::BadConfig { fault },
     )?;
     let fault = ConfigFault::NoSupportedPolicy;
-    step(entries, Event::ResolveFailed, Reply::BadConfig { fault })?;
-    let until = 20_000_000_000;
+    step(entries, Event::ResolveFailed, Reply::BadConfig { fault })
+}
+
+/// What becomes of dials.
+fn push_dials(entries: &mut Items<Entry>) -> Result<(), Fail> {
     let dial = Reply::Dial {
         sub: 1,
-        address: local,
-        until,
+        address: LOCAL,
+        until: 20_000_000_000,
     };
     step(entries, Event::TakeDial, dial)?;
     step(entries, Event::LinkUp { sub: 1 }, Reply::Link { link: 1 })?;
@@ -170,7 +166,7 @@ fn push_links(alloc: Global, entries: &mut Items<Entry>) -> Result<(), Fail> {
     )
 }
 
-/// What the links and the clock say.
+/// What links bring and take.
 fn push_octets(alloc: Global, entries: &mut Items<Entry>) -> Result<(), Fail> {
     let piece = Octets::of_slice(alloc, &[0, 255])?;
     let octets = Octets::new();
@@ -185,39 +181,40 @@ fn push_octets(alloc: Global, entries: &mut Items<Entry>) -> Result<(), Fail> {
         Event::LinkLost { link: 1 },
         Reply::Octets { octets },
     )?;
-    let reply = end(alloc, Code::NotFound, b"a b%-", EndCause::Row)?;
     step(
         entries,
         Event::Drain {
             link: 1,
             room: 65_536,
         },
-        reply,
+        Reply::Done,
     )?;
-    let reply = end(alloc, Code::Unavailable, b"-", EndCause::Deadline)?;
-    step(entries, Event::Ping { link: 1, word: 258 }, reply)?;
-    step(
-        entries,
-        Event::Tick,
-        end(alloc, Code::Ok, b"", EndCause::Cancelled)?,
-    )?;
-    let reply = end(alloc, Code::Unknown, b"!$&~\x7f\xff\n", EndCause::Shut)?;
-    step(entries, Event::Shutdown, reply)?;
-    step(
-        entries,
-        Event::Tick,
-        end(alloc, Code::Internal, b"", EndCause::Request)?,
-    )?;
-    step(
-        entries,
-        Event::Tick,
-        end(alloc, Code::Internal, b"", EndCause::Response)?,
-    )?;
-    step(
-        entries,
-        Event::Tick,
-        end(alloc, Code::Unavailable, b"", EndCause::NoConfig)?,
-    )
+    step(entries, Event::Ping { link: 1, word: 258 }, Reply::Done)?;
+    step(entries, Event::Shutdown, Reply::Done)
+}
+
+/// The ends of calls.
+fn push_ends(alloc: Global, entries: &mut Items<Entry>) -> Result<(), Fail> {
+    for (code, text, cause) in [
+        (Code::NotFound, b"a b%-".as_slice(), EndCause::Row),
+        (Code::Unavailable, b"-", EndCause::Deadline),
+        (Code::Ok, b"", EndCause::Cancelled),
+        (Code::Unknown, b"!$&~\x7f\xff\n", EndCause::Shut),
+        (Code::Internal, b"", EndCause::Request),
+        (Code::Internal, b"", EndCause::Response),
+        (Code::Unavailable, b"", EndCause::NoConfig),
+    ] {
+        let text = Text::of_slice(alloc, text)?;
+        let meta = pairs(alloc)?;
+        let reply = Reply::End {
+            code,
+            text,
+            meta,
+            cause,
+        };
+        step(entries, Event::Tick, reply)?;
+    }
+    Ok(())
 }
 
 /// The other faults of a service config.
@@ -300,8 +297,7 @@ fn push_first_rows(alloc: Global, rows: &mut Items<Row>) -> Result<(), Fail> {
     Ok(())
 }
 
-/// The rows of the second call.
-fn push_second_rows(alloc: Global, rows: &mut Items<Row>) -> Result<(), Fail> {
+fn push_hedge(alloc: Global, rows: &mut Items<Row>) -> Result<(), Fail> {
     let hedge = placed(2, 3, 4)?;
     let end = ended(
         alloc,
@@ -321,6 +317,10 @@ fn push_second_rows(alloc: Global, rows: &mut Items<Row>) -> Result<(), Fail> {
         ended: Some(end),
         committed: None,
     })?;
+    Ok(())
+}
+
+fn push_transparent(alloc: Global, rows: &mut Items<Row>) -> Result<(), Fail> {
     let again = placed(2, 3, 4)?;
     let end = ended(
         alloc,
@@ -347,12 +347,15 @@ fn push_second_rows(alloc: Global, rows: &mut Items<Row>) -> Result<(), Fail> {
 fn session(alloc: Global) -> Result<(Journal, Ledger), Fail> {
     let mut journal = Journal::new(alloc);
     push_calls(alloc, &mut journal.entries)?;
-    push_links(alloc, &mut journal.entries)?;
+    push_results(alloc, &mut journal.entries)?;
+    push_dials(&mut journal.entries)?;
     push_octets(alloc, &mut journal.entries)?;
+    push_ends(alloc, &mut journal.entries)?;
     push_faults(alloc, &mut journal.entries)?;
     let mut ledger = Ledger::new(alloc);
     push_first_rows(alloc, &mut ledger.rows)?;
-    push_second_rows(alloc, &mut ledger.rows)?;
+    push_hedge(alloc, &mut ledger.rows)?;
+    push_transparent(alloc, &mut ledger.rows)?;
     for begun in [1, 2] {
         ledger.calls.push(CallSeen {
             begun,

@@ -1,4 +1,4 @@
-use Rattle.std.proofs.Common.{◌≡◌, ◌++◌, ◌∷◌, [], ◌∙◌, ap, arith}
+use Rattle.std.proofs.Common.{◌++◌, ◌∷◌, [], ◌∙◌, ap, arith}
 use Rattle.script_text.specs.Report.{entry_text}
 use Rattle.script_text.proofs.Passing.{on_err, passed_one, failed_before, failed_at}
 use Rattle.script_text.proofs.report.write_entries.Goals as goal
