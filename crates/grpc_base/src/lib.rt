@@ -9,6 +9,8 @@ mod items;
 mod kind;
 mod memory;
 mod meta_rule;
+#[cfg(test)]
+mod meta_rule_tests;
 mod moment;
 mod number;
 mod octets;

@@ -77,7 +77,8 @@ impl Request {
 
     /// The metadata of the application.
     pub fn meta(&self) -> &Metadata
-        ensures { result.now ≡ self.now.meta }
+        ensures meta { result.now ≡ self.now.meta }
+        ensures kept { IsRequestMetadata result.now }
     {
         &self.meta
     }

@@ -1,0 +1,3 @@
+pub mod BinaryLaws
+pub mod RequestLaws
+pub mod ResponseLaws

@@ -1,0 +1,3 @@
+pub mod RequestFields
+pub mod ResponseFields
+pub mod Timeouts

@@ -1,0 +1,57 @@
+-- The header list of a request (gRPC over HTTP/2, "Requests": Request-Headers).
+use Rattle.std.specs.Prelude.{ℕ, ◌+◌, ◌-◌, ◌/◌, ◌%◌, ◌^◌, Option, Some, None, List, [], ◌∷◌, ◌++◌, codes, map, length, nat_le, if◌then◌else◌}
+use Rattle.std.specs.List.{sum_by}
+use Rattle.std.specs.Fmt.{decimal}
+use Rattle.base64.specs.GeneralPurpose.{encode_of}
+use Rattle.base64.specs.Engines.{standard_no_pad}
+use Rattle.grpc_base.specs.declared.address.Address.{Address}
+use Rattle.grpc_base.specs.declared.fields.Field.{Field}
+use Rattle.grpc_base.specs.Metadata.{is_binary_name}
+use Rattle.grpc_base.specs.Requests.{RequestSeen}
+use Rattle.grpc_meta.specs.Timeouts.{timeout_of}
+
+-- the field of a name and a value
+abbrev pub field : List ℕ → List ℕ → Field
+field name value = record { name = name; value = value }
+
+-- an address as `a.b.c.d:port`
+abbrev pub authority_of : Address → List ℕ
+authority_of a =
+    decimal (a.ip / 2 ^ 24) ++ codes "." ++ decimal (a.ip / 2 ^ 16 % 256) ++ codes "." ++ decimal (a.ip / 2 ^ 8 % 256)
+    ++ codes "." ++ decimal (a.ip % 256) ++ codes ":" ++ decimal a.port
+
+-- the time left, where there is a deadline
+abbrev pub timeout_fields : Option ℕ → List Field
+timeout_fields None = []
+timeout_fields (Some left) = field (codes "grpc-timeout") (timeout_of left) ∷ []
+
+-- from the second attempt on: how many there were before it (gRFC A6, "Exposed Retry Metadata")
+abbrev pub attempt_fields : ℕ → List Field
+attempt_fields number =
+    if nat_le number 1 then [] else field (codes "grpc-previous-rpc-attempts") (decimal (number - 1)) ∷ []
+
+-- a pair as it is sent: a value of bytes is base64 without padding (gRPC over HTTP/2, "Binary-Header")
+abbrev pub sent : Field → Field
+sent f = if is_binary_name f.name then field f.name (encode_of standard_no_pad f.value) else f
+
+-- the header list of one attempt
+abbrev pub fields_of_request : RequestSeen → Address → Option ℕ → ℕ → List Field
+fields_of_request request authority left number =
+    (field (codes ":method") (codes "POST") ∷ field (codes ":scheme") (codes "http") ∷ field (codes ":path") request.path
+    ∷ field (codes ":authority") (authority_of authority) ∷ [])
+    ++ timeout_fields left
+    ++ (field (codes "te") (codes "trailers") ∷ field (codes "content-type") (codes "application/grpc") ∷ [])
+    ++ attempt_fields number
+    ++ map sent request.meta
+
+-- the size of a field: name, value and 32 (RFC 7541, section 4.1)
+abbrev pub field_size : Field → ℕ
+field_size f = length f.name + length f.value + 32
+
+-- the size of a header list (RFC 9113, section 10.5.1)
+abbrev pub list_size : List Field → ℕ
+list_size fields = sum_by field_size fields
+
+-- the size up to which a header list fits one frame
+abbrev pub list_limit : ℕ
+list_limit = 16384

@@ -1,0 +1,108 @@
+// The header list of a request.
+ghost use Rattle.std.specs.Prelude.{◌≡◌, ◌≤◌, ◌++◌, ◌∷◌, [], codes, length, map, IfOk, IfSome, OnOk, string_bytes};
+ghost use Rattle.grpc_base.specs.Limits.{duration_limit};
+ghost use Rattle.grpc_meta.specs.RequestFields.{attempt_fields, authority_of, field, fields_of_request, list_limit, list_size, sent, timeout_fields};
+
+use crate::binary::sent;
+use crate::timeout::timeout_text;
+use grpc_base::{Address, Field, Fields, Metadata, NoMemory, Octets, Request};
+use itoa::Buffer;
+use std::alloc::{AllocError, Global};
+
+/// The header list of an attempt's request (gRPC over HTTP/2, "Requests"). `left` is the time that the call has
+/// left in nanoseconds, and `number` counts its attempts from 1.
+pub fn request_fields(
+    alloc: Global,
+    request: &Request,
+    authority: Address,
+    left: Option<u64>,
+    number: u32,
+) -> Result<Fields, NoMemory>
+    requires left { IfSome left (λ t. (1 ≤ t) × (t ≤ duration_limit)) }
+    requires number { 1 ≤ number }
+    ensures list { IfOk result (λ fields. fields ≡ fields_of_request request.now authority left number) }
+    ensures fits { IfOk result (λ fields. list_size fields ≤ list_limit) }
+{
+    let mut fields = Fields::new(alloc);
+    push(alloc, &mut fields, b":method", b"POST")?;
+    push(alloc, &mut fields, b":scheme", b"http")?;
+    push(alloc, &mut fields, b":path", request.path().as_slice())?;
+    push_authority(alloc, &mut fields, authority)?;
+    push_timeout(alloc, &mut fields, left)?;
+    push(alloc, &mut fields, b"te", b"trailers")?;
+    push(alloc, &mut fields, b"content-type", b"application/grpc")?;
+    push_attempts(alloc, &mut fields, number)?;
+    push_metadata(alloc, &mut fields, request.meta())?;
+    Ok(fields)
+}
+
+/// Appends a field.
+fn push(alloc: Global, fields: &mut Fields, name: &[u8], value: &[u8]) -> Result<(), NoMemory>
+    ensures { OnOk result (fields.new ≡ fields.old ++ field name.now value.now ∷ []) }
+{
+    let name = Octets::of_slice(alloc, name)?;
+    let value = Octets::of_slice(alloc, value)?;
+    fields.push(Field { name, value })
+}
+
+/// Appends the authority.
+fn push_authority(alloc: Global, fields: &mut Fields, authority: Address) -> Result<(), NoMemory>
+    ensures field { OnOk result (fields.new ≡ fields.old ++ field (codes ":authority") (authority_of authority) ∷ []) }
+    ensures short { length (authority_of authority) ≤ 21 }
+{
+    let text = authority_text(alloc, authority.ip, authority.port)?;
+    push(alloc, fields, b":authority", text.as_bytes())
+}
+
+/// An address as `a.b.c.d:port`.
+fn authority_text(alloc: Global, ip: u32, port: u16) -> Result<String, AllocError>
+    ensures text { IfOk result (λ s. string_bytes s ≡ authority_of (record { ip = ip; port = port })) }
+    ensures short { length (authority_of (record { ip = ip; port = port })) ≤ 21 }
+{
+    let (a, b, c, d) = (ip / 16_777_216, ip / 65_536 % 256, ip / 256 % 256, ip % 256);
+    format!(in alloc; "{a}.{b}.{c}.{d}:{port}")
+}
+
+/// Appends the time left, where there is a deadline.
+fn push_timeout(alloc: Global, fields: &mut Fields, left: Option<u64>) -> Result<(), NoMemory>
+    requires { IfSome left (λ t. (1 ≤ t) × (t ≤ duration_limit)) }
+    ensures { OnOk result (fields.new ≡ fields.old ++ timeout_fields left) }
+{
+    match left {
+        Some(left) => push(
+            alloc,
+            fields,
+            b"grpc-timeout",
+            timeout_text(left).as_slice(),
+        ),
+        None => Ok(()),
+    }
+}
+
+/// Appends how many attempts there were before this one, where there were any.
+fn push_attempts(alloc: Global, fields: &mut Fields, number: u32) -> Result<(), NoMemory>
+    requires { 1 ≤ number }
+    ensures { OnOk result (fields.new ≡ fields.old ++ attempt_fields number) }
+{
+    if number <= 1 {
+        return Ok(());
+    }
+    let mut buffer = Buffer::new();
+    let before = buffer.format(number - 1);
+    push(
+        alloc,
+        fields,
+        b"grpc-previous-rpc-attempts",
+        before.as_bytes(),
+    )
+}
+
+/// Appends the pairs of the application as they are sent.
+fn push_metadata(alloc: Global, fields: &mut Fields, meta: &Metadata) -> Result<(), NoMemory>
+    ensures { OnOk result (fields.new ≡ fields.old ++ map sent meta.now) }
+{
+    for pair in meta.as_slice() {
+        fields.push(sent(alloc, pair)?)?;
+    }
+    Ok(())
+}
