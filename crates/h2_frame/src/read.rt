@@ -36,8 +36,8 @@ fn read_length<'a>(bytes: &'a [u8]) -> FrameStep<'a>
     let [a, rest @ ..] = bytes else {
         return FrameStep::More;
     };
-    let high = u32::from(*a) * 65536;
-    if high > PAYLOAD_LIMIT {
+    let highest = u32::from(*a) * 65536;
+    if highest > PAYLOAD_LIMIT {
         return FrameStep::Bad {
             code: FRAME_SIZE_ERROR,
         };
@@ -45,8 +45,8 @@ fn read_length<'a>(bytes: &'a [u8]) -> FrameStep<'a>
     let [b, rest @ ..] = rest else {
         return FrameStep::More;
     };
-    let high = high + u32::from(*b) * 256;
-    if high > PAYLOAD_LIMIT {
+    let higher = highest + u32::from(*b) * 256;
+    if higher > PAYLOAD_LIMIT {
         return FrameStep::Bad {
             code: FRAME_SIZE_ERROR,
         };
@@ -54,7 +54,7 @@ fn read_length<'a>(bytes: &'a [u8]) -> FrameStep<'a>
     let [c, rest @ ..] = rest else {
         return FrameStep::More;
     };
-    let length = high + u32::from(*c);
+    let length = higher + u32::from(*c);
     if length > PAYLOAD_LIMIT {
         return FrameStep::Bad {
             code: FRAME_SIZE_ERROR,
