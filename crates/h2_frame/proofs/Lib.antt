@@ -1,0 +1,7 @@
+pub mod FaultLaws
+pub mod FrameLaws
+pub mod PrefixLaws
+pub mod CodeLaws
+pub mod PlaceLaws
+pub mod TextLaws
+pub mod StepLaws

@@ -1,0 +1,120 @@
+-- Frames: what nine bytes of header and a payload say, and the rules that one frame keeps by itself (RFC 9113, sections 4 and 6).
+use Rattle.std.specs.Prelude.{◌≡◌, ℕ, ◌+◌, ◌-◌, ◌*◌, ◌/◌, ◌%◌, Bool, true, false, List, [], ◌∷◌, ◌++◌, length, nat_lt, nat_le, ◌&&◌, ◌||◌, ◌==◌, not, IsTrue, if◌then◌else◌, bit_and}
+use Rattle.h2_frame.specs.declared.kinds.TheConstants.{DATA, HEADERS, PRIORITY, RST_STREAM, SETTINGS, PING, GOAWAY, WINDOW_UPDATE, CONTINUATION}
+use Rattle.h2_frame.specs.declared.flags.TheConstants.{ACK, PADDED, PRIORITY as WITH_PRIORITY}
+
+-- what a frame says
+pub record FrameSeen : Type 0 where
+  pub kind : ℕ
+  pub flags : ℕ
+  pub stream : ℕ
+  pub payload : List ℕ
+
+-- the most bytes that a payload may have: the first value of SETTINGS_MAX_FRAME_SIZE (section 6.5.2)
+abbrev pub payload_limit : ℕ
+payload_limit = 16384
+
+-- a number of 24 bits, the highest byte first
+abbrev pub number_24 : ℕ → ℕ → ℕ → ℕ
+number_24 a b c = a * 65536 + b * 256 + c
+
+-- a number of 31 bits behind a reserved bit, which is ignored (section 4.1)
+abbrev pub number_31 : ℕ → ℕ → ℕ → ℕ → ℕ
+number_31 a b c d = a % 128 * 16777216 + b * 65536 + c * 256 + d
+
+-- whether a flag is set
+abbrev pub has_flag : ℕ → ℕ → Bool
+has_flag flags flag = not (bit_and flags flag == 0)
+
+-- whether the payload begins with a Pad Length field (sections 6.1 and 6.2)
+abbrev pub is_padded : ℕ → ℕ → Bool
+is_padded kind flags = ((kind == DATA) || (kind == HEADERS)) && has_flag flags PADDED
+
+-- whether the payload has priority fields (section 6.2)
+abbrev pub has_priority : ℕ → ℕ → Bool
+has_priority kind flags = (kind == HEADERS) && has_flag flags WITH_PRIORITY
+
+-- how many bytes these fields take: one for Pad Length, five for the priority
+abbrev pub fields_size : ℕ → ℕ → ℕ
+fields_size kind flags = (if is_padded kind flags then 1 else 0) + (if has_priority kind flags then 5 else 0)
+
+-- the lengths that a frame type allows (sections 6.3 to 6.5 and 6.7 to 6.9)
+abbrev pub kind_allows_length : ℕ → ℕ → Bool
+kind_allows_length kind len =
+    if kind == PRIORITY then len == 5
+    else if (kind == RST_STREAM) || (kind == WINDOW_UPDATE) then len == 4
+    else if kind == SETTINGS then len % 6 == 0
+    else if kind == PING then len == 8
+    else if kind == GOAWAY then nat_le 8 len
+    else true
+
+-- the lengths that the flags allow: an acknowledgement of settings is empty, and the fields have room (sections 6.1, 6.2 and 6.5)
+abbrev pub flags_allow_length : ℕ → ℕ → ℕ → Bool
+flags_allow_length kind flags len =
+    if kind == SETTINGS then not (has_flag flags ACK) || (len == 0)
+    else nat_le (fields_size kind flags) len
+
+-- the frame types that speak of the connection as a whole (sections 6.5, 6.7 and 6.8)
+abbrev pub is_of_connection : ℕ → Bool
+is_of_connection kind = (kind == SETTINGS) || (kind == PING) || (kind == GOAWAY)
+
+-- the frame types that speak of one stream (sections 6.1 to 6.4 and 6.10)
+abbrev pub is_of_stream : ℕ → Bool
+is_of_stream kind =
+    (kind == DATA) || (kind == HEADERS) || (kind == PRIORITY) || (kind == RST_STREAM) || (kind == CONTINUATION)
+
+-- the streams that a frame type allows
+abbrev pub kind_allows_stream : ℕ → ℕ → Bool
+kind_allows_stream kind stream =
+    if is_of_connection kind then stream == 0 else if is_of_stream kind then not (stream == 0) else true
+
+-- whether the padding is longer than what the payload has left behind its fields (sections 6.1 and 6.2)
+abbrev pub is_overpadded : ℕ → ℕ → ℕ → List ℕ → Bool
+is_overpadded kind flags len [] = false
+is_overpadded kind flags len (pad ∷ rest) = is_padded kind flags && nat_lt (len - fields_size kind flags) pad
+
+-- whether a window of the connection is to grow by nothing (section 6.9)
+abbrev pub is_zero_update : ℕ → ℕ → List ℕ → Bool
+is_zero_update kind stream (a ∷ b ∷ c ∷ d ∷ rest) = (kind == WINDOW_UPDATE) && (stream == 0) && (number_31 a b c d == 0)
+is_zero_update kind stream _ = false
+
+-- the rules whose breach is a PROTOCOL_ERROR: streams, padding, increments
+abbrev pub keeps_protocol : FrameSeen → Bool
+keeps_protocol f =
+    kind_allows_stream f.kind f.stream
+    && not (is_overpadded f.kind f.flags (length f.payload) f.payload)
+    && not (is_zero_update f.kind f.stream f.payload)
+
+-- the rules whose breach is a FRAME_SIZE_ERROR: lengths
+abbrev pub keeps_sizes : FrameSeen → Bool
+keeps_sizes f =
+    nat_le (length f.payload) payload_limit
+    && kind_allows_length f.kind (length f.payload)
+    && flags_allow_length f.kind f.flags (length f.payload)
+
+-- the rules that one frame keeps by itself
+abbrev pub is_allowed : FrameSeen → Bool
+is_allowed f = keeps_protocol f && keeps_sizes f
+
+-- the bytes are a header of nine bytes and the payload whose length it tells (section 4.1)
+abbrev pub Spells : List ℕ → FrameSeen → Type 0
+Spells (a ∷ b ∷ c ∷ kind ∷ flags ∷ p ∷ q ∷ r ∷ s ∷ payload) f =
+    (length payload ≡ number_24 a b c)
+    × (f ≡ record { kind = kind; flags = flags; stream = number_31 p q r s; payload = payload })
+Spells _ f = ⊥
+
+-- the bytes are this frame, whole
+pub record IsFrame (bytes : List ℕ) (f : FrameSeen) : Type 0 where
+  pub spells : Spells bytes f
+  pub allowed : IsTrue (is_allowed f)
+
+-- the bytes of a number of 24 bits and of one of 32, the highest first
+abbrev pub bytes_24 : ℕ → List ℕ
+bytes_24 n = n / 65536 ∷ n / 256 % 256 ∷ n % 256 ∷ []
+
+abbrev pub bytes_32 : ℕ → List ℕ
+bytes_32 n = n / 16777216 ∷ n / 65536 % 256 ∷ n / 256 % 256 ∷ n % 256 ∷ []
+
+-- the bytes that a sender writes for a frame, the reserved bit unset
+abbrev pub written : FrameSeen → List ℕ
+written f = bytes_24 (length f.payload) ++ f.kind ∷ f.flags ∷ bytes_32 f.stream ++ f.payload
