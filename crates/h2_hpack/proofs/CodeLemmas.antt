@@ -1,11 +1,11 @@
 -- The code: no code begins another, and each symbol has its own.
-use Rattle.std.proofs.Common.{◌≡◌, ℕ, zero, suc, ◌+◌, ◌-◌, ◌^◌, ◌<◌, ◌≤◌, Bool, true, false, cond, ◌&&◌, ◌==◌, nat_le, nat_lt, List, [], ◌∷◌, ◌++◌, length, refl, sym, ◌∙◌, ap, subst, arith, append_assoc, Option, Some, None, inl, inr, length-append}
-use Rattle.std.specs.Prelude.{option_map, is_none, is_some, bytes_eq, find, flat_map, unwrap_or, if◌then◌else◌, IsTrue, not, replicate}
-use Rattle.std.specs.List.{AllByRecursion, list_all}
-use Rattle.std.proofs.lemmas.Bool.{agree_below, agree_below_at, and_parts, cases_Bool, false≢true, true≢false, eq-eqb, false_from_ne_true}
+use Rattle.std.proofs.Common.{◌≡◌, ℕ, ◌+◌, ◌^◌, Bool, true, false, ◌&&◌, ◌==◌, nat_lt, List, [], ◌∷◌, ◌++◌, length, refl, sym, ◌∙◌, ap, subst, arith, Option, Some, None, inl, inr, length-append}
+use Rattle.std.specs.Prelude.{option_map, is_some, bytes_eq, find, unwrap_or, not, replicate, map}
+use Rattle.std.specs.List.{list_all, range_with_len}
+use Rattle.std.proofs.lemmas.Bool.{agree_below, and_parts, cases_Bool, false≢true, true≢false, eq-eqb, false_from_ne_true}
 use Rattle.std.proofs.lemmas.Slice.Eq.{bytes_eq-Decides}
-use Rattle.h2_hpack.specs.Laws.{share}
-use Rattle.h2_hpack.specs.Huffman.{SymbolCode, symbol_codes, code_lengths, code_with, is_padding, before_rest, symbols_from, symbols_of, byte_bits, is_front, is_free}
+use Rattle.h2_hpack.specs.Laws.{share, code_counts}
+use Rattle.h2_hpack.specs.Huffman.{SymbolCode, symbol_codes, of_length, code_of, end_of_string, code_lengths, symbols_from, is_front, is_free}
 
 abbrev pub code_for : List SymbolCode → ℕ → Option SymbolCode
 code_for table s = find (λ c. c.symbol == s) table
@@ -67,8 +67,8 @@ passes p q [] c all found = absurd (cc found)
 passes p q (d ∷ ds) c all found =
     let parts = and_parts (p d) (list_all p ds) all in
     elim (cases_Bool (q d)) [
-      inl hit ↦ let same : d ≡ c = some_injective d c (rw hit at found) in subst (λ (x : SymbolCode). p x ≡ true) same parts.0
-    | inr miss ↦ passes p q ds c parts.1 (rw miss at found)
+      | inl hit ↦ let same : d ≡ c = some_injective d c (rw hit at found) in subst (λ (x : SymbolCode). p x ≡ true) same parts.0
+      | inr miss ↦ passes p q ds c parts.1 (rw miss at found)
     ]
 
 -- the element that is found passes the test
@@ -76,8 +76,8 @@ pub found_passes : (q : SymbolCode → Bool) (cs : List SymbolCode) (c : SymbolC
 found_passes q [] c found = absurd (cc found)
 found_passes q (d ∷ ds) c found =
     elim (cases_Bool (q d)) [
-      inl hit ↦ let same : d ≡ c = some_injective d c (rw hit at found) in subst (λ (x : SymbolCode). q x ≡ true) same hit
-    | inr miss ↦ found_passes q ds c (rw miss at found)
+      | inl hit ↦ let same : d ≡ c = some_injective d c (rw hit at found) in subst (λ (x : SymbolCode). q x ≡ true) same hit
+      | inr miss ↦ found_passes q ds c (rw miss at found)
     ]
 
 bytes_eq-true : (xs ys : List ℕ) → bytes_eq xs ys ≡ true → xs ≡ ys
@@ -91,14 +91,14 @@ by_bits [] s c is found = absurd (cc found)
 by_bits (d ∷ ds) s c is found =
     let parts = and_parts (list_all (λ e. not (is_front d.bits e.bits) && not (is_front e.bits d.bits)) ds) (is_free ds) is in
     elim (cases_Bool (d.symbol == s)) [
-      inl hit ↦
-        let same : d ≡ c = some_injective d c (rw hit at found) in
-        rw (same, bytes_eq-self c.bits) refl
-    | inr miss ↦
-        let later : code_for ds s ≡ Some c = rw miss at found in
-        let apart : is_front d.bits c.bits ≡ false = (not_both _ _ (passes (λ e. not (is_front d.bits e.bits) && not (is_front e.bits d.bits)) (λ e. e.symbol == s) ds c parts.0 later)).0 in
-        let unequal : bytes_eq d.bits c.bits ≡ false = bytes_eq-false d.bits c.bits (λ e. true≢false (sym (is_front-self d.bits) ∙ ap (λ x. is_front d.bits x) e ∙ apart)) in
-        rw unequal (by_bits ds s c parts.1 later)
+      | inl hit ↦
+          let same : d ≡ c = some_injective d c (rw hit at found) in
+          rw (same, bytes_eq-self c.bits) refl
+      | inr miss ↦
+          let later : code_for ds s ≡ Some c = rw miss at found in
+          let apart : is_front d.bits c.bits ≡ false = (not_both _ _ (passes (λ e. not (is_front d.bits e.bits) && not (is_front e.bits d.bits)) (λ e. e.symbol == s) ds c parts.0 later)).0 in
+          let unequal : bytes_eq d.bits c.bits ≡ false = bytes_eq-false d.bits c.bits (λ e. true≢false (sym (is_front-self d.bits) ∙ ap (λ x. is_front d.bits x) e ∙ apart)) in
+          rw unequal (by_bits ds s c parts.1 later)
     ]
 
 -- codes with none that is a front of some bits are none of the fronts of these
@@ -116,18 +116,26 @@ no_front [] s c p b rest is found whole = refl
 no_front (d ∷ ds) s c p b rest is found whole =
     let parts = and_parts (list_all (λ e. not (is_front d.bits e.bits) && not (is_front e.bits d.bits)) ds) (is_free ds) is in
     elim (cases_Bool (d.symbol == s)) [
-      inl hit ↦
-        let same : d ≡ c = some_injective d c (rw hit at found) in
-        let bits : p ++ b ∷ rest ≡ d.bits = whole ∙ ap (λ (x : SymbolCode). x.bits) (sym same) in
-        let unequal : bytes_eq d.bits p ≡ false = bytes_eq-false d.bits p (λ e. longer p b rest (bits ∙ e)) in
-        rw unequal (none_front p (b ∷ rest) ds (subst (λ (x : List ℕ). list_all (λ e. not (is_front x e.bits) && not (is_front e.bits x)) ds ≡ true) (sym bits) parts.0))
-    | inr miss ↦
-        let later : code_for ds s ≡ Some c = rw miss at found in
-        let apart : is_front d.bits c.bits ≡ false = (not_both _ _ (passes (λ e. not (is_front d.bits e.bits) && not (is_front e.bits d.bits)) (λ e. e.symbol == s) ds c parts.0 later)).0 in
-        let unequal : bytes_eq d.bits p ≡ false = bytes_eq-false d.bits p (λ e. true≢false (sym (is_front-append d.bits (b ∷ rest)) ∙ ap (λ x. is_front d.bits (x ++ b ∷ rest)) e ∙ ap (λ x. is_front d.bits x) whole ∙ apart)) in
-        rw unequal (no_front ds s c p b rest parts.1 later whole)
+      | inl hit ↦
+          let same : d ≡ c = some_injective d c (rw hit at found) in
+          let bits : p ++ b ∷ rest ≡ d.bits = whole ∙ ap (λ (x : SymbolCode). x.bits) (sym same) in
+          let unequal : bytes_eq d.bits p ≡ false = bytes_eq-false d.bits p (λ e. longer p b rest (bits ∙ e)) in
+          rw unequal (none_front p (b ∷ rest) ds (subst (λ (x : List ℕ). list_all (λ e. not (is_front x e.bits) && not (is_front e.bits x)) ds ≡ true) (sym bits) parts.0))
+      | inr miss ↦
+          let later : code_for ds s ≡ Some c = rw miss at found in
+          let apart : is_front d.bits c.bits ≡ false = (not_both _ _ (passes (λ e. not (is_front d.bits e.bits) && not (is_front e.bits d.bits)) (λ e. e.symbol == s) ds c parts.0 later)).0 in
+          let unequal : bytes_eq d.bits p ≡ false = bytes_eq-false d.bits p (λ e. true≢false (sym (is_front-append d.bits (b ∷ rest)) ∙ ap (λ x. is_front d.bits (x ++ b ∷ rest)) e ∙ ap (λ x. is_front d.bits x) whole ∙ apart)) in
+          rw unequal (no_front ds s c p b rest parts.1 later whole)
     ]
 
 pub whole : share symbol_codes ≡ 2 ^ 30
 unfolding symbol_codes code_lengths
 whole = refl
+
+pub counted : map (λ n. length (of_length n)) (range_with_len 5 26) ≡ code_counts
+unfolding code_lengths
+counted = refl
+
+pub ends_with_ones : code_of end_of_string ≡ replicate 30 1
+unfolding symbol_codes code_lengths
+ends_with_ones = refl

@@ -1,10 +1,9 @@
 -- The plain program reads exactly the texts that the code writes.
-use Rattle.std.proofs.Common.{◌≡◌, ℕ, zero, suc, ◌+◌, ◌-◌, ◌<◌, ◌≤◌, Bool, true, false, cond, ◌&&◌, ◌==◌, nat_le, nat_lt, List, [], ◌∷◌, ◌++◌, length, refl, sym, ◌∙◌, ap, subst, arith, append_assoc, Option, Some, None, inl, inr}
-use Rattle.std.specs.Prelude.{option_map, is_none, is_some, bytes_eq, find, flat_map, unwrap_or, if◌then◌else◌, not, replicate}
+use Rattle.std.proofs.Common.{◌≡◌, ℕ, ◌<◌, ◌≤◌, Bool, true, false, cond, ◌&&◌, ◌==◌, nat_le, nat_lt, List, [], ◌∷◌, ◌++◌, length, refl, sym, ◌∙◌, ap, subst, arith, append_assoc, Option, Some, None}
+use Rattle.std.specs.Prelude.{option_map, is_some, bytes_eq, flat_map, unwrap_or, replicate}
 use Rattle.std.specs.List.{AllByRecursion, list_all}
-use Rattle.std.proofs.lemmas.Bool.{agree_below_at, and_parts, cases_Bool, false≢true, eqb-true, eqb-false, ltb-true, leb-true, ne_eqb}
+use Rattle.std.proofs.lemmas.Bool.{agree_below_at, and_parts, false≢true, eqb-true, eqb-false, ltb-true, leb-true, ne_eqb}
 use Rattle.std.proofs.lemmas.List.{append-nil}
-use Rattle.std.proofs.lemmas.Slice.Eq.{bytes_eq-Decides}
 use Rattle.h2_hpack.specs.Huffman.{SymbolCode, symbol_codes, code_with, code_of, is_padding, before_rest, symbols_from, symbols_of, byte_bits, IsHuffman}
 use Rattle.h2_hpack.proofs.CodeLemmas.{code_for, has_own, own, free, each_has_code, is_nothing, padding_reads, passes, found_passes, by_bits, no_front}
 use Rattle.h2_hpack.proofs.WalkLemmas.{read_on, list_eq}
@@ -40,7 +39,7 @@ found_code bits c found =
     let more = and_parts (nat_lt 0 (length c.bits)) (bytes_eq (code_of c.symbol) c.bits) parts.1 in
     record {
       code_is = list_eq (code_of c.symbol) c.bits more.1 ∙ list_eq c.bits bits (found_passes (λ d. bytes_eq d.bits bits) symbol_codes c found);
-      below = ltb-true c.symbol 257 parts.0
+      below = ltb-true c.symbol 257 parts.0;
     }
 
 pub record Split (s : ℕ) (rest : Option (List ℕ)) (ss : List ℕ) : Type 0 where
@@ -61,9 +60,9 @@ sound_on bits held ss (Some c) is rest h =
     let found = found_code held c is in
     let r = rest [] split.others split.rest_is in
     let joined : held ++ bits ≡ (code_of c.symbol ++ flat_map code_of split.others) ++ replicate r.padding 1 =
-      rw (found.code_is, append_assoc held (flat_map code_of split.others) (replicate r.padding 1)) (ap (λ x. held ++ x) r.joined) in
+    rw (found.code_is, append_assoc held (flat_map code_of split.others) (replicate r.padding 1)) (ap (λ x. held ++ x) r.joined) in
     subst (λ xs. Reads held bits xs) split.whole
-      (record { padding = r.padding; short = r.short; joined = joined; known = (omega (arith, found.below, split.no_end), r.known) })
+    (record { padding = r.padding; short = r.short; joined = joined; known = (omega (arith, found.below, split.no_end), r.known) })
 
 pub sound : (bits held ss : List ℕ) → symbols_from held bits ≡ Some ss → Reads held bits ss
 sound [] held ss h = sound_end held ss (is_padding held) refl h
@@ -111,7 +110,7 @@ complete [] padding known short =
     nothing_is (symbols_from [] (replicate padding 1)) (agree_below_at (λ p. is_nothing (symbols_from [] (replicate p 1))) (λ _. true) 8 padding padding_reads (omega (arith, short)))
 complete (s ∷ ss) padding known short =
     rw (append_assoc (code_of s) (flat_map code_of ss) (replicate padding 1))
-      (symbol_reads s (flat_map code_of ss ++ replicate padding 1) known.0 ∙ ap (option_map (λ xs. s ∷ xs)) (complete ss padding known.1 short))
+    (symbol_reads s (flat_map code_of ss ++ replicate padding 1) known.0 ∙ ap (option_map (λ xs. s ∷ xs)) (complete ss padding known.1 short))
 
 pub symbols_of-sound : (bytes symbols : List ℕ) → symbols_of bytes ≡ Some symbols → IsHuffman bytes symbols
 symbols_of-sound bytes symbols h =

@@ -1,6 +1,7 @@
 pub mod BlockLemmas
 pub mod CodeLemmas
 pub mod EncodeLemmas
+pub mod Examples
 pub mod HuffmanLaws
 pub mod ListLemmas
 pub mod LookupLemmas

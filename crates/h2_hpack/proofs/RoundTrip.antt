@@ -1,19 +1,17 @@
 -- A decoder reads what the encoder writes, whatever its table.
-use Rattle.std.proofs.Common.{◌≡◌, ℕ, zero, suc, ◌+◌, ◌-◌, ◌*◌, ◌/◌, ◌%◌, ◌^◌, ◌<◌, ◌≤◌, Bool, true, false, cond, ◌&&◌, nat_le, nat_lt, List, [], ◌∷◌, ◌++◌, length, take, drop, refl, sym, ◌∙◌, ap, subst, arith, append_assoc, length-append, Option, Some, None, Ok, Err, Result, inl, inr, lit<, lit≤}
-use Rattle.std.specs.Prelude.{option_map, option_and_then, ok_or, bytes_eq, flat_map, slice_get}
+use Rattle.std.proofs.Common.{◌≡◌, ℕ, zero, suc, ◌+◌, ◌-◌, ◌*◌, ◌/◌, ◌%◌, ◌^◌, ◌<◌, ◌≤◌, Bool, true, false, nat_le, List, [], ◌∷◌, ◌++◌, length, take, drop, refl, sym, ◌∙◌, ap, arith, append_assoc, length-append, Option, Some, None, Ok, inl, inr, lit≤}
+use Rattle.std.specs.Prelude.{ok_or, bytes_eq, slice_get}
 use Rattle.std.specs.List.{position_from}
 use Rattle.std.proofs.Math.Nat.{pow-succ'}
 use Rattle.std.proofs.lemmas.Bool.{and_parts, cases_Bool, cases_lt, lt-ltb, le-ltb, le-leb, lt-leb}
 use Rattle.std.proofs.lemmas.List.{append-nil}
 use Rattle.grpc_base.specs.declared.fields.Field.{Field}
-use Rattle.h2_hpack.specs.declared.fault.HpackFault.{HpackFault}
-use Rattle.h2_hpack.specs.declared.fault.HpackFault.TheVariants.{BadIndex, BadInteger, BadHuffman}
-use Rattle.h2_hpack.specs.declared.form.Form.{Form}
+use Rattle.h2_hpack.specs.declared.fault.HpackFault.TheVariants.{BadInteger, BadHuffman}
 use Rattle.h2_hpack.specs.declared.form.Form.TheVariants.{Indexed, Plain}
-use Rattle.h2_hpack.specs.Blocks.{Reading, RawText, and_then, raw_text, raw_text_at, text_of, text_at, name_by, literal_at, indexed_at, index_at, with_field, next_as, reading_from, block_of}
+use Rattle.h2_hpack.specs.Blocks.{and_then, raw_text, raw_text_at, text_of, text_at, literal_at, indexed_at, with_field, next_as, reading_from, block_of}
 use Rattle.h2_hpack.specs.Encoding.{same_name, same_pair, index_where, text_bytes, name_bytes, pair_bytes, field_bytes, block_bytes}
 use Rattle.h2_hpack.specs.Forms.{form_of}
-use Rattle.h2_hpack.specs.Integers.{tail_at, integer_at, tail_bytes, integer_bytes, within_limit}
+use Rattle.h2_hpack.specs.Integers.{tail_at, integer_at, tail_bytes, integer_bytes}
 use Rattle.h2_hpack.specs.StaticTable.{static_table}
 use Rattle.h2_hpack.specs.Tables.{Table, field_at, field_size, list_size, list_limit}
 use Rattle.h2_hpack.proofs.LookupLemmas.{static_length}
@@ -28,11 +26,11 @@ tail_reads zero j n rest within below =
 tail_reads (suc k) zero n rest within below = absurd (omega (arith, within))
 tail_reads (suc k) (suc j) n rest within below =
     elim (cases_lt n 128) [
-      inl small ↦ rw (lt-ltb n 128 small) (rw (lt-ltb n 128 small) refl)
-    | inr large ↦
-        let high : n / 128 < 128 ^ suc k = omega (arith, below, pow-succ' 128 (suc k)) in
-        let whole : n % 128 + 128 - 128 + 128 * (n / 128) ≡ n = omega arith in
-        rw (le-ltb n 128 large) (rw (le-ltb (n % 128 + 128) 128 (omega arith), tail_reads k j (n / 128) rest (omega (arith, within)) high, whole) refl)
+      | inl small ↦ rw (lt-ltb n 128 small) (rw (lt-ltb n 128 small) refl)
+      | inr large ↦
+          let high : n / 128 < 128 ^ suc k = omega (arith, below, pow-succ' 128 (suc k)) in
+          let whole : n % 128 + 128 - 128 + 128 * (n / 128) ≡ n = omega arith in
+          rw (le-ltb n 128 large) (rw (le-ltb (n % 128 + 128) 128 (omega arith), tail_reads k j (n / 128) rest (omega (arith, within)) high, whole) refl)
     ]
 
 -- how an integer is read that was written before some bytes
@@ -48,28 +46,28 @@ pub record IntegerReads (bits mark n : ℕ) (rest : List ℕ) : Type 0 where
 pub integer_reads : (bits mark n : ℕ) (rest : List ℕ) → 1 ≤ 2 ^ bits → 2 ^ bits ≤ 128 → ((k : ℕ) → k < 2 ^ bits → (mark + k) % 2 ^ bits ≡ k) → n ≤ 16777216 → IntegerReads bits mark n rest
 integer_reads bits mark n rest some few low within =
     elim (cases_lt n (2 ^ bits - 1)) [
-      inl small ↦ record {
+      | inl small ↦ record {
         first = mark + n;
         after = rest;
         written = rw (lt-ltb n (2 ^ bits - 1) small) refl;
         read = rw (low n (omega (arith, small)), lt-ltb n (2 ^ bits - 1) small) refl;
         least = omega arith;
         most = omega (arith, small);
-        shorter = omega arith
+        shorter = omega arith;
       }
-    | inr large ↦
-        let full = 2 ^ bits - 1 in
-        let tail : tail_at 5 (tail_bytes 10 (n - (2 ^ bits - 1)) ++ rest) ≡ Some (n - (2 ^ bits - 1), rest) = tail_reads 4 9 (n - (2 ^ bits - 1)) rest (lit≤ tt) (omega (arith, within)) in
-        let whole : (2 ^ bits - 1) + (n - (2 ^ bits - 1)) ≡ n = omega (arith, large) in
-        record {
-          first = mark + (2 ^ bits - 1);
-          after = tail_bytes 10 (n - (2 ^ bits - 1)) ++ rest;
-          written = rw (le-ltb n (2 ^ bits - 1) large) refl;
-          read = rw (low (2 ^ bits - 1) (omega (arith, some)), le-ltb (2 ^ bits - 1) (2 ^ bits - 1) (omega arith), tail, whole, le-leb n 4294967295 (omega (arith, within))) refl;
-          least = omega arith;
-          most = omega (arith, some);
-          shorter = omega (arith, length-append (tail_bytes 10 (n - (2 ^ bits - 1))) rest)
-        }
+      | inr large ↦
+          let full = 2 ^ bits - 1 in
+          let tail : tail_at 5 (tail_bytes 10 (n - (2 ^ bits - 1)) ++ rest) ≡ Some (n - (2 ^ bits - 1), rest) = tail_reads 4 9 (n - (2 ^ bits - 1)) rest (lit≤ tt) (omega (arith, within)) in
+          let whole : (2 ^ bits - 1) + (n - (2 ^ bits - 1)) ≡ n = omega (arith, large) in
+          record {
+            first = mark + (2 ^ bits - 1);
+            after = tail_bytes 10 (n - (2 ^ bits - 1)) ++ rest;
+            written = rw (le-ltb n (2 ^ bits - 1) large) refl;
+            read = rw (low (2 ^ bits - 1) (omega (arith, some)), le-ltb (2 ^ bits - 1) (2 ^ bits - 1) (omega arith), tail, whole, le-leb n 4294967295 (omega (arith, within))) refl;
+            least = omega arith;
+            most = omega (arith, some);
+            shorter = omega (arith, length-append (tail_bytes 10 (n - (2 ^ bits - 1))) rest);
+          }
     ]
 
 seven_bits : (k : ℕ) → k < 2 ^ 7 → (0 + k) % 2 ^ 7 ≡ k
@@ -99,7 +97,7 @@ text_reads text rest within =
     let r = integer_reads 7 0 (length text) (text ++ rest) (lit≤ tt) (lit≤ tt) seven_bits (omega (arith, within)) in
     let low : nat_le 128 r.first ≡ false = lt-leb 128 r.first r.most in
     let raw : raw_text_at (r.first ∷ r.after) ≡ Some (record { huffman = false; bytes = text; rest = rest }) =
-      rw (low, r.read) (raw_reads text rest) in
+    rw (low, r.read) (raw_reads text rest) in
     let all : text_bytes text ++ rest ≡ r.first ∷ r.after = append_assoc (integer_bytes 7 0 (length text)) text rest ∙ r.written in
     rw all (ap (λ o. and_then (ok_or o BadInteger) (λ x. and_then (ok_or (text_of x.huffman x.bytes) BadHuffman) (λ y. Ok (y, x.rest)))) raw)
 
@@ -116,13 +114,13 @@ pub found_at : (test : Field → Bool) (xs : List Field) (from index : ℕ) → 
 found_at test [] from index h = absurd (cc h)
 found_at test (x ∷ xs) from index h =
     elim (cases_Bool (test x)) [
-      inl hit ↦
-        let here : Some from ≡ Some index = rw hit at h in
-        let same : from ≡ index = cc here in
-        record { place = 0; entry = x; index_is = omega (arith, same); there = refl; passed = hit; below = omega arith }
-    | inr miss ↦
-        let r = found_at test xs (from + 1) index (rw miss at h) in
-        record { place = suc r.place; entry = r.entry; index_is = omega (arith, r.index_is); there = r.there; passed = r.passed; below = omega (arith, r.below) }
+      | inl hit ↦
+          let here : Some from ≡ Some index = rw hit at h in
+          let same : from ≡ index = cc here in
+          record { place = 0; entry = x; index_is = omega (arith, same); there = refl; passed = hit; below = omega arith }
+      | inr miss ↦
+          let r = found_at test xs (from + 1) index (rw miss at h) in
+          record { place = suc r.place; entry = r.entry; index_is = omega (arith, r.index_is); there = r.there; passed = r.passed; below = omega (arith, r.below) }
     ]
 
 in_front : (xs ys : List Field) (i : ℕ) (x : Field) → slice_get xs i ≡ Some x → slice_get (xs ++ ys) i ≡ Some x
@@ -148,7 +146,7 @@ static_at test index h =
       index_is = omega (arith, r.index_is);
       low = omega (arith, r.index_is, r.below, static_length);
       passed = r.passed;
-      there = λ t. in_front static_table t.entries r.place r.entry r.there
+      there = λ t. in_front static_table t.entries r.place r.entry r.there;
     }
 
 -- how a field is read that was written before some bytes
@@ -173,7 +171,7 @@ pair_reads t done f rest index found =
       after = r.after;
       written = ap (λ o. pair_bytes f o ++ rest) found ∙ r.written;
       read = rw (form, read) refl;
-      shorter = r.shorter
+      shorter = r.shorter;
     }
   where
     same_field : (e f : Field) → e.name ≡ f.name → e.value ≡ f.value → e ≡ f
@@ -188,23 +186,23 @@ literal_reads t done f rest name_is value_is none None named =
     let value = text_bytes f.value ++ rest in
     let after = text_bytes f.name ++ value in
     let all : field_bytes f ++ rest ≡ 0 ∷ after =
-      ap (λ o. pair_bytes f o ++ rest) none ∙ ap (λ o. name_bytes f.name o ++ text_bytes f.value ++ rest) named
-        ∙ ap (λ x. 0 ∷ x) (append_assoc (text_bytes f.name) (text_bytes f.value) rest) in
+    ap (λ o. pair_bytes f o ++ rest) none ∙ ap (λ o. name_bytes f.name o ++ text_bytes f.value ++ rest) named
+    ∙ ap (λ x. 0 ∷ x) (append_assoc (text_bytes f.name) (text_bytes f.value) rest) in
     let read : literal_at t 4 0 after ≡ Ok (f, rest) = rw (text_reads f.name value name_is, text_reads f.value rest value_is) refl in
     record {
       first = 0;
       after = after;
       written = all;
       read = rw read refl;
-      shorter = omega (arith, length-append (text_bytes f.name) value, length-append (text_bytes f.value) rest)
+      shorter = omega (arith, length-append (text_bytes f.name) value, length-append (text_bytes f.value) rest);
     }
 literal_reads t done f rest name_is value_is none (Some index) named =
     let s = static_at (same_name f.name) index named in
     let value = text_bytes f.value ++ rest in
     let r = integer_reads 4 0 index value (lit≤ tt) (lit≤ tt) four_bits (omega (arith, s.low)) in
     let all : field_bytes f ++ rest ≡ r.first ∷ r.after =
-      ap (λ o. pair_bytes f o ++ rest) none ∙ ap (λ o. name_bytes f.name o ++ text_bytes f.value ++ rest) named
-        ∙ append_assoc (integer_bytes 4 0 index) (text_bytes f.value) rest ∙ r.written in
+    ap (λ o. pair_bytes f o ++ rest) none ∙ ap (λ o. name_bytes f.name o ++ text_bytes f.value ++ rest) named
+    ∙ append_assoc (integer_bytes 4 0 index) (text_bytes f.value) rest ∙ r.written in
     let name : s.entry.name ≡ f.name = list_eq s.entry.name f.name s.passed in
     let form : form_of r.first ≡ Plain = plain_form r.first (omega (arith, r.most)) in
     let read : literal_at t 4 r.first r.after ≡ Ok (f, rest) = rw (r.read, s.index_is, s.there t, name, text_reads f.value rest value_is) refl in
@@ -213,7 +211,7 @@ literal_reads t done f rest name_is value_is none (Some index) named =
       after = r.after;
       written = all;
       read = rw (form, read) refl;
-      shorter = omega (arith, r.shorter, length-append (text_bytes f.value) rest)
+      shorter = omega (arith, r.shorter, length-append (text_bytes f.value) rest);
     }
 
 pub field_reads : (t : Table) (done : List Field) (f : Field) (rest : List ℕ) → field_size f ≤ list_limit → (o : Option ℕ) → index_where (same_pair f.name f.value) ≡ o → FieldReads t done f rest
@@ -232,7 +230,7 @@ list_reads t done (f ∷ fields) most within enough =
     let regroup : (done ++ f ∷ []) ++ fields ≡ done ++ f ∷ fields = append_assoc done (f ∷ []) fields in
     let rest_within : list_size ((done ++ f ∷ []) ++ fields) ≤ list_limit = rw regroup within in
     step r.first r.after most (omega (arith, enough, longer)) (r.read ∙ ap (λ x. and_then x (λ next. Ok (next, block_bytes fields))) one) r.written
-      (λ k bound. list_reads t (done ++ f ∷ []) fields k rest_within (omega (arith, bound, r.shorter)) ∙ ap (λ x. Ok (record { fields = x; table = t })) regroup)
+    (λ k bound. list_reads t (done ++ f ∷ []) fields k rest_within (omega (arith, bound, r.shorter)) ∙ ap (λ x. Ok (record { fields = x; table = t })) regroup)
   where
     step : (first : ℕ) (after : List ℕ) (most : ℕ) → suc (length after) ≤ most → next_as (form_of first) (record { fields = done; table = t }) first after ≡ Ok (record { fields = done ++ f ∷ []; table = t }, block_bytes fields) → block_bytes (f ∷ fields) ≡ first ∷ after → ((k : ℕ) → length after ≤ k → reading_from (block_bytes fields) k (record { fields = done ++ f ∷ []; table = t }) ≡ Ok (record { fields = done ++ f ∷ fields; table = t })) → reading_from (block_bytes (f ∷ fields)) most (record { fields = done; table = t }) ≡ Ok (record { fields = done ++ f ∷ fields; table = t })
     step first after zero bound read written more = absurd (omega (arith, bound))

@@ -1,5 +1,5 @@
 -- Taking the oldest entries off until the rest fits leaves the newest ones that fit.
-use Rattle.std.proofs.Common.{◌≡◌, ℕ, ◌+◌, ◌-◌, ◌<◌, ◌≤◌, List, [], ◌∷◌, ◌++◌, length, refl, ap, arith, inl, inr, cond, nat_lt, nat_le, sym, ◌∙◌, Some, None}
+use Rattle.std.proofs.Common.{◌≡◌, ℕ, ◌+◌, ◌-◌, ◌<◌, ◌≤◌, List, [], ◌∷◌, ◌++◌, refl, ap, arith, inl, inr, cond, nat_le, sym, ◌∙◌, Some, None}
 use Rattle.std.proofs.lemmas.Bool.{cases_lt, lt-ltb, le-ltb, lt-leb, le-leb}
 use Rattle.grpc_base.specs.declared.fields.Field.{Field}
 use Rattle.h2_hpack.specs.Tables.{field_size, list_size, fitting}
@@ -16,8 +16,8 @@ pub fitting-without_last : (room : ℕ) (xs : List Field) (y : Field) → room <
 fitting-without_last room [] y above = rw (lt-ltb room (field_size y) (omega (arith, above))) refl
 fitting-without_last room (f ∷ xs) y above =
     elim (cases_lt room (field_size f)) [
-      inl small ↦ rw (lt-ltb room (field_size f) small) refl
-    | inr fits ↦ rw (le-ltb room (field_size f) fits) (ap (λ l. f ∷ l) (fitting-without_last (room - field_size f) xs y (omega (arith, above, fits))))
+      | inl small ↦ rw (lt-ltb room (field_size f) small) refl
+      | inr fits ↦ rw (le-ltb room (field_size f) fits) (ap (λ l. f ∷ l) (fitting-without_last (room - field_size f) xs y (omega (arith, above, fits))))
     ]
 
 -- the size of the oldest entry is what the others lack
@@ -33,15 +33,15 @@ evicted_one room xs rest before y n is whole above kept =
 pub room_found : (room size left : ℕ) → Some left ≡ cond (nat_le size room) (Some (room - size)) None → (size ≤ room) × (left ≡ room - size)
 room_found room size left h =
     elim (cases_lt room size) [
-      inl small ↦ absurd (cc (rw (lt-leb size room small) at h))
-    | inr fits ↦ (fits, cc (rw (le-leb size room fits) at h))
+      | inl small ↦ absurd (cc (rw (lt-leb size room small) at h))
+      | inr fits ↦ (fits, cc (rw (le-leb size room fits) at h))
     ]
 
 pub no_room : (room size : ℕ) → None ≡ cond (nat_le size room) (Some (room - size)) None → room < size
 no_room room size h =
     elim (cases_lt room size) [
-      inl small ↦ small
-    | inr fits ↦ absurd (cc (rw (le-leb size room fits) at h))
+      | inl small ↦ small
+      | inr fits ↦ absurd (cc (rw (le-leb size room fits) at h))
     ]
 
 -- a field added to the entries that fit beside it

@@ -1,12 +1,12 @@
 -- The walk down the tree gives the symbols of Huffman text.
-use Rattle.std.proofs.Common.{◌≡◌, ℕ, zero, suc, ◌+◌, ◌-◌, ◌<◌, ◌≤◌, Bool, true, false, cond, ◌&&◌, ◌==◌, nat_le, nat_lt, List, [], ◌∷◌, ◌++◌, length, refl, sym, ◌∙◌, ap, subst, arith, append_assoc, Option, Some, None, ◌/◌, ◌%◌, inl, inr, lit<, take, drop, get_or}
-use Rattle.std.specs.Prelude.{option_map, is_none, bytes_eq, find, flat_map, slice_index_or, if◌then◌else◌, IsTrue, not}
+use Rattle.std.proofs.Common.{◌≡◌, ℕ, zero, suc, ◌+◌, ◌-◌, ◌<◌, ◌≤◌, Bool, true, false, cond, ◌&&◌, ◌==◌, nat_le, nat_lt, List, [], ◌∷◌, ◌++◌, length, refl, sym, ◌∙◌, ap, arith, append_assoc, Option, Some, None, ◌/◌, ◌%◌, inl, inr, lit<, take, drop, get_or}
+use Rattle.std.specs.Prelude.{option_map, is_none, bytes_eq, find, flat_map, slice_index_or, not}
 use Rattle.std.specs.List.{AllByRecursion}
 use Rattle.std.proofs.lemmas.List.{append-nil, take_more, take_all, take-append-drop}
 use Rattle.std.proofs.lemmas.Grind.{flat_map-append}
-use Rattle.std.proofs.lemmas.Bool.{agree_below, agree_below_at, and_parts, cond-true, cond-false, eqb-true, ltb-true, ltb-false, cases_Bool, false≢true, eqb-false, ne_eqb, eq-eqb, true≢false, cases_lt, lt-ltb, le-ltb, leb-true}
+use Rattle.std.proofs.lemmas.Bool.{agree_below, agree_below_at, and_parts, eqb-true, ltb-true, cases_Bool, false≢true, ne_eqb, eq-eqb, cases_lt, lt-ltb, le-ltb, leb-true}
 use Rattle.std.proofs.lemmas.Slice.Eq.{bytes_eq-Decides}
-use Rattle.h2_hpack.specs.Huffman.{SymbolCode, symbol_codes, code_lengths, code_with, is_padding, before_rest, symbols_from, symbols_of, byte_bits}
+use Rattle.h2_hpack.specs.Huffman.{SymbolCode, symbol_codes, code_lengths, is_padding, before_rest, symbols_from, symbols_of, byte_bits}
 use Rattle.h2_hpack.specs.Walk.{child_of, to_child, walk, at_end, Place}
 use Rattle.h2_hpack.proofs.Paths.{paths}
 
@@ -69,12 +69,12 @@ to_node bits held out child rest below none is = rw none (rw (← is) (rest out 
 pub to_symbol : (bits out : List ℕ) (child s : ℕ) → RestGives bits → s + 256 ≡ child → s ≤ 256 → at_end (walk_on bits (cond (nat_lt child 512) (Some (out ++ (child - 256) ∷ [], 0)) None)) ≡ option_map (λ ss. out ++ ss) (before_rest s (symbols_from [] bits))
 to_symbol bits out child s rest is within =
     elim (cases_lt s 256) [
-      inl small ↦
-        let there : child - 256 ≡ s = omega arith in
-        let unequal : s ≡ 256 → ⊥ = λ e. omega (arith, e) in
-        rw (lt-ltb child 512 (omega arith), ne_eqb s 256 unequal, there)
+      | inl small ↦
+          let there : child - 256 ≡ s = omega arith in
+          let unequal : s ≡ 256 → ⊥ = λ e. omega (arith, e) in
+          rw (lt-ltb child 512 (omega arith), ne_eqb s 256 unequal, there)
           ((rw path_of_root at (rest (out ++ s ∷ []) 0 (lit< tt))) ∙ map_after out s (symbols_from [] bits))
-    | inr large ↦ rw (le-ltb child 512 (omega arith), eq-eqb s 256 (omega arith)) refl
+      | inr large ↦ rw (le-ltb child 512 (omega arith), eq-eqb s 256 (omega arith)) refl
     ]
 
 on_symbol : (bits held out : List ℕ) (child : ℕ) (code : Option SymbolCode) → RestGives bits → is_child_symbol child code ≡ true → at_end (walk_on bits (cond (nat_lt child 512) (Some (out ++ (child - 256) ∷ [], 0)) None)) ≡ option_map (λ ss. out ++ ss) (read_on held bits code)
@@ -86,10 +86,10 @@ on_symbol bits held out child (Some c) rest right =
 pub one_bit : (bits held out : List ℕ) (child : ℕ) → RestGives bits → leads symbol_codes held child ≡ true → at_end (walk_on bits (to_child out child)) ≡ option_map (λ ss. out ++ ss) (read_on held bits (code_in symbol_codes held))
 one_bit bits held out child rest right =
     elim (cases_Bool (nat_lt child 256)) [
-      inl node ↦
-        let parts = and_parts (is_none (code_in symbol_codes held)) (bytes_eq (path_of child) held) (rw node at right) in
-        rw node (to_node bits held out child rest (ltb-true child 256 node) (some_of_not_none _ parts.0) (list_eq _ _ parts.1))
-    | inr symbol ↦ rw symbol (on_symbol bits held out child (code_in symbol_codes held) rest (rw symbol at right))
+      | inl node ↦
+          let parts = and_parts (is_none (code_in symbol_codes held)) (bytes_eq (path_of child) held) (rw node at right) in
+          rw node (to_node bits held out child rest (ltb-true child 256 node) (some_of_not_none _ parts.0) (list_eq _ _ parts.1))
+      | inr symbol ↦ rw symbol (on_symbol bits held out child (code_in symbol_codes held) rest (rw symbol at right))
     ]
 
 end_of_bits : (out : List ℕ) (padded : Bool) → cond padded (Some out) None ≡ option_map (λ ss. out ++ ss) (cond padded (Some []) None)
@@ -114,8 +114,8 @@ pub record Right (node : ℕ) : Type 0 where
 right_at : (node : ℕ) → node < 256 → Right node
 right_at node below =
     let parts = three_parts (leads symbol_codes (path_of node ++ 0 ∷ []) (child_of node 0)) (leads symbol_codes (path_of node ++ 1 ∷ []) (child_of node 1))
-      (cond (is_padding (path_of node)) (nat_le node 7) (not (nat_le node 7)))
-      (agree_below_at (node_is_right symbol_codes) (λ _. true) 256 node all_right below) in
+    (cond (is_padding (path_of node)) (nat_le node 7) (not (nat_le node 7)))
+    (agree_below_at (node_is_right symbol_codes) (λ _. true) 256 node all_right below) in
     record { left = parts.0; right = parts.1; ends = same_test (is_padding (path_of node)) (nat_le node 7) parts.2 }
 
 child_right : (node b : ℕ) → node < 256 → b < 2 → leads symbol_codes (path_of node ++ b ∷ []) (child_of node b) ≡ true
@@ -140,8 +140,8 @@ pub bits_small : (bytes : List ℕ) → AllByRecursion (λ b. b < 2) (flat_map b
 bits_small [] = tt
 bits_small (b ∷ bytes) =
     all_small-append (byte_bits b) (flat_map byte_bits bytes)
-      (half (b / 128), (half (b / 64), (half (b / 32), (half (b / 16), (half (b / 8), (half (b / 4), (half (b / 2), (half b, tt))))))))
-      (bits_small bytes)
+    (half (b / 128), (half (b / 64), (half (b / 32), (half (b / 16), (half (b / 8), (half (b / 4), (half (b / 2), (half b, tt))))))))
+    (bits_small bytes)
 
 option_map_same : (o : Option (List ℕ)) → option_map (λ ss. [] ++ ss) o ≡ o
 option_map_same None = refl
@@ -170,7 +170,7 @@ pub walk-bad : (bytes : List ℕ) (i : ℕ) (p : Place) → i < length bytes →
 walk-bad bytes i p within before bad =
     let ended : walk (flat_map byte_bits (take (i + 1) bytes)) ([], 0) ≡ None = walk-byte bytes i p within before ∙ bad in
     let whole : walk (flat_map byte_bits (take (i + 1) bytes ++ drop (i + 1) bytes)) ([], 0) ≡ None =
-      rw (flat_map-append byte_bits (take (i + 1) bytes) (drop (i + 1) bytes), walk-append (flat_map byte_bits (take (i + 1) bytes)) (flat_map byte_bits (drop (i + 1) bytes)) ([], 0), ended) refl in
+    rw (flat_map-append byte_bits (take (i + 1) bytes) (drop (i + 1) bytes), walk-append (flat_map byte_bits (take (i + 1) bytes)) (flat_map byte_bits (drop (i + 1) bytes)) ([], 0), ended) refl in
     symbols_of-walk bytes ∙ ap at_end (rw (take-append-drop (i + 1) bytes) at whole)
 
 -- the walk over all bytes

@@ -1,5 +1,5 @@
 -- Header blocks (RFC 7541, sections 3, 5 and 6): what a block says over a table, or its first fault in reading order.
-use Rattle.std.specs.Prelude.{ℕ, zero, suc, ◌+◌, Bool, true, false, not, ◌==◌, nat_le, nat_lt, if◌then◌else◌, List, [], ◌∷◌, ◌++◌, length, take, drop, Option, Some, None, option_and_then, ok_or, Result, Ok, Err}
+use Rattle.std.specs.Prelude.{ℕ, zero, suc, Bool, true, false, nat_le, if◌then◌else◌, List, [], ◌∷◌, ◌++◌, length, take, drop, Option, Some, None, option_and_then, ok_or, Result, Ok, Err}
 use Rattle.grpc_base.specs.declared.fields.Field.{Field}
 use Rattle.h2_hpack.specs.declared.fault.HpackFault.{HpackFault}
 use Rattle.h2_hpack.specs.declared.fault.HpackFault.TheVariants.{BadIndex, BadInteger, BadHuffman, BadSize, TooLong}
@@ -85,8 +85,8 @@ with_field fields f t =
 abbrev pub resized : Reading → ℕ → List ℕ → Result (Reading × List ℕ) HpackFault
 resized r first bytes =
     elim r.fields [
-      [] ↦ and_then (size_at first bytes) λ x. Ok (record { fields = []; table = table_resized r.table x.0 }, x.1)
-    | f ∷ fields ↦ Err BadSize
+      | [] ↦ and_then (size_at first bytes) λ x. Ok (record { fields = []; table = table_resized r.table x.0 }, x.1)
+      | f ∷ fields ↦ Err BadSize
     ]
 
 -- what was read with one form more, and what follows it

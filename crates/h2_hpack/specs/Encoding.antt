@@ -1,6 +1,6 @@
 -- What the encoder writes: an index where the static table has the pair, else a literal that no table gets, with
 -- the lowest static index that has the name, or with the name itself; no Huffman text (RFC 7541, sections 6.1, 6.2.2).
-use Rattle.std.specs.Prelude.{ℕ, zero, suc, ◌+◌, ◌&&◌, Bool, false, List, [], ◌∷◌, ◌++◌, length, flat_map, bytes_eq, Option, Some, None, option_map, unwrap_or, slice_get}
+use Rattle.std.specs.Prelude.{ℕ, ◌&&◌, Bool, false, List, ◌∷◌, ◌++◌, length, flat_map, bytes_eq, Option, Some, None, option_map, unwrap_or, slice_get}
 use Rattle.std.specs.List.{position_from}
 use Rattle.grpc_base.specs.declared.fields.Field.{Field}
 use Rattle.h2_hpack.specs.Integers.{integer_bytes}

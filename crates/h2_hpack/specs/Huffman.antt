@@ -1,5 +1,5 @@
 -- The Huffman code of RFC 7541, section 5.2 and appendix B, from the lengths of its codes alone.
-use Rattle.std.specs.Prelude.{◌≡◌, ◌≤◌, ◌<◌, ℕ, zero, suc, ◌+◌, ◌-◌, ◌*◌, ◌/◌, ◌%◌, ◌^◌, Bool, true, false, ◌&&◌, not, ◌==◌, nat_eq, nat_le, if◌then◌else◌, List, [], ◌∷◌, ◌++◌, length, map, filter, find, flat_map, replicate, Option, Some, None, option_map, unwrap_or, bytes_eq}
+use Rattle.std.specs.Prelude.{◌≡◌, ◌≤◌, ◌<◌, ℕ, zero, suc, ◌+◌, ◌-◌, ◌*◌, ◌/◌, ◌%◌, ◌^◌, Bool, true, false, ◌&&◌, not, ◌==◌, nat_le, if◌then◌else◌, List, [], ◌∷◌, ◌++◌, length, filter, find, flat_map, replicate, Option, Some, None, option_map, unwrap_or, bytes_eq}
 use Rattle.std.specs.List.{list_all, enumerate_from, range_with_len, AllByRecursion}
 
 -- how many bits the code of each symbol has: of 0 to 255, sixteen a line, and of the end of string
@@ -98,8 +98,8 @@ abbrev pub symbols_from : List ℕ → List ℕ → Option (List ℕ)
 symbols_from held [] = if is_padding held then Some [] else None
 symbols_from held (b ∷ bits) =
     elim (code_with (held ++ b ∷ [])) [
-      None ↦ symbols_from (held ++ b ∷ []) bits
-    | Some c ↦ before_rest c.symbol (symbols_from [] bits)
+      | None ↦ symbols_from (held ++ b ∷ []) bits
+      | Some c ↦ before_rest c.symbol (symbols_from [] bits)
     ]
 
 -- the symbols of Huffman text, or none

@@ -21,8 +21,8 @@ abbrev pub walk : List ℕ → Place → Option Place
 walk [] place = Some place
 walk (b ∷ bits) place =
     elim (to_child place.0 (child_of place.1 b)) [
-      None ↦ None
-    | Some next ↦ walk bits next
+      | None ↦ None
+      | Some next ↦ walk bits next
     ]
 
 -- the symbols at the end, where the bits since the last one are padding

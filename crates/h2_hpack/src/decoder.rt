@@ -78,7 +78,13 @@ fn read_block(alloc: Global, table: &mut DynamicTable, block: &[u8]) -> Result<F
 }
 
 /// Reads one form, and gives what follows it.
-fn read_form<'a>(alloc: Global, table: &mut DynamicTable, list: &mut HeaderList, first: u8, bytes: &'a [u8]) -> Result<&'a [u8], HpackFault>
+fn read_form<'a>(
+    alloc: Global,
+    table: &mut DynamicTable,
+    list: &mut HeaderList,
+    first: u8,
+    bytes: &'a [u8],
+) -> Result<&'a [u8], HpackFault>
     ensures ok { IfOk result (λ rest. next_as (form_of first) (record { fields = list.old; table = table.old }) first bytes.now ≡ Ok (record { fields = list.new; table = table.new }, rest.now)) }
     ensures shorter { IfOk result (λ rest. length rest.now ≤ length bytes.now) }
     ensures fault { IfErr result (λ e. e ≢ HpackFault.NoMemory → next_as (form_of first) (record { fields = list.old; table = table.old }) first bytes.now ≡ Err e) }
@@ -92,7 +98,12 @@ fn read_form<'a>(alloc: Global, table: &mut DynamicTable, list: &mut HeaderList,
 }
 
 /// Reads a field by its index.
-fn read_indexed<'a>(table: &DynamicTable, list: &mut HeaderList, first: u8, bytes: &'a [u8]) -> Result<&'a [u8], HpackFault>
+fn read_indexed<'a>(
+    table: &DynamicTable,
+    list: &mut HeaderList,
+    first: u8,
+    bytes: &'a [u8],
+) -> Result<&'a [u8], HpackFault>
     ensures ok { IfOk result (λ rest. next_as Form.Indexed (record { fields = list.old; table = table.now }) first bytes.now ≡ Ok (record { fields = list.new; table = table.now }, rest.now)) }
     ensures shorter { IfOk result (λ rest. length rest.now ≤ length bytes.now) }
     ensures fault { IfErr result (λ e. e ≢ HpackFault.NoMemory → next_as Form.Indexed (record { fields = list.old; table = table.now }) first bytes.now ≡ Err e) }
@@ -103,7 +114,13 @@ fn read_indexed<'a>(table: &DynamicTable, list: &mut HeaderList, first: u8, byte
 }
 
 /// Reads a literal field, and adds it to the table.
-fn read_added<'a>(alloc: Global, table: &mut DynamicTable, list: &mut HeaderList, first: u8, bytes: &'a [u8]) -> Result<&'a [u8], HpackFault>
+fn read_added<'a>(
+    alloc: Global,
+    table: &mut DynamicTable,
+    list: &mut HeaderList,
+    first: u8,
+    bytes: &'a [u8],
+) -> Result<&'a [u8], HpackFault>
     ensures ok { IfOk result (λ rest. next_as Form.Added (record { fields = list.old; table = table.old }) first bytes.now ≡ Ok (record { fields = list.new; table = table.new }, rest.now)) }
     ensures shorter { IfOk result (λ rest. length rest.now ≤ length bytes.now) }
     ensures fault { IfErr result (λ e. e ≢ HpackFault.NoMemory → next_as Form.Added (record { fields = list.old; table = table.old }) first bytes.now ≡ Err e) }
@@ -115,7 +132,13 @@ fn read_added<'a>(alloc: Global, table: &mut DynamicTable, list: &mut HeaderList
 }
 
 /// Reads a literal field that the table does not get.
-fn read_plain<'a>(alloc: Global, table: &DynamicTable, list: &mut HeaderList, first: u8, bytes: &'a [u8]) -> Result<&'a [u8], HpackFault>
+fn read_plain<'a>(
+    alloc: Global,
+    table: &DynamicTable,
+    list: &mut HeaderList,
+    first: u8,
+    bytes: &'a [u8],
+) -> Result<&'a [u8], HpackFault>
     ensures ok { IfOk result (λ rest. next_as Form.Plain (record { fields = list.old; table = table.now }) first bytes.now ≡ Ok (record { fields = list.new; table = table.now }, rest.now)) }
     ensures shorter { IfOk result (λ rest. length rest.now ≤ length bytes.now) }
     ensures fault { IfErr result (λ e. e ≢ HpackFault.NoMemory → next_as Form.Plain (record { fields = list.old; table = table.now }) first bytes.now ≡ Err e) }
@@ -126,7 +149,12 @@ fn read_plain<'a>(alloc: Global, table: &DynamicTable, list: &mut HeaderList, fi
 }
 
 /// Reads a size update, before which no field may stand.
-fn read_size<'a>(table: &mut DynamicTable, list: &HeaderList, first: u8, bytes: &'a [u8]) -> Result<&'a [u8], HpackFault>
+fn read_size<'a>(
+    table: &mut DynamicTable,
+    list: &HeaderList,
+    first: u8,
+    bytes: &'a [u8],
+) -> Result<&'a [u8], HpackFault>
     ensures ok { IfOk result (λ rest. resized (record { fields = list.now; table = table.old }) first bytes.now ≡ Ok (record { fields = list.now; table = table.new }, rest.now)) }
     ensures shorter { IfOk result (λ rest. length rest.now ≤ length bytes.now) }
     ensures fault { IfErr result (λ e. e ≢ HpackFault.NoMemory → resized (record { fields = list.now; table = table.old }) first bytes.now ≡ Err e) }
@@ -137,4 +165,12 @@ fn read_size<'a>(table: &mut DynamicTable, list: &HeaderList, first: u8, bytes: 
     let (limit, rest) = table_size(first, bytes)?;
     table.resize(limit);
     Ok(rest)
+}
+
+#[cfg(test)]
+impl Decoder {
+    /// How many entries the table has, and their size.
+    pub(crate) fn shape(&self) -> (usize, usize) {
+        self.table.shape()
+    }
 }

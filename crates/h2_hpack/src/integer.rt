@@ -7,7 +7,7 @@ use grpc_base::NoMemory;
 
 /// The rest of an integer at the front of some bytes, in at most `most` of them, and what follows it.
 fn tail(bytes: &[u8], most: u32) -> Option<(u64, &[u8])>
-    requires { most ≤ 5 }
+    requires { most ≤ 8 }
     ensures value { option_map (λ x. (x.0, x.1.now)) result ≡ tail_at most bytes.now }
     ensures below { IfSome result (λ x. x.0 < 128 ^ most) }
     ensures shorter { IfSome result (λ x. length x.1.now < length bytes.now) }
@@ -58,7 +58,12 @@ fn prefix_size(bits: u32) -> u8
 }
 
 /// Appends an integer, with `mark` in the bits before its prefix.
-pub(crate) fn put_integer(out: &mut BytesMut, bits: u32, mark: u8, value: u64) -> Result<(), NoMemory>
+pub(crate) fn put_integer(
+    out: &mut BytesMut,
+    bits: u32,
+    mark: u8,
+    value: u64,
+) -> Result<(), NoMemory>
     requires most { bits ≤ 7 }
     requires mark_is { mark + 2 ^ bits ≤ 256 }
     ensures { OnOk result (out.new.items ≡ out.old.items ++ integer_bytes bits mark value) }

@@ -15,9 +15,13 @@ mod nodes;
 mod size;
 mod static_table;
 mod table;
+#[cfg(test)]
+mod tests;
 mod text;
 
 pub use decoder::Decoder;
 pub use encoder::encode_fields;
 pub use fault::HpackFault;
-pub use laws::{blocks_are_read_in_turn, encoding_is_read, huffman_code_is_whole, huffman_text_is_exact};
+pub use laws::{
+    blocks_are_read_in_turn, encoding_is_read, huffman_code_is_whole, huffman_text_is_exact,
+};

@@ -34,7 +34,11 @@ fn field(table: &DynamicTable, index: u64) -> Result<Field, HpackFault>
 }
 
 /// A field by its index, and what follows it (RFC 7541, section 6.1).
-pub(crate) fn indexed<'a>(table: &DynamicTable, first: u8, bytes: &'a [u8]) -> Result<(Field, &'a [u8]), HpackFault>
+pub(crate) fn indexed<'a>(
+    table: &DynamicTable,
+    first: u8,
+    bytes: &'a [u8],
+) -> Result<(Field, &'a [u8]), HpackFault>
     ensures ok { IfOk result (λ x. indexed_at table.now first bytes.now ≡ Ok (x.0, x.1.now)) }
     ensures shorter { IfOk result (λ x. length x.1.now ≤ length bytes.now) }
     ensures fault { IfErr result (λ e. e ≢ HpackFault.NoMemory → indexed_at table.now first bytes.now ≡ Err e) }
@@ -47,7 +51,13 @@ pub(crate) fn indexed<'a>(table: &DynamicTable, first: u8, bytes: &'a [u8]) -> R
 }
 
 /// A literal field, the index of whose name has so many bits, and what follows it (section 6.2).
-pub(crate) fn literal<'a>(alloc: Global, table: &DynamicTable, bits: u32, first: u8, bytes: &'a [u8]) -> Result<(Field, &'a [u8]), HpackFault>
+pub(crate) fn literal<'a>(
+    alloc: Global,
+    table: &DynamicTable,
+    bits: u32,
+    first: u8,
+    bytes: &'a [u8],
+) -> Result<(Field, &'a [u8]), HpackFault>
     requires few { 1 ≤ bits }
     requires most { bits ≤ 7 }
     ensures ok { IfOk result (λ x. literal_at table.now bits first bytes.now ≡ Ok (x.0, x.1.now)) }
@@ -63,7 +73,12 @@ pub(crate) fn literal<'a>(alloc: Global, table: &DynamicTable, bits: u32, first:
 }
 
 /// The name of an index, or the text that follows where that is 0.
-fn name<'a>(alloc: Global, table: &DynamicTable, index: u64, bytes: &'a [u8]) -> Result<(Octets, &'a [u8]), HpackFault>
+fn name<'a>(
+    alloc: Global,
+    table: &DynamicTable,
+    index: u64,
+    bytes: &'a [u8],
+) -> Result<(Octets, &'a [u8]), HpackFault>
     ensures ok { IfOk result (λ x. name_by table.now index bytes.now ≡ Ok (x.0, x.1.now)) }
     ensures shorter { IfOk result (λ x. length x.1.now ≤ length bytes.now) }
     ensures fault { IfErr result (λ e. e ≢ HpackFault.NoMemory → name_by table.now index bytes.now ≡ Err e) }

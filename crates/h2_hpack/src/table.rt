@@ -98,3 +98,11 @@ fn size_taken(entry: Field) -> usize
 {
     size_of_field(&entry)
 }
+
+#[cfg(test)]
+impl DynamicTable {
+    /// How many entries there are, and their size.
+    pub(crate) fn shape(&self) -> (usize, usize) {
+        (self.entries.len(), self.size)
+    }
+}

@@ -1,4 +1,4 @@
-use Rattle.std.proofs.Common.{◌≡◌, sym, ◌∙◌, ap, refl, lit<, Some, None, Err, arith, cond}
+use Rattle.std.proofs.Common.{sym, ◌∙◌, ap, refl, lit<, Err, arith}
 use Rattle.std.proofs.lemmas.Bool.{le-leb, lt-leb}
 use Rattle.h2_hpack.proofs.WalkLemmas.{walk-byte, walk-bad, walk-all}
 use Rattle.h2_hpack.proofs.huffman.decode.Goals as goal
@@ -16,7 +16,7 @@ returns-in-Err-BadHuffman c =
 pub loop-byte-preserved : goal.loop-byte-preserved
 loop-byte-preserved c = record {
   walked = walk-byte c.args.bytes.now c.loop-byte.byte-index (c.loop-byte.symbols.items, c.loop-byte.node) c.loop-byte-test.true c.loop-byte.invariant.walked ∙ c.in-Ok.ensures.on;
-  node_is = c.in-Ok.ensures.node_is
+  node_is = c.in-Ok.ensures.node_is;
 }
 
 pub returns-then-node-le7 : goal.returns-then-node-le7

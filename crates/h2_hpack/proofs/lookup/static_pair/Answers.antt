@@ -1,6 +1,6 @@
-use Rattle.std.proofs.Common.{◌≡◌, sym, ◌∙◌, refl, arith, subst}
+use Rattle.std.proofs.Common.{sym, ◌∙◌, refl}
 use Rattle.h2_hpack.specs.Encoding.{same_pair}
-use Rattle.h2_hpack.proofs.LookupLemmas.{IsSought, sought_here, sought_next, sought_nowhere}
+use Rattle.h2_hpack.proofs.LookupLemmas.{sought_here, sought_next, sought_nowhere}
 use Rattle.h2_hpack.proofs.lookup.static_pair.Goals as goal
 
 pub loop-place-init : goal.loop-place-init

@@ -1,4 +1,4 @@
-use Rattle.std.proofs.Common.{◌≡◌, sym, ◌∙◌, ap, arith}
+use Rattle.std.proofs.Common.{sym, ◌∙◌, arith}
 use Rattle.h2_hpack.proofs.TableLemmas.{fitting-all, last_size, evicted_one}
 use Rattle.h2_hpack.proofs.table.evict.Goals as goal
 
@@ -13,7 +13,7 @@ overflow_sub-size c =
 pub loop-size-preserved : goal.loop-size-preserved
 loop-size-preserved c = record {
   size_is = omega (arith, last_size _ _ _ _ c.loop-size.invariant.size_is c.in-Some.ensures.items, c.size_taken-size.ensures);
-  kept = evicted_one c.args.room _ _ _ _ _ c.loop-size.invariant.size_is c.in-Some.ensures.items c.loop-size-test.true c.loop-size.invariant.kept
+  kept = evicted_one c.args.room _ _ _ _ _ c.loop-size.invariant.size_is c.in-Some.ensures.items c.loop-size-test.true c.loop-size.invariant.kept;
 }
 
 pub returns-clause-kept : goal.returns-clause-kept
