@@ -40,6 +40,15 @@ impl Octets {
         Ok(Octets { shared })
     }
 
+    /// These bytes, which live as long as the program; none is copied.
+    pub fn of_static(bytes: &'static [u8]) -> Octets
+        ensures { result ≡ bytes.now }
+    {
+        Octets {
+            shared: Bytes::from_static(bytes),
+        }
+    }
+
     /// The bytes of this buffer.
     pub fn of_buffer(buffer: BytesMut) -> Result<Octets, NoMemory>
         ensures { IfOk result (λ o. o ≡ buffer.items) }

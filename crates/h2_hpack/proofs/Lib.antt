@@ -1,0 +1,11 @@
+pub mod BlockLemmas
+pub mod CodeLemmas
+pub mod EncodeLemmas
+pub mod Examples
+pub mod HuffmanLaws
+pub mod ListLemmas
+pub mod LookupLemmas
+pub mod Paths
+pub mod RoundTrip
+pub mod TableLemmas
+pub mod WalkLemmas

@@ -1,0 +1,73 @@
+-- An index past the static table is one of the dynamic table.
+use Rattle.std.proofs.Common.{◌≡◌, ℕ, zero, suc, ◌+◌, ◌-◌, ◌<◌, ◌≤◌, List, [], ◌∷◌, ◌++◌, length, refl, ap, sym, ◌∙◌, arith, Some, None, Bool, true, false, cond, drop}
+use Rattle.std.specs.Prelude.{slice_get, option_map, unwrap_or}
+use Rattle.std.specs.List.{position_from}
+use Rattle.std.proofs.lemmas.List.{drop_all}
+use Rattle.h2_hpack.specs.Encoding.{index_where, is_at}
+use Rattle.grpc_base.specs.declared.fields.Field.{Field}
+use Rattle.h2_hpack.specs.StaticTable.{static_table}
+use Rattle.h2_hpack.specs.Tables.{Table, field_at}
+
+pub static_length : length static_table ≡ 61
+unfolding static_table
+static_length = refl
+
+past_end : (xs : List Field) (i : ℕ) → slice_get xs i ≡ None → length xs ≤ i
+past_end [] i h = omega arith
+past_end (x ∷ xs) zero h = absurd (cc h)
+past_end (x ∷ xs) (suc i) h = omega (arith, past_end xs i h)
+
+behind : (xs ys : List Field) (i : ℕ) → length xs ≤ i → slice_get (xs ++ ys) i ≡ slice_get ys (i - length xs)
+behind [] ys i h = ap (slice_get ys) {x = i} {y = i - 0} (omega arith)
+behind (x ∷ xs) ys zero h = absurd (omega (arith, h))
+behind (x ∷ xs) ys (suc i) h = behind xs ys i (omega (arith, h)) ∙ ap (slice_get ys) {x = i - length xs} {y = suc i - suc (length xs)} (omega arith)
+
+pub past_static : (place : ℕ) → slice_get static_table place ≡ None → 61 ≤ place
+past_static place h = omega (arith, past_end static_table place h, static_length)
+
+pub dynamic_at : (t : Table) (index place : ℕ) → place + 1 ≡ index → slice_get static_table place ≡ None → field_at t index ≡ slice_get t.entries (place - 61)
+dynamic_at t zero place is h = absurd (omega (arith, is))
+dynamic_at t (suc i) place is h =
+    let same : i ≡ place = omega (arith, is) in
+    rw same (behind static_table t.entries place (past_end static_table place h) ∙ ap (λ n. slice_get t.entries (place - n)) static_length)
+
+none_past : (xs : List Field) (i : ℕ) → length xs ≤ i → slice_get xs i ≡ None
+none_past [] i h = refl
+none_past (x ∷ xs) zero h = absurd (omega (arith, h))
+none_past (x ∷ xs) (suc i) h = none_past xs i (omega (arith, h))
+
+pub beyond : (place : ℕ) → 61 ≤ place → slice_get static_table place ≡ None
+beyond place h = none_past static_table place (omega (arith, static_length, h))
+
+-- the search for an entry is as far as a place
+abbrev pub IsSought : (Field → Bool) → ℕ → Type 0
+IsSought test place = index_where test ≡ position_from test (place + 1) (drop place static_table)
+
+pub sought_first : (test : Field → Bool) → IsSought test 0
+sought_first test = refl
+
+cut_at : (xs : List Field) (i : ℕ) → i < length xs → (x : Field) × (slice_get xs i ≡ Some x) × (drop i xs ≡ x ∷ drop (i + 1) xs)
+cut_at [] i h = absurd (omega (arith, h))
+cut_at (x ∷ xs) zero h = (x, refl, refl)
+cut_at (x ∷ xs) (suc i) h =
+    let r = cut_at xs i (omega (arith, h)) in
+    let n : suc i + 1 ≡ suc (i + 1) = omega arith in
+    (r.0, r.1, rw n r.2)
+
+one_on : (test : Field → Bool) (place : ℕ) (found : Bool) → place < 61 → IsSought test place → is_at test place ≡ found → index_where test ≡ cond found (Some (place + 1)) (position_from test (place + 1 + 1) (drop (place + 1) static_table))
+one_on test place found below so is =
+    let r = cut_at static_table place (omega (arith, static_length, below)) in
+    let tested : test r.0 ≡ found = sym (ap (λ o. unwrap_or (option_map test o) false) r.1) ∙ is in
+    so ∙ ap (position_from test (place + 1)) r.2 ∙ ap (λ b. cond b (Some (place + 1)) (position_from test (place + 1 + 1) (drop (place + 1) static_table))) tested
+
+pub sought_here : (test : Field → Bool) (place : ℕ) → place < 61 → IsSought test place → is_at test place ≡ true → index_where test ≡ Some (place + 1)
+sought_here test place below so is = one_on test place true below so is
+
+pub sought_next : (test : Field → Bool) (place : ℕ) → place < 61 → IsSought test place → is_at test place ≡ false → IsSought test (place + 1)
+sought_next test place below so is = one_on test place false below so is
+
+nothing_left : (place : ℕ) → 61 ≤ place → drop place static_table ≡ []
+nothing_left place h = drop_all place static_table (omega (arith, static_length, h))
+
+pub sought_nowhere : (test : Field → Bool) (place : ℕ) → 61 ≤ place → IsSought test place → index_where test ≡ None
+sought_nowhere test place h so = so ∙ ap (position_from test (place + 1)) (nothing_left place h)

@@ -1,0 +1,36 @@
+-- What the definitions of this crate promise of each other.
+use Rattle.std.specs.Prelude.{◌≡◌, ◌≤◌, ◌↔◌, ℕ, ◌-◌, ◌^◌, ◌+◌, true, List, [], ◌∷◌, ◌++◌, length, map, replicate, Some, Ok}
+use Rattle.std.specs.List.{range_with_len}
+use Rattle.grpc_base.specs.declared.fields.Field.{Field}
+use Rattle.h2_hpack.specs.Blocks.{block_of, and_then, decoded, fields_in, fields_of_blocks, state_after}
+use Rattle.h2_hpack.specs.Encoding.{block_bytes}
+use Rattle.h2_hpack.specs.Huffman.{SymbolCode, symbol_codes, is_free, of_length, code_of, end_of_string, symbols_of, IsHuffman}
+use Rattle.h2_hpack.specs.Tables.{Table, new_table, list_size, list_limit}
+
+-- the plain program reads a text exactly where it is Huffman text, and reads its symbols
+abbrev pub HuffmanIsExact : Type 0
+HuffmanIsExact = (bytes symbols : List ℕ) → (symbols_of bytes ≡ Some symbols) ↔ IsHuffman bytes symbols
+
+-- what codes take of all bit strings of 30 bits
+abbrev pub share : List SymbolCode → ℕ
+share [] = 0
+share (c ∷ cs) = 2 ^ (30 - length c.bits) + share cs
+
+-- how many codes have 5 bits, 6 bits and so on up to 30
+abbrev pub code_counts : List ℕ
+code_counts = 10 ∷ 26 ∷ 32 ∷ 6 ∷ 0 ∷ 5 ∷ 3 ∷ 2 ∷ 6 ∷ 2 ∷ 3 ∷ 0 ∷ 0 ∷ 0 ∷ 3 ∷ 8 ∷ 13 ∷ 26 ∷ 29 ∷ 12 ∷ 4 ∷ 15 ∷ 19 ∷ 29 ∷ 0 ∷ 4 ∷ []
+
+-- the 257 codes: no one begins another one, together they take all bit strings, and the last one is thirty ones
+pub record CodeIsWhole : Type 0 where
+  pub counts : map (λ n. length (of_length n)) (range_with_len 5 26) ≡ code_counts
+  pub last : code_of end_of_string ≡ replicate 30 1
+  pub free : is_free symbol_codes ≡ true
+  pub complete : share symbol_codes ≡ 2 ^ 30
+
+-- a decoder reads what the encoder writes, whatever its table, which stays as it was
+abbrev pub EncodingIsRead : Type 0
+EncodingIsRead = (t : Table) (fields : List Field) → list_size fields ≤ list_limit → block_of t (block_bytes fields) ≡ Ok (record { fields = fields; table = t })
+
+-- the header lists of all blocks so far and of one more are those so far and what the state after them gives
+abbrev pub BlocksInTurn : Type 0
+BlocksInTurn = (blocks : List (List ℕ)) (block : List ℕ) → fields_of_blocks (blocks ++ block ∷ []) ≡ and_then (fields_of_blocks blocks) (λ lists. and_then (fields_in (decoded (state_after (Ok new_table) blocks) block)) (λ fields. Ok (lists ++ fields ∷ [])))

@@ -1,0 +1,9 @@
+pub mod Blocks
+pub mod Encoding
+pub mod Forms
+pub mod Huffman
+pub mod Integers
+pub mod Laws
+pub mod StaticTable
+pub mod Tables
+pub mod Walk

@@ -1,0 +1,24 @@
+// Laws of the definitions that the contracts cite, each the contract of a call that does nothing.
+ghost use Rattle.h2_hpack.specs.Laws.{HuffmanIsExact, CodeIsWhole, EncodingIsRead, BlocksInTurn};
+
+/// Huffman text is read exactly where its bits are the codes of symbols, joined, before at most seven padding ones
+/// (RFC 7541, section 5.2).
+pub fn huffman_text_is_exact()
+    ensures { HuffmanIsExact }
+{}
+
+/// No code of the Huffman code begins another one, and the code is complete.
+pub fn huffman_code_is_whole()
+    ensures { CodeIsWhole }
+{}
+
+/// What `encode_fields` writes of a list of at most 16,384 is read as that list over any table, which it leaves as
+/// it was.
+pub fn encoding_is_read()
+    ensures { EncodingIsRead }
+{}
+
+/// What a decoder answers to the blocks of a connection, one after the other, are their header lists over one table.
+pub fn blocks_are_read_in_turn()
+    ensures { BlocksInTurn }
+{}
