@@ -1,0 +1,5 @@
+pub mod Tree
+pub mod Numbers
+pub mod Strings
+pub mod Reading
+pub mod Views
