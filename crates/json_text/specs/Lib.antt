@@ -3,3 +3,5 @@ pub mod Numbers
 pub mod Strings
 pub mod Reading
 pub mod Views
+pub mod Decimals
+pub mod Grammar

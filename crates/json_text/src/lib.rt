@@ -1,6 +1,7 @@
 // JSON texts, read exactly or refused with the first fault and its place.
 #![tactic(auto)]
 
+mod decimal;
 mod json;
 mod members;
 mod number;
@@ -8,6 +9,7 @@ mod place;
 mod reader;
 mod string;
 
+pub use decimal::{milli, nanos};
 pub use json::Json;
 pub use members::{Members, is_named, no_members, with_member};
 pub use number::{NumberByte, Part, number_byte};
