@@ -1,1 +1,5 @@
 pub mod Growth
+pub mod Tools
+pub mod Digits
+pub mod Quotes
+pub mod Places
