@@ -3,3 +3,4 @@ pub mod Tools
 pub mod Digits
 pub mod Quotes
 pub mod Places
+pub mod Ends

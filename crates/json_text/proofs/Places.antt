@@ -101,7 +101,7 @@ await_blank (in_object ms name ∷ ps) p b h y =
     (h.0, h.1 ++ b ∷ [], snoc2 p h.0 (123 ∷ h.1) b h.2, h.3, named_blank _ name h.1 b h.4 y)
 
 -- a value is whole
-joined : (p u outer inner : List ℕ) (c : ℕ) → p ≡ outer ++ c ∷ inner → p ++ u ≡ outer ++ c ∷ (inner ++ u)
+pub joined : (p u outer inner : List ℕ) (c : ℕ) → p ≡ outer ++ c ∷ inner → p ++ u ≡ outer ++ c ∷ (inner ++ u)
 joined p u outer inner c e = ap (λ (x : List ℕ). x ++ u) e ∙ append_assoc outer (c ∷ inner) u
 
 pub put_holds : (v : Tree) (ps : List Parent) (p u : List ℕ) → Await ps p → IsValue v u → MayStand v ps
@@ -115,11 +115,11 @@ put_holds v (in_object ms name ∷ ps) p u h is may =
 pub put_kept : (v : Tree) (ps : List Parent) (p q u : List ℕ) → q ≡ p ++ u → Await ps p → IsValue v u → MayStand v ps → Kept q (Ok (put v ps))
 put_kept v ps p q u e h is may = subst (λ (x : List ℕ). Holds (put v ps).stage (put v ps).parents x) (sym e) (put_holds v ps p u h is may)
 
-inside_may : (v : Tree) (ps : List Parent) → IsInside ps → MayStand v ps
+pub inside_may : (v : Tree) (ps : List Parent) → IsInside ps → MayStand v ps
 inside_may v [] h = absurd h
 inside_may v (q ∷ ps) h = tt
 
-object_may : (ms : Members) (ps : List Parent) → MayStand (object ms) ps
+pub object_may : (ms : Members) (ps : List Parent) → MayStand (object ms) ps
 object_may ms [] = tt
 object_may ms (q ∷ ps) = tt
 

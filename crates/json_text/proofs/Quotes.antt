@@ -42,7 +42,7 @@ QuotedGoes t b (next.Goes q) = InQuoted q.spot q.read (t ++ b ∷ [])
 QuotedGoes t b (next.Closed s) = IsString s (34 ∷ (t ++ b ∷ []))
 QuotedGoes t b next.Wrong = Unit {0}
 
-chars_as : (t u : List ℕ) (r s : Read) → t ≡ u → r ≡ s → Chars u s → Chars t r
+pub chars_as : (t u : List ℕ) (r s : Read) → t ≡ u → r ≡ s → Chars u s → Chars t r
 chars_as t u r s e f h = subst (λ (x : List ℕ). Chars x r) (sym e) (subst (λ (q : Read). Chars u q) (sym f) h)
 
 -- a byte that stands for itself between two characters
@@ -85,7 +85,7 @@ hex_begins : HexFits 3 0 (92 ∷ 117 ∷ [])
 hex_begins b₁ d₁ h₁ b₂ d₂ h₂ b₃ d₃ h₃ b₄ d₄ h₄ = (b₁, b₂, b₃, refl, four b₁ d₁ h₁ b₂ d₂ h₂ b₃ d₃ h₃ b₄ d₄ h₄)
 
 -- a letter behind a backslash
-letter : (r : Read) (t u : List ℕ) (b unit : ℕ) → t ≡ u ++ 92 ∷ [] → Chars u r → escape_value b ≡ Some unit → Chars (t ++ b ∷ []) (with_unit r unit)
+pub letter : (r : Read) (t u : List ℕ) (b unit : ℕ) → t ≡ u ++ 92 ∷ [] → Chars u r → escape_value b ≡ Some unit → Chars (t ++ b ∷ []) (with_unit r unit)
 letter r t u b unit e h is =
     chars_as (t ++ b ∷ []) (u ++ spelling (escape b)) (with_unit r unit) (with_unit r unit) (snoc2 t u (92 ∷ []) b e) refl
       (char_after h (escape b) (with_unit r unit) (unit, refl, is))
