@@ -40,38 +40,38 @@ some_digits_snoc (d ∷ ds) b h y = (h.0, digits_snoc ds b h.1 y)
 behind : (t : List ℕ) (b : ℕ) → IsInteger t → PartGoes t b (behind_whole b)
 behind t b whole =
     by_if (PartGoes t b) (b == 46) _ _
-      (λ y. (t, ap (λ (x : ℕ). t ++ x ∷ []) (same b 46 y), whole))
-      (λ n. by_if (PartGoes t b) (is_e b) _ _ (λ y. (t, b, refl, inl whole, y)) (λ m. inl whole))
+    (λ y. (t, ap (λ (x : ℕ). t ++ x ∷ []) (same b 46 y), whole))
+    (λ n. by_if (PartGoes t b) (is_e b) _ _ (λ y. (t, b, refl, inl whole, y)) (λ m. inl whole))
 
 pub part_goes : (p : Part) (t : List ℕ) (b : ℕ) → IsPart p t → PartGoes t b (number_byte p b)
 part_goes part.Minus t b h =
     by_if (PartGoes t b) (b == 48) _ _
-      (λ y. (45 ∷ [], ap₂ (λ (x : List ℕ) (z : ℕ). x ++ z ∷ []) h (same b 48 y), refl))
-      (λ n. by_if (PartGoes t b) (is_digit b) _ _
-        (λ y. (45 ∷ [], b, [], ap (λ (x : List ℕ). x ++ b ∷ []) h, refl, n, y, tt))
-        (λ m. tt))
+    (λ y. (45 ∷ [], ap₂ (λ (x : List ℕ) (z : ℕ). x ++ z ∷ []) h (same b 48 y), refl))
+    (λ n. by_if (PartGoes t b) (is_digit b) _ _
+    (λ y. (45 ∷ [], b, [], ap (λ (x : List ℕ). x ++ b ∷ []) h, refl, n, y, tt))
+    (λ m. tt))
 part_goes part.Zero t b h = behind t b (h.0, 48 ∷ [], h.1, h.2, inl (refl, refl))
 part_goes part.Whole t b h =
     by_if (PartGoes t b) (is_digit b) _ _
-      (λ y. (h.0, h.1, h.2 ++ b ∷ [], snoc2 t h.0 (h.1 ∷ h.2) b h.3, h.4, h.5, h.6, digits_snoc h.2 b h.7 y))
-      (λ n. behind t b (h.0, h.1 ∷ h.2, h.3, h.4, inr (h.5, h.6, h.7)))
+    (λ y. (h.0, h.1, h.2 ++ b ∷ [], snoc2 t h.0 (h.1 ∷ h.2) b h.3, h.4, h.5, h.6, digits_snoc h.2 b h.7 y))
+    (λ n. behind t b (h.0, h.1 ∷ h.2, h.3, h.4, inr (h.5, h.6, h.7)))
 part_goes part.Point t b h =
     by_if (PartGoes t b) (is_digit b) _ _
-      (λ y. (h.0, b ∷ [], snoc2 t h.0 (46 ∷ []) b h.1, h.2, (y, tt)))
-      (λ n. tt)
+    (λ y. (h.0, b ∷ [], snoc2 t h.0 (46 ∷ []) b h.1, h.2, (y, tt)))
+    (λ n. tt)
 part_goes part.Fraction t b h =
     by_if (PartGoes t b) (is_digit b) _ _
-      (λ y. (h.0, h.1 ++ b ∷ [], snoc2 t h.0 (46 ∷ h.1) b h.2, h.3, some_digits_snoc h.1 b h.4 y))
-      (λ n. by_if (PartGoes t b) (is_e b) _ _
-        (λ y. (t, b, refl, inr h, y))
-        (λ m. inr h))
+    (λ y. (h.0, h.1 ++ b ∷ [], snoc2 t h.0 (46 ∷ h.1) b h.2, h.3, some_digits_snoc h.1 b h.4 y))
+    (λ n. by_if (PartGoes t b) (is_e b) _ _
+    (λ y. (t, b, refl, inr h, y))
+    (λ m. inr h))
 part_goes part.Mark t b h =
     by_if (PartGoes t b) (is_sign b) _ _
-      (λ y. (h.0, h.1, b, snoc2 t h.0 (h.1 ∷ []) b h.2, h.3, h.4, y))
-      (λ n. by_if (PartGoes t b) (is_digit b) _ _
-        (λ y. (h.0, h.1, [], b ∷ [], snoc2 t h.0 (h.1 ∷ []) b h.2, h.3, h.4, tt, (y, tt)))
-        (λ m. tt))
+    (λ y. (h.0, h.1, b, snoc2 t h.0 (h.1 ∷ []) b h.2, h.3, h.4, y))
+    (λ n. by_if (PartGoes t b) (is_digit b) _ _
+    (λ y. (h.0, h.1, [], b ∷ [], snoc2 t h.0 (h.1 ∷ []) b h.2, h.3, h.4, tt, (y, tt)))
+    (λ m. tt))
 part_goes part.Sign t b h =
     by_if (PartGoes t b) (is_digit b) _ _
-      (λ y. (h.0, h.1, h.2 ∷ [], b ∷ [], snoc2 t h.0 (h.1 ∷ h.2 ∷ []) b h.3, h.4, h.5, h.6, (y, tt)))
-      (λ n. tt)
+    (λ y. (h.0, h.1, h.2 ∷ [], b ∷ [], snoc2 t h.0 (h.1 ∷ h.2 ∷ []) b h.3, h.4, h.5, h.6, (y, tt)))
+    (λ n. tt)

@@ -6,7 +6,7 @@ use Rattle.json_text.specs.Tree.{Tree, null, boolean, number, string, list, obje
 use Rattle.json_text.specs.Numbers.{is_digit}
 use Rattle.json_text.specs.Strings.{is_between, settled, with_unit, nothing_read}
 use Rattle.json_text.specs.Reading.{Parent, in_list, in_object, Stage, at_top, at_first_value, at_value, at_first_name, at_name, at_colon, after_item, after_member, in_word, in_number, in_string, in_name, at_end, State}
-use Rattle.json_text.specs.Grammar.{IsBlank, IsDigits, AreDigits, IsMinus, IsInteger, IsPlain, HasExponent, IsNumber, standing, escape, unicode, spelling, Chars, no_chars, char_after, IsString, Ended, Comma, Named, IsValue, InList, BeforeItem, InObject, BeforeName, IsObject, IsText}
+use Rattle.json_text.specs.Grammar.{IsBlank, IsDigits, AreDigits, IsMinus, IsInteger, IsPlain, HasExponent, IsNumber, standing, escape, unicode, spelling, Chars, no_chars, char_after, IsString, Ended, Comma, Named, IsValue, InList, BeforeItem, InObject, BeforeName, IsObject, IsText, CanEnd}
 use Rattle.json_text.specs.declared.number.Part.{Part}
 use Rattle.json_text.specs.declared.number.Part.TheVariants as part
 use Rattle.json_text.specs.declared.string.Read.{Read}
@@ -17,10 +17,6 @@ use Rattle.json_text.proofs.Digits.{IsPart}
 use Rattle.json_text.proofs.Quotes.{InQuoted, Fits, HexFits, chars_as, letter}
 use Rattle.json_text.proofs.Places.{IsInside, Await, MayStand, Holds, inside_may, object_may, joined}
 
--- some further bytes make a JSON text of these
-abbrev pub CanEnd : List ℕ → Type 0
-CanEnd p = (more : List ℕ) × (v : Tree) × IsText v (p ++ more)
-
 -- where more bytes can end, fewer can
 before : (p x q : List ℕ) → p ++ x ≡ q → CanEnd q → CanEnd p
 before p x q e h = (x ++ h.0, h.1, subst (IsText h.1) (ap (λ (y : List ℕ). y ++ h.0) (sym e) ∙ append_assoc p x h.0) h.2)
@@ -30,12 +26,12 @@ value_ends : (ps : List Parent) (v : Tree) (p u : List ℕ) → Await ps p → I
 value_ends [] v p u h is may = ([], v, ((p, u, [], append_assoc p u [], h, is, tt), may))
 value_ends (in_list items ∷ ps) v p u h is may =
     before (p ++ u) (93 ∷ []) (h.0 ++ 91 ∷ ((h.1 ++ u) ++ 93 ∷ [])) (snoc2 (p ++ u) h.0 (91 ∷ (h.1 ++ u)) 93 (joined p u h.0 h.1 91 h.2))
-      (value_ends ps (list (item_after items v)) h.0 (91 ∷ ((h.1 ++ u) ++ 93 ∷ [])) h.3
-        (h.1 ++ u, refl, (h.1, u, [], ap (λ (x : List ℕ). h.1 ++ x) (append_nil u), h.4, is, tt)) (inside_may (list (item_after items v)) ps h.5))
+    (value_ends ps (list (item_after items v)) h.0 (91 ∷ ((h.1 ++ u) ++ 93 ∷ [])) h.3
+    (h.1 ++ u, refl, (h.1, u, [], ap (λ (x : List ℕ). h.1 ++ x) (append_nil u), h.4, is, tt)) (inside_may (list (item_after items v)) ps h.5))
 value_ends (in_object ms name ∷ ps) v p u h is may =
     before (p ++ u) (125 ∷ []) (h.0 ++ 123 ∷ ((h.1 ++ u) ++ 125 ∷ [])) (snoc2 (p ++ u) h.0 (123 ∷ (h.1 ++ u)) 125 (joined p u h.0 h.1 123 h.2))
-      (value_ends ps (object (member_after ms name v)) h.0 (123 ∷ ((h.1 ++ u) ++ 125 ∷ [])) h.3
-        (h.1 ++ u, refl, (h.1, u, [], ap (λ (x : List ℕ). h.1 ++ x) (append_nil u), h.4, is, tt)) (object_may (member_after ms name v) ps))
+    (value_ends ps (object (member_after ms name v)) h.0 (123 ∷ ((h.1 ++ u) ++ 125 ∷ [])) h.3
+    (h.1 ++ u, refl, (h.1, u, [], ap (λ (x : List ℕ). h.1 ++ x) (append_nil u), h.4, is, tt)) (object_may (member_after ms name v) ps))
 
 -- a number
 abbrev Whole : List ℕ → Type 0
@@ -66,8 +62,8 @@ closes_before t b h = (b ∷ h.0, h.1, subst (λ (x : List ℕ). IsString h.1 (3
 tail_ends : (more low high : ℕ) (t u part : List ℕ) (q : Read) → t ≡ u ++ part → Chars u q → is_between low high low ≡ true → Fits low high more part → Closes t
 tail_ends zero low high t u part q e h first fits =
     closes_before t low (closes (t ++ low ∷ []) (record { text = settled q ++ (part ++ low ∷ []); high = None })
-      (chars_as (t ++ low ∷ []) (u ++ (part ++ low ∷ [])) _ (record { text = settled q ++ (part ++ low ∷ []); high = None }) (snoc2 t u part low e) refl
-        (char_after h (standing (part ++ low ∷ [])) _ (refl, fits low first))))
+    (chars_as (t ++ low ∷ []) (u ++ (part ++ low ∷ [])) _ (record { text = settled q ++ (part ++ low ∷ []); high = None }) (snoc2 t u part low e) refl
+    (char_after h (standing (part ++ low ∷ [])) _ (refl, fits low first))))
 tail_ends (suc m) low high t u part q e h first fits =
     closes_before t low (tail_ends m 128 191 (t ++ low ∷ []) u (part ++ low ∷ []) q (snoc2 t u part low e) h refl (fits low first))
 
@@ -75,8 +71,8 @@ hex_ends : (left value : ℕ) (t u part : List ℕ) (r : Read) → t ≡ u ++ pa
 hex_ends zero value t u part r e h fits =
     let last = fits 48 0 refl in
     closes_before t 48 (closes (t ++ 48 ∷ []) (with_unit r ((value * 16 + 0) % 65536))
-      (chars_as (t ++ 48 ∷ []) (u ++ spelling (unicode last.0 last.1 last.2 48)) _ _ (snoc2 t u part 48 e ∙ ap (λ (x : List ℕ). u ++ x) last.3) refl
-        (char_after h (unicode last.0 last.1 last.2 48) _ ((value * 16 + 0) % 65536, refl, last.4))))
+    (chars_as (t ++ 48 ∷ []) (u ++ spelling (unicode last.0 last.1 last.2 48)) _ _ (snoc2 t u part 48 e ∙ ap (λ (x : List ℕ). u ++ x) last.3) refl
+    (char_after h (unicode last.0 last.1 last.2 48) _ ((value * 16 + 0) % 65536, refl, last.4))))
 hex_ends (suc m) value t u part r e h fits =
     closes_before t 48 (hex_ends m ((value * 16 + 0) % 65536) (t ++ 48 ∷ []) u (part ++ 48 ∷ []) r (snoc2 t u part 48 e) h (fits 48 0 refl))
 
@@ -93,26 +89,29 @@ await_ends ps p h = before p (123 ∷ 125 ∷ []) _ refl (value_ends ps (object 
 -- a place before a colon
 colon_ends : (ms : Members) (name : List ℕ) (ps : List Parent) (p : List ℕ) → Holds at_colon (in_object ms name ∷ ps) p → CanEnd p
 colon_ends ms name ps p h =
-    before p (58 ∷ []) (p ++ 58 ∷ []) refl (await_ends (in_object ms name ∷ ps) (p ++ 58 ∷ [])
-      (h.0, h.1 ++ (h.2 ++ (h.3 ++ 58 ∷ [])),
-        snoc2 p h.0 (123 ∷ (h.1 ++ (h.2 ++ h.3))) 58 h.4 ∙ ap (λ (x : List ℕ). h.0 ++ 123 ∷ x) (snoc3 (h.1 ++ (h.2 ++ h.3)) h.1 h.2 h.3 58 refl),
-        h.5, (h.1, h.2, h.3, [], refl, h.6, h.7, h.8, tt)))
+    before p (58 ∷ []) (p ++ 58 ∷ []) refl (await_ends (in_object ms name ∷ ps) (p ++ 58 ∷ []) (
+      h.0,
+      h.1 ++ (h.2 ++ (h.3 ++ 58 ∷ [])),
+      snoc2 p h.0 (123 ∷ (h.1 ++ (h.2 ++ h.3))) 58 h.4 ∙ ap (λ (x : List ℕ). h.0 ++ 123 ∷ x) (snoc3 (h.1 ++ (h.2 ++ h.3)) h.1 h.2 h.3 58 refl),
+      h.5,
+      (h.1, h.2, h.3, [], refl, h.6, h.7, h.8, tt),
+    ))
 
 name_ends : (ms : Members) (ps : List Parent) (p outer f t : List ℕ) → p ≡ outer ++ (123 ∷ (f ++ 34 ∷ t)) → Await ps outer → BeforeName ms f → Closes t → CanEnd p
 name_ends ms ps p outer f t e h is c =
     let whole : List ℕ = outer ++ (123 ∷ (f ++ 34 ∷ (t ++ c.0))) in
     before p c.0 whole (ap (λ (x : List ℕ). x ++ c.0) e ∙ append_assoc outer (123 ∷ (f ++ 34 ∷ t)) c.0 ∙ ap (λ (x : List ℕ). outer ++ 123 ∷ x) (append_assoc f (34 ∷ t) c.0))
-      (colon_ends ms c.1 ps whole (outer, f, 34 ∷ (t ++ c.0), [], ap (λ (x : List ℕ). outer ++ (123 ∷ (f ++ x))) (append_nil (34 ∷ (t ++ c.0))), h, is, c.2, tt))
+    (colon_ends ms c.1 ps whole (outer, f, 34 ∷ (t ++ c.0), [], ap (λ (x : List ℕ). outer ++ (123 ∷ (f ++ x))) (append_nil (34 ∷ (t ++ c.0))), h, is, c.2, tt))
 
 closed_list : (items : Items) (ps : List Parent) (p outer inner : List ℕ) → p ≡ outer ++ 91 ∷ inner → Await ps outer → InList items inner → IsInside ps → CanEnd p
 closed_list items ps p outer inner e h is i =
     before p (93 ∷ []) (outer ++ 91 ∷ (inner ++ 93 ∷ [])) (snoc2 p outer (91 ∷ inner) 93 e)
-      (value_ends ps (list items) outer (91 ∷ (inner ++ 93 ∷ [])) h (inner, refl, is) (inside_may (list items) ps i))
+    (value_ends ps (list items) outer (91 ∷ (inner ++ 93 ∷ [])) h (inner, refl, is) (inside_may (list items) ps i))
 
 closed_object : (ms : Members) (ps : List Parent) (p outer inner : List ℕ) → p ≡ outer ++ 123 ∷ inner → Await ps outer → InObject ms inner → CanEnd p
 closed_object ms ps p outer inner e h is =
     before p (125 ∷ []) (outer ++ 123 ∷ (inner ++ 125 ∷ [])) (snoc2 p outer (123 ∷ inner) 125 e)
-      (value_ends ps (object ms) outer (123 ∷ (inner ++ 125 ∷ [])) h (inner, refl, is) (object_may ms ps))
+    (value_ends ps (object ms) outer (123 ∷ (inner ++ 125 ∷ [])) h (inner, refl, is) (object_may ms ps))
 
 pub holds_ends : (stage : Stage) (ps : List Parent) (p : List ℕ) → Holds stage ps p → CanEnd p
 holds_ends at_top ps p h = await_ends ps p h
@@ -121,7 +120,7 @@ holds_ends at_value ps p h = await_ends ps p h.0
 holds_ends at_first_name ps p h = closed_object no_members ps p h.0 h.1 h.2 h.3 h.4
 holds_ends (at_name ms) ps p h =
     before p (34 ∷ []) (p ++ 34 ∷ []) refl
-      (name_ends ms ps (p ++ 34 ∷ []) h.0 h.1 [] (snoc2 p h.0 (123 ∷ h.1) 34 h.2) h.3 h.4 (closes [] nothing_read no_chars))
+    (name_ends ms ps (p ++ 34 ∷ []) h.0 h.1 [] (snoc2 p h.0 (123 ∷ h.1) 34 h.2) h.3 h.4 (closes [] nothing_read no_chars))
 holds_ends at_colon [] p h = absurd h
 holds_ends at_colon (in_list items ∷ ps) p h = absurd h
 holds_ends at_colon (in_object ms name ∷ ps) p h = colon_ends ms name ps p h
@@ -129,14 +128,14 @@ holds_ends (after_item items) ps p h = closed_list items ps p h.0 h.1 h.2 h.3 h.
 holds_ends (after_member ms) ps p h = closed_object ms ps p h.0 h.1 h.2 h.3 h.4
 holds_ends (in_word c cs v) ps p h =
     before p (c ∷ cs) (h.0 ++ (h.1 ++ c ∷ cs)) (ap (λ (x : List ℕ). x ++ c ∷ cs) h.2 ∙ append_assoc h.0 h.1 (c ∷ cs))
-      (value_ends ps v h.0 (h.1 ++ c ∷ cs) h.3 h.4 (inside_may v ps h.5))
+    (value_ends ps v h.0 (h.1 ++ c ∷ cs) h.3 h.4 (inside_may v ps h.5))
 holds_ends (in_number q start t) ps p h =
     let w = number_ends q t h.3 in
     before p w.0 (h.0 ++ (t ++ w.0)) (ap (λ (x : List ℕ). x ++ w.0) h.1 ∙ append_assoc h.0 t w.0)
-      (value_ends ps (number (t ++ w.0)) h.0 (t ++ w.0) h.2 (refl, w.1) (inside_may (number (t ++ w.0)) ps h.4))
+    (value_ends ps (number (t ++ w.0)) h.0 (t ++ w.0) h.2 (refl, w.1) (inside_may (number (t ++ w.0)) ps h.4))
 holds_ends (in_string q) ps p h =
     let c = quoted_ends q.spot q.read h.1 h.4 in
     before p c.0 (h.0 ++ 34 ∷ (h.1 ++ c.0)) (ap (λ (x : List ℕ). x ++ c.0) h.2 ∙ append_assoc h.0 (34 ∷ h.1) c.0)
-      (value_ends ps (string c.1) h.0 (34 ∷ (h.1 ++ c.0)) h.3 c.2 (inside_may (string c.1) ps h.5))
+    (value_ends ps (string c.1) h.0 (34 ∷ (h.1 ++ c.0)) h.3 c.2 (inside_may (string c.1) ps h.5))
 holds_ends (in_name ms start q) ps p h = name_ends ms ps p h.0 h.1 h.2 h.3 h.4 h.5 (quoted_ends q.spot q.read h.2 h.6)
 holds_ends (at_end v) ps p h = ([], v, subst (IsText v) (append_nil p) h)

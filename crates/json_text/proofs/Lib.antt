@@ -4,3 +4,4 @@ pub mod Digits
 pub mod Quotes
 pub mod Places
 pub mod Ends
+pub mod Runs

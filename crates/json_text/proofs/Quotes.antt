@@ -88,7 +88,7 @@ hex_begins b₁ d₁ h₁ b₂ d₂ h₂ b₃ d₃ h₃ b₄ d₄ h₄ = (b₁, 
 pub letter : (r : Read) (t u : List ℕ) (b unit : ℕ) → t ≡ u ++ 92 ∷ [] → Chars u r → escape_value b ≡ Some unit → Chars (t ++ b ∷ []) (with_unit r unit)
 letter r t u b unit e h is =
     chars_as (t ++ b ∷ []) (u ++ spelling (escape b)) (with_unit r unit) (with_unit r unit) (snoc2 t u (92 ∷ []) b e) refl
-      (char_after h (escape b) (with_unit r unit) (unit, refl, is))
+    (char_after h (escape b) (with_unit r unit) (unit, refl, is))
 
 by_both : {A B : Type 0} (P : A → B → Type 0) (c : Bool) (x y : A) (v w : B) → (c ≡ true → P x v) → (c ≡ false → P y w)
     → P (if c then x else y) (if c then v else w)
@@ -105,8 +105,8 @@ escaped r t u b e h =
     by_both P (b == 114) _ _ _ _ (λ _ is. letter r t u b 13 e h is) (λ _.
     by_both P (b == 116) _ _ _ _ (λ _ is. letter r t u b 9 e h is) (λ _ is.
     by_if (λ (s : StringByte). QuotedGoes t b (next_by r b s)) (b == 117) _ _
-      (λ y. (u, 92 ∷ 117 ∷ [], snoc2 t u (92 ∷ []) b e ∙ ap (λ (x : ℕ). u ++ 92 ∷ x ∷ []) (same b 117 y), h, hex_begins))
-      (λ n. tt))))))) refl
+    (λ y. (u, 92 ∷ 117 ∷ [], snoc2 t u (92 ∷ []) b e ∙ ap (λ (x : ℕ). u ++ 92 ∷ x ∷ []) (same b 117 y), h, hex_begins))
+    (λ n. tt))))))) refl
 
 tail_read : (q r : Read) (part : List ℕ) (b : ℕ) → r ≡ record { text = settled q ++ part; high = None }
     → with_byte r b ≡ record { text = settled q ++ (part ++ b ∷ []); high = None }
@@ -120,17 +120,17 @@ tail_goes : (low high more : ℕ) (r : Read) (t : List ℕ) (b : ℕ) → InQuot
     → QuotedGoes t b (next_by r b (tail_byte low high more b))
 tail_goes low high zero r t b h =
     by_if (λ (s : StringByte). QuotedGoes t b (next_by r b s)) (is_between low high b) _ _
-      (λ y. chars_as (t ++ b ∷ []) (h.0 ++ (h.1 ++ b ∷ [])) (with_byte r b) _ (snoc2 t h.0 h.1 b h.3) (tail_read h.2 r h.1 b h.5)
-        (char_after h.4 (standing (h.1 ++ b ∷ [])) _ (refl, h.7 b y)))
-      (λ n. tt)
+    (λ y. chars_as (t ++ b ∷ []) (h.0 ++ (h.1 ++ b ∷ [])) (with_byte r b) _ (snoc2 t h.0 h.1 b h.3) (tail_read h.2 r h.1 b h.5)
+    (char_after h.4 (standing (h.1 ++ b ∷ [])) _ (refl, h.7 b y)))
+    (λ n. tt)
 tail_goes low high (suc m) r t b h =
     by_if (λ (s : StringByte). QuotedGoes t b (next_by r b s)) (is_between low high b) _ _
-      (λ y. by_if (λ (s : StringByte). QuotedGoes t b (next_by r b s)) (suc m == 0) _ _
-        (λ z. absurd (grind (arith, nat_tests)))
-        (λ n. let less : m ≡ suc m - 1 = omega arith in
-          subst (λ (k : ℕ). QuotedGoes t b (next_by r b (byte.Plain (spot.Tail 128 191 k)))) less
-            (h.0, h.1 ++ b ∷ [], h.2, snoc2 t h.0 h.1 b h.3, h.4, tail_read h.2 r h.1 b h.5, refl, h.7 b y)))
-      (λ n. tt)
+    (λ y. by_if (λ (s : StringByte). QuotedGoes t b (next_by r b s)) (suc m == 0) _ _
+    (λ z. absurd (grind (arith, nat_tests)))
+    (λ n. let less : m ≡ suc m - 1 = omega arith in
+    subst (λ (k : ℕ). QuotedGoes t b (next_by r b (byte.Plain (spot.Tail 128 191 k)))) less
+    (h.0, h.1 ++ b ∷ [], h.2, snoc2 t h.0 h.1 b h.3, h.4, tail_read h.2 r h.1 b h.5, refl, h.7 b y)))
+    (λ n. tt)
 
 hex_goes : (left value : ℕ) (r : Read) (t : List ℕ) (b : ℕ) (o : Option ℕ) → hex_digit b ≡ o → InQuoted (spot.Hex left value) r t
     → QuotedGoes t b (next_by r b (hex_byte left value o))
@@ -138,14 +138,14 @@ hex_goes left value r t b None is h = tt
 hex_goes zero value r t b (Some d) is h =
     let last = h.4 b d is in
     chars_as (t ++ b ∷ []) (h.0 ++ spelling (unicode last.0 last.1 last.2 b)) _ _
-      (snoc2 t h.0 h.1 b h.2 ∙ ap (λ (x : List ℕ). h.0 ++ x) last.3) refl
-      (char_after h.3 (unicode last.0 last.1 last.2 b) _ ((value * 16 + d) % 65536, refl, last.4))
+    (snoc2 t h.0 h.1 b h.2 ∙ ap (λ (x : List ℕ). h.0 ++ x) last.3) refl
+    (char_after h.3 (unicode last.0 last.1 last.2 b) _ ((value * 16 + d) % 65536, refl, last.4))
 hex_goes (suc m) value r t b (Some d) is h =
     by_if (λ (s : StringByte). QuotedGoes t b (next_by r b s)) (suc m == 0) _ _
-      (λ z. absurd (grind (arith, nat_tests)))
-      (λ n. let less : m ≡ suc m - 1 = omega arith in
-        subst (λ (k : ℕ). QuotedGoes t b (next_by r b (byte.Inside (spot.Hex k ((value * 16 + d) % 65536))))) less
-          (h.0, h.1 ++ b ∷ [], snoc2 t h.0 h.1 b h.2, h.3, h.4 b d is))
+    (λ z. absurd (grind (arith, nat_tests)))
+    (λ n. let less : m ≡ suc m - 1 = omega arith in
+    subst (λ (k : ℕ). QuotedGoes t b (next_by r b (byte.Inside (spot.Hex k ((value * 16 + d) % 65536))))) less
+    (h.0, h.1 ++ b ∷ [], snoc2 t h.0 h.1 b h.2, h.3, h.4 b d is))
 
 pub quoted_goes : (s : Spot) (r : Read) (t : List ℕ) (b : ℕ) → InQuoted s r t → QuotedGoes t b (next_by r b (string_byte s b))
 quoted_goes spot.Between r t b h =

@@ -163,9 +163,13 @@ abbrev mutual
       Comma (λ f. Ended (λ g. Named (λ h. BeforeName members h) name g) (λ u. IsValue v u) f) t
 
 abbrev pub IsObject : Tree → Type 0
-IsObject (object members) = Unit {0}
+IsObject (object ms) = Unit {0}
 IsObject v = ⊥
 
 -- A JSON text with an object at its top.
 abbrev pub IsText : Tree → List ℕ → Type 0
 IsText v t = Ended IsBlank (IsValue v) t × IsObject v
+
+-- The front of a JSON text: some further bytes make one of these.
+abbrev pub CanEnd : List ℕ → Type 0
+CanEnd p = (more : List ℕ) × (v : Tree) × IsText v (p ++ more)

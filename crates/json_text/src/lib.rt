@@ -6,13 +6,10 @@ mod json;
 mod members;
 mod number;
 mod place;
+mod read;
 mod reader;
 mod string;
 
 pub use decimal::{milli, nanos};
 pub use json::Json;
-pub use members::{Members, is_named, no_members, with_member};
-pub use number::{NumberByte, Part, number_byte};
-pub use place::{Parent, Place, Reader};
-pub use reader::read_json;
-pub use string::{Quoted, QuotedNext, Read, Spot, StringByte, string_byte};
+pub use read::read_json;

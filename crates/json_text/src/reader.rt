@@ -413,7 +413,7 @@ fn name_byte(
 }
 
 /// One byte more of a text, which has this place in it.
-fn step(alloc: Global, reader: Reader, at: u64, byte: u8) -> Result<Reader, JsonFault>
+pub fn step(alloc: Global, reader: Reader, at: u64, byte: u8) -> Result<Reader, JsonFault>
     ensures { Gives state_of result (step at (state_of reader) byte) }
 {
     let Reader { place, parents } = reader;
@@ -440,38 +440,4 @@ fn step(alloc: Global, reader: Reader, at: u64, byte: u8) -> Result<Reader, Json
         } => name_byte(at, members, start, quoted, parents, byte),
         Place::End(value) => end_byte(at, value, parents, byte),
     }
-}
-
-const MOST_BYTES: usize = 65536;
-
-/// Reads a JSON text with an object at its top, or tells its first fault.
-#[tactic(auto, unfolding(crate::specs::Reading::reading))]
-pub fn read_json(alloc: Global, bytes: &[u8]) -> Result<Json, JsonFault>
-    ensures exact { Gives tree_of result (reading bytes.now) }
-{
-    if bytes.len() > MOST_BYTES {
-        return Err(JsonFault::TooLong);
-    }
-    let Reader { place, parents: _ } = read_all(alloc, bytes)?;
-    match place {
-        Place::End(value) => Ok(value),
-        _ => Err(JsonFault::Syntax {
-            at: bytes.len() as u64,
-        }),
-    }
-}
-
-/// The place behind all of these bytes.
-fn read_all(alloc: Global, bytes: &[u8]) -> Result<Reader, JsonFault>
-    requires { length bytes.now ≤ 65536 }
-    ensures { Gives state_of result (run 0 at_start bytes.now) }
-{
-    let mut reader = Reader {
-        place: Place::Top,
-        parents: Vec::new(alloc),
-    };
-    for (at, byte) in bytes.iter().enumerate() {
-        reader = step(alloc, reader, at as u64, *byte)?;
-    }
-    Ok(reader)
 }
