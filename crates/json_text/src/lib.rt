@@ -13,3 +13,6 @@ mod string;
 pub use decimal::{milli, nanos};
 pub use json::Json;
 pub use read::read_json;
+
+#[cfg(test)]
+mod tests;
