@@ -3,7 +3,7 @@ ghost use Rattle.std.specs.Prelude.{◌≡◌, IfOk};
 ghost use Rattle.grpc_base.specs.Conns.{conn_number};
 
 use crate::{Address, AddressList, Code, Metadata, Moment, NoMemory, Octets, Request, Text};
-use std::alloc::Global;
+use std::alloc::{AllocError, AllocFailed, Global};
 
 /// A connectivity state ("gRPC Connectivity Semantics and API").
 #[derive(Clone, Copy, Debug, PartialEq, Eq)]
@@ -65,6 +65,39 @@ pub enum JsonFault {
     TooLong,
     /// Out of memory.
     NoMemory,
+}
+
+impl From<NoMemory> for JsonFault {
+    ghost use Rattle.std.specs.Prelude.{◌≡◌};
+    ghost use Rattle.grpc_base.specs.declared.event.JsonFault.TheVariants as faults;
+
+    ghost from_gives = { λ _ e. e ≡ faults.NoMemory };
+
+    fn from(_e: NoMemory) -> JsonFault {
+        JsonFault::NoMemory
+    }
+}
+
+impl From<AllocError> for JsonFault {
+    ghost use Rattle.std.specs.Prelude.{◌≡◌};
+    ghost use Rattle.grpc_base.specs.declared.event.JsonFault.TheVariants as faults;
+
+    ghost from_gives = { λ _ e. e ≡ faults.NoMemory };
+
+    fn from(_e: AllocError) -> JsonFault {
+        JsonFault::NoMemory
+    }
+}
+
+impl<T: Drop> From<AllocFailed<T>> for JsonFault {
+    ghost use Rattle.std.specs.Prelude.{◌≡◌};
+    ghost use Rattle.grpc_base.specs.declared.event.JsonFault.TheVariants as faults;
+
+    ghost from_gives = { λ _ e. e ≡ faults.NoMemory };
+
+    fn from(_e: AllocFailed<T>) -> JsonFault {
+        JsonFault::NoMemory
+    }
 }
 
 /// The first fault of a service config.

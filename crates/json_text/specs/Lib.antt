@@ -1,0 +1,7 @@
+pub mod Tree
+pub mod Numbers
+pub mod Strings
+pub mod Reading
+pub mod Views
+pub mod Decimals
+pub mod Grammar

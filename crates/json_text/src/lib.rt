@@ -1,0 +1,18 @@
+// JSON texts, read exactly or refused with the first fault and its place.
+#![tactic(auto)]
+
+mod decimal;
+mod json;
+mod members;
+mod number;
+mod place;
+mod read;
+mod reader;
+mod string;
+
+pub use decimal::{milli, nanos};
+pub use json::Json;
+pub use read::read_json;
+
+#[cfg(test)]
+mod tests;

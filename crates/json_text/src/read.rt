@@ -1,0 +1,62 @@
+// JSON texts with an object at the top.
+ghost use Rattle.std.specs.Prelude.{◌≡◌, ◌<◌, ◌≤◌, ◌↔◌, ℕ, length, take, IfOk, Err};
+ghost use Rattle.json_text.specs.Reading.{Gives, most_bytes, run, at_start, reading};
+ghost use Rattle.json_text.specs.Grammar.{IsText, CanEnd};
+ghost use Rattle.json_text.specs.Views.{state_of, tree_of};
+
+use crate::json::Json;
+use crate::place::{Place, Reader};
+use crate::reader::step;
+use grpc_base::JsonFault;
+use std::alloc::Global;
+
+const MOST_BYTES: usize = 65536;
+
+/// Reads a JSON text with an object at its top (RFC 8259), or tells its first fault.
+#[tactic(auto, using(crate::proofs::Runs::read_is_text, crate::proofs::Runs::syntax_front, crate::proofs::Runs::too_long_is, crate::proofs::Runs::too_long_only))]
+pub fn read_json(alloc: Global, bytes: &[u8]) -> Result<Json, JsonFault>
+    // The bytes are a text of the value that is read.
+    ensures found { IfOk result (λ v. IsText (tree_of v) bytes.now) }
+
+    // What is read, or which fault is told at which place.
+    ensures exact { Gives tree_of result (reading bytes.now) }
+
+    // When a fault comes.
+    ensures too_long { (result ≡ Err JsonFault.TooLong) ↔ (most_bytes < length bytes.now) }
+    ensures front { (at : ℕ) → result ≡ Err (JsonFault.Syntax at) → (at ≤ length bytes.now) × CanEnd (take at bytes.now) }
+{
+    if bytes.len() > MOST_BYTES {
+        return Err(JsonFault::TooLong);
+    }
+    read_whole(alloc, bytes)
+}
+
+/// The same, of bytes that are few enough.
+#[tactic(auto, unfolding(crate::specs::Reading::reading))]
+fn read_whole(alloc: Global, bytes: &[u8]) -> Result<Json, JsonFault>
+    requires { length bytes.now ≤ most_bytes }
+    ensures { Gives tree_of result (reading bytes.now) }
+{
+    let Reader { place, parents: _ } = read_all(alloc, bytes)?;
+    match place {
+        Place::End(value) => Ok(value),
+        _ => Err(JsonFault::Syntax {
+            at: bytes.len() as u64,
+        }),
+    }
+}
+
+/// The place behind all of these bytes.
+fn read_all(alloc: Global, bytes: &[u8]) -> Result<Reader, JsonFault>
+    requires { length bytes.now ≤ most_bytes }
+    ensures { Gives state_of result (run 0 at_start bytes.now) }
+{
+    let mut reader = Reader {
+        place: Place::Top,
+        parents: Vec::new(alloc),
+    };
+    for (at, byte) in bytes.iter().enumerate() {
+        reader = step(alloc, reader, at as u64, *byte)?;
+    }
+    Ok(reader)
+}
