@@ -1,0 +1,90 @@
+-- Targets read item by item.
+use Rattle.std.proofs.Common.{◌≡◌, ℕ, suc, ◌&&◌, drop, get_or, ◌+◌, ◌-◌, ◌*◌, ◌≤◌, ◌<◌, Bool, true, false, List, [], ◌∷◌, length, Option, Some, None, Result, Ok, Err, refl, ap, sym, ◌∙◌, arith, nat_le, ◌||◌, if◌then◌else◌, nat_lt, inl, inr}
+use Rattle.std.proofs.lemmas.Bool.Decides.{nat_tests}
+use Rattle.std.proofs.lemmas.Bool.{cases_lt}
+use Rattle.grpc_base.specs.declared.address.Address.{Address}
+use Rattle.grpc_base.specs.Addresses.{with_address}
+use Rattle.resolver_core.specs.declared.target.TargetFault.{TargetFault}
+use Rattle.resolver_core.specs.declared.target.TargetFault.TheVariants as fault
+use Rattle.resolver_core.specs.Pieces.{pieces}
+use Rattle.resolver_core.specs.Targets.{decimal_from, with_addresses, listed_of, address_of, address_from, address_before, number_of, is_plain_decimal, ip_of, ip_from}
+use Rattle.std.proofs.lemmas.List.{at_drop_more}
+use Rattle.resolver_core.proofs.PieceLaws.{pieces-some}
+
+-- further digits make no number smaller
+pub decimal_from-grows : (n : ℕ) (digits : List ℕ) → n ≤ decimal_from n digits
+decimal_from-grows n [] = omega arith
+decimal_from-grows n (digit ∷ digits) =
+    let next : n * 10 + (digit - 48) ≤ decimal_from (n * 10 + (digit - 48)) digits = decimal_from-grows (n * 10 + (digit - 48)) digits in
+    omega arith
+
+-- the list that further items give, where this many more may come
+abbrev pub listed_from : List Address → ℕ → Bool → Option (List Address) → Result (List Address) TargetFault
+listed_from addresses left over None = Err fault.BadTarget
+listed_from addresses left over (Some items) =
+    if over || nat_lt left (length items) then Err fault.TooMany else Ok (with_addresses addresses items)
+
+within_or_over : (n m : ℕ) (X : Type 0) (x y : X) → (if nat_le n m then x else y) ≡ (if nat_lt m n then y else x)
+within_or_over n m X x y = elim (cases_lt m n) [ inl over ↦ (let t : nat_le n m ≡ false = grind (arith, nat_tests) in let u : nat_lt m n ≡ true = grind (arith, nat_tests) in rw (t, u) refl) | inr within ↦ (let t : nat_le n m ≡ true = grind (arith, nat_tests) in let u : nat_lt m n ≡ false = grind (arith, nat_tests) in rw (t, u) refl) ]
+
+pub listed_from-start : (items : Option (List Address)) → listed_of items ≡ listed_from [] 64 false items
+listed_from-start None = refl
+listed_from-start (Some items) =
+    within_or_over (length items) 64 (Result (List Address) TargetFault) (Ok (with_addresses [] items)) (Err fault.TooMany)
+
+lt_both : (n left : ℕ) → 0 < left → nat_lt (left - 1) n ≡ nat_lt left (suc n)
+lt_both n left some_left = elim (cases_lt (left - 1) n) [ inl over ↦ (let t : nat_lt (left - 1) n ≡ true = grind (arith, nat_tests) in let u : nat_lt left (suc n) ≡ true = grind (arith, nat_tests) in t ∙ sym u) | inr within ↦ (let t : nat_lt (left - 1) n ≡ false = grind (arith, nat_tests) in let u : nat_lt left (suc n) ≡ false = grind (arith, nat_tests) in t ∙ sym u) ]
+
+none_left : (n : ℕ) → true ≡ nat_lt 0 (suc n)
+none_left n = grind (arith, nat_tests)
+
+-- one item that is over the most
+pub listed_from-over : (addresses : List Address) (over : Bool) (a : Address) (items : Option (List Address)) → listed_from addresses 0 true items ≡ listed_from addresses 0 over (address_before (Some a) items)
+listed_from-over addresses over a None = refl
+listed_from-over addresses true a (Some items) = refl
+listed_from-over addresses false a (Some items) = let t : true ≡ nat_lt 0 (suc (length items)) = none_left (length items) in rw (← t) refl
+
+-- one item within the most
+pub listed_from-one : (addresses : List Address) (left : ℕ) (over : Bool) (a : Address) (items : Option (List Address)) → 0 < left → listed_from (with_address addresses a) (left - 1) over items ≡ listed_from addresses left over (address_before (Some a) items)
+listed_from-one addresses left over a None some_left = refl
+listed_from-one addresses left true a (Some items) some_left = refl
+listed_from-one addresses left false a (Some items) some_left =
+    let e : nat_lt (left - 1) (length items) ≡ nat_lt left (length (a ∷ items)) = lt_both (length items) left some_left in
+    rw e refl
+
+and_false : (b : Bool) → (b && false) ≡ false
+and_false true = refl
+and_false false = refl
+
+-- a number over the most
+number_of-over : (most : ℕ) (text : List ℕ) → most < decimal_from 0 text → number_of most text ≡ None
+number_of-over most text over =
+    let t : nat_le (decimal_from 0 text) most ≡ false = grind (arith, nat_tests) in
+    rw (t, and_false (is_plain_decimal text)) refl
+
+-- digits that are over the most, whatever follows
+pub number_of-passed : (most n i : ℕ) (text : List ℕ) → i < length text → decimal_from n (drop i text) ≡ decimal_from 0 text → most < n * 10 + (get_or text i 0 - 48) → number_of most text ≡ None
+number_of-passed most n i text within same over =
+    let step : decimal_from n (drop i text) ≡ decimal_from (n * 10 + (get_or text i 0 - 48)) (drop (i + 1) text) = at_drop_more (decimal_from n) text i 0 within in
+    let grows : n * 10 + (get_or text i 0 - 48) ≤ decimal_from (n * 10 + (get_or text i 0 - 48)) (drop (i + 1) text) = decimal_from-grows (n * 10 + (get_or text i 0 - 48)) (drop (i + 1) text) in
+    number_of-over most text (omega arith)
+
+-- five parts are no address
+ip_from-five : (a b c d : List ℕ) (more : List (List ℕ)) → (more ≡ [] → ⊥) → ip_from (a ∷ b ∷ c ∷ d ∷ more) ≡ None
+ip_from-five a b c d [] some = absurd (some refl)
+ip_from-five a b c d (e ∷ more) some = refl
+
+pub ip_of-five : (text one two three four a b c d : List ℕ) → pieces 46 text ≡ a ∷ pieces 46 one → pieces 46 one ≡ b ∷ pieces 46 two → pieces 46 two ≡ c ∷ pieces 46 three → pieces 46 three ≡ d ∷ pieces 46 four → ip_of text ≡ None
+ip_of-five text one two three four a b c d e f g h =
+    let all : pieces 46 text ≡ a ∷ b ∷ c ∷ d ∷ pieces 46 four = (cc) in
+    ap ip_from all ∙ ip_from-five a b c d (pieces 46 four) (pieces-some 46 four)
+
+-- three parts with colons are no address
+address_from-three : (a b : List ℕ) (more : List (List ℕ)) → (more ≡ [] → ⊥) → address_from (a ∷ b ∷ more) ≡ None
+address_from-three a b [] some = absurd (some refl)
+address_from-three a b (c ∷ more) some = refl
+
+pub address_of-three : (text one two a b : List ℕ) → pieces 58 text ≡ a ∷ pieces 58 one → pieces 58 one ≡ b ∷ pieces 58 two → address_of text ≡ None
+address_of-three text one two a b e f =
+    let all : pieces 58 text ≡ a ∷ b ∷ pieces 58 two = (cc) in
+    ap address_from all ∙ address_from-three a b (pieces 58 two) (pieces-some 58 two)

@@ -1,0 +1,90 @@
+-- Targets: the scheme `ipv4` of gRPC Name Resolution.
+use Rattle.std.specs.Prelude.{ℕ, ◌+◌, ◌-◌, ◌*◌, Bool, true, false, not, ◌==◌, ◌&&◌, nat_le, nat_eq, if◌then◌else◌, List, [], ◌∷◌, length, drop, codes, Option, Some, None, Result, Ok, Err}
+use Rattle.std.specs.List.{list_all, starts_with}
+use Rattle.std.specs.Char.{is_ascii_digit}
+use Rattle.grpc_base.specs.declared.address.Address.{Address}
+use Rattle.grpc_base.specs.Addresses.{address_limit, with_address}
+use Rattle.resolver_core.specs.declared.target.TargetFault.{TargetFault}
+use Rattle.resolver_core.specs.declared.target.TargetFault.TheVariants as fault
+use Rattle.resolver_core.specs.Pieces.{pieces}
+
+-- something, and no zero before other digits
+abbrev pub begins_plain : List ℕ → Bool
+begins_plain [] = false
+begins_plain (digit ∷ []) = true
+begins_plain (first ∷ second ∷ others) = not (first == 48)
+
+-- digits without a leading zero
+abbrev pub is_plain_decimal : List ℕ → Bool
+is_plain_decimal text = list_all is_ascii_digit text && begins_plain text
+
+-- the number that digits write behind a number
+abbrev pub decimal_from : ℕ → List ℕ → ℕ
+decimal_from n [] = n
+decimal_from n (digit ∷ digits) = decimal_from (n * 10 + (digit - 48)) digits
+
+-- the number of a text, at most a limit
+abbrev pub number_of : ℕ → List ℕ → Option ℕ
+number_of most text = if is_plain_decimal text && nat_le (decimal_from 0 text) most then Some (decimal_from 0 text) else None
+
+-- a port, from 1 to 65,535
+abbrev pub port_from : Option ℕ → Option ℕ
+port_from None = None
+port_from (Some n) = if n == 0 then None else Some n
+
+abbrev pub port_of : List ℕ → Option ℕ
+port_of text = port_from (number_of 65535 text)
+
+-- four numbers joined
+abbrev pub joined_ip : Option ℕ → Option ℕ → Option ℕ → Option ℕ → Option ℕ
+joined_ip (Some a) (Some b) (Some c) (Some d) = Some (((a * 256 + b) * 256 + c) * 256 + d)
+joined_ip _ _ _ _ = None
+
+-- an IPv4 address `a.b.c.d`, each part from 0 to 255
+abbrev pub ip_from : List (List ℕ) → Option ℕ
+ip_from (a ∷ b ∷ c ∷ d ∷ []) = joined_ip (number_of 255 a) (number_of 255 b) (number_of 255 c) (number_of 255 d)
+ip_from _ = None
+
+abbrev pub ip_of : List ℕ → Option ℕ
+ip_of text = ip_from (pieces 46 text)
+
+-- an address of both parts
+abbrev pub with_port : Option ℕ → Option ℕ → Option Address
+with_port (Some i) (Some p) = Some (record { ip = i; port = p })
+with_port _ _ = None
+
+-- an item `a.b.c.d` or `a.b.c.d:port`; without a port it is 443
+abbrev pub address_from : List (List ℕ) → Option Address
+address_from (host ∷ []) = with_port (ip_of host) (Some 443)
+address_from (host ∷ port ∷ []) = with_port (ip_of host) (port_of port)
+address_from _ = None
+
+abbrev pub address_of : List ℕ → Option Address
+address_of text = address_from (pieces 58 text)
+
+-- the addresses of all items, if each is one
+abbrev pub address_before : Option Address → Option (List Address) → Option (List Address)
+address_before (Some a) (Some others) = Some (a ∷ others)
+address_before _ _ = None
+
+abbrev pub items_of : List (List ℕ) → Option (List Address)
+items_of [] = Some []
+items_of (item ∷ items) = address_before (address_of item) (items_of items)
+
+-- the items of a target, counted with repeats: `ipv4:` and what its commas part
+abbrev pub target_items : List ℕ → Option (List Address)
+target_items text = if starts_with nat_eq text (codes "ipv4:") then items_of (pieces 44 (drop 5 text)) else None
+
+-- a list with further addresses at its end, each unless it is there
+abbrev pub with_addresses : List Address → List Address → List Address
+with_addresses addresses [] = addresses
+with_addresses addresses (a ∷ others) = with_addresses (with_address addresses a) others
+
+-- the list of some items, of which there may be 64
+abbrev pub listed_of : Option (List Address) → Result (List Address) TargetFault
+listed_of None = Err fault.BadTarget
+listed_of (Some items) = if nat_le (length items) address_limit then Ok (with_addresses [] items) else Err fault.TooMany
+
+-- what a target says
+abbrev pub target_of : List ℕ → Result (List Address) TargetFault
+target_of text = listed_of (target_items text)

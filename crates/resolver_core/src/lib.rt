@@ -1,0 +1,12 @@
+// What a channel is pointed at, and when it asks the resolver again.
+#![tactic(auto)]
+
+mod item;
+mod resolver;
+mod split;
+mod target;
+#[cfg(test)]
+mod tests;
+
+pub use resolver::Resolver;
+pub use target::{TargetFault, read_target};

@@ -1,0 +1,60 @@
+// The target that a channel is made for.
+ghost use Rattle.std.specs.Prelude.{◌≡◌, ◌<◌, ◌↔◌, None, Err, IsSomeAnd, length};
+ghost use Rattle.grpc_base.specs.Addresses.{address_limit};
+ghost use Rattle.resolver_core.specs.Pieces.{pieces};
+ghost use Rattle.resolver_core.specs.Targets.{target_of, target_items, items_of, listed_of};
+
+use crate::item::read_address;
+use crate::split::first_piece;
+use grpc_base::AddressList;
+
+/// Why a text is no target.
+#[derive(Clone, Copy, Debug, PartialEq, Eq)]
+pub enum TargetFault {
+    /// It is not `ipv4:` and addresses with commas between them.
+    BadTarget,
+    /// It is, and has more than 64 of them, counted with repeats.
+    TooMany,
+}
+
+/// The addresses of a target `ipv4:a.b.c.d:port,..`, in their order, each once; without a port it is 443
+/// (gRPC Name Resolution, "ipv4").
+pub fn read_target(text: &[u8]) -> Result<AddressList, TargetFault>
+    ensures value { result ≡ target_of text.now }
+    ensures bad { (result ≡ Err TargetFault.BadTarget) ↔ (target_items text.now ≡ None) }
+    ensures too_many { (result ≡ Err TargetFault.TooMany) ↔ IsSomeAnd (target_items text.now) (λ items. address_limit < length items) }
+{
+    match text.strip_prefix(b"ipv4:") {
+        Some(items) => read_items(items),
+        None => Err(TargetFault::BadTarget),
+    }
+}
+
+/// The addresses of these items.
+fn read_items(text: &[u8]) -> Result<AddressList, TargetFault>
+    ensures { result ≡ listed_of (items_of (pieces 44 text.now)) }
+{
+    let mut addresses = AddressList::new();
+    let mut left = 64u32;
+    let mut over = false;
+    let mut rest = Some(text);
+    while let Some(items) = rest {
+        let (item, more) = first_piece(items, b',');
+        let Some(address) = read_address(item) else {
+            return Err(TargetFault::BadTarget);
+        };
+        if left == 0 {
+            over = true;
+        } else {
+            left -= 1;
+            addresses
+                .push(address)
+                .map_err(|_full| TargetFault::TooMany)?;
+        }
+        rest = more;
+    }
+    if over {
+        return Err(TargetFault::TooMany);
+    }
+    Ok(addresses)
+}
