@@ -22,7 +22,7 @@ literal_field name value = 0 ∷ length name ∷ name ++ length value ∷ value
 abbrev pub answer_block : List ℕ → List ℕ
 answer_block value =
     literal_field (codes ":status") (codes "200") ++ literal_field (codes "content-type") (codes "application/grpc")
-      ++ literal_field (codes "grpc-status") value
+    ++ literal_field (codes "grpc-status") value
 
 -- an answer: one HEADERS frame on stream 1 with END_STREAM and END_HEADERS (RFC 9113, section 6.2)
 abbrev pub answer_frame : List ℕ → List ℕ
@@ -85,7 +85,7 @@ target_text a = codes "ipv4:" ++ address_text a
 abbrev pub IsShapeLine : ℕ → List ℕ → Type 0
 IsShapeLine n line =
     ((n ≡ 1) × ((a : Address) × IsAddress a × (line ≡ channel_text (target_text a))))
-      ⊎ ((s : Stamped) × IsStampedAt n s × (line ≡ stamped_text s))
+    ⊎ ((s : Stamped) × IsStampedAt n s × (line ≡ stamped_text s))
 
 -- the line of that number is there, ended by a line feed, and in its shape; parts are those between line feeds
 pub record IsGoodLine (parts : List (List ℕ)) (n : ℕ) : Type 0 where
@@ -98,7 +98,7 @@ pub record IsGoodLine (parts : List (List ℕ)) (n : ℕ) : Type 0 where
 abbrev pub is_unknown_event : List ℕ → Bool
 is_unknown_event line =
     nat_le 3 (length (fields line))
-      && not (list_any (λ name. pointwise nat_eq name (slice_index_or (fields line) 2 [])) event_names)
+    && not (list_any (λ name. pointwise nat_eq name (slice_index_or (fields line) 2 [])) event_names)
 
 -- why the line of that number is bad: 5 for an unknown event past the first line, and 13 in every other case
 abbrev pub cause_of : ℕ → Option (List ℕ) → ℕ

@@ -1,0 +1,5 @@
+pub mod AddressLaws
+pub mod CauseLaws
+pub mod EventLaws
+pub mod ScriptLaws
+pub mod TextLaws
