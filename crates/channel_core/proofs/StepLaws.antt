@@ -15,16 +15,16 @@ written_by-snoc : (ledger : Ledger) (n : ℕ) (entries : List Entry) (e : Entry)
 written_by-snoc ledger n [] e = ap (λ (k : ℕ). told ledger (next_place k) e.moment e.event) (omega arith)
 written_by-snoc ledger n (x ∷ entries) e =
     written_by-snoc (told ledger (next_place n) x.moment x.event) (n + 1) entries e
-      ∙ ap (λ (k : ℕ). told (written_by (told ledger (next_place n) x.moment x.event) (n + 1) entries) (next_place k) e.moment e.event) (omega arith)
+    ∙ ap (λ (k : ℕ). told (written_by (told ledger (next_place n) x.moment x.event) (n + 1) entries) (next_place k) e.moment e.event) (omega arith)
 
 -- the ledger that a step makes is that of its journal
 pub ledger_of-step : (authority : Address) (before now : List Entry) (ledger new : Ledger) (s : Stamped) → ledger ≡ ledger_of before → now ≡ before ++ entry_made authority before ledger s ∷ [] → new ≡ ledger_made before ledger s → new ≡ ledger_of now
 ledger_of-step authority before now ledger new s old journal made =
     made
-      ∙ ap (λ (l : Ledger). ledger_made before l s) old
-      ∙ ap (λ (k : ℕ). told (ledger_of before) (next_place k) (entry_made authority before ledger s).moment s.event) (omega arith)
-      ∙ sym (written_by-snoc no_ledger 0 before (entry_made authority before ledger s))
-      ∙ ap ledger_of (sym journal)
+    ∙ ap (λ (l : Ledger). ledger_made before l s) old
+    ∙ ap (λ (k : ℕ). told (ledger_of before) (next_place k) (entry_made authority before ledger s).moment s.event) (omega arith)
+    ∙ sym (written_by-snoc no_ledger 0 before (entry_made authority before ledger s))
+    ∙ ap ledger_of (sym journal)
 
 -- the newest of the first events stands in its line
 at_end : (xs : List Stamped) (s : Stamped) → slice_get (xs ++ s ∷ []) (length xs) ≡ Some s
@@ -39,9 +39,9 @@ newest_stands entries s events =
 -- what was applied behind the entries, with room made, is a step of the channel
 pub steps_made : (authority : Address) (journal : Journal) (ledger new : Ledger) (spent : Bool) (reserved now : List Entry) (s : Stamped) (r : Reply) → reserved ≡ journal.entries → r ≡ (entry_made authority reserved ledger s).reply → now ≡ reserved ++ entry_made authority reserved ledger s ∷ [] → new ≡ ledger_made reserved ledger s → Steps (record { authority = authority; journal = journal; ledger = ledger; spent = spent }) (record { authority = authority; journal = record { entries = now }; ledger = new; spent = false }) s r
 steps_made authority journal ledger new spent reserved now s r same replied journaled made = record {
-    replied = replied ∙ ap (λ (es : List Entry). (entry_made authority es ledger s).reply) same;
-    journal = journaled ∙ ap (λ (es : List Entry). es ++ entry_made authority es ledger s ∷ []) same;
-    ledger = made ∙ ap (λ (es : List Entry). ledger_made es ledger s) same;
-    authority = refl;
-    unspent = refl;
-  }
+  replied = replied ∙ ap (λ (es : List Entry). (entry_made authority es ledger s).reply) same;
+  journal = journaled ∙ ap (λ (es : List Entry). es ++ entry_made authority es ledger s ∷ []) same;
+  ledger = made ∙ ap (λ (es : List Entry). ledger_made es ledger s) same;
+  authority = refl;
+  unspent = refl;
+}

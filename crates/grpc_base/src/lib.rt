@@ -16,6 +16,8 @@ mod number;
 mod octets;
 mod plan;
 mod request;
+#[cfg(test)]
+mod tests;
 mod text;
 
 pub use address::{Address, AddressList, ListFull};

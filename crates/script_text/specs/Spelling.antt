@@ -1,5 +1,6 @@
 -- How events and replies are spelled, in scripts and in reports alike: words with one space between.
 use Rattle.std.specs.Prelude.{ℕ, ◌+◌, ◌/◌, ◌%◌, ◌^◌, Bool, true, false, not, Option, Some, None, List, [], ◌∷◌, ◌++◌, map, codes, decimal, if◌then◌else◌, nat_le, ◌&&◌, ◌==◌, flat_map}
+pub use Rattle.grpc_base.specs.Addresses.{address_text}
 use Rattle.grpc_base.specs.declared.address.Address.{Address}
 use Rattle.grpc_base.specs.declared.fields.Field.{Field}
 use Rattle.grpc_base.specs.declared.event.Event.{Event}
@@ -78,12 +79,6 @@ abbrev pub percent_text : List ℕ → List ℕ
 percent_text [] = dash
 percent_text (b ∷ []) = if b == 45 then codes "%2D" else percent_byte b
 percent_text (b ∷ (c ∷ rest)) = flat_map percent_byte (b ∷ (c ∷ rest))
-
--- an address as four numbers and a port
-abbrev pub address_text : Address → List ℕ
-address_text a =
-    decimal (a.ip / 2 ^ 24) ++ 46 ∷ decimal (a.ip / 2 ^ 16 % 256) ++ 46 ∷ decimal (a.ip / 2 ^ 8 % 256) ++ 46 ∷ decimal (a.ip % 256)
-    ++ 58 ∷ decimal a.port
 
 -- addresses with commas, a dash where there are none
 abbrev pub addresses_text : List Address → List ℕ

@@ -9,19 +9,19 @@ apply-requires c = newest_stands c.args.self.now.journal.entries c.args.stamped 
 pub invariant_of-self-2 : goal.invariant_of-self-2
 invariant_of-self-2 c = λ same.
     ledger_of-step c.self.inside.authority c.reserve.new.self c.apply.new.entries c.self.inside.ledger c.apply.new.ledger c.args.stamped
-      (c.self.invariant c.if-self.false ∙ ap ledger_of (sym c.reserve.ensures)) c.in_ok-reply.ensures.journal c.in_ok-reply.ensures.ledger
+    (c.self.invariant c.if-self.false ∙ ap ledger_of (sym c.reserve.ensures)) c.in_ok-reply.ensures.journal c.in_ok-reply.ensures.ledger
 
 pub returns-clause-ok : goal.returns-clause-ok
 returns-clause-ok c =
     subst (λ (v : CoreSeen). Steps v
-        (record {
-            authority = c.self.inside.authority;
-            journal = record { entries = c.apply.new.entries };
-            ledger = c.apply.new.ledger;
-            spent = false
-          })
-        c.args.stamped c.in_ok-reply.reply)
-      c.self.view_is
-      (steps_made c.self.inside.authority c.self.inside.journal c.self.inside.ledger c.apply.new.ledger c.self.inside.spent c.reserve.new.self
-        c.apply.new.entries c.args.stamped c.in_ok-reply.reply c.reserve.ensures c.in_ok-reply.ensures.replied c.in_ok-reply.ensures.journal
-        c.in_ok-reply.ensures.ledger)
+    (record {
+      authority = c.self.inside.authority;
+      journal = record { entries = c.apply.new.entries };
+      ledger = c.apply.new.ledger;
+      spent = false;
+    })
+    c.args.stamped c.in_ok-reply.reply)
+    c.self.view_is
+    (steps_made c.self.inside.authority c.self.inside.journal c.self.inside.ledger c.apply.new.ledger c.self.inside.spent c.reserve.new.self
+    c.apply.new.entries c.args.stamped c.in_ok-reply.reply c.reserve.ensures c.in_ok-reply.ensures.replied c.in_ok-reply.ensures.journal
+    c.in_ok-reply.ensures.ledger)

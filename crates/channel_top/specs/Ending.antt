@@ -1,0 +1,11 @@
+-- How the reading of an input stopped.
+use Rattle.std.specs.Prelude.{◌≡◌, ◌<◌, ℕ, Option, List}
+use Rattle.gate_io.specs.Outside.{IsAtEnd, Rises}
+use Rattle.channel_top.specs.declared.input.Ending.{Ending}
+use Rattle.channel_top.specs.declared.input.Ending.TheVariants as ending
+
+-- at the input's end, at the limit, or at a read that failed before both
+abbrev pub EndsSo : Ending → Option (List ℕ) → ℕ → ℕ → ℕ → Type 0
+EndsSo ending.End left count faults faults' = IsAtEnd left × (count < 65536)
+EndsSo ending.Limit left count faults faults' = count ≡ 65536
+EndsSo ending.Failed left count faults faults' = Rises faults faults'
