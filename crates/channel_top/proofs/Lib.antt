@@ -2,5 +2,7 @@ pub mod AddressLaws
 pub mod CauseLaws
 pub mod EventLaws
 pub mod InputLaws
+pub mod RunLaws
 pub mod ScriptLaws
+pub mod ShortScript
 pub mod TextLaws
