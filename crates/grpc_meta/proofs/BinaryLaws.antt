@@ -1,15 +1,17 @@
 -- Reading base64 with two engines in turn, and the texts of a value one after another.
-use Rattle.std.proofs.Common.{◌≡◌, ℕ, ◌≤◌, List, Some, None, Option, refl, sym, ◌∙◌, ap, subst, map, length, arith}
+use Rattle.std.proofs.Common.{◌≡◌, ◌⊎◌, ℕ, ◌≤◌, List, Some, None, Ok, Err, Option, Result, inl, inr, rules, refl, sym, ◌∙◌, ap, subst, map, length, arith}
 use Rattle.std.proofs.lemmas.Bool.Decides.{nat_tests}
 use Rattle.std.proofs.lemmas.List.{length-map}
 use Rattle.std.proofs.lemmas.List.Folds.{flat_map-map}
 use Rattle.std.specs.List.{flat_map}
 use Rattle.std.specs.Option.{option_or}
+use Rattle.std.specs.Result.{result_ok}
+use Rattle.base64.proofs.EngineFacts.{decode_of-encode_of, decode_of_strict}
 use Rattle.base64.specs.declared.decode.DecodeAllocError.{DecodeAllocError}
 use Rattle.base64.specs.declared.decode.DecodeAllocError.TheVariants.{DecodeError as Failed, OutOfMemory}
 use Rattle.base64.specs.declared.decode.DecodeError.{DecodeError}
 use Rattle.base64.specs.declared.engine.general_purpose.GeneralPurpose.{GeneralPurpose}
-use Rattle.base64.specs.GeneralPurpose.{decoded_of, IsDecodeFailure}
+use Rattle.base64.specs.GeneralPurpose.{decode_of, decoded_of, encode_of, IsBytes, IsConsistent, IsDecodeFailure, IsStrict}
 use Rattle.base64.specs.Engines.{standard, standard_no_pad}
 use Rattle.grpc_meta.specs.ResponseFields.{between_commas, binary_pairs, bytes_of_base64, pair_if_read}
 
@@ -40,3 +42,28 @@ pairs_of_texts now name value texts same few =
     sym (flat_map-map (λ text. pair_if_read name (bytes_of_base64 text)) now texts)
     ∙ ap (flat_map (λ text. pair_if_read name (bytes_of_base64 text))) same
     ∙ sym (binary_pairs-few name value few_between)
+
+-- both engines take their own encoding and nothing else
+strict_no_pad : IsStrict standard_no_pad
+strict_no_pad = search rules
+
+strict : IsStrict standard
+strict = search rules
+
+consistent_no_pad : IsConsistent standard_no_pad
+consistent_no_pad = search rules
+
+-- what is sent is read back
+pub read_back : (bytes : List ℕ) → IsBytes bytes → bytes_of_base64 (encode_of standard_no_pad bytes) ≡ Some bytes
+unfolding bytes_of_base64 decoded_of
+read_back bytes ok = rw (decode_of-encode_of standard_no_pad bytes consistent_no_pad ok) refl
+
+-- what is read is the encoding of its bytes, with padding or without
+exact_if : (text bytes : List ℕ) → IsBytes text → (r s : Result (List ℕ) DecodeError) → decode_of standard_no_pad text ≡ r → decode_of standard text ≡ s → option_or (result_ok r) (result_ok s) ≡ Some bytes → (text ≡ encode_of standard_no_pad bytes) ⊎ (text ≡ encode_of standard bytes)
+exact_if text bytes ok (Ok b) s first second e = let same : b ≡ bytes = (cc) in inl (decode_of_strict standard_no_pad text bytes strict_no_pad ok (first ∙ ap Ok same))
+exact_if text bytes ok (Err x) (Ok b) first second e = let same : b ≡ bytes = (cc) in inr (decode_of_strict standard text bytes strict ok (second ∙ ap Ok same))
+exact_if text bytes ok (Err x) (Err y) first second e = absurd (cc)
+
+pub read_exactly : (text bytes : List ℕ) → IsBytes text → bytes_of_base64 text ≡ Some bytes → (text ≡ encode_of standard_no_pad bytes) ⊎ (text ≡ encode_of standard bytes)
+unfolding bytes_of_base64 decoded_of
+read_exactly text bytes ok e = exact_if text bytes ok _ _ refl refl e

@@ -2,11 +2,15 @@
 #![tactic(auto)]
 
 mod binary;
+mod laws;
 mod request;
 mod response;
 mod retry;
+#[cfg(test)]
+mod tests;
 mod timeout;
 
+pub use laws::base64_is_read_exactly;
 pub use request::request_fields;
 pub use response::shown;
 pub use retry::pushback;

@@ -91,7 +91,7 @@ fn messages_are_decoded(rt: HostRuntime) -> Result<(), Fail> {
         (b"%00", b"\x00"),
         (b"caf%C3%A9", b"caf\xc3\xa9"),
         (b"%c3%a9%C3", b"\xc3\xa9\xef\xbf\xbd"),
-        (b"%F0%9F%98%80", b"\xf0\x9f\x98\x80"),
+        (b"%f0%9f%98%80", b"\xf0\x9f\x98\x80"),
         (b"%ED%A0%80", b"\xef\xbf\xbd\xef\xbf\xbd\xef\xbf\xbd"),
         (b"%25", b"%"),
         (b"100%", b"100%"),
