@@ -29,4 +29,4 @@ with_address addresses a = if has_address addresses a then addresses else addres
 abbrev pub address_text : Address → List ℕ
 address_text a =
     decimal (a.ip / 2 ^ 24) ++ 46 ∷ decimal (a.ip / 2 ^ 16 % 256) ++ 46 ∷ decimal (a.ip / 2 ^ 8 % 256) ++ 46 ∷ decimal (a.ip % 256)
-      ++ 58 ∷ decimal a.port
+    ++ 58 ∷ decimal a.port
