@@ -1,0 +1,4 @@
+pub mod Boards
+pub mod Insides
+pub mod Phases
+pub mod Records

@@ -1,0 +1,12 @@
+// Subchannels: one connection each, with its backoff, and the board of all that a channel made.
+#![tactic(auto)]
+
+mod board;
+mod keep;
+mod next;
+mod phase;
+mod scan;
+mod sub;
+
+pub use board::Board;
+pub use sub::{NotDialing, Subchannel};
