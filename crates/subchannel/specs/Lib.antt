@@ -2,3 +2,4 @@ pub mod Boards
 pub mod Insides
 pub mod Phases
 pub mod Records
+pub mod Runs

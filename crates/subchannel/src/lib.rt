@@ -5,8 +5,10 @@ mod board;
 mod keep;
 mod next;
 mod phase;
+mod runs;
 mod scan;
 mod sub;
 
 pub use board::Board;
+pub use runs::laws_of_runs;
 pub use sub::{NotDialing, Subchannel};
