@@ -1,0 +1,17 @@
+use Rattle.std.proofs.Common.{◌-◌}
+use Rattle.subchannel.specs.Records.{linked_up}
+use Rattle.subchannel.proofs.NumberLaws.{set-numbered, set-place, numbered-read}
+use Rattle.subchannel.proofs.KeepLaws.{IsBoard-changed}
+use Rattle.subchannel.proofs.StepLaws.{keeps_live-linked_up}
+use Rattle.subchannel.proofs.board.Board.up.Goals as goal
+
+pub invariant_of-self : goal.invariant_of-self
+invariant_of-self c =
+    IsBoard-changed linked_up c.self.inside.subs.items _ c.self.inside.live.items (c.args.sub - 1) keeps_live-linked_up c.self.invariant (set-place linked_up c.self.inside.subs.items c.args.self.now c.args.sub c.index_mut-chosen.result.now _ c.self.view_is c.requires c.index_mut-chosen.ensures.value c.up.ensures.after)
+
+pub returns-clause-after : goal.returns-clause-after
+returns-clause-after c = set-numbered linked_up c.self.inside.subs.items c.args.self.now c.args.sub c.index_mut-chosen.result.now _ c.self.view_is c.requires c.index_mut-chosen.ensures.value c.up.ensures.after
+
+pub returns-clause-refused : goal.returns-clause-refused
+returns-clause-refused c =
+    rw (numbered-read c.self.inside.subs.items c.args.self.now c.args.sub c.index_mut-chosen.result.now c.self.view_is c.requires c.index_mut-chosen.ensures.value) c.up.ensures.refused

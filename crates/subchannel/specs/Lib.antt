@@ -1,0 +1,5 @@
+pub mod Boards
+pub mod Insides
+pub mod Phases
+pub mod Records
+pub mod Runs
