@@ -1,5 +1,5 @@
 -- What the top call reads, runs and writes, by its status.
-use Rattle.std.specs.Prelude.{◌≡◌, ◌≤◌, ◌<◌, ◌⊎◌, ℕ, ◌+◌, Option, List, [], ◌∷◌, ◌++◌, map, length, codes, decimal}
+use Rattle.std.specs.Prelude.{◌≡◌, ◌<◌, ◌⊎◌, ℕ, Option, List, [], ◌∷◌, ◌++◌, length, codes, decimal}
 use Rattle.grpc_base.specs.declared.address.Address.{Address}
 use Rattle.grpc_base.specs.declared.event.Entry.{Entry}
 use Rattle.grpc_base.specs.declared.event.Stamped.{Stamped}
@@ -7,7 +7,7 @@ use Rattle.attempt_ledger.specs.declared.journal.Journal.{Journal}
 use Rattle.attempt_ledger.specs.declared.ledger.Ledger.{Ledger}
 use Rattle.gate_io.specs.Outside.{Appends, IsAtEnd, Rises, Takes}
 use Rattle.channel_core.specs.Core.{entry_made, ledger_of}
-use Rattle.script_text.specs.Spelling.{parted, words}
+use Rattle.script_text.specs.Spelling.{parted}
 use Rattle.script_text.specs.Report.{report_of}
 use Rattle.channel_top.specs.Shape.{IsFirstBadLine, IsFirstCall, target_text}
 
@@ -21,7 +21,7 @@ words_fault_text = codes "fault words" ++ 10 ∷ []
 
 -- the line that tells the first bad line of a script
 abbrev pub line_fault_text : ℕ → ℕ → List ℕ
-line_fault_text line cause = words (codes "fault" ∷ codes "line" ∷ decimal line ∷ codes "cause" ∷ decimal cause ∷ []) ++ 10 ∷ []
+line_fault_text line cause = codes "fault line " ++ decimal line ++ codes " cause " ++ decimal cause ++ 10 ∷ []
 
 -- the words of a command are exactly `replay`
 abbrev pub IsReplay : List (List ℕ) → Type 0
@@ -37,27 +37,29 @@ pub record IsSession (authority : Address) (events : List Stamped) (journal : Jo
   pub run : journal.entries ≡ run_from authority [] events
   pub written : ledger ≡ ledger_of journal.entries
 
--- a script that was read whole, its session, and the report of it
-pub record Reports (input output : List ℕ) : Type 0 where
-  pub authority : Address
-  pub events : List Stamped
+-- the report of a session was written
+pub record WritesSession (authority : Address) (events : List Stamped) (taken taken' : Option (List ℕ)) : Type 0 where
   pub journal : Journal
   pub ledger : Ledger
-  pub script : IsFirstCall input authority events
   pub session : IsSession authority events journal ledger
-  pub report : output ≡ report_of (target_text authority) journal ledger
+  pub written : Appends taken taken' (report_of (target_text authority) journal ledger)
+
+-- a script of the first call was read, and the report of its session was written
+pub record Reports (input : List ℕ) (taken taken' : Option (List ℕ)) : Type 0 where
+  pub authority : Address
+  pub events : List Stamped
+  pub script : IsFirstCall input authority events
+  pub report : WritesSession authority events taken taken'
 
 -- status 0: the input was read to its end; no bytes give no bytes, and any others are a script whose report was written
 pub record IsDone (left left' taken taken' : Option (List ℕ)) : Type 0 where
   pub input : List ℕ
-  pub output : List ℕ
   pub read : Takes left left' input
   pub at_end : IsAtEnd left'
-  pub written : Appends taken taken' output
-  pub done : ((input ≡ []) × (output ≡ [])) ⊎ ((input ≡ [] → ⊥) × Reports input output)
+  pub done : ((input ≡ []) × (taken' ≡ taken)) ⊎ ((input ≡ [] → ⊥) × Reports input taken taken')
 
--- status 3: these bytes were read, as many as are judged or all there are or up to a failed read; their first bad line was told.
--- Where the read failed or more may follow, a line feed ends that line, or so many bytes were read as are judged.
+-- status 3: the first bad line of the bytes that were read was told. They are all that there are, or as many as are judged, or a
+-- line feed ends that line
 pub record TellsBadLine (left left' taken taken' : Option (List ℕ)) : Type 0 where
   pub input : List ℕ
   pub line : ℕ
@@ -67,13 +69,19 @@ pub record TellsBadLine (left left' taken taken' : Option (List ℕ)) : Type 0 w
   pub bad : IsFirstBadLine input line cause
   pub written : Appends taken taken' (line_fault_text line cause)
 
--- status 4: a read failed; nothing was written, and no line that was read whole is bad
+-- what a failed read leaves undecided: the bytes before it are a whole script, or no line feed ends their first bad line
+abbrev pub IsUndecided : List ℕ → Type 0
+IsUndecided input =
+    ((authority : Address) × ((events : List Stamped) × IsFirstCall input authority events))
+      ⊎ ((line : ℕ) × ((cause : ℕ) × IsFirstBadLine input line cause × (line < length (parted 10 input) → ⊥)))
+
+-- status 4: a read failed before the input's end and before its first bad line; nothing was written
 pub record StopsAtRead (left left' taken taken' : Option (List ℕ)) (faults faults' : ℕ) : Type 0 where
   pub input : List ℕ
   pub read : Takes left left' input
   pub failed : Rises faults faults'
+  pub undecided : IsUndecided input
   pub written : taken' ≡ taken
-  pub good : (line cause : ℕ) → IsFirstBadLine input line cause → line < length (parted 10 input) → ⊥
 
 -- status 2: the words are wrong, and nothing was read
 pub record TellsWords (left left' taken taken' : Option (List ℕ)) : Type 0 where

@@ -2,6 +2,11 @@
 #![tactic(auto)]
 
 mod input;
+mod run;
+mod session;
 mod shape;
+mod tell;
+mod top;
 
 pub use shape::{FirstCall, ShapeFault, read_first_call};
+pub use top::run_channel;

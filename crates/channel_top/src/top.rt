@@ -1,0 +1,73 @@
+// The top call of the program.
+ghost use Rattle.std.specs.Prelude.{◌≡◌, ◌≤◌, ◌⊎◌, map, string_bytes};
+ghost use Rattle.gate_io.specs.Outside.{Rises};
+ghost use Rattle.channel_top.specs.Top.{IsDone, IsReplay, StopsAtRead, TellsBadLine, TellsWords};
+
+use crate::input::{Ending, read_input};
+use crate::session::report_session;
+use crate::shape::{ShapeFault, read_first_call};
+use crate::tell::{WORDS_FAULT, is_replay, tell_line};
+use gate_io::{Sink, Source, write_whole};
+use std::alloc::Global;
+
+/// Runs the program on its words: `replay` reads a script, runs it and writes the report.
+///
+/// | Status | When | Written |
+/// |---|---|---|
+/// | 0 | done | the report; nothing for a script of no bytes |
+/// | 2 | the words are not exactly `replay` | `fault words` |
+/// | 3 | a line of the script is not in its shape | `fault line <n> cause <c>` |
+/// | 4 | a read failed before the input's end and its first bad line | nothing |
+/// | 5 | a write failed | a front of the output |
+/// | 6 | out of memory | a front of the output |
+pub fn run_channel<S: Source, K: Sink>(alloc: Global, words: &[String], script: &mut S, report: &mut K) -> u8
+    ensures done { result ≡ 0 → IsReplay (map string_bytes words.now)
+        × IsDone (S.left script.old) (S.left script.new) (K.taken report.old) (K.taken report.new) }
+    ensures words { result ≡ 2 → (IsReplay (map string_bytes words.now) → ⊥)
+        × TellsWords (S.left script.old) (S.left script.new) (K.taken report.old) (K.taken report.new) }
+    ensures line { result ≡ 3 → IsReplay (map string_bytes words.now)
+        × TellsBadLine (S.left script.old) (S.left script.new) (K.taken report.old) (K.taken report.new) }
+    ensures reading { result ≡ 4 → IsReplay (map string_bytes words.now)
+        × StopsAtRead (S.left script.old) (S.left script.new) (K.taken report.old) (K.taken report.new) (S.faults script.old) (S.faults script.new) }
+    ensures writing { result ≡ 5 → Rises (K.faults report.old) (K.faults report.new) }
+    ensures known { (result ≡ 0) ⊎ (result ≡ 2) ⊎ (result ≡ 3) ⊎ (result ≡ 4) ⊎ (result ≡ 5) ⊎ (result ≡ 6) }
+{
+    if !is_replay(words) {
+        if write_whole(report, WORDS_FAULT) {
+            return 2;
+        }
+        return 5;
+    }
+    let Ok(input) = read_input(alloc, script) else {
+        return 6;
+    };
+    if input.bytes.is_empty() {
+        if input.ending == Ending::End {
+            return 0;
+        }
+    }
+    match read_first_call(alloc, input.bytes.as_slice()) {
+        Ok(first) => match input.ending {
+            Ending::End => match report_session(alloc, first, report) {
+                Ok(true) => 0,
+                Ok(false) => 5,
+                Err(_) => 6,
+            },
+            Ending::Limit => unreachable!(),
+            Ending::Failed => 4,
+        },
+        Err(ShapeFault::BadLine { line, cause, ended }) => {
+            if input.ending == Ending::Failed {
+                if !ended {
+                    return 4;
+                }
+            }
+            match tell_line(alloc, report, line, cause) {
+                Ok(true) => 3,
+                Ok(false) => 5,
+                Err(_) => 6,
+            }
+        }
+        Err(ShapeFault::NoMemory) => 6,
+    }
+}
