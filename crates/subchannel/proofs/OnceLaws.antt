@@ -1,12 +1,11 @@
 -- How many live subchannels an address has over whole runs.
-use Rattle.std.proofs.Common.{◌≡◌, ◌≤◌, ℕ, zero, suc, ◌+◌, ◌-◌, Bool, true, false, ◌&&◌, ◌||◌, ◌==◌, not, if◌then◌else◌, cond, Option, Some, None, List, [], ◌∷◌, ◌++◌, map, filter, Contains, get_or, refl, ap, sym, subst, ◌∙◌, arith}
-use Rattle.std.specs.List.{list_any}
+use Rattle.std.proofs.Common.{◌≡◌, ◌≤◌, ℕ, zero, suc, ◌+◌, ◌-◌, Bool, true, false, ◌&&◌, ◌||◌, ◌==◌, not, if◌then◌else◌, cond, Option, Some, None, List, [], ◌∷◌, ◌++◌, map, filter, Contains, refl, ap, sym, subst, ◌∙◌, arith}
 use Rattle.std.proofs.lemmas.Bool.{eqb-true}
 use Rattle.std.proofs.lemmas.List.Elements.{Contains-append_right, Contains-get_or}
 use Rattle.grpc_base.specs.declared.address.Address.{Address}
 use Rattle.grpc_base.specs.Addresses.{IsWithoutRepeats, has_address}
 use Rattle.subchannel.specs.Records.{SubRecord, is_live, is_due, wished, dialed, linked_up, failed, greeted, lost, clocked, new_sub, shut_down}
-use Rattle.subchannel.specs.Boards.{changed, clocked_at, first_number, first_clocked, kept_or_shut, lacking, kept, is_live_at, has_live}
+use Rattle.subchannel.specs.Boards.{changed, clocked_at, first_number, kept_or_shut, lacking, kept, is_live_at, has_live}
 use Rattle.subchannel.specs.Runs.{BoardCall, Keep, Wished, Dial, Up, Failed, Ready, Lost, Clock, after_call, after_calls, AreLists, AllAreLists, live_count}
 use Rattle.subchannel.proofs.NumberLaws.{only_live-at}
 use Rattle.subchannel.proofs.KeepLaws.{KeepsLive}
