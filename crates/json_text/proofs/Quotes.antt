@@ -65,13 +65,13 @@ visible : (b : ℕ) → nat_lt b 32 ≡ false → nat_lt b 128 ≡ true → is_b
 visible b n y = grind (arith, nat_tests)
 
 -- the four digits of an escape
-hex_below : (b d : ℕ) → hex_digit b ≡ Some d → d < 16
+pub hex_below : (b d : ℕ) → hex_digit b ≡ Some d → d < 16
 hex_below b d h =
     by_if (λ (o : Option ℕ). o ≡ Some d → d < 16) (is_digit b) _ _ (λ y e. let f : b - 48 ≡ d = cc in grind (arith, nat_tests)) (λ n₁.
     by_if (λ (o : Option ℕ). o ≡ Some d → d < 16) (is_between 65 70 b) _ _ (λ y e. let f : b - 55 ≡ d = cc in grind (arith, nat_tests)) (λ n₂.
     by_if (λ (o : Option ℕ). o ≡ Some d → d < 16) (is_between 97 102 b) _ _ (λ y e. let f : b - 87 ≡ d = cc in grind (arith, nat_tests)) (λ n₃ e. cc))) h
 
-four : (b₁ d₁ : ℕ) → hex_digit b₁ ≡ Some d₁ → (b₂ d₂ : ℕ) → hex_digit b₂ ≡ Some d₂ → (b₃ d₃ : ℕ) → hex_digit b₃ ≡ Some d₃ → (b₄ d₄ : ℕ) → hex_digit b₄ ≡ Some d₄
+pub four : (b₁ d₁ : ℕ) → hex_digit b₁ ≡ Some d₁ → (b₂ d₂ : ℕ) → hex_digit b₂ ≡ Some d₂ → (b₃ d₃ : ℕ) → hex_digit b₃ ≡ Some d₃ → (b₄ d₄ : ℕ) → hex_digit b₄ ≡ Some d₄
     → hex_value b₁ b₂ b₃ b₄ ≡ Some (((((((0 * 16 + d₁) % 65536) * 16 + d₂) % 65536) * 16 + d₃) % 65536 * 16 + d₄) % 65536)
 four b₁ d₁ h₁ b₂ d₂ h₂ b₃ d₃ h₃ b₄ d₄ h₄ =
     let l₁ = hex_below b₁ d₁ h₁ in
@@ -90,7 +90,7 @@ letter r t u b unit e h is =
     chars_as (t ++ b ∷ []) (u ++ spelling (escape b)) (with_unit r unit) (with_unit r unit) (snoc2 t u (92 ∷ []) b e) refl
     (char_after h (escape b) (with_unit r unit) (unit, refl, is))
 
-by_both : {A B : Type 0} (P : A → B → Type 0) (c : Bool) (x y : A) (v w : B) → (c ≡ true → P x v) → (c ≡ false → P y w)
+pub by_both : {A B : Type 0} (P : A → B → Type 0) (c : Bool) (x y : A) (v w : B) → (c ≡ true → P x v) → (c ≡ false → P y w)
     → P (if c then x else y) (if c then v else w)
 by_both P true x y v w f g = f refl
 by_both P false x y v w f g = g refl
