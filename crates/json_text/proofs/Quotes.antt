@@ -1,19 +1,18 @@
 -- What has been read of a string is the front of one, byte by byte.
-use Rattle.std.proofs.Common.{◌≡◌, ℕ, zero, suc, ◌+◌, ◌-◌, ◌*◌, ◌%◌, ◌<◌, List, [], ◌∷◌, ◌++◌, Bool, true, false, Option, Some, None, refl, ap, ap₂, sym, subst, ◌∙◌, inl, inr, append_assoc, arith}
-use Rattle.std.specs.Prelude.{◌⊎◌, ◌==◌, ◌||◌, if◌then◌else◌, option_map, option_and_then, nat_lt}
+use Rattle.std.proofs.Common.{◌≡◌, ℕ, zero, suc, ◌+◌, ◌-◌, ◌*◌, ◌%◌, ◌<◌, List, [], ◌∷◌, ◌++◌, Bool, true, false, Option, Some, None, refl, ap, sym, subst, ◌∙◌, inl, inr, append_assoc, arith}
+use Rattle.std.specs.Prelude.{◌==◌, ◌||◌, if◌then◌else◌, nat_lt}
 use Rattle.std.proofs.lemmas.Bool.Decides.{nat_tests}
 use Rattle.json_text.specs.Numbers.{is_digit}
-use Rattle.json_text.specs.Strings.{is_between, hex_digit, string_byte, first_byte, lead_byte, tail_byte, escaped_byte, hex_byte, settled, settled_by, with_byte, with_unit, nothing_read, next_by, quoted_next, opened_quote}
-use Rattle.json_text.specs.Grammar.{Char, standing, escape, unicode, escape_value, IsTail, IsStanding, hex_more, hex_value, spelling, Reads, Chars, no_chars, char_after, IsString}
+use Rattle.json_text.specs.Strings.{is_between, hex_digit, string_byte, lead_byte, tail_byte, escaped_byte, hex_byte, settled, with_byte, with_unit, next_by, opened_quote}
+use Rattle.json_text.specs.Grammar.{standing, escape, unicode, escape_value, IsStanding, hex_value, spelling, Chars, no_chars, char_after, IsString}
 use Rattle.json_text.specs.declared.string.Spot.{Spot}
 use Rattle.json_text.specs.declared.string.Spot.TheVariants as spot
 use Rattle.json_text.specs.declared.string.StringByte.{StringByte}
 use Rattle.json_text.specs.declared.string.StringByte.TheVariants as byte
 use Rattle.json_text.specs.declared.string.Read.{Read}
-use Rattle.json_text.specs.declared.string.Quoted.{Quoted}
 use Rattle.json_text.specs.declared.string.QuotedNext.{QuotedNext}
 use Rattle.json_text.specs.declared.string.QuotedNext.TheVariants as next
-use Rattle.json_text.proofs.Tools.{by_if, same, snoc2, snoc3, append_nil}
+use Rattle.json_text.proofs.Tools.{by_if, same, snoc2}
 
 -- a next byte in this range, and so many further ones, complete the character
 abbrev pub Fits : ℕ → ℕ → ℕ → List ℕ → Type 0

@@ -1,9 +1,9 @@
 -- A JSON text is read to its end without a fault of syntax, unless another fault is told first: the steps.
-use Rattle.std.proofs.Common.{◌≡◌, ℕ, ◌+◌, List, [], ◌∷◌, ◌++◌, Bool, true, false, refl, ap, sym, subst, ◌∙◌, inl, inr, append_assoc, Ok, Err, Result, length}
-use Rattle.std.specs.Prelude.{◌⊎◌, ◌==◌, ◌||◌, if◌then◌else◌, nat_lt}
+use Rattle.std.proofs.Common.{◌≡◌, ℕ, ◌+◌, List, [], ◌∷◌, ◌++◌, Bool, true, false, refl, ap, sym, subst, ◌∙◌, inl, inr, Ok, Err, Result, length}
+use Rattle.std.specs.Prelude.{◌⊎◌, if◌then◌else◌, nat_lt}
 use Rattle.grpc_base.specs.declared.event.JsonFault.{JsonFault}
 use Rattle.grpc_base.specs.declared.event.JsonFault.TheVariants as fault
-use Rattle.json_text.specs.Reading.{Parent, in_list, in_object, Stage, at_top, at_first_value, at_value, at_first_name, at_name, at_colon, after_item, after_member, in_word, in_number, in_string, in_name, at_end, State, is_blank, most_levels, opened, go, ◌>>=◌, step_at, step, run, top_byte, first_value_byte, next_value_byte, first_name_byte, next_name_byte, colon_byte, item_byte, member_byte, end_byte}
+use Rattle.json_text.specs.Reading.{Parent, Stage, at_top, at_first_value, at_value, at_first_name, at_name, at_colon, after_item, after_member, at_end, State, is_blank, most_levels, opened, ◌>>=◌, step_at, step, run, top_byte, first_value_byte, next_value_byte, first_name_byte, next_name_byte, colon_byte, item_byte, member_byte, end_byte}
 use Rattle.json_text.specs.Tree.{Tree, Items, Members}
 use Rattle.json_text.specs.Grammar.{IsBlank}
 

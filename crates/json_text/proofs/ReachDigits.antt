@@ -1,18 +1,18 @@
 -- A number is read to its end, or its exponent is told.
-use Rattle.std.proofs.Common.{◌≡◌, ℕ, ◌+◌, List, [], ◌∷◌, ◌++◌, Bool, true, false, refl, ap, sym, subst, ◌∙◌, inl, inr, append_assoc, Ok, Err, Result, length, arith}
-use Rattle.std.specs.Prelude.{◌⊎◌, ◌==◌, ◌||◌, if◌then◌else◌}
+use Rattle.std.proofs.Common.{◌≡◌, ℕ, ◌+◌, List, [], ◌∷◌, ◌++◌, Bool, true, false, refl, ap, sym, subst, ◌∙◌, inl, inr, append_assoc, Ok, Result, arith}
+use Rattle.std.specs.Prelude.{◌==◌, ◌||◌}
 use Rattle.std.proofs.lemmas.Bool.Decides.{nat_tests}
 use Rattle.grpc_base.specs.declared.event.JsonFault.{JsonFault}
 use Rattle.grpc_base.specs.declared.event.JsonFault.TheVariants as fault
 use Rattle.json_text.specs.Tree.{Tree, number}
-use Rattle.json_text.specs.Numbers.{is_digit, is_e, is_sign, number_byte, behind_whole}
+use Rattle.json_text.specs.Numbers.{is_digit, is_e, is_sign, number_byte}
 use Rattle.json_text.specs.Reading.{Parent, in_list, in_object, at_value, in_number, State, is_blank, put, step_at, step, run, ◌>>=◌, next_value_byte, value_byte, digit_byte, behind_number}
-use Rattle.json_text.specs.Grammar.{AreDigits, IsDigits, IsMinus, IsWhole, IsInteger, IsPlain, IsPlusMinus, HasExponent, IsNumber}
+use Rattle.json_text.specs.Grammar.{AreDigits, IsDigits, IsMinus, IsWhole, IsInteger, IsPlain, IsPlusMinus, IsNumber}
 use Rattle.json_text.specs.declared.number.Part.{Part}
 use Rattle.json_text.specs.declared.number.Part.TheVariants as part
 use Rattle.json_text.specs.declared.number.NumberByte.{NumberByte}
 use Rattle.json_text.specs.declared.number.NumberByte.TheVariants as byte
-use Rattle.json_text.proofs.Tools.{append_nil, same}
+use Rattle.json_text.proofs.Tools.{append_nil}
 use Rattle.json_text.proofs.Places.{IsInside}
 use Rattle.json_text.proofs.Reach.{at_stage, Reaches, here, join, along, one, other, then_is, else_is}
 

@@ -1,20 +1,18 @@
 -- A string is read to its closing quote.
-use Rattle.std.proofs.Common.{◌≡◌, ℕ, ◌+◌, ◌*◌, ◌%◌, ◌<◌, List, [], ◌∷◌, ◌++◌, Bool, true, false, Option, Some, None, refl, ap, sym, subst, ◌∙◌, inl, inr, append_assoc, Ok, Err, Result, length, arith}
-use Rattle.std.specs.Prelude.{◌⊎◌, ◌==◌, ◌||◌, if◌then◌else◌, nat_lt, option_map, option_and_then}
+use Rattle.std.proofs.Common.{◌≡◌, ℕ, ◌+◌, ◌*◌, ◌%◌, List, [], ◌∷◌, ◌++◌, true, false, Option, Some, None, refl, ap, sym, subst, ◌∙◌, inl, inr, append_assoc, Ok, arith}
+use Rattle.std.specs.Prelude.{◌==◌, ◌||◌, nat_lt, option_map, option_and_then}
 use Rattle.std.proofs.lemmas.Bool.Decides.{nat_tests}
-use Rattle.grpc_base.specs.declared.event.JsonFault.{JsonFault}
-use Rattle.json_text.specs.Strings.{is_between, hex_digit, hex_byte, string_byte, first_byte, lead_byte, tail_byte, escaped_byte, settled, with_byte, with_unit, nothing_read, quoted_next, next_by, opened_quote}
+use Rattle.json_text.specs.Strings.{is_between, hex_digit, hex_byte, string_byte, first_byte, lead_byte, escaped_byte, settled, with_byte, with_unit, nothing_read, quoted_next, next_by}
 use Rattle.json_text.specs.Reading.{Parent, Stage, State, step_at}
-use Rattle.json_text.specs.Grammar.{Char, standing, escape, unicode, escape_value, IsTail, IsStanding, hex_more, hex_value, spelling, Reads, Chars, no_chars, char_after}
+use Rattle.json_text.specs.Grammar.{Char, standing, escape, unicode, escape_value, IsTail, IsStanding, hex_value, spelling, Reads, Chars, no_chars, char_after}
 use Rattle.json_text.specs.declared.string.Spot.{Spot}
 use Rattle.json_text.specs.declared.string.Spot.TheVariants as spot
 use Rattle.json_text.specs.declared.string.StringByte.{StringByte}
 use Rattle.json_text.specs.declared.string.StringByte.TheVariants as byte
 use Rattle.json_text.specs.declared.string.Read.{Read}
 use Rattle.json_text.specs.declared.string.Quoted.{Quoted}
-use Rattle.json_text.specs.declared.string.QuotedNext.{QuotedNext}
 use Rattle.json_text.specs.declared.string.QuotedNext.TheVariants as next
-use Rattle.json_text.proofs.Quotes.{by_both, hex_below, four}
+use Rattle.json_text.proofs.Quotes.{by_both, four}
 use Rattle.json_text.proofs.Reach.{at_stage, Reaches, here, join, along, one, then_is, else_is}
 
 -- a place that goes on with the string

@@ -1,23 +1,16 @@
 -- A JSON text is read to its end without a fault of syntax, unless another fault is told first.
-use Rattle.std.proofs.Common.{◌≡◌, ℕ, ◌+◌, ◌<◌, ◌≤◌, List, [], ◌∷◌, ◌++◌, Bool, true, false, refl, ap, sym, subst, ◌∙◌, inl, inr, append_assoc, Ok, Err, Result, length, arith}
-use Rattle.std.specs.Prelude.{◌⊎◌, ◌==◌, ◌||◌, if◌then◌else◌, nat_lt}
+use Rattle.std.proofs.Common.{◌≡◌, ℕ, ◌+◌, List, [], ◌∷◌, ◌++◌, true, false, refl, ap, sym, subst, ◌∙◌, inl, inr, append_assoc, Ok, Result, arith}
+use Rattle.std.specs.Prelude.{◌==◌}
 use Rattle.std.proofs.lemmas.Bool.Decides.{nat_tests}
 use Rattle.grpc_base.specs.declared.event.JsonFault.{JsonFault}
-use Rattle.grpc_base.specs.declared.event.JsonFault.TheVariants as fault
-use Rattle.json_text.specs.Tree.{Tree, null, boolean, number, string, list, object, Items, no_items, item_after, Members, no_members, member_after}
-use Rattle.json_text.specs.Numbers.{is_digit}
-use Rattle.json_text.specs.Strings.{settled, nothing_read, opened_quote, quoted_next}
-use Rattle.json_text.specs.Reading.{Parent, in_list, in_object, Stage, at_top, at_first_value, at_value, at_first_name, at_name, at_colon, after_item, after_member, in_word, in_number, in_string, in_name, at_end, State, is_blank, is_named, put, opened, step_at, step, run, ◌>>=◌, top_byte, first_value_byte, next_value_byte, value_byte, first_name_byte, next_name_byte, colon_byte, item_byte, member_byte, end_byte, word_byte, string_goes, name_goes, named}
-use Rattle.json_text.specs.Grammar.{IsBlank, IsDigits, AreDigits, IsMinus, IsWhole, IsInteger, IsPlain, HasExponent, IsNumber, Chars, IsString, Ended, Comma, Named, IsValue, InList, BeforeItem, InObject, BeforeName, IsObject, IsText}
+use Rattle.json_text.specs.Tree.{Tree, null, boolean, number, string, list, object, no_items}
+use Rattle.json_text.specs.Strings.{settled, opened_quote}
+use Rattle.json_text.specs.Reading.{Parent, in_list, at_first_value, at_value, in_string, State, is_blank, put, step_at, run, ◌>>=◌, first_value_byte, next_value_byte, value_byte, word_byte, string_goes}
+use Rattle.json_text.specs.Grammar.{IsMinus, IsWhole, IsInteger, IsPlain, IsNumber, IsString, IsValue}
 use Rattle.json_text.specs.declared.string.Spot.TheVariants as spot
 use Rattle.json_text.specs.declared.string.Read.{Read}
-use Rattle.json_text.specs.declared.string.Quoted.{Quoted}
 use Rattle.json_text.specs.declared.string.QuotedNext.{QuotedNext}
-use Rattle.json_text.specs.declared.string.QuotedNext.TheVariants as next
-use Rattle.json_text.proofs.Tools.{append_nil, same}
-use Rattle.json_text.proofs.Places.{IsInside}
-use Rattle.json_text.proofs.Reach.{IsOther, at_stage, Reaches, here, join, along, one, other, then_is, else_is, opens, blanks, top_waits, first_value_waits, value_waits, first_name_waits, name_waits, colon_waits, item_waits, member_waits, end_waits}
-use Rattle.json_text.proofs.ReachDigits.{is_delim, IsBehind, number_reach}
+use Rattle.json_text.proofs.Reach.{IsOther, at_stage, Reaches, join, along, one, else_is}
 use Rattle.json_text.proofs.ReachQuotes.{GoesOn, quoted, chars_reach}
 
 -- a string that is a value

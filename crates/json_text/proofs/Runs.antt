@@ -1,10 +1,10 @@
 -- What is read is a value of which the bytes are a text, and up to a fault the bytes are the front of one.
-use Rattle.std.proofs.Common.{◌≡◌, ℕ, suc, ◌+◌, ◌<◌, ◌≤◌, List, [], ◌∷◌, ◌++◌, Bool, true, false, refl, ap, sym, subst, ◌∙◌, append_assoc, Ok, Err, Result, length, take, arith, add-one, inl, inr}
+use Rattle.std.proofs.Common.{◌≡◌, ℕ, suc, ◌+◌, ◌<◌, ◌≤◌, List, [], ◌∷◌, ◌++◌, refl, ap, sym, subst, ◌∙◌, append_assoc, Ok, Err, Result, length, take, arith, add-one, inl, inr}
 use Rattle.std.specs.Prelude.{◌⊎◌, nat_lt}
 use Rattle.grpc_base.specs.declared.event.JsonFault.{JsonFault}
 use Rattle.grpc_base.specs.declared.event.JsonFault.TheVariants as fault
 use Rattle.json_text.specs.Tree.{Tree}
-use Rattle.json_text.specs.Reading.{Parent, Stage, at_top, at_first_value, at_value, at_first_name, at_name, at_colon, after_item, after_member, in_word, in_number, in_string, in_name, at_end, State, most_bytes, ◌>>=◌, step, run, at_start, ended, reading}
+use Rattle.json_text.specs.Reading.{Stage, at_end, State, most_bytes, ◌>>=◌, step, run, at_start, ended, reading}
 use Rattle.json_text.specs.Grammar.{IsText, CanEnd}
 use Rattle.std.proofs.lemmas.List.{take_all}
 use Rattle.std.proofs.lemmas.Bool.Decides.{nat_tests}
