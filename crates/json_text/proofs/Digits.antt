@@ -1,8 +1,8 @@
 -- What has been read of a number is the front of one, byte by byte.
-use Rattle.std.proofs.Common.{◌≡◌, ℕ, List, [], ◌∷◌, ◌++◌, Bool, true, false, refl, ap, ap₂, sym, ◌∙◌, inl, inr, append_assoc}
-use Rattle.std.specs.Prelude.{◌⊎◌, ◌==◌}
+use Rattle.std.proofs.Common.{◌≡◌, ℕ, List, [], ◌∷◌, ◌++◌, true, false, refl, ap, ap₂, inl, inr}
+use Rattle.std.specs.Prelude.{◌==◌}
 use Rattle.json_text.specs.Numbers.{is_digit, is_e, is_sign, number_byte, behind_whole}
-use Rattle.json_text.specs.Grammar.{AreDigits, IsDigits, IsMinus, IsWhole, IsInteger, IsPlain, HasExponent}
+use Rattle.json_text.specs.Grammar.{AreDigits, IsDigits, IsMinus, IsInteger, IsPlain, HasExponent}
 use Rattle.json_text.specs.declared.number.Part.{Part}
 use Rattle.json_text.specs.declared.number.Part.TheVariants as part
 use Rattle.json_text.specs.declared.number.NumberByte.{NumberByte}

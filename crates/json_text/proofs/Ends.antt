@@ -1,18 +1,15 @@
 -- What has been read of a text without a fault is the front of a JSON text.
-use Rattle.std.proofs.Common.{◌≡◌, ℕ, zero, suc, ◌+◌, ◌*◌, ◌%◌, List, [], ◌∷◌, ◌++◌, Bool, true, false, Option, Some, None, refl, ap, ap₂, sym, subst, ◌∙◌, inl, inr, append_assoc, Ok, Err, Result, length}
-use Rattle.std.specs.Prelude.{◌⊎◌, ◌==◌}
-use Rattle.grpc_base.specs.declared.event.JsonFault.{JsonFault}
-use Rattle.json_text.specs.Tree.{Tree, null, boolean, number, string, list, object, Items, no_items, item_after, Members, no_members, member_after}
-use Rattle.json_text.specs.Numbers.{is_digit}
+use Rattle.std.proofs.Common.{◌≡◌, ℕ, zero, suc, ◌+◌, ◌*◌, ◌%◌, List, [], ◌∷◌, ◌++◌, true, None, refl, ap, sym, subst, ◌∙◌, inl, inr, append_assoc}
+use Rattle.json_text.specs.Tree.{Tree, number, string, list, object, Items, no_items, item_after, Members, no_members, member_after}
 use Rattle.json_text.specs.Strings.{is_between, settled, with_unit, nothing_read}
-use Rattle.json_text.specs.Reading.{Parent, in_list, in_object, Stage, at_top, at_first_value, at_value, at_first_name, at_name, at_colon, after_item, after_member, in_word, in_number, in_string, in_name, at_end, State}
-use Rattle.json_text.specs.Grammar.{IsBlank, IsDigits, AreDigits, IsMinus, IsInteger, IsPlain, HasExponent, IsNumber, standing, escape, unicode, spelling, Chars, no_chars, char_after, IsString, Ended, Comma, Named, IsValue, InList, BeforeItem, InObject, BeforeName, IsObject, IsText, CanEnd}
+use Rattle.json_text.specs.Reading.{Parent, in_list, in_object, Stage, at_top, at_first_value, at_value, at_first_name, at_name, at_colon, after_item, after_member, in_word, in_number, in_string, in_name, at_end}
+use Rattle.json_text.specs.Grammar.{IsPlain, IsNumber, standing, unicode, spelling, Chars, no_chars, char_after, IsString, IsValue, InList, InObject, BeforeName, IsText, CanEnd}
 use Rattle.json_text.specs.declared.number.Part.{Part}
 use Rattle.json_text.specs.declared.number.Part.TheVariants as part
 use Rattle.json_text.specs.declared.string.Read.{Read}
 use Rattle.json_text.specs.declared.string.Spot.{Spot}
 use Rattle.json_text.specs.declared.string.Spot.TheVariants as spot
-use Rattle.json_text.proofs.Tools.{by_if, same, snoc2, snoc3, append_nil}
+use Rattle.json_text.proofs.Tools.{snoc2, snoc3, append_nil}
 use Rattle.json_text.proofs.Digits.{IsPart}
 use Rattle.json_text.proofs.Quotes.{InQuoted, Fits, HexFits, chars_as, letter}
 use Rattle.json_text.proofs.Places.{IsInside, Await, MayStand, Holds, inside_may, object_may, joined}

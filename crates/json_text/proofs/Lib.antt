@@ -5,3 +5,8 @@ pub mod Quotes
 pub mod Places
 pub mod Ends
 pub mod Runs
+pub mod Reach
+pub mod ReachDigits
+pub mod ReachQuotes
+pub mod ReachValues
+pub mod ReachTexts

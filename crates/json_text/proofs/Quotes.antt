@@ -1,19 +1,18 @@
 -- What has been read of a string is the front of one, byte by byte.
-use Rattle.std.proofs.Common.{◌≡◌, ℕ, zero, suc, ◌+◌, ◌-◌, ◌*◌, ◌%◌, ◌<◌, List, [], ◌∷◌, ◌++◌, Bool, true, false, Option, Some, None, refl, ap, ap₂, sym, subst, ◌∙◌, inl, inr, append_assoc, arith}
-use Rattle.std.specs.Prelude.{◌⊎◌, ◌==◌, ◌||◌, if◌then◌else◌, option_map, option_and_then, nat_lt}
+use Rattle.std.proofs.Common.{◌≡◌, ℕ, zero, suc, ◌+◌, ◌-◌, ◌*◌, ◌%◌, ◌<◌, List, [], ◌∷◌, ◌++◌, Bool, true, false, Option, Some, None, refl, ap, sym, subst, ◌∙◌, inl, inr, append_assoc, arith}
+use Rattle.std.specs.Prelude.{◌==◌, ◌||◌, if◌then◌else◌, nat_lt}
 use Rattle.std.proofs.lemmas.Bool.Decides.{nat_tests}
 use Rattle.json_text.specs.Numbers.{is_digit}
-use Rattle.json_text.specs.Strings.{is_between, hex_digit, string_byte, first_byte, lead_byte, tail_byte, escaped_byte, hex_byte, settled, settled_by, with_byte, with_unit, nothing_read, next_by, quoted_next, opened_quote}
-use Rattle.json_text.specs.Grammar.{Char, standing, escape, unicode, escape_value, IsTail, IsStanding, hex_more, hex_value, spelling, Reads, Chars, no_chars, char_after, IsString}
+use Rattle.json_text.specs.Strings.{is_between, hex_digit, string_byte, lead_byte, tail_byte, escaped_byte, hex_byte, settled, with_byte, with_unit, next_by, opened_quote}
+use Rattle.json_text.specs.Grammar.{standing, escape, unicode, escape_value, IsStanding, hex_value, spelling, Chars, no_chars, char_after, IsString}
 use Rattle.json_text.specs.declared.string.Spot.{Spot}
 use Rattle.json_text.specs.declared.string.Spot.TheVariants as spot
 use Rattle.json_text.specs.declared.string.StringByte.{StringByte}
 use Rattle.json_text.specs.declared.string.StringByte.TheVariants as byte
 use Rattle.json_text.specs.declared.string.Read.{Read}
-use Rattle.json_text.specs.declared.string.Quoted.{Quoted}
 use Rattle.json_text.specs.declared.string.QuotedNext.{QuotedNext}
 use Rattle.json_text.specs.declared.string.QuotedNext.TheVariants as next
-use Rattle.json_text.proofs.Tools.{by_if, same, snoc2, snoc3, append_nil}
+use Rattle.json_text.proofs.Tools.{by_if, same, snoc2}
 
 -- a next byte in this range, and so many further ones, complete the character
 abbrev pub Fits : ℕ → ℕ → ℕ → List ℕ → Type 0
@@ -65,13 +64,13 @@ visible : (b : ℕ) → nat_lt b 32 ≡ false → nat_lt b 128 ≡ true → is_b
 visible b n y = grind (arith, nat_tests)
 
 -- the four digits of an escape
-hex_below : (b d : ℕ) → hex_digit b ≡ Some d → d < 16
+pub hex_below : (b d : ℕ) → hex_digit b ≡ Some d → d < 16
 hex_below b d h =
     by_if (λ (o : Option ℕ). o ≡ Some d → d < 16) (is_digit b) _ _ (λ y e. let f : b - 48 ≡ d = cc in grind (arith, nat_tests)) (λ n₁.
     by_if (λ (o : Option ℕ). o ≡ Some d → d < 16) (is_between 65 70 b) _ _ (λ y e. let f : b - 55 ≡ d = cc in grind (arith, nat_tests)) (λ n₂.
     by_if (λ (o : Option ℕ). o ≡ Some d → d < 16) (is_between 97 102 b) _ _ (λ y e. let f : b - 87 ≡ d = cc in grind (arith, nat_tests)) (λ n₃ e. cc))) h
 
-four : (b₁ d₁ : ℕ) → hex_digit b₁ ≡ Some d₁ → (b₂ d₂ : ℕ) → hex_digit b₂ ≡ Some d₂ → (b₃ d₃ : ℕ) → hex_digit b₃ ≡ Some d₃ → (b₄ d₄ : ℕ) → hex_digit b₄ ≡ Some d₄
+pub four : (b₁ d₁ : ℕ) → hex_digit b₁ ≡ Some d₁ → (b₂ d₂ : ℕ) → hex_digit b₂ ≡ Some d₂ → (b₃ d₃ : ℕ) → hex_digit b₃ ≡ Some d₃ → (b₄ d₄ : ℕ) → hex_digit b₄ ≡ Some d₄
     → hex_value b₁ b₂ b₃ b₄ ≡ Some (((((((0 * 16 + d₁) % 65536) * 16 + d₂) % 65536) * 16 + d₃) % 65536 * 16 + d₄) % 65536)
 four b₁ d₁ h₁ b₂ d₂ h₂ b₃ d₃ h₃ b₄ d₄ h₄ =
     let l₁ = hex_below b₁ d₁ h₁ in
@@ -90,7 +89,7 @@ letter r t u b unit e h is =
     chars_as (t ++ b ∷ []) (u ++ spelling (escape b)) (with_unit r unit) (with_unit r unit) (snoc2 t u (92 ∷ []) b e) refl
     (char_after h (escape b) (with_unit r unit) (unit, refl, is))
 
-by_both : {A B : Type 0} (P : A → B → Type 0) (c : Bool) (x y : A) (v w : B) → (c ≡ true → P x v) → (c ≡ false → P y w)
+pub by_both : {A B : Type 0} (P : A → B → Type 0) (c : Bool) (x y : A) (v w : B) → (c ≡ true → P x v) → (c ≡ false → P y w)
     → P (if c then x else y) (if c then v else w)
 by_both P true x y v w f g = f refl
 by_both P false x y v w f g = g refl

@@ -1,16 +1,18 @@
 -- What is read is a value of which the bytes are a text, and up to a fault the bytes are the front of one.
-use Rattle.std.proofs.Common.{◌≡◌, ℕ, suc, ◌+◌, ◌<◌, ◌≤◌, List, [], ◌∷◌, ◌++◌, Bool, true, false, refl, ap, sym, subst, ◌∙◌, append_assoc, Ok, Err, Result, length, take, arith, add-one}
+use Rattle.std.proofs.Common.{◌≡◌, ℕ, suc, ◌+◌, ◌<◌, ◌≤◌, List, [], ◌∷◌, ◌++◌, refl, ap, sym, subst, ◌∙◌, append_assoc, Ok, Err, Result, length, take, arith, add-one, inl, inr}
 use Rattle.std.specs.Prelude.{◌⊎◌, nat_lt}
 use Rattle.grpc_base.specs.declared.event.JsonFault.{JsonFault}
 use Rattle.grpc_base.specs.declared.event.JsonFault.TheVariants as fault
 use Rattle.json_text.specs.Tree.{Tree}
-use Rattle.json_text.specs.Reading.{Parent, Stage, at_top, at_first_value, at_value, at_first_name, at_name, at_colon, after_item, after_member, in_word, in_number, in_string, in_name, at_end, State, most_bytes, ◌>>=◌, step, run, at_start, ended, reading}
+use Rattle.json_text.specs.Reading.{Stage, at_end, State, most_bytes, ◌>>=◌, step, run, at_start, ended, reading}
 use Rattle.json_text.specs.Grammar.{IsText, CanEnd}
 use Rattle.std.proofs.lemmas.List.{take_all}
 use Rattle.std.proofs.lemmas.Bool.Decides.{nat_tests}
 use Rattle.json_text.proofs.Tools.{by_if, append_nil}
 use Rattle.json_text.proofs.Places.{Holds, Kept, step_kept, ended_is}
 use Rattle.json_text.proofs.Ends.{holds_ends}
+use Rattle.json_text.proofs.Reach.{IsOther, at_stage}
+use Rattle.json_text.proofs.ReachTexts.{text_reach}
 
 abbrev pub FrontOf : ℕ → List ℕ → List ℕ → ℕ → Type 0
 FrontOf at p bs k = (n : ℕ) × (k ≡ at + n) × (n < length bs) × CanEnd (p ++ take n bs)
@@ -118,3 +120,83 @@ too_long_only bytes =
     by_if (λ (r : Result Tree JsonFault). r ≡ Err fault.TooLong → most_bytes < length bytes) (nat_lt most_bytes (length bytes)) _ _
     (λ y e. grind (arith, nat_tests))
     (λ n e. absurd (run_short bytes (run 0 at_start bytes) (run_kept 0 at_start [] bytes tt) e))
+
+-- A fault of syntax stays, whatever follows the byte at which it is told.
+abbrev DeadAt : ℕ → State → List ℕ → ℕ → Type 0
+DeadAt at s bs k = (n : ℕ) × (k ≡ at + n) × ((more : List ℕ) → run at s (take (suc n) bs ++ more) ≡ Err (fault.Syntax k))
+
+dead_here : (at : ℕ) (s : State) (p bs : List ℕ) (b k : ℕ) (r : Result State JsonFault) → step at s b ≡ r → Kept at (p ++ b ∷ []) r
+    → ((t : State) → step at s b ≡ Ok t → Holds t.stage t.parents (p ++ b ∷ []) → run (at + 1) t bs ≡ Err (fault.Syntax k) → DeadAt (at + 1) t bs k)
+    → (r >>= λ t. run (at + 1) t bs) ≡ Err (fault.Syntax k) → DeadAt at s (b ∷ bs) k
+dead_here at s p bs b k (Ok t) is h f e =
+    let d = f t is h e in
+    (suc d.0, omega (arith, d.1), λ more. ap (λ (r : Result State JsonFault). r >>= λ u. run (at + 1) u (take (suc d.0) bs ++ more)) is ∙ d.2 more)
+dead_here at s p bs b k (Err (fault.Syntax j)) is h f e =
+    let same : j ≡ k = cc in
+    (0, omega arith, λ more. ap (λ (r : Result State JsonFault). r >>= λ u. run (at + 1) u more) is ∙ ap (λ (x : ℕ). let r : Result State JsonFault = Err (fault.Syntax x) in r) same)
+dead_here at s p bs b k (Err (fault.RepeatedKey j)) is h f e = let g : ⊥ = cc in absurd g
+dead_here at s p bs b k (Err (fault.TooDeep j)) is h f e = let g : ⊥ = cc in absurd g
+dead_here at s p bs b k (Err (fault.Number j)) is h f e = let g : ⊥ = cc in absurd g
+dead_here at s p bs b k (Err fault.TooLong) is h f e = absurd h
+dead_here at s p bs b k (Err fault.NoMemory) is h f e = absurd h
+
+dead_at : (at : ℕ) (s : State) (p bs : List ℕ) (k : ℕ) → Holds s.stage s.parents p → run at s bs ≡ Err (fault.Syntax k) → DeadAt at s bs k
+dead_at at s p [] k h e = let g : ⊥ = cc in absurd g
+dead_at at s p (b ∷ bs) k h e =
+    dead_here at s p bs b k (step at s b) refl (step_kept at s.stage s.parents p b h)
+    (λ t is kept f. dead_at (at + 1) t (p ++ b ∷ []) bs k kept f) e
+
+-- a text is not stopped by a fault of syntax
+not_syntax : (v : Tree) (t : List ℕ) (k : ℕ) → IsText v t → run 0 at_start t ≡ Err (fault.Syntax k) → ⊥
+not_syntax v t k h e =
+    elim (text_reach v t h) [ inl o ↦ (let g : ⊥ = cc in g) | inr o ↦ subst (λ (r : Result State JsonFault). IsOther r) e o ]
+
+run_first : (bytes : List ℕ) (k : ℕ) (r : Result State JsonFault) → run 0 at_start bytes ≡ r → (r >>= λ s. ended (length bytes) s.stage) ≡ Err (fault.Syntax k)
+    → k < length bytes → CanEnd (take (suc k) bytes) → ⊥
+run_first bytes k (Ok s) is e lt can = (let whole : k ≡ length bytes = cut_off (length bytes) k s.stage e in omega arith)
+run_first bytes k (Err (fault.Syntax j)) is e lt can =
+    let same : j ≡ k = cc in
+    let d = dead_at 0 at_start [] bytes j tt is in
+    let place : d.0 ≡ k = omega (arith, d.1) in
+    let dead : run 0 at_start (take (suc k) bytes ++ can.0) ≡ Err (fault.Syntax j) = subst (λ (n : ℕ). run 0 at_start (take (suc n) bytes ++ can.0) ≡ Err (fault.Syntax j)) place (d.2 can.0) in
+    not_syntax can.1 (take (suc k) bytes ++ can.0) j can.2 dead
+run_first bytes k (Err (fault.RepeatedKey j)) is e lt can = cc
+run_first bytes k (Err (fault.TooDeep j)) is e lt can = cc
+run_first bytes k (Err (fault.Number j)) is e lt can = cc
+run_first bytes k (Err fault.TooLong) is e lt can = cc
+run_first bytes k (Err fault.NoMemory) is e lt can = cc
+
+pub syntax_first : (bytes : List ℕ) (k : ℕ) → reading bytes ≡ Err (fault.Syntax k) → k < length bytes → CanEnd (take (k + 1) bytes) → ⊥
+unfolding reading
+syntax_first bytes k =
+    by_if (λ (r : Result Tree JsonFault). r ≡ Err (fault.Syntax k) → k < length bytes → CanEnd (take (k + 1) bytes) → ⊥) (nat_lt most_bytes (length bytes)) _ _
+    (λ y e lt can. cc)
+    (λ n e lt can. run_first bytes k (run 0 at_start bytes) refl e lt (subst (λ (m : ℕ). CanEnd (take m bytes)) (add-one k) can))
+
+-- A text is read as its one value, unless another fault than one of syntax is told.
+text_ends : (v w : Tree) (n : ℕ) (r : Result State JsonFault) → (r ≡ Ok (at_stage (at_end v) [])) ⊎ IsOther r → (r >>= λ s. ended n s.stage) ≡ Ok w → w ≡ v
+text_ends v w n r (inl h) e = let f : (r >>= λ s. ended n s.stage) ≡ Ok v = ap (λ (x : Result State JsonFault). x >>= λ s. ended n s.stage) h in cc
+text_ends v w n (Ok s) (inr o) e = absurd o
+text_ends v w n (Err f) (inr o) e = let g : ⊥ = cc in absurd g
+
+pub one_value : (bytes : List ℕ) (v w : Tree) → IsText v bytes → reading bytes ≡ Ok w → w ≡ v
+unfolding reading
+one_value bytes v w h =
+    by_if (λ (r : Result Tree JsonFault). r ≡ Ok w → w ≡ v) (nat_lt most_bytes (length bytes)) _ _
+    (λ y e. cc) (λ n e. text_ends v w (length bytes) (run 0 at_start bytes) (text_reach v bytes h) e)
+
+text_wrong : (v : Tree) (n k : ℕ) (r : Result State JsonFault) → (r ≡ Ok (at_stage (at_end v) [])) ⊎ IsOther r → (r >>= λ s. ended n s.stage) ≡ Err (fault.Syntax k) → ⊥
+text_wrong v n k r (inl h) e = let f : (r >>= λ s. ended n s.stage) ≡ Ok v = ap (λ (x : Result State JsonFault). x >>= λ s. ended n s.stage) h in cc
+text_wrong v n k (Ok s) (inr o) e = o
+text_wrong v n k (Err (fault.Syntax j)) (inr o) e = o
+text_wrong v n k (Err (fault.RepeatedKey j)) (inr o) e = cc
+text_wrong v n k (Err (fault.TooDeep j)) (inr o) e = cc
+text_wrong v n k (Err (fault.Number j)) (inr o) e = cc
+text_wrong v n k (Err fault.TooLong) (inr o) e = cc
+text_wrong v n k (Err fault.NoMemory) (inr o) e = cc
+
+pub text_is_right : (bytes : List ℕ) (v : Tree) (k : ℕ) → IsText v bytes → reading bytes ≡ Err (fault.Syntax k) → ⊥
+unfolding reading
+text_is_right bytes v k h =
+    by_if (λ (r : Result Tree JsonFault). r ≡ Err (fault.Syntax k) → ⊥) (nat_lt most_bytes (length bytes)) _ _
+    (λ y e. cc) (λ n e. text_wrong v (length bytes) k (run 0 at_start bytes) (text_reach v bytes h) e)

@@ -1,5 +1,6 @@
 // JSON texts with an object at the top.
-ghost use Rattle.std.specs.Prelude.{◌≡◌, ◌<◌, ◌≤◌, ◌↔◌, ℕ, length, take, IfOk, Err};
+ghost use Rattle.std.specs.Prelude.{◌+◌, ◌≡◌, ◌<◌, ◌≤◌, ◌↔◌, ℕ, length, take, IfOk, Err};
+ghost use Rattle.json_text.specs.Tree.{Tree};
 ghost use Rattle.json_text.specs.Reading.{Gives, most_bytes, run, at_start, reading};
 ghost use Rattle.json_text.specs.Grammar.{IsText, CanEnd};
 ghost use Rattle.json_text.specs.Views.{state_of, tree_of};
@@ -13,17 +14,20 @@ use std::alloc::Global;
 const MOST_BYTES: usize = 65536;
 
 /// Reads a JSON text with an object at its top (RFC 8259), or tells its first fault.
-#[tactic(auto, using(crate::proofs::Runs::read_is_text, crate::proofs::Runs::syntax_front, crate::proofs::Runs::too_long_is, crate::proofs::Runs::too_long_only))]
+#[tactic(auto, using(crate::proofs::Runs::read_is_text, crate::proofs::Runs::one_value, crate::proofs::Runs::text_is_right, crate::proofs::Runs::syntax_front, crate::proofs::Runs::syntax_first, crate::proofs::Runs::too_long_is, crate::proofs::Runs::too_long_only))]
 pub fn read_json(alloc: Global, bytes: &[u8]) -> Result<Json, JsonFault>
-    // The bytes are a text of the value that is read.
-    ensures found { IfOk result (λ v. IsText (tree_of v) bytes.now) }
+    // The bytes are a text of the value that is read, and of no other.
+    ensures found { IfOk result (λ json. IsText (tree_of json) bytes.now) }
+    ensures only { (v : Tree) → IsText v bytes.now → IfOk result (λ json. tree_of json ≡ v) }
 
-    // What is read, or which fault is told at which place.
+    // What is read, or which fault is told at which place; out of memory alone is free.
     ensures exact { Gives tree_of result (reading bytes.now) }
-
-    // When a fault comes.
     ensures too_long { (result ≡ Err JsonFault.TooLong) ↔ (most_bytes < length bytes.now) }
+
+    // Syntax is told of no text, behind the front of one, and at the byte with which it is no front any more.
+    ensures wrong { (at : ℕ) (v : Tree) → result ≡ Err (JsonFault.Syntax at) → IsText v bytes.now → ⊥ }
     ensures front { (at : ℕ) → result ≡ Err (JsonFault.Syntax at) → (at ≤ length bytes.now) × CanEnd (take at bytes.now) }
+    ensures first { (at : ℕ) → result ≡ Err (JsonFault.Syntax at) → at < length bytes.now → CanEnd (take (at + 1) bytes.now) → ⊥ }
 {
     if bytes.len() > MOST_BYTES {
         return Err(JsonFault::TooLong);

@@ -194,14 +194,29 @@ fn tells_the_faults_of_the_vectors(rt: HostRuntime) {
     }
 }
 
+fn string_in(value: Json) -> Option<Text> {
+    match value {
+        Json::Str(string) => Some(string),
+        _ => None,
+    }
+}
+
 /// The string that is the one member of this text.
 fn string_of(alloc: Global, text: &[u8]) -> Option<Text> {
-    let Ok(Json::Object(members)) = read_json(alloc, text) else {
-        return None;
-    };
-    let mut members = members;
-    match members.pop() {
-        Some((_name, Json::Str(string))) => Some(string),
+    match read_json(alloc, text) {
+        Ok(value) => string_under(value),
+        Err(_) => None,
+    }
+}
+
+/// The string that is the last member of this object.
+fn string_under(value: Json) -> Option<Text> {
+    match value {
+        Json::Object(members) => {
+            let mut members = members;
+            let (_name, value) = members.pop()?;
+            string_in(value)
+        }
         _ => None,
     }
 }

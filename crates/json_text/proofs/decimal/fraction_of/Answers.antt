@@ -1,4 +1,4 @@
-use Rattle.std.proofs.Common.{◌≡◌, ℕ, ◌+◌, ◌-◌, ◌*◌, ◌≤◌, ◌<◌, List, [], ◌∷◌, drop, drop-cons, get_or, length, arith, add-one, ap, sym, ◌∙◌, suc, add_assoc, ◌/◌}
+use Rattle.std.proofs.Common.{◌≡◌, ℕ, ◌+◌, ◌-◌, ◌*◌, ◌≤◌, ◌<◌, List, drop, drop-cons, get_or, length, arith, add-one, ap, sym, ◌∙◌, suc, add_assoc, ◌/◌}
 use Rattle.std.proofs.Math.Nat.{mul-le-mul_right}
 use Rattle.json_text.specs.Decimals.{fraction_of}
 use Rattle.json_text.proofs.decimal.fraction_of.Goals as goal

@@ -1,5 +1,5 @@
 use Rattle.std.proofs.Common.{◌≡◌, ℕ, ◌+◌, ◌-◌, ◌*◌, ◌≤◌, ◌<◌, List, [], ◌∷◌, min, drop, drop-cons, get_or, length, arith, add-one, ap, sym, ◌∙◌, suc}
-use Rattle.json_text.specs.Decimals.{value_from, value_of}
+use Rattle.json_text.specs.Decimals.{value_from}
 use Rattle.json_text.proofs.decimal.value_up_to.Goals as goal
 
 grows : (n : ℕ) (ds : List ℕ) → n ≤ value_from n ds
