@@ -1,5 +1,5 @@
 -- Addresses and their one spelling.
-use Rattle.std.proofs.Common.{◌≡◌, ℕ, ◌+◌, ◌*◌, ◌/◌, ◌%◌, ◌^◌, ◌<◌, ◌≤◌, List, ◌∷◌, ◌++◌, refl, ap, sym, subst, arith, append_assoc, ◌∙◌, inl, inr}
+use Rattle.std.proofs.Common.{◌≡◌, ℕ, ◌+◌, ◌*◌, ◌/◌, ◌%◌, ◌^◌, ◌≤◌, List, ◌∷◌, ◌++◌, sym, arith, append_assoc, ◌∙◌, inl, inr}
 use Rattle.std.specs.Prelude.{decimal}
 use Rattle.grpc_base.specs.declared.address.Address.{Address}
 use Rattle.script_text.specs.Spelling.{address_text}

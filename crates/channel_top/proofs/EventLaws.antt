@@ -1,5 +1,5 @@
 -- The one text of the event that may stand in a line.
-use Rattle.std.proofs.Common.{◌≡◌, ◌≢◌, ℕ, ◌+◌, ◌^◌, ◌<◌, ◌≤◌, List, [], ◌∷◌, ◌++◌, length, refl, ap, sym, subst, inl, inr, ◌⊎◌, arith, ◌∙◌, length-append, take, get_or, true, false, Bool, Option, Some, None, Result, Err}
+use Rattle.std.proofs.Common.{◌≡◌, ◌≢◌, ℕ, ◌+◌, ◌<◌, ◌≤◌, List, [], ◌∷◌, ◌++◌, length, refl, ap, sym, subst, inl, inr, ◌⊎◌, arith, ◌∙◌, length-append, take, get_or, true, false, Bool, None, Result, Err}
 use Rattle.std.proofs.lemmas.Bool.{true≢false}
 use Rattle.std.specs.Prelude.{codes, decimal, nat_eq, nat_lt, not}
 use Rattle.std.specs.Cmp.Lexicographic.{pointwise}

@@ -1,5 +1,5 @@
 -- How far the script is read, and what follows at its end.
-use Rattle.std.proofs.Common.{◌≡◌, ◌≢◌, ℕ, suc, zero, ◌+◌, ◌-◌, ◌<◌, ◌≤◌, List, [], ◌∷◌, ◌++◌, length, drop, map, refl, ap, sym, subst, inl, inr, ◌⊎◌, arith, append_assoc, length-append, ◌∙◌, true, false, Bool, Option, Some, None}
+use Rattle.std.proofs.Common.{◌≡◌, ◌≢◌, ℕ, suc, zero, ◌+◌, ◌-◌, ◌<◌, ◌≤◌, List, [], ◌∷◌, ◌++◌, length, drop, map, refl, ap, sym, subst, inl, inr, ◌⊎◌, arith, append_assoc, length-append, ◌∙◌, true, false, Bool, Some}
 use Rattle.std.specs.Prelude.{slice_get, ◌==◌}
 use Rattle.std.proofs.lemmas.Bool.Decides.{nat_tests}
 use Rattle.std.proofs.lemmas.Bool.{cases_lt}
@@ -126,10 +126,6 @@ told_whole input rest n line cause ended behind low good bad told =
       ),
     )
 
-drop_none : (xs : List (List ℕ)) → drop 0 xs ≡ xs
-drop_none [] = refl
-drop_none (x ∷ xs) = refl
-
 good_here : (input rest : List ℕ) (n : ℕ) → drop (n - 1) (parted 10 input) ≡ parted 10 rest → 1 ≤ n → ((text : List ℕ) → slice_get (parted 10 rest) 0 ≡ Some text → 1 < length (parted 10 rest) → IsShapeLine n text → ⊥) → IsGoodLine (parted 10 input) n → ⊥
 good_here input rest n behind low none good =
     let p : (part : List ℕ) × (parts : List (List ℕ)) × (parted 10 rest ≡ part ∷ parts) = parted-some 10 rest in
@@ -138,12 +134,6 @@ good_here input rest n behind low none good =
     let l : length (parted 10 rest) ≡ length (p.0 ∷ p.1) = ap length p.2 in
     let long : n < length (parted 10 input) = good.ended in
     none good.line (got ∙ sym here.0 ∙ good.there) (omega (arith, l, here.2, low, long)) good.shape
-
-pub bad_first : (input : List ℕ) (e : ShapeFault) → IsBadAt 1 (parted 10 input) e → IsShapeFault input e
-bad_first input fault.NoMemory bad = tt
-bad_first input (fault.BadLine line cause ended) bad =
-    told_whole input input 1 line cause ended (drop_none (parted 10 input)) (omega arith) (λ k low high. absurd (omega (arith, low, high)))
-    (inl (omega arith, good_here input input 1 (drop_none (parted 10 input)) (omega arith) bad.1)) bad.0
 
 pub bad_more : (input rest : List ℕ) (n : ℕ) (authority : Address) (events : List Stamped) (e : ShapeFault) → IsRead input n authority events rest → n ≤ 12 → IsBadAt n (parted 10 rest) e → IsShapeFault input e
 bad_more input rest n authority events fault.NoMemory read few bad = tt

@@ -1,5 +1,5 @@
 -- Texts of numbers, hex and parts.
-use Rattle.std.proofs.Common.{length-append, ◌≡◌, ◌≢◌, ℕ, ◌+◌, ◌*◌, ◌/◌, ◌%◌, ◌^◌, ◌<◌, ◌≤◌, List, [], ◌∷◌, ◌++◌, length, refl, ap, sym, subst, inl, inr, ◌⊎◌, arith, All, take, drop, ◌-◌, ◌∙◌, true, false, Bool, Option, Some, None, Result, Ok, Err, get_or}
+use Rattle.std.proofs.Common.{length-append, ◌≡◌, ◌≢◌, ℕ, ◌+◌, ◌/◌, ◌%◌, ◌^◌, ◌<◌, ◌≤◌, List, [], ◌∷◌, ◌++◌, length, refl, ap, sym, subst, inl, inr, ◌⊎◌, arith, All, take, drop, ◌-◌, ◌∙◌, true, false, Bool, Option, Some, None, Result, Ok, Err, get_or}
 use Rattle.std.specs.Cmp.Lexicographic.{pointwise}
 use Rattle.std.specs.Option.{MatchOption}
 use Rattle.std.proofs.lemmas.Slice.Eq.{bytes_eq-Decides}
@@ -9,7 +9,7 @@ use Rattle.std.proofs.lemmas.Grind.{common_steps}
 use Rattle.std.proofs.lemmas.Bool.Decides.{nat_tests}
 use Rattle.std.specs.List.{AllByRecursion}
 use Rattle.std.specs.Prelude.{decimal, IfOk, IfSome, IfNone, nat_eq, ◌==◌}
-use Rattle.std.proofs.lemmas.Fmt.{decimal_injective, decimal_by_steps, decimal_digit}
+use Rattle.std.proofs.lemmas.Fmt.{decimal_injective, decimal_by_steps}
 use Rattle.std.proofs.lemmas.List.Elements.{recursion_from_All, All-from_get_or, All-from_recursion}
 use Rattle.script_text.specs.Spelling.{hex_digits, hex_or_dash, lower_digit, parted}
 use Rattle.channel_top.specs.Shape.{IsBytes}
@@ -232,11 +232,6 @@ pub map_none : {X E : Type 0} (r : Result (Option X) E) (P Q : Type 0) → (P �
 map_none (Ok (Some x)) P Q f h = tt
 map_none (Ok None) P Q f h = f h
 map_none (Err e) P Q f h = tt
-
-pub map_some : {X E : Type 0} (r : Result (Option X) E) (P Q : X → Type 0) → ((x : X) → P x → Q x) → IfOk r (λ o. IfSome o P) → IfOk r (λ o. IfSome o Q)
-map_some (Ok (Some x)) P Q f h = f x h
-map_some (Ok None) P Q f h = tt
-map_some (Err e) P Q f h = tt
 
 pub push_bytes : (xs : List ℕ) (x : ℕ) → IsBytes xs → x < 256 → IsBytes (xs ++ x ∷ [])
 push_bytes xs x all small = All-from_recursion (λ b. b < 256) (xs ++ x ∷ []) (push_all (λ b. b < 256) xs x (bytes_from xs all) small)

@@ -12,6 +12,8 @@ mod first;
 mod hex;
 mod line;
 mod number;
+#[cfg(test)]
+mod tests;
 
 pub use first::{FirstCall, ShapeFault};
 use grpc_base::Text;

@@ -1,8 +1,8 @@
-use Rattle.std.proofs.Common.{◌+◌, ◌≡◌, ◌≢◌, ◌++◌, ◌∷◌, [], ℕ, List, length, arith, ap, refl, sym, subst, ◌∙◌}
+use Rattle.std.proofs.Common.{◌+◌, ◌≡◌, ◌≢◌, [], ℕ, List, arith, sym, subst, ◌∙◌}
 use Rattle.std.proofs.lemmas.Result.{err_from_is_err_and}
 use Rattle.grpc_base.specs.declared.event.Stamped.{Stamped}
 use Rattle.channel_top.specs.Reading.{IsShapeFault}
-use Rattle.channel_top.proofs.ScriptLaws.{IsRead, bad_first, blank_of, filled_of, bad_last, bad_more, read_first, read_more, read_whole}
+use Rattle.channel_top.proofs.ScriptLaws.{IsRead, blank_of, filled_of, bad_last, bad_more, read_first, read_more, read_whole}
 use Rattle.channel_top.proofs.shape.read_first_call.Goals as goal
 
 pub loop-line-init : goal.loop-line-init

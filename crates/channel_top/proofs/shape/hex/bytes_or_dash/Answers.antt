@@ -1,4 +1,4 @@
-use Rattle.std.proofs.Common.{◌≡◌, ◌≢◌, ℕ, List, ◌∷◌, [], sym, ◌∙◌}
+use Rattle.std.proofs.Common.{◌≢◌, ◌∷◌, [], sym, ◌∙◌}
 use Rattle.std.proofs.lemmas.Slice.Eq.{bytes_eq-Decides}
 use Rattle.std.proofs.lemmas.Bool.{true≢false}
 use Rattle.channel_top.proofs.TextLaws.{dash_none, map_none}

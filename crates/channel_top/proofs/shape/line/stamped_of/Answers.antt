@@ -1,4 +1,4 @@
-use Rattle.std.proofs.Common.{◌≡◌, ◌++◌, ◌∷◌, ℕ, List, arith, inl, ◌∙◌}
+use Rattle.std.proofs.Common.{◌≡◌, ◌++◌, ◌∷◌, arith, inl, ◌∙◌}
 use Rattle.std.specs.Prelude.{decimal}
 use Rattle.script_text.specs.Spelling.{event_words, words}
 use Rattle.channel_top.specs.Reading.{IsNoEventText}

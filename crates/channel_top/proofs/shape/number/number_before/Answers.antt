@@ -1,4 +1,4 @@
-use Rattle.std.proofs.Common.{◌≡◌, ℕ, ◌≤◌, List, ◌∷◌, ◌++◌, sym, arith, ◌∙◌}
+use Rattle.std.proofs.Common.{◌≡◌, ℕ, ◌≤◌, List, ◌∷◌, ◌++◌, arith}
 use Rattle.std.specs.Prelude.{decimal}
 use Rattle.channel_top.proofs.TextLaws.{if_none, no_cut, number_cut}
 use Rattle.channel_top.proofs.shape.number.number_before.Goals as goal
