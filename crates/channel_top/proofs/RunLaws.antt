@@ -19,11 +19,12 @@ EachFrom n (s ∷ events) = IsStampedAt n s × EachFrom (suc n) events
 -- by their places: the event at place k stands in the line k + n
 to_each : (n : ℕ) (events : List Stamped) → ((k : ℕ) (s : Stamped) → slice_get events k ≡ Some s → IsStampedAt (k + n) s) → EachFrom n events
 to_each n [] at = tt
-to_each n (x ∷ events) at =
-    (subst (λ (m : ℕ). IsStampedAt m x) (zero-add n) (at 0 x refl),
-     to_each (suc n) events (λ k s e.
-       let same : suc k + n ≡ k + suc n = omega arith in
-       subst (λ (m : ℕ). IsStampedAt m s) same (at (suc k) s e)))
+to_each n (x ∷ events) at = (
+  subst (λ (m : ℕ). IsStampedAt m x) (zero-add n) (at 0 x refl),
+  to_each (suc n) events (λ k s e.
+      let same : suc k + n ≡ k + suc n = omega arith in
+      subst (λ (m : ℕ). IsStampedAt m s) same (at (suc k) s e)),
+)
 
 from_each : (n : ℕ) (events : List Stamped) → EachFrom n events → (k : ℕ) (s : Stamped) → slice_get events k ≡ Some s → IsStampedAt (k + n) s
 from_each n [] each k s e = absurd (cc)
@@ -74,9 +75,9 @@ AreFirstEvents-step authority before ledger s rest first =
     let below : last_moment before < first_moment_limit = last_below before (λ k t e. (from_each 2 xs front k t e).moment) in
     let moment : moment_of before s < first_moment_limit = ? in
     let here : IsStampedAt (2 + length xs) (stamped_of (entry_made authority before ledger s)) =
-      record { moment = moment; word = behind.0.word; event = behind.0.event } in
+    record { moment = moment; word = behind.0.word; event = behind.0.event } in
     let all : EachFrom 2 (xs ++ stamped_of (entry_made authority before ledger s) ∷ rest) =
-      joined_each 2 xs (stamped_of (entry_made authority before ledger s) ∷ rest) front (here, behind.1) in
+    joined_each 2 xs (stamped_of (entry_made authority before ledger s) ∷ rest) front (here, behind.1) in
     let same : xs ++ stamped_of (entry_made authority before ledger s) ∷ rest ≡ map stamped_of (before ++ entry_made authority before ledger s ∷ []) ++ rest = ? in
     subst AreFirstEvents same (from_each 2 (xs ++ stamped_of (entry_made authority before ledger s) ∷ rest) all)
 
@@ -84,6 +85,6 @@ AreFirstEvents-step authority before ledger s rest first =
 pub run_from-step : (authority other : Address) (before now : List Entry) (ledger : Ledger) (s : Stamped) (rest : List Stamped) → other ≡ authority → ledger ≡ ledger_of before → now ≡ before ++ entry_made other before ledger s ∷ [] → run_from authority now rest ≡ run_from authority before (s ∷ rest)
 run_from-step authority other before now ledger s rest same written journaled =
     ap (λ (es : List Entry). run_from authority es rest)
-      (journaled
-        ∙ ap (λ (a : Address). before ++ entry_made a before ledger s ∷ []) same
-        ∙ ap (λ (l : Ledger). before ++ entry_made authority before l s ∷ []) written)
+    (journaled
+    ∙ ap (λ (a : Address). before ++ entry_made a before ledger s ∷ []) same
+    ∙ ap (λ (l : Ledger). before ++ entry_made authority before l s ∷ []) written)

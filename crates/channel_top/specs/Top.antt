@@ -73,7 +73,7 @@ pub record TellsBadLine (left left' taken taken' : Option (List ℕ)) : Type 0 w
 abbrev pub IsUndecided : List ℕ → Type 0
 IsUndecided input =
     ((authority : Address) × ((events : List Stamped) × IsFirstCall input authority events))
-      ⊎ ((line : ℕ) × ((cause : ℕ) × IsFirstBadLine input line cause × (line < length (parted 10 input) → ⊥)))
+    ⊎ ((line : ℕ) × ((cause : ℕ) × IsFirstBadLine input line cause × (line < length (parted 10 input) → ⊥)))
 
 -- status 4: a read failed before the input's end and before its first bad line; nothing was written
 pub record StopsAtRead (left left' taken taken' : Option (List ℕ)) (faults faults' : ℕ) : Type 0 where

@@ -14,13 +14,21 @@ use script_text::{ReportFault, write_report};
 use std::alloc::Global;
 
 /// Runs a script and writes the report of its session. Ok says whether all of it was written; if not, a write failed.
-pub fn report_session<K: Sink>(alloc: Global, script: FirstCall, report: &mut K) -> Result<bool, NoMemory>
+pub fn report_session<K: Sink>(
+    alloc: Global,
+    script: FirstCall,
+    report: &mut K,
+) -> Result<bool, NoMemory>
     requires first { AreFirstEvents script.events.items }
     requires target { script.target ≡ target_text script.authority }
     ensures written { IfOk result (λ w. w ≡ true → WritesSession script.authority script.events.items (K.taken report.old) (K.taken report.new)) }
     ensures failed { IfOk result (λ w. w ≡ false → Rises (K.faults report.old) (K.faults report.new)) }
 {
-    let FirstCall { authority, target, events } = script;
+    let FirstCall {
+        authority,
+        target,
+        events,
+    } = script;
     let mut core = ChannelCore::new(alloc, authority)?;
     if run_events(&mut core, events).is_err() {
         return Err(NoMemory);

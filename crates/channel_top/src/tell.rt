@@ -22,7 +22,12 @@ pub fn is_replay(words: &[String]) -> bool
 }
 
 /// Tells the first bad line of a script, and says whether the text was written; if not, a write failed.
-pub fn tell_line<K: Sink>(alloc: Global, report: &mut K, line: u64, cause: u8) -> Result<bool, NoMemory>
+pub fn tell_line<K: Sink>(
+    alloc: Global,
+    report: &mut K,
+    line: u64,
+    cause: u8,
+) -> Result<bool, NoMemory>
     ensures written { IfOk result (λ w. w ≡ true → Appends (K.taken report.old) (K.taken report.new) (line_fault_text line cause)) }
     ensures failed { IfOk result (λ w. w ≡ false → Rises (K.faults report.old) (K.faults report.new)) }
 {

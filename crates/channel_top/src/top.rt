@@ -20,7 +20,12 @@ use std::alloc::Global;
 /// | 4 | a read failed before the input's end and its first bad line | nothing |
 /// | 5 | a write failed | a front of the output |
 /// | 6 | out of memory | a front of the output |
-pub fn run_channel<S: Source, K: Sink>(alloc: Global, words: &[String], script: &mut S, report: &mut K) -> u8
+pub fn run_channel<S: Source, K: Sink>(
+    alloc: Global,
+    words: &[String],
+    script: &mut S,
+    report: &mut K,
+) -> u8
     ensures done { result ≡ 0 → IsReplay (map string_bytes words.now)
         × IsDone (S.left script.old) (S.left script.new) (K.taken report.old) (K.taken report.new) }
     ensures words { result ≡ 2 → (IsReplay (map string_bytes words.now) → ⊥)
