@@ -1,6 +1,9 @@
 -- What a run of reads gave is the pieces joined.
 use Rattle.std.proofs.Common.{◌≡◌, ◌≤◌, ℕ, Option, Some, None, List, [], ◌++◌, take, append_assoc, ap, ◌∙◌, sym, refl}
 use Rattle.gate_io.specs.Outside.{Takes}
+use Rattle.channel_top.specs.declared.input.Ending.{Ending}
+use Rattle.channel_top.specs.declared.input.Ending.TheVariants as ending
+use Rattle.channel_top.specs.Ending.{EndsSo}
 
 -- nothing was read yet
 pub Takes-nothing : (left : Option (List ℕ)) → Takes left left []
@@ -15,3 +18,9 @@ Takes-append (Some a) None c xs ys p q = absurd p
 Takes-append None (Some b) c xs ys p q = absurd p
 Takes-append None None (Some c) xs ys p q = q
 Takes-append None None None xs ys p q = tt
+
+-- an input that was read to the limit is as long as that
+pub limit_is_long : (e : Ending) (left : Option (List ℕ)) (n f f' : ℕ) → EndsSo e left n f f' → e ≡ ending.Limit → n ≡ 65536
+limit_is_long ending.Limit left n f f' h same = h
+limit_is_long ending.End left n f f' h same = absurd (cc)
+limit_is_long ending.Failed left n f f' h same = absurd (cc)

@@ -6,3 +6,4 @@ pub mod RunLaws
 pub mod ScriptLaws
 pub mod ShortScript
 pub mod TextLaws
+pub mod WordLaws

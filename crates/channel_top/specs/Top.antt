@@ -2,11 +2,12 @@
 use Rattle.std.specs.Prelude.{◌≡◌, ◌<◌, ◌⊎◌, ℕ, Option, List, [], ◌∷◌, ◌++◌, length, codes, decimal}
 use Rattle.grpc_base.specs.declared.address.Address.{Address}
 use Rattle.grpc_base.specs.declared.event.Entry.{Entry}
+use Rattle.grpc_base.specs.declared.event.Reply.{Reply}
 use Rattle.grpc_base.specs.declared.event.Stamped.{Stamped}
 use Rattle.attempt_ledger.specs.declared.journal.Journal.{Journal}
 use Rattle.attempt_ledger.specs.declared.ledger.Ledger.{Ledger}
 use Rattle.gate_io.specs.Outside.{Appends, IsAtEnd, Rises, Takes}
-use Rattle.channel_core.specs.Core.{entry_made, ledger_of}
+use Rattle.channel_core.specs.Core.{CoreSeen, Steps, entry_made, ledger_of}
 use Rattle.script_text.specs.Spelling.{parted}
 use Rattle.script_text.specs.Report.{report_of}
 use Rattle.channel_top.specs.Shape.{IsFirstBadLine, IsFirstCall, target_text}
@@ -31,6 +32,10 @@ IsReplay commands = commands ≡ codes "replay" ∷ []
 abbrev pub run_from : Address → List Entry → List Stamped → List Entry
 run_from authority before [] = before
 run_from authority before (s ∷ events) = run_from authority (before ++ entry_made authority before (ledger_of before) s ∷ []) events
+
+-- a step of a channel, whatever it replies
+abbrev pub StepsOn : CoreSeen → CoreSeen → Stamped → Type 0
+StepsOn old new s = (r : Reply) × Steps old new s r
 
 -- a session: a new channel was given these events in order, and nothing else
 pub record IsSession (authority : Address) (events : List Stamped) (journal : Journal) (ledger : Ledger) : Type 0 where

@@ -1,8 +1,8 @@
 // A session: a new channel is given the events of a script, one behind another.
-ghost use Rattle.std.specs.Prelude.{◌≡◌, [], OnOk};
+ghost use Rattle.std.specs.Prelude.{◌≡◌, ◌++◌, ◌∷◌, [], map, OnOk};
 ghost use Rattle.channel_core.specs.Core.{IsNew, ledger_of};
-ghost use Rattle.channel_core.specs.FirstCall.{AreFirstEvents};
-ghost use Rattle.channel_top.specs.Top.{run_from};
+ghost use Rattle.channel_core.specs.FirstCall.{AreFirstEvents, stamped_of};
+ghost use Rattle.channel_top.specs.Top.{StepsOn, run_from};
 
 use channel_core::{ChannelCore, CoreError};
 use grpc_base::Stamped;
@@ -16,7 +16,16 @@ pub fn run_events(core: &mut ChannelCore, events: Vec<Stamped>) -> Result<(), Co
 {
     let mut rest = events.into_iter();
     while let Some(stamped) = rest.next() {
-        core.step(stamped)?;
+        step_once(core, stamped)?;
     }
+    Ok(())
+}
+
+/// One step, whose reply the journal keeps.
+fn step_once(core: &mut ChannelCore, stamped: Stamped) -> Result<(), CoreError>
+    requires { AreFirstEvents (map stamped_of core.old.journal.entries ++ stamped ∷ []) }
+    ensures { OnOk result (StepsOn core.old core.new stamped) }
+{
+    core.step(stamped)?;
     Ok(())
 }

@@ -1,5 +1,5 @@
 // The one-line answers of the program.
-ghost use Rattle.std.specs.Prelude.{◌≡◌, ◌++◌, ◌↔◌, true, false, List, decimal, map, string_bytes, IsTrue, IfOk, OnOk};
+ghost use Rattle.std.specs.Prelude.{◌≡◌, ◌++◌, ◌↔◌, true, false, codes, decimal, map, string_bytes, IsTrue, IfOk, OnOk};
 ghost use Rattle.gate_io.specs.Outside.{Appends, Rises};
 ghost use Rattle.channel_top.specs.Top.{IsReplay, line_fault_text};
 
@@ -15,10 +15,17 @@ pub const WORDS_FAULT: &[u8] = b"fault words\n";
 pub fn is_replay(words: &[String]) -> bool
     ensures { IsTrue result ↔ IsReplay (map string_bytes words.now) }
 {
-    match words {
-        [only] => only.as_bytes() == b"replay".as_slice(),
-        _ => false,
+    if words.len() != 1 {
+        return false;
     }
+    is_word(words[0].as_bytes())
+}
+
+/// Whether a word is `replay`.
+fn is_word(word: &[u8]) -> bool
+    ensures { IsTrue result ↔ (word.now ≡ codes "replay") }
+{
+    word == b"replay".as_slice()
 }
 
 /// Tells the first bad line of a script, and says whether the text was written; if not, a write failed.
