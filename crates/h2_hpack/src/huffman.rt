@@ -8,6 +8,9 @@ use crate::nodes::NODES;
 use grpc_base::NoMemory;
 use std::alloc::Global;
 
+/// The last node that only padding leads to: the nodes up to it are reached by as many one bits.
+const MOST_PADDING: u16 = 7;
+
 /// The symbols of Huffman text; None exactly where the bytes are none.
 pub(crate) fn decode(alloc: Global, bytes: &[u8]) -> Result<Option<Vec<u8>>, NoMemory>
     ensures { IfOk result (λ r. option_map (λ v. v.items) r ≡ symbols_of bytes.now) }
@@ -21,7 +24,8 @@ pub(crate) fn decode(alloc: Global, bytes: &[u8]) -> Result<Option<Vec<u8>>, NoM
             Err(_) => return Err(NoMemory),
         }
     }
-    if node <= 7 {
+    let most = MOST_PADDING;
+    if node <= most {
         Ok(Some(symbols))
     } else {
         Ok(None)

@@ -19,10 +19,10 @@ loop-byte-preserved c = record {
   node_is = c.in-Ok.ensures.node_is;
 }
 
-pub returns-then-node-le7 : goal.returns-then-node-le7
-returns-then-node-le7 c =
-    sym (rw (le-leb c.loop-byte.node 7 c.if-node-le7.true) at (walk-all c.args.bytes.now c.loop-byte.byte-index (c.loop-byte.symbols.items, c.loop-byte.node) (omega (arith, c.loop-byte-test.false)) c.loop-byte.invariant.walked))
+pub returns-then-node-most : goal.returns-then-node-most
+returns-then-node-most c =
+    sym (rw (le-leb c.loop-byte.node 7 c.if-node-most.true) at (walk-all c.args.bytes.now c.loop-byte.byte-index (c.loop-byte.symbols.items, c.loop-byte.node) (omega (arith, c.loop-byte-test.false)) c.loop-byte.invariant.walked))
 
-pub returns-else-node-le7 : goal.returns-else-node-le7
-returns-else-node-le7 c =
-    sym (rw (lt-leb c.loop-byte.node 7 (omega (arith, c.if-node-le7.false))) at (walk-all c.args.bytes.now c.loop-byte.byte-index (c.loop-byte.symbols.items, c.loop-byte.node) (omega (arith, c.loop-byte-test.false)) c.loop-byte.invariant.walked))
+pub returns-else-node-most : goal.returns-else-node-most
+returns-else-node-most c =
+    sym (rw (lt-leb c.loop-byte.node 7 (omega (arith, c.if-node-most.false))) at (walk-all c.args.bytes.now c.loop-byte.byte-index (c.loop-byte.symbols.items, c.loop-byte.node) (omega (arith, c.loop-byte-test.false)) c.loop-byte.invariant.walked))
