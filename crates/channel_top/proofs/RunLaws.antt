@@ -83,8 +83,8 @@ AreFirstEvents-step authority before ledger s rest first =
     let all : EachFrom 2 (xs ++ stamped_of (entry_made authority before ledger s) ∷ rest) =
     joined_each 2 xs (stamped_of (entry_made authority before ledger s) ∷ rest) front (here, behind.1) in
     let same : map stamped_of (before ++ entry_made authority before ledger s ∷ []) ++ rest ≡ xs ++ stamped_of (entry_made authority before ledger s) ∷ rest =
-      ap (λ (t : List Stamped). t ++ rest) (map-append stamped_of before (entry_made authority before ledger s ∷ []))
-        ∙ append_assoc xs (stamped_of (entry_made authority before ledger s) ∷ []) rest in
+    ap (λ (t : List Stamped). t ++ rest) (map-append stamped_of before (entry_made authority before ledger s ∷ []))
+    ∙ append_assoc xs (stamped_of (entry_made authority before ledger s) ∷ []) rest in
     subst AreFirstEvents (sym same) (from_each 2 (xs ++ stamped_of (entry_made authority before ledger s) ∷ rest) all)
 
 -- a step of the run: what is left of it is the run from the new entries on
@@ -106,27 +106,27 @@ pub record IsRunning (authority : Address) (all : List Stamped) (core : CoreSeen
 pub IsRunning-allows : (authority : Address) (all : List Stamped) (core : CoreSeen) (left rest : List Stamped) (s : Stamped) → IsRunning authority all core left → left ≡ s ∷ rest → AreFirstEvents (map stamped_of core.journal.entries ++ s ∷ [])
 IsRunning-allows authority all core left rest s running e =
     AreFirstEvents-front (map stamped_of core.journal.entries) rest s
-      (subst (λ (xs : List Stamped). AreFirstEvents (map stamped_of core.journal.entries ++ xs)) e running.first)
+    (subst (λ (xs : List Stamped). AreFirstEvents (map stamped_of core.journal.entries ++ xs)) e running.first)
 
 -- and the step leads on
 pub IsRunning-step : (authority : Address) (all : List Stamped) (core new : CoreSeen) (left rest : List Stamped) (s : Stamped) (r : Reply) → IsRunning authority all core left → left ≡ s ∷ rest → Steps core new s r → IsRunning authority all new rest
 IsRunning-step authority all core new left rest s r running e step = record {
-    run =
+  run =
       run_from-step authority core.authority core.journal.entries new.journal.entries core.ledger s rest running.same running.written step.journal
-        ∙ ap (λ (xs : List Stamped). run_from authority core.journal.entries xs) (sym e) ∙ running.run;
-    same = step.authority ∙ running.same;
-    written = ledger_of-step core.authority core.journal.entries new.journal.entries core.ledger new.ledger s running.written step.journal step.ledger;
-    first =
+      ∙ ap (λ (xs : List Stamped). run_from authority core.journal.entries xs) (sym e) ∙ running.run;
+  same = step.authority ∙ running.same;
+  written = ledger_of-step core.authority core.journal.entries new.journal.entries core.ledger new.ledger s running.written step.journal step.ledger;
+  first =
       subst (λ (es : List Entry). AreFirstEvents (map stamped_of es ++ rest)) (sym step.journal)
-        (AreFirstEvents-step core.authority core.journal.entries core.ledger s rest
-          (subst (λ (xs : List Stamped). AreFirstEvents (map stamped_of core.journal.entries ++ xs)) e running.first));
-  }
+      (AreFirstEvents-step core.authority core.journal.entries core.ledger s rest
+      (subst (λ (xs : List Stamped). AreFirstEvents (map stamped_of core.journal.entries ++ xs)) e running.first));
+}
 
 -- a new channel has all events left
 pub IsRunning-new : (authority : Address) (all : List Stamped) (core : CoreSeen) → IsNew authority core → AreFirstEvents all → IsRunning authority all core all
 IsRunning-new authority all core new first = record {
-    run = ap (λ (es : List Entry). run_from authority es all) new.journal;
-    same = new.authority_is;
-    written = new.ledger ∙ ap ledger_of (sym new.journal);
-    first = subst (λ (es : List Entry). AreFirstEvents (map stamped_of es ++ all)) (sym new.journal) first;
-  }
+  run = ap (λ (es : List Entry). run_from authority es all) new.journal;
+  same = new.authority_is;
+  written = new.ledger ∙ ap ledger_of (sym new.journal);
+  first = subst (λ (es : List Entry). AreFirstEvents (map stamped_of es ++ all)) (sym new.journal) first;
+}

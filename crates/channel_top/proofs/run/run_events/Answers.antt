@@ -6,8 +6,8 @@ use Rattle.channel_top.proofs.run.run_events.Goals as goal
 pub loop-stamped-init : goal.loop-stamped-init
 loop-stamped-init c =
     subst (λ (xs : List Stamped). IsRunning c.args.core.now.authority c.args.events.items c.args.core.now xs)
-      (sym c.into_iter-rest.ensures.rest)
-      (IsRunning-new c.args.core.now.authority c.args.events.items c.args.core.now c.requires.new c.requires.first)
+    (sym c.into_iter-rest.ensures.rest)
+    (IsRunning-new c.args.core.now.authority c.args.events.items c.args.core.now c.requires.new c.requires.first)
 
 pub step_once-requires : goal.step_once-requires
 step_once-requires c = IsRunning-allows _ _ _ _ _ _ c.loop-stamped.invariant c.in-Some.ensures.items
