@@ -7,6 +7,8 @@ mod session;
 mod shape;
 mod tell;
 mod top;
+#[cfg(test)]
+mod top_tests;
 
 pub use shape::{FirstCall, ShapeFault, read_first_call};
 pub use top::run_channel;

@@ -1,0 +1,132 @@
+// The top call on whole inputs: every status, and what is written with it.
+use crate::run_channel;
+use gate_io::{MemSink, MemSource, SteadySink, SteadySource};
+use std::alloc::Global;
+use std::process::Abort;
+use std::test::Fail;
+
+/// The script of the first call, up to its answer.
+const FRONT: &str =
+    "channel 1 ipv4:127.0.0.1:50051\n0 0 resolved 127.0.0.1:50051 -\n0 0 dial\n0 0 up 1\n0 0 drain 1 65536\n1 0 arrived 1 000000040000000000\n2 0 begin /a.B/C - - -\n2 0 send 1 6869\n2 0 finish 1\n3 0 drain 1 65536\n";
+
+/// The answer with the status 0, and with the status `xx`.
+const OK: &str =
+    "4 0 arrived 1 00003b01050000000100073a73746174757303323030000c636f6e74656e742d74797065106170706c69636174696f6e2f67727063000b677270632d7374617475730130\n";
+
+const ODD: &str =
+    "4 0 arrived 1 00003c01050000000100073a73746174757303323030000c636f6e74656e742d74797065106170706c69636174696f6e2f67727063000b677270632d737461747573027878\n";
+
+const TAKE: &str = "4 0 take 1\n";
+
+/// The words, the script in pieces of at most so many bytes, and the calls that fail: the status and what was written.
+#[derive(Drop)]
+struct Case {
+    word: &'static str,
+    parts: [&'static str; 3],
+    piece: usize,
+    failed_read: u64,
+    failed_write: u64,
+}
+
+fn answer(alloc: Global, case: &Case) -> Result<(u8, MemSink), Fail> {
+    let mut text = Vec::new(alloc);
+    for part in case.parts {
+        text.extend_from_slice(part.as_bytes())?;
+    }
+    let piece = if case.piece == 0 { 65_536 } else { case.piece };
+    let mut script = MemSource::new(text, piece, vec![in alloc; case.failed_read]?);
+    let mut report = MemSink::new(alloc, 65_536, vec![in alloc; case.failed_write]?);
+    let words = vec![in alloc; String::from_str(alloc, case.word)?]?;
+    let status = run_channel(alloc, words.as_slice(), &mut script, &mut report);
+    Ok((status, report))
+}
+
+fn of_parts(word: &'static str, a: &'static str, b: &'static str, c: &'static str) -> Case {
+    Case {
+        word,
+        parts: [a, b, c],
+        piece: 0,
+        failed_read: 0,
+        failed_write: 0,
+    }
+}
+
+/// What a whole script is answered.
+fn expect(rt: &impl Abort, alloc: Global, case: Case, status: u8, text: &str) -> Result<(), Fail> {
+    let (told, report) = answer(alloc, &case)?;
+    assert_eq!(rt; told, status);
+    assert_eq!(rt; report.taken(), text.as_bytes());
+    Ok(())
+}
+
+#[test]
+fn each_fault_is_told_in_one_line(rt: HostRuntime) -> Result<(), Fail> {
+    let alloc = rt.alloc();
+    let first = "channel 1 ipv4:127.0.0.1:50051\n";
+    expect(&rt, alloc, of_parts("replay", "", "", ""), 0, "")?;
+    expect(&rt, alloc, of_parts("play", "", "", ""), 2, "fault words\n")?;
+    expect(
+        &rt,
+        alloc,
+        of_parts("replay", FRONT, OK, ""),
+        3,
+        "fault line 12 cause 13\n",
+    )?;
+    expect(
+        &rt,
+        alloc,
+        of_parts("replay", first, "0 0 dance\n", ""),
+        3,
+        "fault line 2 cause 5\n",
+    )?;
+    expect(
+        &rt,
+        alloc,
+        of_parts("replay", first, "0 0 tick\n", ""),
+        3,
+        "fault line 2 cause 13\n",
+    )
+}
+
+#[test]
+fn a_status_that_is_no_number_is_unknown(rt: HostRuntime) -> Result<(), Fail> {
+    let (status, report) = answer(rt.alloc(), &of_parts("replay", FRONT, ODD, TAKE))?;
+    assert_eq!(rt; status, 0);
+    let want =
+        b"4 0 take 1 = end 2 - - row\nrow 1 1 first 2 6 1 1 1 1 10 2 - 78 status 10\nend 11 1 1 1\n".as_slice();
+    assert!(rt; report.taken().ends_with(want));
+    Ok(())
+}
+
+#[test]
+fn a_fault_of_the_environment_has_its_status(rt: HostRuntime) -> Result<(), Fail> {
+    let mut read = of_parts("replay", FRONT, OK, TAKE);
+    read.piece = 64;
+    read.failed_read = 2;
+    let (status, report) = answer(rt.alloc(), &read)?;
+    assert_eq!(rt; status, 4);
+    assert!(rt; report.taken().is_empty());
+    let mut write = of_parts("replay", FRONT, OK, TAKE);
+    write.failed_write = 1;
+    let (status, report) = answer(rt.alloc(), &write)?;
+    assert_eq!(rt; status, 5);
+    assert!(rt; report.taken().is_empty());
+    let mut words = of_parts("", "", "", "");
+    words.failed_write = 1;
+    let (status, _) = answer(rt.alloc(), &words)?;
+    assert_eq!(rt; status, 5);
+    Ok(())
+}
+
+#[test]
+fn steady_ends_answer_as_well(rt: HostRuntime) -> Result<(), Fail> {
+    let mut script = SteadySource::new(Vec::new(rt.alloc()));
+    let mut report = SteadySink::new();
+    let words = vec![in rt.alloc(); String::from_str(rt.alloc(), "replay")?]?;
+    assert_eq!(rt;
+        run_channel(rt.alloc(), words.as_slice(), &mut script, &mut report),
+        0
+    );
+    assert_eq!(rt; report.count(), 0);
+    Ok(())
+}
