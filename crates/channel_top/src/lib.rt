@@ -11,4 +11,4 @@ mod top;
 mod top_tests;
 
 pub use shape::{FirstCall, ShapeFault, read_first_call};
-pub use top::run_channel;
+pub use top::{run_channel, run_steady};

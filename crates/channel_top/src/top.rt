@@ -1,5 +1,5 @@
 // The top call of the program.
-ghost use Rattle.std.specs.Prelude.{◌≡◌, ◌≤◌, ◌⊎◌, map, string_bytes};
+ghost use Rattle.std.specs.Prelude.{◌≡◌, ◌≢◌, ◌⊎◌, map, string_bytes};
 ghost use Rattle.gate_io.specs.Outside.{Rises};
 ghost use Rattle.channel_top.specs.Top.{IsDone, IsReplay, StopsAtRead, TellsBadLine, TellsWords};
 
@@ -7,7 +7,7 @@ use crate::input::{Ending, read_input};
 use crate::session::report_session;
 use crate::shape::{ShapeFault, read_first_call};
 use crate::tell::{WORDS_FAULT, is_replay, tell_line};
-use gate_io::{Sink, Source, write_whole};
+use gate_io::{Sink, Source, SteadySink, SteadySource, write_whole};
 use std::alloc::Global;
 
 /// Runs the program on its words: `replay` reads a script, runs it and writes the report.
@@ -75,4 +75,17 @@ pub fn run_channel<S: Source, K: Sink>(
         }
         Err(ShapeFault::NoMemory) => 6,
     }
+}
+
+/// Runs the program over ends that never fail: statuses 4 and 5 do not occur.
+pub fn run_steady(
+    alloc: Global,
+    words: &[String],
+    script: &mut SteadySource,
+    report: &mut SteadySink,
+) -> u8
+    ensures reading { result ≢ 4 }
+    ensures writing { result ≢ 5 }
+{
+    run_channel(alloc, words, script, report)
 }

@@ -1,5 +1,5 @@
 // The top call on whole inputs: every status, and what is written with it.
-use crate::run_channel;
+use crate::{run_channel, run_steady};
 use gate_io::{MemSink, MemSource, SteadySink, SteadySource};
 use std::alloc::Global;
 use std::process::Abort;
