@@ -1,5 +1,5 @@
 // The top call of the program.
-ghost use Rattle.std.specs.Prelude.{◌≡◌, ◌≢◌, ◌⊎◌, map, string_bytes};
+ghost use Rattle.std.specs.Prelude.{◌≡◌, ◌⊎◌, Some, None, map, string_bytes};
 ghost use Rattle.gate_io.specs.Outside.{Rises};
 ghost use Rattle.channel_top.specs.Top.{IsDone, IsReplay, StopsAtRead, TellsBadLine, TellsWords};
 
@@ -77,15 +77,17 @@ pub fn run_channel<S: Source, K: Sink>(
     }
 }
 
-/// Runs the program over ends that never fail: statuses 4 and 5 do not occur.
+/// Runs the program over ends that never fail: statuses 4 and 5 do not occur, and the others are those of `run_channel`.
 pub fn run_steady(
     alloc: Global,
     words: &[String],
     script: &mut SteadySource,
     report: &mut SteadySink,
 ) -> u8
-    ensures reading { result ≢ 4 }
-    ensures writing { result ≢ 5 }
+    ensures done { result ≡ 0 → IsReplay (map string_bytes words.now) × IsDone (Some script.old) (Some script.new) None None }
+    ensures words { result ≡ 2 → (IsReplay (map string_bytes words.now) → ⊥) × TellsWords (Some script.old) (Some script.new) None None }
+    ensures line { result ≡ 3 → IsReplay (map string_bytes words.now) × TellsBadLine (Some script.old) (Some script.new) None None }
+    ensures known { (result ≡ 0) ⊎ (result ≡ 2) ⊎ (result ≡ 3) ⊎ (result ≡ 6) }
 {
     run_channel(alloc, words, script, report)
 }
