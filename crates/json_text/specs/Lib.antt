@@ -6,3 +6,4 @@ pub mod Order
 pub mod Views
 pub mod Decimals
 pub mod Grammar
+pub mod Faults
