@@ -1,4 +1,5 @@
 pub mod Growth
+pub mod Order
 pub mod Tools
 pub mod Digits
 pub mod Quotes

@@ -1,12 +1,14 @@
 -- What has been read of a text is the front of one, byte by byte.
-use Rattle.std.proofs.Common.{◌≡◌, ℕ, List, [], ◌∷◌, ◌++◌, true, false, refl, ap, sym, subst, ◌∙◌, inl, append_assoc, Ok, Err, Result, length}
-use Rattle.std.specs.Prelude.{◌==◌, nat_lt}
+use Rattle.std.proofs.Common.{◌≡◌, ℕ, List, [], ◌∷◌, ◌++◌, true, false, refl, ap, sym, subst, ◌∙◌, inl, inr, append_assoc, Ok, Err, Result, length, arith}
+use Rattle.std.specs.Prelude.{◌==◌, ◌⊎◌, nat_lt}
+use Rattle.std.proofs.lemmas.Bool.Decides.{nat_tests}
 use Rattle.grpc_base.specs.declared.event.JsonFault.{JsonFault}
 use Rattle.grpc_base.specs.declared.event.JsonFault.TheVariants as fault
 use Rattle.json_text.specs.Tree.{Tree, null, boolean, number, string, list, object, Items, no_items, item_after, Members, no_members, member_after}
 use Rattle.json_text.specs.Numbers.{is_digit, number_byte}
 use Rattle.json_text.specs.Strings.{quoted_next}
 use Rattle.json_text.specs.Reading.{Parent, in_list, in_object, Stage, at_top, at_first_value, at_value, at_first_name, at_name, at_colon, after_item, after_member, in_word, in_number, in_string, in_name, at_end, State, is_blank, is_named, most_levels, put, opened, go, value_byte, top_byte, first_value_byte, next_value_byte, first_name_byte, next_name_byte, colon_byte, item_byte, member_byte, end_byte, behind_number, letters_left, word_byte, digit_byte, string_goes, named, name_goes, step_at, ended}
+use Rattle.json_text.specs.Faults.{Awaits, RepeatsName, OpensTooDeep, ExponentAt}
 use Rattle.json_text.specs.Grammar.{IsBlank, IsString, Named, IsValue, InList, BeforeItem, InObject, BeforeName, IsObject, IsText}
 use Rattle.json_text.specs.declared.number.Part.{Part}
 use Rattle.json_text.specs.declared.number.NumberByte.{NumberByte}
@@ -59,20 +61,28 @@ Holds (after_member ms) ps p =
     (outer inner : List ℕ) × (p ≡ outer ++ 123 ∷ inner) × Await ps outer × InObject ms inner × HasMember ms
 Holds (in_word c cs v) ps p =
     (outer front : List ℕ) × (p ≡ outer ++ front) × Await ps outer × IsValue v (front ++ c ∷ cs) × IsInside ps
-Holds (in_number q start t) ps p = (outer : List ℕ) × (p ≡ outer ++ t) × Await ps outer × IsPart q t × IsInside ps
+Holds (in_number q start t) ps p = (outer : List ℕ) × (p ≡ outer ++ t) × Await ps outer × IsPart q t × IsInside ps × (start ≡ length outer)
 Holds (in_string q) ps p =
     (outer t : List ℕ) × (p ≡ outer ++ 34 ∷ t) × Await ps outer × InQuoted q.spot q.read t × IsInside ps
 Holds (in_name ms start q) ps p =
     (outer f t : List ℕ) × (p ≡ outer ++ (123 ∷ (f ++ 34 ∷ t))) × Await ps outer × BeforeName ms f × InQuoted q.spot q.read t
+    × (start ≡ length (outer ++ 123 ∷ f))
 Holds (at_end v) ps p = IsText v p
+
+awaits : (ps : List Parent) (p : List ℕ) → Await ps p → Awaits (length ps) p
+awaits [] p h = h
+awaits (in_list items ∷ []) p h = absurd h.5
+awaits (in_object ms name ∷ []) p h = (ms, name, h.0, h.1, h.2, h.3, h.4)
+awaits (in_list items ∷ q ∷ ps) p h = inl (items, h.0, h.1, h.2, awaits (q ∷ ps) h.0 h.3, h.4)
+awaits (in_object ms name ∷ q ∷ ps) p h = inr (ms, name, h.0, h.1, h.2, awaits (q ∷ ps) h.0 h.3, h.4)
 
 -- what one byte more, at this place, makes of it
 abbrev pub Kept : ℕ → List ℕ → Result State JsonFault → Type 0
 Kept at p (Ok s) = Holds s.stage s.parents p
 Kept at p (Err (fault.Syntax k)) = k ≡ at
-Kept at p (Err (fault.RepeatedKey k)) = Unit {0}
-Kept at p (Err (fault.TooDeep k)) = Unit {0}
-Kept at p (Err (fault.Number k)) = Unit {0}
+Kept at p (Err (fault.RepeatedKey k)) = RepeatsName k p
+Kept at p (Err (fault.TooDeep k)) = OpensTooDeep k p
+Kept at p (Err (fault.Number k)) = ExponentAt k p
 Kept at p (Err fault.TooLong) = ⊥
 Kept at p (Err fault.NoMemory) = ⊥
 
@@ -135,65 +145,68 @@ pub object_may : (ms : Members) (ps : List Parent) → MayStand (object ms) ps
 object_may ms [] = tt
 object_may ms (q ∷ ps) = tt
 
-opened_kept : (stage : Stage) (at : ℕ) (ps : List Parent) (p : List ℕ) → Holds stage ps p → Kept at p (opened stage at ps)
-opened_kept stage at ps p h = by_if (Kept at p) (nat_lt (length ps) most_levels) _ _ (λ y. h) (λ n. tt)
+opened_kept : (stage : Stage) (at : ℕ) (ps : List Parent) (p : List ℕ) (b : ℕ) → at ≡ length p → Await ps p → (b ≡ 91) ⊎ (b ≡ 123) → Holds stage ps (p ++ b ∷ [])
+    → Kept at (p ++ b ∷ []) (opened stage at ps)
+opened_kept stage at ps p b here await bracket h =
+    by_if (Kept at (p ++ b ∷ [])) (nat_lt (length ps) most_levels) _ _ (λ y. h)
+    (λ n. (length ps, p, b, refl, here, grind (arith, nat_tests), awaits ps p await, bracket))
 
 -- the first byte of a value
 letters_kept : (at c : ℕ) (cs : List ℕ) (v : Tree) (ps : List Parent) (p : List ℕ) (b : ℕ) → Await ps p → IsInside ps → IsValue v (b ∷ c ∷ cs)
     → Kept at (p ++ b ∷ []) (go (in_word c cs v) ps)
 letters_kept at c cs v ps p b h i is = (p, b ∷ [], refl, h, is, i)
 
-value_kept : (at : ℕ) (ps : List Parent) (p : List ℕ) (b : ℕ) → Await ps p → IsInside ps → Kept at (p ++ b ∷ []) (value_byte at ps b)
+value_kept : (at : ℕ) (ps : List Parent) (p : List ℕ) (b : ℕ) → at ≡ length p → Await ps p → IsInside ps → Kept at (p ++ b ∷ []) (value_byte at ps b)
 unfolding value_byte
-value_kept at ps p b h i =
+value_kept at ps p b here h i =
     let K : Result State JsonFault → Type 0 = Kept at (p ++ b ∷ []) in
     by_if K (b == 34) _ _ (λ y. (p, [], ap (λ (x : ℕ). p ++ x ∷ []) (same b 34 y), h, opened_is, i)) (λ n₁.
-    by_if K (b == 45) _ _ (λ y. (p, refl, h, ap (λ (x : ℕ). x ∷ []) (same b 45 y), i)) (λ n₂.
-    by_if K (b == 48) _ _ (λ y. (p, refl, h, ([], ap (λ (x : ℕ). x ∷ []) (same b 48 y), tt), i)) (λ n₃.
-    by_if K (is_digit b) _ _ (λ y. (p, refl, h, ([], b, [], refl, tt, n₃, y, tt), i)) (λ n₄.
-    by_if K (b == 91) _ _ (λ y. opened_kept at_first_value at ps _ (p, [], ap (λ (x : ℕ). p ++ x ∷ []) (same b 91 y), h, tt, i)) (λ n₅.
-    by_if K (b == 123) _ _ (λ y. opened_kept at_first_name at ps _ (p, [], ap (λ (x : ℕ). p ++ x ∷ []) (same b 123 y), h, tt)) (λ n₆.
+    by_if K (b == 45) _ _ (λ y. (p, refl, h, ap (λ (x : ℕ). x ∷ []) (same b 45 y), i, here)) (λ n₂.
+    by_if K (b == 48) _ _ (λ y. (p, refl, h, ([], ap (λ (x : ℕ). x ∷ []) (same b 48 y), tt), i, here)) (λ n₃.
+    by_if K (is_digit b) _ _ (λ y. (p, refl, h, ([], b, [], refl, tt, n₃, y, tt), i, here)) (λ n₄.
+    by_if K (b == 91) _ _ (λ y. opened_kept at_first_value at ps p b here h (inl (same b 91 y)) (p, [], ap (λ (x : ℕ). p ++ x ∷ []) (same b 91 y), h, tt, i)) (λ n₅.
+    by_if K (b == 123) _ _ (λ y. opened_kept at_first_name at ps p b here h (inr (same b 123 y)) (p, [], ap (λ (x : ℕ). p ++ x ∷ []) (same b 123 y), h, tt)) (λ n₆.
     by_if K (b == 116) _ _ (λ y. letters_kept at 114 _ (boolean true) ps p b h i (ap (λ (x : ℕ). x ∷ 114 ∷ 117 ∷ 101 ∷ []) (same b 116 y))) (λ n₇.
     by_if K (b == 102) _ _ (λ y. letters_kept at 97 _ (boolean false) ps p b h i (ap (λ (x : ℕ). x ∷ 97 ∷ 108 ∷ 115 ∷ 101 ∷ []) (same b 102 y))) (λ n₈.
     by_if K (b == 110) _ _ (λ y. letters_kept at 117 _ null ps p b h i (ap (λ (x : ℕ). x ∷ 117 ∷ 108 ∷ 108 ∷ []) (same b 110 y))) (λ n₉. refl)))))))))
 
-top_kept : (at : ℕ) (ps : List Parent) (p : List ℕ) (b : ℕ) → Holds at_top ps p → Kept at (p ++ b ∷ []) (top_byte at ps b)
+top_kept : (at : ℕ) (ps : List Parent) (p : List ℕ) (b : ℕ) → at ≡ length p → Holds at_top ps p → Kept at (p ++ b ∷ []) (top_byte at ps b)
 unfolding top_byte
-top_kept at ps p b h =
+top_kept at ps p b here h =
     by_if (Kept at (p ++ b ∷ [])) (is_blank b) _ _ (λ y. await_blank ps p b h y) (λ n.
-    by_if (Kept at (p ++ b ∷ [])) (b == 123) _ _ (λ y. opened_kept at_first_name at ps _ (p, [], ap (λ (x : ℕ). p ++ x ∷ []) (same b 123 y), h, tt)) (λ m. refl))
+    by_if (Kept at (p ++ b ∷ [])) (b == 123) _ _ (λ y. opened_kept at_first_name at ps p b here h (inr (same b 123 y)) (p, [], ap (λ (x : ℕ). p ++ x ∷ []) (same b 123 y), h, tt)) (λ m. refl))
 
 -- a list or an object is whole
 close : (p outer inner : List ℕ) (c d b : ℕ) → p ≡ outer ++ c ∷ inner → b ≡ d → p ++ b ∷ [] ≡ outer ++ c ∷ (inner ++ d ∷ [])
 close p outer inner c d b e f = snoc2 p outer (c ∷ inner) b e ∙ ap (λ (x : ℕ). outer ++ c ∷ (inner ++ x ∷ [])) f
 
-first_value_kept : (at : ℕ) (ps : List Parent) (p : List ℕ) (b : ℕ) → Holds at_first_value ps p → Kept at (p ++ b ∷ []) (first_value_byte at ps b)
+first_value_kept : (at : ℕ) (ps : List Parent) (p : List ℕ) (b : ℕ) → at ≡ length p → Holds at_first_value ps p → Kept at (p ++ b ∷ []) (first_value_byte at ps b)
 unfolding first_value_byte
-first_value_kept at ps p b h =
+first_value_kept at ps p b here h =
     by_if (Kept at (p ++ b ∷ [])) (is_blank b) _ _ (λ y. (h.0, h.1 ++ b ∷ [], snoc2 p h.0 (91 ∷ h.1) b h.2, h.3, blank_snoc h.1 b h.4 y, h.5)) (λ n.
     by_if (Kept at (p ++ b ∷ [])) (b == 93) _ _
     (λ y. put_kept at (list no_items) ps h.0 _ (91 ∷ (h.1 ++ 93 ∷ [])) (close p h.0 h.1 91 93 b h.2 (same b 93 y)) h.3 (h.1, refl, h.4) (inside_may (list no_items) ps h.5))
-    (λ m. value_kept at (in_list no_items ∷ ps) p b (h.0, h.1, h.2, h.3, h.4, h.5) tt))
+    (λ m. value_kept at (in_list no_items ∷ ps) p b here (h.0, h.1, h.2, h.3, h.4, h.5) tt))
 
-next_value_kept : (at : ℕ) (ps : List Parent) (p : List ℕ) (b : ℕ) → Holds at_value ps p → Kept at (p ++ b ∷ []) (next_value_byte at ps b)
+next_value_kept : (at : ℕ) (ps : List Parent) (p : List ℕ) (b : ℕ) → at ≡ length p → Holds at_value ps p → Kept at (p ++ b ∷ []) (next_value_byte at ps b)
 unfolding next_value_byte
-next_value_kept at ps p b h =
-    by_if (Kept at (p ++ b ∷ [])) (is_blank b) _ _ (λ y. (await_blank ps p b h.0 y, h.1)) (λ n. value_kept at ps p b h.0 h.1)
+next_value_kept at ps p b here h =
+    by_if (Kept at (p ++ b ∷ [])) (is_blank b) _ _ (λ y. (await_blank ps p b h.0 y, h.1)) (λ n. value_kept at ps p b here h.0 h.1)
 
-first_name_kept : (at : ℕ) (ps : List Parent) (p : List ℕ) (b : ℕ) → Holds at_first_name ps p → Kept at (p ++ b ∷ []) (first_name_byte at ps b)
+first_name_kept : (at : ℕ) (ps : List Parent) (p : List ℕ) (b : ℕ) → at ≡ length p → Holds at_first_name ps p → Kept at (p ++ b ∷ []) (first_name_byte at ps b)
 unfolding first_name_byte
-first_name_kept at ps p b h =
+first_name_kept at ps p b here h =
     by_if (Kept at (p ++ b ∷ [])) (is_blank b) _ _ (λ y. (h.0, h.1 ++ b ∷ [], snoc2 p h.0 (123 ∷ h.1) b h.2, h.3, blank_snoc h.1 b h.4 y)) (λ n.
-    by_if (Kept at (p ++ b ∷ [])) (b == 34) _ _ (λ y. (h.0, h.1, [], close p h.0 h.1 123 34 b h.2 (same b 34 y), h.3, h.4, opened_is)) (λ n₂.
+    by_if (Kept at (p ++ b ∷ [])) (b == 34) _ _ (λ y. (h.0, h.1, [], close p h.0 h.1 123 34 b h.2 (same b 34 y), h.3, h.4, opened_is, here ∙ ap length h.2)) (λ n₂.
     by_if (Kept at (p ++ b ∷ [])) (b == 125) _ _
     (λ y. put_kept at (object no_members) ps h.0 _ (123 ∷ (h.1 ++ 125 ∷ [])) (close p h.0 h.1 123 125 b h.2 (same b 125 y)) h.3 (h.1, refl, h.4) (object_may no_members ps))
     (λ m. refl)))
 
-next_name_kept : (at : ℕ) (ms : Members) (ps : List Parent) (p : List ℕ) (b : ℕ) → Holds (at_name ms) ps p → Kept at (p ++ b ∷ []) (next_name_byte at ms ps b)
+next_name_kept : (at : ℕ) (ms : Members) (ps : List Parent) (p : List ℕ) (b : ℕ) → at ≡ length p → Holds (at_name ms) ps p → Kept at (p ++ b ∷ []) (next_name_byte at ms ps b)
 unfolding next_name_byte
-next_name_kept at ms ps p b h =
+next_name_kept at ms ps p b here h =
     by_if (Kept at (p ++ b ∷ [])) (is_blank b) _ _ (λ y. (h.0, h.1 ++ b ∷ [], snoc2 p h.0 (123 ∷ h.1) b h.2, h.3, before_name_blank ms h.1 b h.4 y)) (λ n.
-    by_if (Kept at (p ++ b ∷ [])) (b == 34) _ _ (λ y. (h.0, h.1, [], close p h.0 h.1 123 34 b h.2 (same b 34 y), h.3, h.4, opened_is)) (λ m. refl))
+    by_if (Kept at (p ++ b ∷ [])) (b == 34) _ _ (λ y. (h.0, h.1, [], close p h.0 h.1 123 34 b h.2 (same b 34 y), h.3, h.4, opened_is, here ∙ ap length h.2)) (λ m. refl))
 
 colon_kept : (at : ℕ) (ps : List Parent) (p : List ℕ) (b : ℕ) → Holds at_colon ps p → Kept at (p ++ b ∷ []) (colon_byte at ps b)
 unfolding colon_byte
@@ -260,12 +273,13 @@ digit_kept : (at start : ℕ) (q : Part) (t : List ℕ) (ps : List Parent) (p : 
     → Kept at (p ++ b ∷ []) (digit_byte at n start t ps b)
 unfolding digit_byte
 digit_kept at start q t ps p b (digit.Inside r) is h =
-    (h.0, snoc2 p h.0 t b h.1, h.2, subst (PartGoes t b) is (part_goes q t b h.3), h.4)
+    (h.0, snoc2 p h.0 t b h.1, h.2, subst (PartGoes t b) is (part_goes q t b h.3), h.4, h.5)
 digit_kept at start q t ps p b digit.Behind is h =
     behind_kept at (number t) ps p b h.4
     (subst (λ (x : List ℕ). Holds (put (number t) ps).stage (put (number t) ps).parents x) (sym h.1)
     (put_holds (number t) ps h.0 t h.2 (refl, inl (subst (PartGoes t b) is (part_goes q t b h.3))) (inside_may (number t) ps h.4)))
-digit_kept at start q t ps p b digit.Exponent is h = tt
+digit_kept at start q t ps p b digit.Exponent is h =
+    (length ps, h.0, t ++ b ∷ [], snoc2 p h.0 t b h.1, h.5, awaits ps h.0 h.2, subst (PartGoes t b) is (part_goes q t b h.3))
 digit_kept at start q t ps p b digit.Wrong is h = refl
 
 string_kept : (at : ℕ) (ps : List Parent) (p outer t : List ℕ) (b : ℕ) (n : QuotedNext) → QuotedGoes t b n → p ≡ outer ++ 34 ∷ t → Await ps outer → IsInside ps
@@ -275,30 +289,31 @@ string_kept at ps p outer t b (next.Goes q) is e h i = (outer, t ++ b ∷ [], sn
 string_kept at ps p outer t b (next.Closed s) is e h i = put_kept at (string s) ps outer _ (34 ∷ (t ++ b ∷ [])) (snoc2 p outer (34 ∷ t) b e) h is (inside_may (string s) ps i)
 string_kept at ps p outer t b next.Wrong is e h i = refl
 
-name_kept : (at start : ℕ) (ms : Members) (ps : List Parent) (p outer f t : List ℕ) (b : ℕ) (n : QuotedNext) → QuotedGoes t b n → p ≡ outer ++ (123 ∷ (f ++ 34 ∷ t)) → Await ps outer → BeforeName ms f
+name_kept : (at start : ℕ) (ms : Members) (ps : List Parent) (p outer f t : List ℕ) (b : ℕ) (n : QuotedNext) → QuotedGoes t b n → p ≡ outer ++ (123 ∷ (f ++ 34 ∷ t)) → Await ps outer → BeforeName ms f → start ≡ length (outer ++ 123 ∷ f)
     → Kept at (p ++ b ∷ []) (name_goes at ms start n ps)
 unfolding name_goes named
-name_kept at start ms ps p outer f t b (next.Goes q) is e h before = (outer, f, t ++ b ∷ [], snoc3 p outer (123 ∷ f) (34 ∷ t) b e, h, before, is)
-name_kept at start ms ps p outer f t b (next.Closed s) is e h before =
-    by_if (Kept at (p ++ b ∷ [])) (is_named s ms) _ _ (λ y. tt)
+name_kept at start ms ps p outer f t b (next.Goes q) is e h before begun = (outer, f, t ++ b ∷ [], snoc3 p outer (123 ∷ f) (34 ∷ t) b e, h, before, is, begun)
+name_kept at start ms ps p outer f t b (next.Closed s) is e h before begun =
+    by_if (Kept at (p ++ b ∷ [])) (is_named s ms) _ _
+    (λ y. (length ps, ms, s, outer, f, 34 ∷ (t ++ b ∷ []), snoc3 p outer (123 ∷ f) (34 ∷ t) b e, begun, awaits ps outer h, before, is, y))
     (λ n. (outer, f, 34 ∷ (t ++ b ∷ []), [], snoc3 p outer (123 ∷ f) (34 ∷ t) b e ∙ ap (λ (x : List ℕ). outer ++ (123 ∷ (f ++ x))) (append_nil (34 ∷ (t ++ b ∷ []))), h, before, is, tt))
-name_kept at start ms ps p outer f t b next.Wrong is e h before = refl
+name_kept at start ms ps p outer f t b next.Wrong is e h before begun = refl
 
 -- one byte more
-pub step_kept : (at : ℕ) (stage : Stage) (ps : List Parent) (p : List ℕ) (b : ℕ) → Holds stage ps p → Kept at (p ++ b ∷ []) (step_at at stage ps b)
-step_kept at at_top ps p b h = top_kept at ps p b h
-step_kept at at_first_value ps p b h = first_value_kept at ps p b h
-step_kept at at_value ps p b h = next_value_kept at ps p b h
-step_kept at at_first_name ps p b h = first_name_kept at ps p b h
-step_kept at (at_name ms) ps p b h = next_name_kept at ms ps p b h
-step_kept at at_colon ps p b h = colon_kept at ps p b h
-step_kept at (after_item items) ps p b h = item_kept at items ps p b h
-step_kept at (after_member ms) ps p b h = member_kept at ms ps p b h
-step_kept at (in_word c cs v) ps p b h = word_kept at c cs v ps p b h
-step_kept at (in_number q start t) ps p b h = digit_kept at start q t ps p b (number_byte q b) refl h
-step_kept at (in_string q) ps p b h = string_kept at ps p h.0 h.1 b (quoted_next q b) (quoted_goes q.spot q.read h.1 b h.4) h.2 h.3 h.5
-step_kept at (in_name ms start q) ps p b h = name_kept at start ms ps p h.0 h.1 h.2 b (quoted_next q b) (quoted_goes q.spot q.read h.2 b h.6) h.3 h.4 h.5
-step_kept at (at_end v) ps p b h = end_kept at v ps p b h
+pub step_kept : (at : ℕ) (stage : Stage) (ps : List Parent) (p : List ℕ) (b : ℕ) → at ≡ length p → Holds stage ps p → Kept at (p ++ b ∷ []) (step_at at stage ps b)
+step_kept at at_top ps p b here h = top_kept at ps p b here h
+step_kept at at_first_value ps p b here h = first_value_kept at ps p b here h
+step_kept at at_value ps p b here h = next_value_kept at ps p b here h
+step_kept at at_first_name ps p b here h = first_name_kept at ps p b here h
+step_kept at (at_name ms) ps p b here h = next_name_kept at ms ps p b here h
+step_kept at at_colon ps p b here h = colon_kept at ps p b h
+step_kept at (after_item items) ps p b here h = item_kept at items ps p b h
+step_kept at (after_member ms) ps p b here h = member_kept at ms ps p b h
+step_kept at (in_word c cs v) ps p b here h = word_kept at c cs v ps p b h
+step_kept at (in_number q start t) ps p b here h = digit_kept at start q t ps p b (number_byte q b) refl h
+step_kept at (in_string q) ps p b here h = string_kept at ps p h.0 h.1 b (quoted_next q b) (quoted_goes q.spot q.read h.1 b h.4) h.2 h.3 h.5
+step_kept at (in_name ms start q) ps p b here h = name_kept at start ms ps p h.0 h.1 h.2 b (quoted_next q b) (quoted_goes q.spot q.read h.2 b h.6) h.3 h.4 h.5 h.7
+step_kept at (at_end v) ps p b here h = end_kept at v ps p b h
 
 -- the end of the text
 pub ended_is : (n : ℕ) (stage : Stage) (ps : List Parent) (bytes : List ℕ) (v : Tree) → Holds stage ps bytes → ended n stage ≡ Ok v → IsText v bytes

@@ -1,11 +1,12 @@
 -- What is read is a value of which the bytes are a text, and up to a fault the bytes are the front of one.
-use Rattle.std.proofs.Common.{◌≡◌, ℕ, suc, ◌+◌, ◌<◌, ◌≤◌, List, [], ◌∷◌, ◌++◌, refl, ap, sym, subst, ◌∙◌, append_assoc, Ok, Err, Result, length, take, arith, add-one, inl, inr}
+use Rattle.std.proofs.Common.{◌≡◌, ℕ, suc, ◌+◌, ◌<◌, ◌≤◌, List, [], ◌∷◌, ◌++◌, refl, ap, sym, subst, ◌∙◌, append_assoc, length-append, Ok, Err, Result, length, take, arith, add-one, inl, inr}
 use Rattle.std.specs.Prelude.{◌⊎◌, nat_lt}
 use Rattle.grpc_base.specs.declared.event.JsonFault.{JsonFault}
 use Rattle.grpc_base.specs.declared.event.JsonFault.TheVariants as fault
 use Rattle.json_text.specs.Tree.{Tree}
 use Rattle.json_text.specs.Reading.{Stage, at_end, State, most_bytes, ◌>>=◌, step, run, at_start, ended, reading}
 use Rattle.json_text.specs.Grammar.{IsText, CanEnd}
+use Rattle.json_text.specs.Faults.{RepeatsName, OpensTooDeep, ExponentAt, Behind}
 use Rattle.std.proofs.lemmas.List.{take_all}
 use Rattle.std.proofs.lemmas.Bool.Decides.{nat_tests}
 use Rattle.json_text.proofs.Tools.{by_if, append_nil}
@@ -17,24 +18,31 @@ use Rattle.json_text.proofs.ReachTexts.{text_reach}
 abbrev pub FrontOf : ℕ → List ℕ → List ℕ → ℕ → Type 0
 FrontOf at p bs k = (n : ℕ) × (k ≡ at + n) × (n < length bs) × CanEnd (p ++ take n bs)
 
+-- a fault that the byte behind n of these tells
+abbrev pub ToldBy : (List ℕ → Type 0) → List ℕ → List ℕ → Type 0
+ToldBy P p bs = (n : ℕ) × (n < length bs) × P (p ++ take (suc n) bs)
+
 -- what holds once all of these bytes are read
 abbrev pub RunKept : ℕ → List ℕ → List ℕ → Result State JsonFault → Type 0
 RunKept at p bs (Ok s) = Holds s.stage s.parents (p ++ bs)
 RunKept at p bs (Err (fault.Syntax k)) = FrontOf at p bs k
-RunKept at p bs (Err (fault.RepeatedKey k)) = Unit {0}
-RunKept at p bs (Err (fault.TooDeep k)) = Unit {0}
-RunKept at p bs (Err (fault.Number k)) = Unit {0}
+RunKept at p bs (Err (fault.RepeatedKey k)) = ToldBy (λ q. RepeatsName k q) p bs
+RunKept at p bs (Err (fault.TooDeep k)) = ToldBy (λ q. OpensTooDeep k q) p bs
+RunKept at p bs (Err (fault.Number k)) = ToldBy (λ q. ExponentAt k q) p bs
 RunKept at p bs (Err fault.TooLong) = ⊥
 RunKept at p bs (Err fault.NoMemory) = ⊥
+
+told_further : (P : List ℕ → Type 0) (p bs : List ℕ) (b : ℕ) → ToldBy P (p ++ b ∷ []) bs → ToldBy P p (b ∷ bs)
+told_further P p bs b h = (suc h.0, omega (arith, h.1), subst P (append_assoc p (b ∷ []) (take (suc h.0) bs)) h.2)
 
 -- one byte further on
 further : (at : ℕ) (p bs : List ℕ) (b : ℕ) (r : Result State JsonFault) → RunKept (at + 1) (p ++ b ∷ []) bs r → RunKept at p (b ∷ bs) r
 further at p bs b (Ok s) h = subst (λ (x : List ℕ). Holds s.stage s.parents x) (append_assoc p (b ∷ []) bs) h
 further at p bs b (Err (fault.Syntax k)) h =
     (suc h.0, omega arith, omega arith, subst CanEnd (append_assoc p (b ∷ []) (take h.0 bs)) h.3)
-further at p bs b (Err (fault.RepeatedKey k)) h = tt
-further at p bs b (Err (fault.TooDeep k)) h = tt
-further at p bs b (Err (fault.Number k)) h = tt
+further at p bs b (Err (fault.RepeatedKey k)) h = told_further (λ q. RepeatsName k q) p bs b h
+further at p bs b (Err (fault.TooDeep k)) h = told_further (λ q. OpensTooDeep k q) p bs b h
+further at p bs b (Err (fault.Number k)) h = told_further (λ q. ExponentAt k q) p bs b h
 further at p bs b (Err fault.TooLong) h = absurd h
 further at p bs b (Err fault.NoMemory) h = absurd h
 
@@ -43,17 +51,20 @@ then_kept : (at : ℕ) (p bs : List ℕ) (b : ℕ) (r : Result State JsonFault) 
     → RunKept at p (b ∷ bs) (r >>= λ t. run (at + 1) t bs)
 then_kept at p bs b (Ok t) c h f = further at p bs b (run (at + 1) t bs) (f t h)
 then_kept at p bs b (Err (fault.Syntax k)) c h f = (0, omega arith, omega arith, subst CanEnd (append_nil p) c)
-then_kept at p bs b (Err (fault.RepeatedKey k)) c h f = tt
-then_kept at p bs b (Err (fault.TooDeep k)) c h f = tt
-then_kept at p bs b (Err (fault.Number k)) c h f = tt
+then_kept at p bs b (Err (fault.RepeatedKey k)) c h f = (0, omega arith, h)
+then_kept at p bs b (Err (fault.TooDeep k)) c h f = (0, omega arith, h)
+then_kept at p bs b (Err (fault.Number k)) c h f = (0, omega arith, h)
 then_kept at p bs b (Err fault.TooLong) c h f = absurd h
 then_kept at p bs b (Err fault.NoMemory) c h f = absurd h
 
-pub run_kept : (at : ℕ) (s : State) (p bs : List ℕ) → Holds s.stage s.parents p → RunKept at p bs (run at s bs)
-run_kept at s p [] h = subst (λ (x : List ℕ). Holds s.stage s.parents x) (append_nil p) h
-run_kept at s p (b ∷ bs) h =
-    then_kept at p bs b (step at s b) (holds_ends s.stage s.parents p h) (step_kept at s.stage s.parents p b h)
-    (λ t k. run_kept (at + 1) t (p ++ b ∷ []) bs k)
+next_place : (at : ℕ) (p : List ℕ) (b : ℕ) → at ≡ length p → at + 1 ≡ length (p ++ b ∷ [])
+next_place at p b here = omega (arith, here, length-append p (b ∷ []))
+
+pub run_kept : (at : ℕ) (s : State) (p bs : List ℕ) → at ≡ length p → Holds s.stage s.parents p → RunKept at p bs (run at s bs)
+run_kept at s p [] here h = subst (λ (x : List ℕ). Holds s.stage s.parents x) (append_nil p) h
+run_kept at s p (b ∷ bs) here h =
+    then_kept at p bs b (step at s b) (holds_ends s.stage s.parents p h) (step_kept at s.stage s.parents p b here h)
+    (λ t k. run_kept (at + 1) t (p ++ b ∷ []) bs (next_place at p b here) k)
 
 end_is : (bytes : List ℕ) (v : Tree) (r : Result State JsonFault) → RunKept 0 [] bytes r → (r >>= λ s. ended (length bytes) s.stage) ≡ Ok v → IsText v bytes
 end_is bytes v (Ok s) k e = ended_is (length bytes) s.stage s.parents bytes v k e
@@ -65,7 +76,7 @@ unfolding reading
 read_is_text bytes v =
     by_if (λ (r : Result Tree JsonFault). r ≡ Ok v → IsText v bytes) (nat_lt most_bytes (length bytes)) _ _
     (λ y e. let g : ⊥ = cc in absurd g)
-    (λ n e. end_is bytes v (run 0 at_start bytes) (run_kept 0 at_start [] bytes tt) e)
+    (λ n e. end_is bytes v (run 0 at_start bytes) (run_kept 0 at_start [] bytes refl tt) e)
 
 -- A fault of syntax is told behind the front of a JSON text.
 cut_off : (n k : ℕ) (stage : Stage) → ended n stage ≡ Err (fault.Syntax k) → k ≡ n
@@ -92,7 +103,7 @@ unfolding reading
 syntax_front bytes k =
     by_if (λ (r : Result Tree JsonFault). r ≡ Err (fault.Syntax k) → (k ≤ length bytes) × CanEnd (take k bytes)) (nat_lt most_bytes (length bytes)) _ _
     (λ y e. let g : ⊥ = cc in absurd g)
-    (λ n e. run_front bytes k (run 0 at_start bytes) (run_kept 0 at_start [] bytes tt) e)
+    (λ n e. run_front bytes k (run 0 at_start bytes) (run_kept 0 at_start [] bytes refl tt) e)
 
 -- A text is told to be too long exactly where it is.
 run_short : (bytes : List ℕ) (r : Result State JsonFault) → RunKept 0 [] bytes r → (r >>= λ s. ended (length bytes) s.stage) ≡ Err fault.TooLong → ⊥
@@ -119,7 +130,7 @@ unfolding reading
 too_long_only bytes =
     by_if (λ (r : Result Tree JsonFault). r ≡ Err fault.TooLong → most_bytes < length bytes) (nat_lt most_bytes (length bytes)) _ _
     (λ y e. grind (arith, nat_tests))
-    (λ n e. absurd (run_short bytes (run 0 at_start bytes) (run_kept 0 at_start [] bytes tt) e))
+    (λ n e. absurd (run_short bytes (run 0 at_start bytes) (run_kept 0 at_start [] bytes refl tt) e))
 
 -- A fault of syntax stays, whatever follows the byte at which it is told.
 abbrev DeadAt : ℕ → State → List ℕ → ℕ → Type 0
@@ -140,11 +151,11 @@ dead_here at s p bs b k (Err (fault.Number j)) is h f e = let g : ⊥ = cc in ab
 dead_here at s p bs b k (Err fault.TooLong) is h f e = absurd h
 dead_here at s p bs b k (Err fault.NoMemory) is h f e = absurd h
 
-dead_at : (at : ℕ) (s : State) (p bs : List ℕ) (k : ℕ) → Holds s.stage s.parents p → run at s bs ≡ Err (fault.Syntax k) → DeadAt at s bs k
-dead_at at s p [] k h e = let g : ⊥ = cc in absurd g
-dead_at at s p (b ∷ bs) k h e =
-    dead_here at s p bs b k (step at s b) refl (step_kept at s.stage s.parents p b h)
-    (λ t is kept f. dead_at (at + 1) t (p ++ b ∷ []) bs k kept f) e
+dead_at : (at : ℕ) (s : State) (p bs : List ℕ) (k : ℕ) → at ≡ length p → Holds s.stage s.parents p → run at s bs ≡ Err (fault.Syntax k) → DeadAt at s bs k
+dead_at at s p [] k here h e = let g : ⊥ = cc in absurd g
+dead_at at s p (b ∷ bs) k here h e =
+    dead_here at s p bs b k (step at s b) refl (step_kept at s.stage s.parents p b here h)
+    (λ t is kept f. dead_at (at + 1) t (p ++ b ∷ []) bs k (next_place at p b here) kept f) e
 
 -- a text is not stopped by a fault of syntax
 not_syntax : (v : Tree) (t : List ℕ) (k : ℕ) → IsText v t → run 0 at_start t ≡ Err (fault.Syntax k) → ⊥
@@ -156,7 +167,7 @@ run_first : (bytes : List ℕ) (k : ℕ) (r : Result State JsonFault) → run 0 
 run_first bytes k (Ok s) is e lt can = (let whole : k ≡ length bytes = cut_off (length bytes) k s.stage e in omega arith)
 run_first bytes k (Err (fault.Syntax j)) is e lt can =
     let same : j ≡ k = cc in
-    let d = dead_at 0 at_start [] bytes j tt is in
+    let d = dead_at 0 at_start [] bytes j refl tt is in
     let place : d.0 ≡ k = omega (arith, d.1) in
     let dead : run 0 at_start (take (suc k) bytes ++ can.0) ≡ Err (fault.Syntax j) = subst (λ (n : ℕ). run 0 at_start (take (suc n) bytes ++ can.0) ≡ Err (fault.Syntax j)) place (d.2 can.0) in
     not_syntax can.1 (take (suc k) bytes ++ can.0) j can.2 dead
@@ -200,3 +211,35 @@ unfolding reading
 text_is_right bytes v k h =
     by_if (λ (r : Result Tree JsonFault). r ≡ Err (fault.Syntax k) → ⊥) (nat_lt most_bytes (length bytes)) _ _
     (λ y e. cc) (λ n e. text_wrong v (length bytes) k (run 0 at_start bytes) (text_reach v bytes h) e)
+
+-- Each other fault stands where the grammar has it.
+behind_told : (P : List ℕ → Type 0) (bytes : List ℕ) → ToldBy P [] bytes → Behind P bytes
+behind_told P bytes h = (suc h.0, omega (arith, h.1), h.2)
+
+cut_off_only : (n : ℕ) (stage : Stage) (f : JsonFault) → ended n stage ≡ Err f → f ≡ fault.Syntax n
+cut_off_only n (at_end w) f e = let g : ⊥ = cc in absurd g
+cut_off_only n stage f e = cc
+
+run_tells : (bytes : List ℕ) (f : JsonFault) (r : Result State JsonFault) → RunKept 0 [] bytes r → (r >>= λ s. ended (length bytes) s.stage) ≡ Err f
+    → (f ≡ fault.Syntax (length bytes)) ⊎ RunKept 0 [] bytes (Err f)
+run_tells bytes f (Ok s) h e = inl (cut_off_only (length bytes) s.stage f e)
+run_tells bytes f (Err g) h e = let same : g ≡ f = cc in inr (subst (λ (x : JsonFault). RunKept 0 [] bytes (Err x)) same h)
+
+told : (bytes : List ℕ) (f : JsonFault) → reading bytes ≡ Err f → (f ≡ fault.TooLong) ⊎ ((f ≡ fault.Syntax (length bytes)) ⊎ RunKept 0 [] bytes (Err f))
+unfolding reading
+told bytes f =
+    by_if (λ (r : Result Tree JsonFault). r ≡ Err f → (f ≡ fault.TooLong) ⊎ ((f ≡ fault.Syntax (length bytes)) ⊎ RunKept 0 [] bytes (Err f))) (nat_lt most_bytes (length bytes)) _ _
+    (λ y e. inl cc)
+    (λ n e. inr (run_tells bytes f (run 0 at_start bytes) (run_kept 0 at_start [] bytes refl tt) e))
+
+pub repeated_key_is : (bytes : List ℕ) (k : ℕ) → reading bytes ≡ Err (fault.RepeatedKey k) → Behind (λ q. RepeatsName k q) bytes
+repeated_key_is bytes k e =
+    elim (told bytes (fault.RepeatedKey k) e) [ inl x ↦ (let g : ⊥ = cc in absurd g) | inr y ↦ elim y [ inl x ↦ (let g : ⊥ = cc in absurd g) | inr h ↦ behind_told (λ q. RepeatsName k q) bytes h ] ]
+
+pub too_deep_is : (bytes : List ℕ) (k : ℕ) → reading bytes ≡ Err (fault.TooDeep k) → Behind (λ q. OpensTooDeep k q) bytes
+too_deep_is bytes k e =
+    elim (told bytes (fault.TooDeep k) e) [ inl x ↦ (let g : ⊥ = cc in absurd g) | inr y ↦ elim y [ inl x ↦ (let g : ⊥ = cc in absurd g) | inr h ↦ behind_told (λ q. OpensTooDeep k q) bytes h ] ]
+
+pub number_is : (bytes : List ℕ) (k : ℕ) → reading bytes ≡ Err (fault.Number k) → Behind (λ q. ExponentAt k q) bytes
+number_is bytes k e =
+    elim (told bytes (fault.Number k) e) [ inl x ↦ (let g : ⊥ = cc in absurd g) | inr y ↦ elim y [ inl x ↦ (let g : ⊥ = cc in absurd g) | inr h ↦ behind_told (λ q. ExponentAt k q) bytes h ] ]

@@ -2,6 +2,8 @@ pub mod Tree
 pub mod Numbers
 pub mod Strings
 pub mod Reading
+pub mod Order
 pub mod Views
 pub mod Decimals
 pub mod Grammar
+pub mod Faults

@@ -1,6 +1,5 @@
 -- What the reader's values stand for, apart from where they lie in memory.
-use Rattle.std.specs.Prelude.{ℕ, Bool, false, ◌||◌, List, [], ◌∷◌, map}
-use Rattle.std.specs.Str.{bytes_eq}
+use Rattle.std.specs.Prelude.{ℕ, List, [], ◌∷◌, map}
 use Rattle.json_text.specs.Tree.{Tree, null, boolean, number, string, list, object, Items, no_items, item_after, Members, no_members, member_after}
 use Rattle.json_text.specs.Reading.{State, Stage, at_top, at_first_value, at_value, at_first_name, at_name, at_colon, after_item, after_member, in_word, in_number, in_string, in_name, at_end}
 use Rattle.json_text.specs.Reading as read
@@ -68,8 +67,3 @@ stage_of (place.End v) = at_end (tree_of v)
 
 abbrev pub state_of : Reader → State
 state_of r = record { stage = stage_of r.place; parents = parents_of r.parents.items }
-
--- the name among the members, from the front
-abbrev pub any_named : List ℕ → List (List ℕ × Json) → Bool
-any_named name [] = false
-any_named name (m ∷ ms) = bytes_eq m.0 name || any_named name ms

@@ -1,8 +1,7 @@
 // The members of an object that is being read.
-ghost use Rattle.std.specs.Prelude.{◌≡◌, ◌++◌, ◌∷◌, [], IfOk};
-ghost use Rattle.json_text.specs.Views.{members_of, tree_of, any_named};
-ghost use Rattle.json_text.specs.Tree.{member_after, no_members};
-ghost use Rattle.json_text.specs.Reading.{is_named};
+ghost use Rattle.std.specs.Prelude.{◌≡◌, length, IfOk};
+ghost use Rattle.std.specs.List.Sorted.{IsSearchInRange, IsBinarySearchResult};
+ghost use Rattle.json_text.specs.Order.{name_at, place_cmp, AreWithin, HaveAll, AreRising, placed};
 
 use crate::json::Json;
 use grpc_base::{NoMemory, Text};
@@ -12,43 +11,80 @@ use std::alloc::Global;
 #[derive(Drop)]
 pub struct Members {
     pub list: Vec<(Text, Json)>,
+    // their places, in the order of their names
+    order: Vec<usize>,
+    ghost within: { AreWithin list.items order.items },
+    ghost whole: { HaveAll list.items order.items },
+    ghost rising: { AreRising list.items order.items },
 }
 
-/// No members.
-pub fn no_members(alloc: Global) -> Members
-    ensures { members_of result.list.items ≡ no_members }
+#[tactic(auto, using(crate::proofs::Order::name_of_item, crate::proofs::Order::no_name_behind))]
+fn name_at(list: &[(Text, Json)], place: usize) -> &[u8]
+    ensures { result.now ≡ name_at list.now place }
 {
-    Members {
-        list: Vec::new(alloc),
+    match list.get(place) {
+        Some((name, _value)) => name.as_slice(),
+        None => &[],
     }
 }
 
-fn any_named(members: &[(Text, Json)], name: &[u8]) -> bool
-    ensures { result ≡ any_named name.now members.now }
+// Where the name is in the order, or where it would go.
+fn search(list: &[(Text, Json)], order: &[usize], name: &[u8]) -> Result<usize, usize>
+    ensures bound { IsSearchInRange result (length order.now) }
+    ensures position { IsBinarySearchResult (place_cmp list.now name.now) order.now result }
 {
-    for (other, _value) in members {
-        if other.as_slice() == name {
-            return true;
+    order.binary_search_by(|place| name_at(list, *place).cmp(name))
+}
+
+// The places with one more, unless its name is found.
+fn with_place(
+    order: Vec<usize>,
+    found: Result<usize, usize>,
+    place: usize,
+) -> Result<Vec<usize>, NoMemory>
+    requires { IsSearchInRange found (length order.items) }
+    ensures { IfOk result (λ o. o.items ≡ placed found order.items place) }
+{
+    let mut order = order;
+    if let Err(at) = found {
+        order.insert(at, place)?;
+    }
+    Ok(order)
+}
+
+impl Members {
+    ghost use Rattle.json_text.specs.Views.{members_of, tree_of};
+    ghost use Rattle.json_text.specs.Tree.{member_after, no_members};
+    ghost use Rattle.json_text.specs.Reading.{is_named};
+
+    /// No members.
+    pub fn new(alloc: Global) -> Members
+        ensures { members_of result.list.items ≡ no_members }
+    {
+        Members {
+            list: Vec::new(alloc),
+            order: Vec::new(alloc),
         }
     }
-    false
-}
 
-/// Whether one of them has this name.
-#[tactic(auto, using(crate::proofs::Growth::named_from_front))]
-pub fn is_named(members: &Members, name: &[u8]) -> bool
-    ensures { result ≡ is_named name.now (members_of members.now.list.items) }
-{
-    any_named(members.list.as_slice(), name)
-}
+    /// Whether one of them has this name; it is compared with about log n of n names.
+    #[tactic(auto, using(crate::proofs::Growth::named_from_front, crate::proofs::Order::search_finds))]
+    pub fn has(&self, name: &[u8]) -> bool
+        ensures { result ≡ is_named name.now (members_of self.now.list.items) }
+    {
+        search(self.list.as_slice(), self.order.as_slice(), name).is_ok()
+    }
 
-/// One member more.
-#[tactic(auto, using(crate::proofs::Growth::members_push))]
-pub fn with_member(members: Members, name: Text, value: Json) -> Result<Members, NoMemory>
-    ensures { IfOk result (λ r. members_of r.list.items ≡ member_after (members_of members.list.items) name (tree_of value)) }
-{
-    let Members { list } = members;
-    let mut list = list;
-    list.push((name, value))?;
-    Ok(Members { list })
+    /// One member more.
+    #[tactic(auto, using(crate::proofs::Growth::members_push))]
+    pub fn with(self, name: Text, value: Json) -> Result<Members, NoMemory>
+        ensures { IfOk result (λ r. members_of r.list.items ≡ member_after (members_of self.list.items) name (tree_of value)) }
+    {
+        let Members { list, order } = self;
+        let found = search(list.as_slice(), order.as_slice(), name.as_slice());
+        let order = with_place(order, found, list.len())?;
+        let mut list = list;
+        list.push((name, value))?;
+        Ok(Members { list, order })
+    }
 }

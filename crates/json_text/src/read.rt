@@ -3,6 +3,7 @@ ghost use Rattle.std.specs.Prelude.{◌+◌, ◌≡◌, ◌<◌, ◌≤◌, ◌�
 ghost use Rattle.json_text.specs.Tree.{Tree};
 ghost use Rattle.json_text.specs.Reading.{Gives, most_bytes, run, at_start, reading};
 ghost use Rattle.json_text.specs.Grammar.{IsText, CanEnd};
+ghost use Rattle.json_text.specs.Faults.{Behind, RepeatsName, OpensTooDeep, ExponentAt};
 ghost use Rattle.json_text.specs.Views.{state_of, tree_of};
 
 use crate::json::Json;
@@ -14,7 +15,7 @@ use std::alloc::Global;
 const MOST_BYTES: usize = 65536;
 
 /// Reads a JSON text with an object at its top (RFC 8259), or tells its first fault.
-#[tactic(auto, using(crate::proofs::Runs::read_is_text, crate::proofs::Runs::one_value, crate::proofs::Runs::text_is_right, crate::proofs::Runs::syntax_front, crate::proofs::Runs::syntax_first, crate::proofs::Runs::too_long_is, crate::proofs::Runs::too_long_only))]
+#[tactic(auto, using(crate::proofs::Runs::read_is_text, crate::proofs::Runs::one_value, crate::proofs::Runs::text_is_right, crate::proofs::Runs::syntax_front, crate::proofs::Runs::syntax_first, crate::proofs::Runs::too_long_is, crate::proofs::Runs::too_long_only, crate::proofs::Runs::repeated_key_is, crate::proofs::Runs::too_deep_is, crate::proofs::Runs::number_is))]
 pub fn read_json(alloc: Global, bytes: &[u8]) -> Result<Json, JsonFault>
     // The bytes are a text of the value that is read, and of no other.
     ensures found { IfOk result (λ json. IsText (tree_of json) bytes.now) }
@@ -23,6 +24,11 @@ pub fn read_json(alloc: Global, bytes: &[u8]) -> Result<Json, JsonFault>
     // What is read, or which fault is told at which place; out of memory alone is free.
     ensures exact { Gives tree_of result (reading bytes.now) }
     ensures too_long { (result ≡ Err JsonFault.TooLong) ↔ (most_bytes < length bytes.now) }
+
+    // Each other fault is told behind the front of a text, with the place of what has it.
+    ensures repeated { (at : ℕ) → result ≡ Err (JsonFault.RepeatedKey at) → Behind (λ front. RepeatsName at front) bytes.now }
+    ensures deep { (at : ℕ) → result ≡ Err (JsonFault.TooDeep at) → Behind (λ front. OpensTooDeep at front) bytes.now }
+    ensures exponent { (at : ℕ) → result ≡ Err (JsonFault.Number at) → Behind (λ front. ExponentAt at front) bytes.now }
 
     // Syntax is told of no text, behind the front of one, and at the byte with which it is no front any more.
     ensures wrong { (at : ℕ) (v : Tree) → result ≡ Err (JsonFault.Syntax at) → IsText v bytes.now → ⊥ }

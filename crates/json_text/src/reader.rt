@@ -7,7 +7,7 @@ ghost use Rattle.json_text.specs.Strings.{quoted_next, opened_quote};
 ghost use Rattle.json_text.specs.Views.{state_of, parent_of, tree_of, parents_of, items_of, members_of, stage_of};
 
 use crate::json::Json;
-use crate::members::{Members, is_named, no_members, with_member};
+use crate::members::Members;
 use crate::number::{NumberByte, Part, number_byte};
 use crate::place::{Parent, Place, Reader};
 use crate::string::{Quoted, QuotedNext};
@@ -51,9 +51,7 @@ fn put(parents: Vec<Parent>, value: Json) -> Result<Reader, NoMemory>
     let place = match parents.pop() {
         None => Place::End(value),
         Some(Parent::List(items)) => Place::AfterItem(with_item(items, value)?),
-        Some(Parent::Member(members, name)) => {
-            Place::AfterMember(with_member(members, name, value)?)
-        }
+        Some(Parent::Member(members, name)) => Place::AfterMember(members.with(name, value)?),
     };
     Ok(Reader { place, parents })
 }
@@ -190,7 +188,7 @@ fn first_name_byte(
 {
     let place = match byte {
         b' ' | b'\t' | b'\n' | b'\r' => Place::FirstName,
-        b'"' => in_name(alloc, at, no_members(alloc)),
+        b'"' => in_name(alloc, at, Members::new(alloc)),
         b'}' => return Ok(put(parents, Json::Object(Vec::new(alloc)))?),
         _ => return Err(JsonFault::Syntax { at }),
     };
@@ -300,7 +298,7 @@ fn behind_number(at: u64, value: Json, parents: Vec<Parent>, byte: u8) -> Result
         None => end_byte(at, value, parents, byte),
         Some(Parent::List(items)) => item_byte(at, with_item(items, value)?, parents, byte),
         Some(Parent::Member(members, name)) => {
-            member_byte(at, with_member(members, name, value)?, parents, byte)
+            member_byte(at, members.with(name, value)?, parents, byte)
         }
     }
 }
@@ -377,7 +375,7 @@ fn named(
 ) -> Result<Reader, JsonFault>
     ensures { Gives state_of result (named (members_of members.list.items) start name (parents_of parents.items)) }
 {
-    if is_named(&members, name.as_slice()) {
+    if members.has(name.as_slice()) {
         return Err(JsonFault::RepeatedKey { at: start });
     }
     Ok(Reader {
