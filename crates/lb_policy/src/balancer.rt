@@ -1,0 +1,77 @@
+// The same trait without `Send`, which generic code is bound by.
+ghost use Rattle.std.specs.Prelude.{◌≡◌, ◌<◌};
+ghost use Rattle.lb_policy.specs.Table.{PolicySeen, IsView, wish_of, state_of, pick_of};
+ghost use Rattle.lb_policy.specs.Steps.{emptied, given, noted, turned};
+
+use crate::{Policy, SubSeen};
+use arrayvec::ArrayVec;
+use grpc_base::{Conn, Kind, Pick};
+
+/// What generic code asks of a policy: the calls of `Policy`, each with the same contract, and no `Send`.
+/// A `Box<dyn Policy>` is one.
+pub trait Balancer: Drop {
+    ghost seen: { Self → PolicySeen };
+
+    /// Its kind, which never changes.
+    fn kind(&self) -> Kind
+        ensures { result ≡ (seen self.now).kind };
+
+    /// Forgets its view and its turns.
+    fn reset(&mut self)
+        ensures { seen self.new ≡ emptied (seen self.old) };
+
+    /// Takes a new view, and keeps its turns.
+    fn accept(&mut self, subs: &[SubSeen])
+        requires { IsView subs.now }
+        ensures { seen self.new ≡ given subs.now (seen self.old) };
+
+    /// Notes the state of a subchannel; one that is not in the view changes nothing.
+    fn note(&mut self, sub: u32, state: Conn)
+        ensures { seen self.new ≡ noted sub state (seen self.old) };
+
+    /// The subchannels of the view that it wants connected, in the order of the view.
+    fn wish(&self) -> ArrayVec<u32, 64>
+        ensures { result.items ≡ wish_of (seen self.now) };
+
+    /// Its connectivity state.
+    fn state(&self) -> Conn
+        ensures { result ≡ state_of (seen self.now) };
+
+    /// Answers a pick request, which is one turn.
+    fn pick(&mut self) -> Pick
+        requires { (seen self.old).turns < 18446744073709551615 }
+        ensures answer { result ≡ pick_of (seen self.old) }
+        ensures after { seen self.new ≡ turned (seen self.old) };
+}
+
+impl Balancer for Box<dyn Policy> {
+    ghost seen = { λ b. (Policy-box b).seen b.value };
+
+    fn kind(&self) -> Kind {
+        (**self).kind()
+    }
+
+    fn reset(&mut self) {
+        (**self).reset()
+    }
+
+    fn accept(&mut self, subs: &[SubSeen]) {
+        (**self).accept(subs)
+    }
+
+    fn note(&mut self, sub: u32, state: Conn) {
+        (**self).note(sub, state)
+    }
+
+    fn wish(&self) -> ArrayVec<u32, 64> {
+        (**self).wish()
+    }
+
+    fn state(&self) -> Conn {
+        (**self).state()
+    }
+
+    fn pick(&mut self) -> Pick {
+        (**self).pick()
+    }
+}
