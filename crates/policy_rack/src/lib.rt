@@ -1,0 +1,12 @@
+// The policies of a channel, and the generations that use them.
+#![tactic(auto)]
+
+mod kinds;
+mod live;
+mod places;
+mod rack;
+mod ready;
+
+pub use live::Live;
+pub use rack::Rack;
+pub use ready::{boxes_ready, policies_ready};
