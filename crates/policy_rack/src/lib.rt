@@ -6,6 +6,8 @@ mod live;
 mod places;
 mod rack;
 mod ready;
+#[cfg(test)]
+mod tests;
 
 pub use live::Live;
 pub use rack::Rack;

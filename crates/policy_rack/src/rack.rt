@@ -105,6 +105,13 @@ impl<P: Balancer> Rack<P> {
         live.generation
     }
 
+    /// How many generations were made.
+    pub fn made(&self) -> u32
+        ensures { result ≡ self.now.made }
+    {
+        self.made
+    }
+
     /// The current generation and its kind; None exactly where there is none.
     pub fn current(&self) -> Option<(u32, Kind)>
         ensures { result ≡ live_of self.now.policies self.now.current }
