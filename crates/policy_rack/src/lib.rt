@@ -2,6 +2,7 @@
 #![tactic(auto)]
 
 mod kinds;
+mod laws;
 mod live;
 mod places;
 mod rack;
@@ -9,6 +10,7 @@ mod ready;
 #[cfg(test)]
 mod tests;
 
+pub use laws::laws_of_runs;
 pub use live::Live;
 pub use rack::Rack;
 pub use ready::{boxes_ready, policies_ready};
