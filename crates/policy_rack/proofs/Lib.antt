@@ -1,3 +1,4 @@
 mod KindLaws
+mod LiveKinds
 mod PlaceLaws
 mod RunLaws

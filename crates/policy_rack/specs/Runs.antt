@@ -1,9 +1,10 @@
 -- A rack over whole runs.
-use Rattle.std.specs.Prelude.{◌≡◌, ◌≤◌, ◌<◌, ℕ, false, if◌then◌else◌, Option, Some, None, List, [], ◌∷◌, slice_get}
+use Rattle.std.specs.Prelude.{true, ◌≡◌, ◌≤◌, ◌<◌, ℕ, false, if◌then◌else◌, Option, Some, None, List, [], ◌∷◌, slice_get}
 use Rattle.grpc_base.specs.declared.event.Conn.{Conn}
 use Rattle.lb_policy.specs.declared.seen.SubSeen.{SubSeen}
 use Rattle.lb_policy.specs.Table.{PolicySeen}
 use Rattle.policy_rack.specs.declared.live.Live.{Live}
+use Rattle.policy_rack.specs.Kinds.{are_ready}
 use Rattle.policy_rack.specs.Steps.{RackSeen, new_rack, adopted, noted_by_live, may_take_over, taken_over, asked, all_retired, is_at}
 
 -- a call that may change a rack; a result is for the policy at a place
@@ -42,6 +43,16 @@ pub record IsKept (r : RackSeen) : Type 0 where
   pub live : AreLive r.current r.pending r.made
   pub spare : SparesAreEmpty r.policies r.current r.pending
 
+-- the kinds of the two live generations
+abbrev pub KindsOfLiveDiffer : RackSeen → Type 0
+KindsOfLiveDiffer r =
+    (live later : Live) (p q : PolicySeen) → r.current ≡ Some live → r.pending ≡ Some later → slice_get r.policies live.place ≡ Some p → slice_get r.policies later.place ≡ Some q → p.kind ≡ q.kind → ⊥
+
 -- so it is after any calls of a new rack
 abbrev pub RackKeeps : Type 0
 RackKeeps = (calls : List RackCall) (policies : List PolicySeen) → IsKept (after_calls calls (new_rack policies))
+
+-- of policies that a channel may be handed, the two live generations are never of one kind
+abbrev pub LiveKindsDiffer : Type 0
+LiveKindsDiffer =
+    (calls : List RackCall) (policies : List PolicySeen) → are_ready policies ≡ true → KindsOfLiveDiffer (after_calls calls (new_rack policies))
