@@ -1,3 +1,4 @@
+mod AskLaws
 mod KindLaws
 mod LiveKinds
 mod PlaceLaws

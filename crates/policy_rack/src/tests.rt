@@ -3,7 +3,7 @@ ghost use Rattle.std.specs.Prelude.{◌≡◌, map, true};
 ghost use Rattle.policy_rack.specs.Kinds.{are_ready};
 
 use crate::{Rack, boxes_ready};
-use grpc_base::{Conn, Kind};
+use grpc_base::{Conn, Kind, Pick};
 use lb_kinds::{PickFirst, RoundRobin};
 use lb_policy::{Balancer, Policy, SubSeen};
 use std::test::Fail;
@@ -61,5 +61,32 @@ fn third_result_is_for_the_first_generation(rt: HostRuntime) -> Result<(), Fail>
     boxes.push(Box::new(alloc, PickFirst::new())?)?;
     assert!(rt; boxes_ready(&boxes));
     assert_eq!(rt; three_results(boxes), "");
+    Ok(())
+}
+
+/// What the first pick request gets after a result of one READY subchannel.
+fn first_pick<P: Balancer>(policies: Vec<P>) -> Option<(u32, Pick)>
+    requires { are_ready (map P.seen policies.items) ≡ true }
+{
+    let mut rack = Rack::new(policies);
+    if !rack.kinds().has(Kind::RoundRobin) {
+        return None;
+    }
+    let subs = [SubSeen {
+        sub: 7,
+        state: Conn::Ready,
+    }];
+    let _generation = rack.adopt(Kind::RoundRobin, &subs);
+    Some(rack.ask())
+}
+
+#[test]
+fn asks_the_current_policy(rt: HostRuntime) -> Result<(), Fail> {
+    let alloc = rt.alloc();
+    let mut boxes: Vec<Box<dyn Policy>> = Vec::new(alloc);
+    boxes.push(Box::new(alloc, PickFirst::new())?)?;
+    boxes.push(Box::new(alloc, RoundRobin::new())?)?;
+    assert!(rt; boxes_ready(&boxes));
+    assert_eq!(rt; first_pick(boxes), Some((1, Pick::Place(7))));
     Ok(())
 }
