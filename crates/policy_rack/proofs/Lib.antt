@@ -1,0 +1,5 @@
+mod AskLaws
+mod KindLaws
+mod LiveKinds
+mod PlaceLaws
+mod RunLaws

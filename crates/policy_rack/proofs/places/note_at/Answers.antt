@@ -1,0 +1,13 @@
+use Rattle.std.proofs.Common.{◌≤◌, length, arith}
+use Rattle.lb_policy.specs.Steps.{noted}
+use Rattle.policy_rack.proofs.PlaceLaws.{wrote, past}
+use Rattle.policy_rack.proofs.places.note_at.Goals as goal
+
+pub returns-then-place-len : goal.returns-then-place-len
+returns-then-place-len g c =
+    wrote g.P.Balancer.seen (noted c.args.sub c.args.state) c.args.policies.now.items c.args.place c.index_mut-policy.result.now c.note.new.self c.index_mut-policy.ensures.value c.note.ensures
+
+pub returns-else-place-len : goal.returns-else-place-len
+returns-else-place-len g c =
+    let out : length c.args.policies.now.items ≤ c.args.place = omega (arith, c.if-place-len.false, c.len.ensures) in
+    past g.P.Balancer.seen (noted c.args.sub c.args.state) c.args.policies.now.items c.args.place out
