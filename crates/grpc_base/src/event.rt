@@ -1,6 +1,7 @@
 // What the channel is told, what it replies, and how one step is kept.
 ghost use Rattle.std.specs.Prelude.{◌≡◌, IfOk};
 ghost use Rattle.grpc_base.specs.Conns.{conn_number};
+ghost use Rattle.grpc_base.specs.declared.event.Reply.TheVariants as reply;
 
 use crate::{Address, AddressList, Code, Metadata, Moment, NoMemory, Octets, Request, Text};
 use std::alloc::{AllocError, AllocFailed, Global};
@@ -274,6 +275,26 @@ impl ConfigFault {
     }
 }
 
+/// The reply that a call ended, with copies of its text and metadata.
+fn end_reply(
+    alloc: Global,
+    code: Code,
+    text: &Text,
+    meta: &Metadata,
+    cause: EndCause,
+) -> Result<Reply, NoMemory>
+    ensures { IfOk result (λ r. r ≡ reply.End code text.now meta.now cause) }
+{
+    let text = text.copy()?;
+    let meta = meta.copy(alloc)?;
+    Ok(Reply::End {
+        code,
+        text,
+        meta,
+        cause,
+    })
+}
+
 impl Reply {
     /// The same reply; its bytes are shared.
     pub fn copy(&self, alloc: Global) -> Result<Reply, NoMemory>
@@ -294,16 +315,7 @@ impl Reply {
                 text,
                 meta,
                 cause,
-            } => {
-                let text = text.copy()?;
-                let meta = meta.copy(alloc)?;
-                Reply::End {
-                    code: *code,
-                    text,
-                    meta,
-                    cause: *cause,
-                }
-            }
+            } => end_reply(alloc, *code, text, meta, *cause)?,
             Reply::NotYet => Reply::NotYet,
             Reply::BadConfig { fault } => Reply::BadConfig {
                 fault: fault.copy()?,

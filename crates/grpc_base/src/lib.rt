@@ -16,6 +16,7 @@ mod number;
 mod octets;
 mod plan;
 mod request;
+mod script;
 #[cfg(test)]
 mod tests;
 mod text;
@@ -33,4 +34,5 @@ pub use number::read_number;
 pub use octets::Octets;
 pub use plan::{CallPlan, Chosen, HedgePolicy, MessageLimit, Pushback, RetryPolicy, Throttle};
 pub use request::{Request, RequestFault};
+pub use script::{AnswerLine, AnswerPart, CallLine, ServerScript};
 pub use text::Text;
