@@ -33,6 +33,6 @@ pub use moment::{Duration, Moment};
 pub use number::read_number;
 pub use octets::Octets;
 pub use plan::{CallPlan, Chosen, HedgePolicy, MessageLimit, Pushback, RetryPolicy, Throttle};
-pub use request::{Request, RequestFault};
+pub use request::{Request, RequestFault, is_path};
 pub use script::{AnswerLine, AnswerPart, CallLine, ServerScript};
 pub use text::Text;

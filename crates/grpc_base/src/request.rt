@@ -99,8 +99,9 @@ impl Request {
     }
 }
 
-/// Whether this is a path.
-fn is_path(path: &[u8]) -> bool
+/// Whether this is the path of a method: `/`, a service, `/` and a method, both non-empty and of visible ASCII without `/`, in
+/// all at most 1,024 bytes.
+pub fn is_path(path: &[u8]) -> bool
     ensures { IsTrue result ↔ IsPath path.now }
 {
     if path.len() > 1024 {
