@@ -2,10 +2,14 @@
 // pick requests, generations of policies and links.
 #![tactic(auto)]
 
+mod check;
 mod journal;
 mod ledger;
+mod news;
 mod row;
 
+pub use check::RowFault;
 pub use journal::Journal;
 pub use ledger::{Ask, CallEnd, CallSeen, Generation, Ledger, LinkSeen};
+pub use news::{EndNews, News};
 pub use row::{Placed, Row, RowCause, RowEnd, RowKind};
