@@ -1,3 +1,10 @@
+pub mod CallLaws
+pub mod FrameSizes
+pub mod Lawful
 pub mod ListLaws
+pub mod Places
+pub mod SaidLaws
+pub mod Sessions
 pub mod StepLaws
 pub mod TextLaws
+pub mod WireLaws

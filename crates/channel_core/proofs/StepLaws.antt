@@ -7,8 +7,8 @@ use Rattle.grpc_base.specs.declared.event.Stamped.{Stamped}
 use Rattle.attempt_ledger.specs.declared.journal.Journal.{Journal}
 use Rattle.attempt_ledger.specs.declared.ledger.Ledger.{Ledger}
 use Rattle.channel_core.specs.FirstCall.{AreFirstEvents, IsStampedAt, StandsAt, stamped_of}
-use Rattle.channel_core.specs.Steps.{next_place, told}
-use Rattle.channel_core.specs.Core.{CoreSeen, Steps, entry_made, ledger_made, ledger_of, no_ledger, written_by}
+use Rattle.channel_core.specs.Steps.{next_place, state_after, told}
+use Rattle.channel_core.specs.Core.{CoreSeen, Gains, entry_made, ledger_made, ledger_of, moment_of, no_ledger, written_by}
 
 -- one entry more is written last
 written_by-snoc : (ledger : Ledger) (n : ℕ) (entries : List Entry) (e : Entry) → written_by ledger n (entries ++ e ∷ []) ≡ told (written_by ledger n entries) (next_place (n + length entries)) e.moment e.event
@@ -37,11 +37,15 @@ newest_stands entries s events =
     (length (map stamped_of entries) + 2, here.event)
 
 -- what was applied behind the entries, with room made, is a step of the channel
-pub steps_made : (authority : Address) (journal : Journal) (ledger new : Ledger) (spent : Bool) (reserved now : List Entry) (s : Stamped) (r : Reply) → reserved ≡ journal.entries → r ≡ (entry_made authority reserved ledger s).reply → now ≡ reserved ++ entry_made authority reserved ledger s ∷ [] → new ≡ ledger_made reserved ledger s → Steps (record { authority = authority; journal = journal; ledger = ledger; spent = spent }) (record { authority = authority; journal = record { entries = now }; ledger = new; spent = false }) s r
-steps_made authority journal ledger new spent reserved now s r same replied journaled made = record {
-  replied = replied ∙ ap (λ (es : List Entry). (entry_made authority es ledger s).reply) same;
-  journal = journaled ∙ ap (λ (es : List Entry). es ++ entry_made authority es ledger s ∷ []) same;
-  ledger = made ∙ ap (λ (es : List Entry). ledger_made es ledger s) same;
-  authority = refl;
-  unspent = refl;
-}
+pub steps_made : (authority : Address) (journal : Journal) (ledger new : Ledger) (spent : Bool) (reserved now : List Entry) (s : Stamped) (r : Reply) → reserved ≡ journal.entries → r ≡ (entry_made authority reserved ledger s).reply → now ≡ reserved ++ entry_made authority reserved ledger s ∷ [] → Gains (record { authority = authority; journal = journal; ledger = ledger; spent = spent }) (record { authority = authority; journal = record { entries = now }; ledger = new; spent = false }) s r
+steps_made authority journal ledger new spent reserved now s r same replied journaled =
+    let before : List Entry = journal.entries in
+    record {
+      state = state_after before s.event;
+      journal =
+          journaled ∙ ap (λ (es : List Entry). es ++ entry_made authority es ledger s ∷ []) same
+          ∙ ap (λ (x : Reply). before ++ record { moment = moment_of before s; word = s.word; event = s.event; reply = x; state = state_after before s.event } ∷ [])
+          (sym (replied ∙ ap (λ (es : List Entry). (entry_made authority es ledger s).reply) same));
+      authority = refl;
+      unspent = refl;
+    }

@@ -4,7 +4,7 @@ use Rattle.std.proofs.lemmas.Bool.{cases_lt}
 use Rattle.std.proofs.lemmas.Grind.{common_steps, flat_map-append}
 use Rattle.std.proofs.lemmas.List.{drop_all, drop-drop, take_more}
 use Rattle.grpc_base.specs.declared.event.Entry.{Entry}
-use Rattle.channel_core.specs.Steps.{drained_in, sent}
+use Rattle.channel_core.specs.Steps.{drained_in, drained}
 
 -- one part behind another
 pub two_parts : (out mid new a b : List ℕ) → new ≡ mid ++ b → mid ≡ out ++ a → new ≡ out ++ (a ++ b)
@@ -19,20 +19,20 @@ drop-least n text = elim (cases_lt n (length text)) [
 ]
 
 -- what the entries up to one more drained
-sent_more : (before : List Entry) (i : ℕ) (x : Entry) → i < length before → x ≡ slice_index_or before i x → sent (take (i + 1) before) ≡ sent (take i before) ++ drained_in x.reply
+sent_more : (before : List Entry) (i : ℕ) (x : Entry) → i < length before → x ≡ slice_index_or before i x → drained (take (i + 1) before) ≡ drained (take i before) ++ drained_in x.reply
 sent_more before i x within item =
     let more : take (i + 1) before ≡ take i before ++ x ∷ [] =
     take_more before i x within ∙ ap (λ (y : Entry). take i before ++ y ∷ []) (sym item) in
-    ap sent more ∙ flat_map-append (λ (e : Entry). drained_in e.reply) (take i before) (x ∷ [])
-    ∙ ap (λ (t : List ℕ). sent (take i before) ++ t) (append-nil (drained_in x.reply))
+    ap drained more ∙ flat_map-append (λ (e : Entry). drained_in e.reply) (take i before) (x ∷ [])
+    ∙ ap (λ (t : List ℕ). drained (take i before) ++ t) (append-nil (drained_in x.reply))
 
 -- what one entry more drained is taken off too
-pub unsent_step : (text : List ℕ) (before : List Entry) (i : ℕ) (x : Entry) (octets new : List ℕ) (n : ℕ) → i < length before → x ≡ slice_index_or before i x → octets ≡ drop (length (sent (take i before))) text → n ≡ min (length (drained_in x.reply)) (length octets) → new ≡ drop n octets → new ≡ drop (length (sent (take (i + 1) before))) text
+pub unsent_step : (text : List ℕ) (before : List Entry) (i : ℕ) (x : Entry) (octets new : List ℕ) (n : ℕ) → i < length before → x ≡ slice_index_or before i x → octets ≡ drop (length (drained (take i before))) text → n ≡ min (length (drained_in x.reply)) (length octets) → new ≡ drop n octets → new ≡ drop (length (drained (take (i + 1) before))) text
 unsent_step text before i x octets new n within item rest count cut =
     let off : new ≡ drop (length (drained_in x.reply)) octets =
     cut ∙ ap (λ (k : ℕ). drop k octets) count ∙ drop-least (length (drained_in x.reply)) octets in
-    let longer : length (sent (take (i + 1) before)) ≡ length (sent (take i before)) + length (drained_in x.reply) =
-    ap length (sent_more before i x within item) ∙ length-append (sent (take i before)) (drained_in x.reply) in
+    let longer : length (drained (take (i + 1) before)) ≡ length (drained (take i before)) + length (drained_in x.reply) =
+    ap length (sent_more before i x within item) ∙ length-append (drained (take i before)) (drained_in x.reply) in
     off ∙ ap (λ (t : List ℕ). drop (length (drained_in x.reply)) t) rest
-    ∙ drop-drop (length (drained_in x.reply)) (length (sent (take i before))) text
+    ∙ drop-drop (length (drained_in x.reply)) (length (drained (take i before))) text
     ∙ ap (λ (k : ℕ). drop k text) (sym longer)

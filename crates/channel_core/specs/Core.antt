@@ -1,11 +1,14 @@
 -- The channel as its callers see it, and what one step does.
-use Rattle.std.specs.Prelude.{◌≡◌, ℕ, ◌+◌, Bool, false, List, [], ◌∷◌, ◌++◌, length, max}
+use Rattle.std.specs.Prelude.{◌≡◌, ◌≤◌, ℕ, ◌+◌, Bool, false, List, [], ◌∷◌, ◌++◌, length, max}
 use Rattle.grpc_base.specs.declared.address.Address.{Address}
+use Rattle.grpc_base.specs.declared.event.Conn.{Conn}
 use Rattle.grpc_base.specs.declared.event.Entry.{Entry}
 use Rattle.grpc_base.specs.declared.event.Reply.{Reply}
 use Rattle.grpc_base.specs.declared.event.Stamped.{Stamped}
 use Rattle.attempt_ledger.specs.declared.journal.Journal.{Journal}
 use Rattle.attempt_ledger.specs.declared.ledger.Ledger.{Ledger}
+use Rattle.grpc_meta.specs.RequestFields.{authority_of}
+use Rattle.channel_core.specs.FirstCall.{AreFirstEvents}
 use Rattle.channel_core.specs.Steps.{last_moment, next_place, reply_to, state_after, told}
 
 -- a channel: the authority of its requests, its journal and its ledger, and whether it ran out of memory in mid-step
@@ -46,11 +49,24 @@ entry_made authority before ledger s = record {
 abbrev pub ledger_made : List Entry → Ledger → Stamped → Ledger
 ledger_made before ledger s = told ledger (next_place (length before)) (moment_of before s) s.event
 
--- what a step of a channel does: it answers the entry's reply, and journal and ledger gain that entry
-pub record Steps (old new : CoreSeen) (s : Stamped) (reply : Reply) : Type 0 where
-  pub replied : reply ≡ (entry_made old.authority old.journal.entries old.ledger s).reply
-  pub journal : new.journal.entries ≡ old.journal.entries ++ entry_made old.authority old.journal.entries old.ledger s ∷ []
-  pub ledger : new.ledger ≡ ledger_made old.journal.entries old.ledger s
+-- the steps of a channel on these events, behind the entries that it has
+abbrev pub run_from : Address → List Entry → List Stamped → List Entry
+run_from authority before [] = before
+run_from authority before (s ∷ events) = run_from authority (before ++ entry_made authority before (ledger_of before) s ∷ []) events
+
+-- what stands in journal and ledger of a channel that is not spent: those of a run on the first events of the first call
+pub record IsRun (authority : Address) (entries : List Entry) (ledger : Ledger) : Type 0 where
+  pub events : List Stamped
+  pub first : AreFirstEvents events
+  pub count : length events ≡ length entries
+  pub ran : entries ≡ run_from authority [] events
+  pub written : ledger ≡ ledger_of entries
+  pub authority_is : length (authority_of authority) ≤ 21
+
+-- what a step adds to the journal: this event with its word, at the later of its moment and the last step's, and its reply
+pub record Gains (old new : CoreSeen) (s : Stamped) (reply : Reply) : Type 0 where
+  pub state : Conn
+  pub journal : new.journal.entries ≡ old.journal.entries ++ record { moment = moment_of old.journal.entries s; word = s.word; event = s.event; reply = reply; state = state } ∷ []
   pub authority : new.authority ≡ old.authority
   pub unspent : new.spent ≡ false
 

@@ -1,4 +1,10 @@
 pub mod Core
+pub mod Delivery
 pub mod FirstCall
+pub mod Lawful
+pub mod Messages
+pub mod Response
+pub mod Said
+pub mod Sent
 pub mod Steps
 pub mod Wire

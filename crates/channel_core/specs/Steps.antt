@@ -28,7 +28,9 @@ use Rattle.attempt_ledger.specs.declared.row.RowEnd.{RowEnd}
 use Rattle.attempt_ledger.specs.declared.row.RowKind.TheVariants as row_kind
 use Rattle.attempt_ledger.specs.declared.row.RowCause.TheVariants as row_cause
 use Rattle.grpc_status.specs.StatusMaps.{code_of_text}
-use Rattle.channel_core.specs.Wire.{preface, client_settings, settings_ack, request_text}
+use Rattle.channel_core.specs.FirstCall.{first_message_limit}
+use Rattle.channel_core.specs.Wire.{client_settings, preface, request_text, settings_ack}
+use Rattle.h2_frame.specs.Frames.{written as written_frame}
 
 -- the first of what is found in a list
 abbrev pub first_of : {X Y : Type 0} → (X → Option Y) → List X → Option Y
@@ -74,24 +76,28 @@ drained_in (reply.Octets octets) = octets
 drained_in _ = []
 
 -- what was drained so far
-abbrev pub sent : List Entry → List ℕ
-sent entries = flat_map (λ e. drained_in e.reply) entries
+abbrev pub drained : List Entry → List ℕ
+drained entries = flat_map (λ e. drained_in e.reply) entries
+
+-- the request with its message, which one DATA frame holds
+abbrev pub short_request : Address → RequestSeen → List ℕ → List ℕ
+short_request authority r message = if nat_lt first_message_limit (length message) then [] else request_text authority r message
 
 -- the request with its message, once the call was finished
 abbrev pub request_so_far : Address → List Entry → List ℕ
 request_so_far authority entries =
     if list_any (λ e. is_finish e.event) entries then
-    option_map_or (λ r. option_map_or (λ m. request_text authority r.path m) (first_of (λ e. message_in e.event) entries) [])
+    option_map_or (λ r. option_map_or (λ m. short_request authority r m) (first_of (λ e. message_in e.event) entries) [])
     (first_of (λ e. request_in e.event) entries) []
     else []
 
 -- the acknowledgement of the server's SETTINGS, once these came
 abbrev pub ack_so_far : List Entry → List ℕ
-ack_so_far entries = if list_any (λ e. is_settings_arrival e.event) entries then settings_ack else []
+ack_so_far entries = if list_any (λ e. is_settings_arrival e.event) entries then written_frame settings_ack else []
 
--- all that may be sent so far: the preface and SETTINGS, the acknowledgement of the server's SETTINGS, and the request
-abbrev pub sendable : Address → List Entry → List ℕ
-sendable authority entries = preface ++ client_settings ++ ack_so_far entries ++ request_so_far authority entries
+-- all that may be drained so far: the preface and SETTINGS, the acknowledgement of the server's SETTINGS, and the request
+abbrev pub all_to_send : Address → List Entry → List ℕ
+all_to_send authority entries = preface ++ written_frame client_settings ++ ack_so_far entries ++ request_so_far authority entries
 
 -- the number behind so many things; it stands still at its type's end
 abbrev pub next_number : ℕ → ℕ
@@ -242,7 +248,7 @@ reply_to authority before ledger moment event.TakeDial = dial_reply (first_of (�
 reply_to authority before ledger moment (event.LinkUp sub) = reply.Link (next_number (length ledger.links))
 reply_to authority before ledger moment (event.Begin r) = reply.Call (next_number (length ledger.calls))
 reply_to authority before ledger moment (event.Drain link room) =
-    reply.Octets (drop (length (sent before)) (sendable authority before))
+    reply.Octets (drop (length (drained before)) (all_to_send authority before))
 reply_to authority before ledger moment (event.Take call) = end_reply (last_end ledger.rows)
 reply_to authority before ledger moment _ = reply.Done
 

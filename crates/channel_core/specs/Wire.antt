@@ -1,67 +1,58 @@
--- What the client sends for one call (RFC 9113, sections 3.4, 4.1, 6.1, 6.2, 6.5; RFC 7541, sections 5 and 6; gRPC over HTTP/2).
-use Rattle.std.specs.Prelude.{ℕ, zero, suc, ◌+◌, ◌-◌, ◌*◌, ◌/◌, ◌%◌, List, [], ◌∷◌, ◌++◌, length, codes, nat_lt, if◌then◌else◌}
+-- What the client sends for the first call (RFC 9113, sections 3.4, 6.1, 6.2 and 6.5).
+use Rattle.std.specs.Prelude.{ℕ, Option, Some, None, List, [], ◌∷◌, ◌++◌, if◌then◌else◌, filter, flat_map, slice_get}
+use Rattle.std.specs.Option.{option_map_or}
 use Rattle.grpc_base.specs.declared.address.Address.{Address}
-use Rattle.grpc_base.specs.Addresses.{address_text}
-
--- three and four bytes of a number, the highest first
-abbrev pub bytes_24 : ℕ → List ℕ
-bytes_24 n = n / 65536 % 256 ∷ n / 256 % 256 ∷ n % 256 ∷ []
-
-abbrev pub bytes_32 : ℕ → List ℕ
-bytes_32 n = n / 16777216 % 256 ∷ n / 65536 % 256 ∷ n / 256 % 256 ∷ n % 256 ∷ []
-
--- a frame: the length of its payload, its type, its flags, its stream and its payload
-abbrev pub frame_text : ℕ → ℕ → ℕ → List ℕ → List ℕ
-frame_text kind flags stream payload = bytes_24 (length payload) ++ kind ∷ flags ∷ bytes_32 stream ++ payload
+use Rattle.grpc_base.specs.declared.event.Entry.{Entry}
+use Rattle.grpc_base.specs.Requests.{RequestSeen}
+use Rattle.attempt_ledger.specs.Journals.{accepted, is_finished, received, request_of}
+use Rattle.grpc_meta.specs.RequestFields.{fields_of_request}
+use Rattle.h2_frame.specs.declared.kinds.TheConstants.{DATA, HEADERS, SETTINGS}
+use Rattle.h2_frame.specs.declared.flags.TheConstants.{ACK, END_HEADERS, END_STREAM}
+use Rattle.h2_frame.specs.Frames.{FrameSeen, written}
+use Rattle.h2_hpack.specs.Encoding.{block_bytes}
+use Rattle.channel_core.specs.Messages.{framed}
+use Rattle.channel_core.specs.Said.{is_settings, said_of}
 
 -- what every client sends first: `PRI * HTTP/2.0`, `SM`, each with its line ends
 abbrev pub preface : List ℕ
 preface = 80 ∷ 82 ∷ 73 ∷ 32 ∷ 42 ∷ 32 ∷ 72 ∷ 84 ∷ 84 ∷ 80 ∷ 47 ∷ 50 ∷ 46 ∷ 48 ∷ 13 ∷ 10 ∷ 13 ∷ 10 ∷ 83 ∷ 77 ∷ 13 ∷ 10 ∷ 13 ∷ 10 ∷ []
 
 -- the client's SETTINGS: ENABLE_PUSH 0 and MAX_HEADER_LIST_SIZE 16384
-abbrev pub client_settings : List ℕ
-client_settings = frame_text 4 0 0 (0 ∷ 2 ∷ 0 ∷ 0 ∷ 0 ∷ 0 ∷ 0 ∷ 6 ∷ 0 ∷ 0 ∷ 64 ∷ 0 ∷ [])
+abbrev pub client_settings : FrameSeen
+client_settings = record { kind = SETTINGS; flags = 0; stream = 0; payload = 0 ∷ 2 ∷ 0 ∷ 0 ∷ 0 ∷ 0 ∷ 0 ∷ 6 ∷ 0 ∷ 0 ∷ 64 ∷ 0 ∷ [] }
 
 -- the acknowledgement of SETTINGS
-abbrev pub settings_ack : List ℕ
-settings_ack = frame_text 4 1 0 []
+abbrev pub settings_ack : FrameSeen
+settings_ack = record { kind = SETTINGS; flags = ACK; stream = 0; payload = [] }
 
--- an integer behind a prefix that is full: seven bits in each byte, the lowest first, in at most so many bytes
-abbrev pub integer_tail : ℕ → ℕ → List ℕ
-integer_tail zero n = []
-integer_tail (suc most) n = if nat_lt n 128 then n ∷ [] else (n % 128 + 128) ∷ integer_tail most (n / 128)
+-- the head of a first attempt's request on stream 1
+abbrev pub head_frame : Address → RequestSeen → FrameSeen
+head_frame authority r = record {
+  kind = HEADERS;
+  flags = END_HEADERS;
+  stream = 1;
+  payload = block_bytes (fields_of_request r authority None 1);
+}
 
--- a string without Huffman coding: its length on seven bits, and its bytes
-abbrev pub string_text : List ℕ → List ℕ
-string_text s = (if nat_lt (length s) 127 then length s ∷ [] else 127 ∷ integer_tail 5 (length s - 127)) ++ s
+-- its one message, which completes it
+abbrev pub data_frame : List ℕ → FrameSeen
+data_frame message = record { kind = DATA; flags = END_STREAM; stream = 1; payload = framed message }
 
--- the name `te`, written out: 0, its length and its two letters
-abbrev pub te_name : List ℕ
-te_name = 0 ∷ 2 ∷ 116 ∷ 101 ∷ []
+-- the bytes of the two
+unfoldable pub request_text : Address → RequestSeen → List ℕ → List ℕ
+request_text authority r message = written (head_frame authority r) ++ written (data_frame message)
 
--- a literal field behind the bytes that tell its name: the index of the name, or 0 and the name
-abbrev pub literal_text : List ℕ → List ℕ → List ℕ
-literal_text name value = name ++ string_text value
+-- the acknowledgements that are due: one for each SETTINGS of the server (section 6.5.3)
+abbrev pub acks_due : List Entry → List ℕ
+acks_due entries = flat_map (λ s. written settings_ack) (filter is_settings (said_of (received 1 entries)))
 
--- the block of a request: `:method POST` and `:scheme http` by their index, `:path`, `:authority` and `content-type` by the index of
--- their names, `te` with its name
-abbrev pub request_block : Address → List ℕ → List ℕ
-request_block authority path =
-    (131 ∷ 134 ∷ []) ++ literal_text (4 ∷ []) path ++ literal_text (1 ∷ []) (address_text authority)
-    ++ literal_text te_name (codes "trailers") ++ literal_text (15 ∷ 16 ∷ []) (codes "application/grpc")
+-- the request with its message, once the call was finished
+abbrev pub request_due : Address → List Entry → List ℕ
+request_due authority entries =
+    if is_finished 1 entries then
+    option_map_or (λ r. option_map_or (λ m. request_text authority r m) (slice_get (accepted 1 entries) 0) []) (request_of 1 entries) []
+    else []
 
--- a message as it is framed: a flag 0, its length and its bytes
-abbrev pub framed : List ℕ → List ℕ
-framed message = 0 ∷ bytes_32 (length message) ++ message
-
--- the head of a request: HEADERS with END_HEADERS on stream 1
-unfoldable pub headers_text : Address → List ℕ → List ℕ
-headers_text authority path = frame_text 1 4 1 (request_block authority path)
-
--- its message: DATA with END_STREAM on stream 1
-unfoldable pub data_text : List ℕ → List ℕ
-data_text message = frame_text 0 1 1 (framed message)
-
--- the request on stream 1
-abbrev pub request_text : Address → List ℕ → List ℕ → List ℕ
-request_text authority path message = headers_text authority path ++ data_text message
+-- all that may be sent on the link after these entries, in this order
+abbrev pub sendable : Address → List Entry → List ℕ
+sendable authority entries = preface ++ written client_settings ++ acks_due entries ++ request_due authority entries

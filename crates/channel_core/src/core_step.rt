@@ -1,8 +1,10 @@
 // The channel: one step for each event.
-ghost use Rattle.std.specs.Prelude.{◌≡◌, ◌++◌, ◌∷◌, [], ℕ, true, false, Err, IfOk, OnErr, OnOk, map};
+ghost use Rattle.std.specs.Prelude.{◌≡◌, ◌≤◌, ◌++◌, ◌∷◌, [], ℕ, length, true, false, Err, IfOk, OnErr, OnOk, map};
 ghost use Rattle.channel_core.specs.FirstCall.{AreFirstEvents, StandsAt, stamped_of};
-ghost use Rattle.channel_core.specs.Core.{IsNew, Steps, entry_made, ledger_made, ledger_of};
+ghost use Rattle.channel_core.specs.Core.{Gains, IsNew, entry_made, ledger_made};
+ghost use Rattle.channel_core.specs.Lawful.{IsLawful};
 ghost use Rattle.channel_core.specs.Steps.{next_place};
+ghost use Rattle.grpc_meta.specs.RequestFields.{authority_of};
 
 use crate::heard::{state, step_moment};
 use crate::record::write;
@@ -44,13 +46,13 @@ pub struct ChannelCore {
 
 impl Model for ChannelCore {
     ghost use Rattle.std.specs.Prelude.{◌≡◌, false};
-    ghost use Rattle.channel_core.specs.Core.{CoreSeen, ledger_of};
+    ghost use Rattle.channel_core.specs.Core.{CoreSeen, IsRun};
 
     ghost Value = { CoreSeen };
 
     ghost view = { λ c. record { authority = c.authority; journal = c.journal; ledger = c.ledger; spent = c.spent } };
 
-    ghost invariant = { λ c. c.spent ≡ false → c.ledger ≡ ledger_of c.journal.entries };
+    ghost invariant = { λ c. c.spent ≡ false → IsRun c.authority c.journal.entries c.ledger };
 }
 
 impl ChannelCore {
@@ -58,6 +60,7 @@ impl ChannelCore {
     pub fn new(alloc: Global, authority: Address) -> Result<ChannelCore, NoMemory>
         ensures { IfOk result (IsNew authority) }
     {
+        let authority = address_of(authority.ip, authority.port);
         Ok(ChannelCore {
             alloc,
             authority,
@@ -67,12 +70,14 @@ impl ChannelCore {
         })
     }
 
-    /// One step: the event is applied at the later of its moment and the last step's, and the journal gains its entry.
+    /// One step: the event is applied at the later of its moment and the last step's, and the journal gains its entry. What was
+    /// answered, and what stands in the ledger, is said by the laws that journal and ledger keep together.
     ///
     /// The events so far, this one included, have to be the first events of the first call's script.
     pub fn step(&mut self, stamped: Stamped) -> Result<Reply, CoreError>
         requires { AreFirstEvents (map stamped_of self.old.journal.entries ++ stamped ∷ []) }
-        ensures ok { IfOk result (Steps self.old self.new stamped) }
+        ensures ok { IfOk result (Gains self.old self.new stamped) }
+        ensures lawful { OnOk result (IsLawful self.new.authority self.new.journal.entries self.new.ledger) }
 
         // Out of memory before anything was done.
         ensures unspent { result ≡ Err (CoreError.NoMemory false) → self.new ≡ self.old }
@@ -109,10 +114,18 @@ impl ChannelCore {
     /// What the channel did so far.
     pub fn ledger(&self) -> &Ledger
         ensures ledger { result.now ≡ self.now.ledger }
-        ensures written { self.now.spent ≡ false → result.now ≡ ledger_of self.now.journal.entries }
+        ensures lawful { self.now.spent ≡ false → IsLawful self.now.authority self.now.journal.entries result.now }
     {
         &self.ledger
     }
+}
+
+/// An address of these parts. Its text is short, which bounds each request's header list.
+fn address_of(ip: u32, port: u16) -> Address
+    ensures same { result ≡ record { ip = ip; port = port } }
+    ensures short { length (authority_of result) ≤ 21 }
+{
+    Address { ip, port }
 }
 
 /// Applies an event behind the entries of a journal, and appends its entry.

@@ -1,18 +1,22 @@
 // What is replied to an event.
 ghost use Rattle.std.specs.Prelude.{◌≡◌, ◌++◌, ℕ, length, drop, IfOk, OnOk};
 ghost use Rattle.channel_core.specs.FirstCall.{StandsAt};
-ghost use Rattle.channel_core.specs.Steps.{ack_so_far, address_in, dial_reply, drained_in, end_reply, first_of, last_end, next_number, reply_to, request_so_far, sendable, sent};
+ghost use Rattle.channel_core.specs.Steps.{ack_so_far, address_in, dial_reply, drained_in, end_reply, first_of, last_end, next_number, reply_to, request_so_far, short_request, all_to_send, drained};
 
 use crate::heard::{
     begun_request, ended_row, is_finished, is_ready, resolved_address, sent_message,
 };
-use crate::wire::{CLIENT_SETTINGS, PREFACE, SETTINGS_ACK, append_request};
+use crate::wire::{append_ack, append_opening, append_request};
 use attempt_ledger::{Ledger, Row};
-use grpc_base::{Address, EndCause, Entry, Event, Moment, NoMemory, Octets, Reply, Text};
+use bytes::BytesMut;
+use grpc_base::{Address, EndCause, Entry, Event, Moment, NoMemory, Octets, Reply, Request};
 use std::alloc::Global;
 
 /// The first dial is given up so many nanoseconds after it began, and not before.
 const DIAL_LEAST: u64 = 20_000_000_000;
+
+/// A message of this length and its five bytes of framing fill one DATA frame.
+const LONGEST_MESSAGE: usize = 16_379;
 
 /// What is replied to an event, before its step wrote anything.
 pub fn reply(
@@ -97,10 +101,10 @@ fn end(alloc: Global, rows: &[Row]) -> Result<Reply, NoMemory>
 
 /// What may be sent and was not drained.
 fn unsent(alloc: Global, authority: Address, before: &[Entry]) -> Result<Octets, NoMemory>
-    ensures { IfOk result (λ o. o ≡ drop (length (sent before.now)) (sendable authority before.now)) }
+    ensures { IfOk result (λ o. o ≡ drop (length (drained before.now)) (all_to_send authority before.now)) }
 {
     let text = all_that_may_be_sent(alloc, authority, before)?;
-    let mut octets = Octets::of_vec(text.into_vec())?;
+    let mut octets = Octets::of_buffer(text)?;
     for entry in before {
         octets.advance(drained(&entry.reply).min(octets.len()));
     }
@@ -122,35 +126,34 @@ fn all_that_may_be_sent(
     alloc: Global,
     authority: Address,
     before: &[Entry],
-) -> Result<Text, NoMemory>
-    ensures { IfOk result (λ t. t ≡ sendable authority before.now) }
+) -> Result<BytesMut, NoMemory>
+    ensures { IfOk result (λ t. t.items ≡ all_to_send authority before.now) }
 {
-    let mut text = Text::new(alloc);
-    text.append(&PREFACE)?;
-    text.append(&CLIENT_SETTINGS)?;
-    append_ack(&mut text, before)?;
-    append_whole_request(alloc, &mut text, authority, before)?;
+    let mut text = BytesMut::new(alloc);
+    append_opening(&mut text)?;
+    append_due_ack(&mut text, before)?;
+    append_due_request(alloc, &mut text, authority, before)?;
     Ok(text)
 }
 
 /// Appends the acknowledgement of the server's SETTINGS, once these came.
-fn append_ack(text: &mut Text, before: &[Entry]) -> Result<(), NoMemory>
-    ensures { OnOk result (text.new ≡ text.old ++ ack_so_far before.now) }
+fn append_due_ack(text: &mut BytesMut, before: &[Entry]) -> Result<(), NoMemory>
+    ensures { OnOk result (text.new.items ≡ text.old.items ++ ack_so_far before.now) }
 {
     if is_ready(before) {
-        return text.append(&SETTINGS_ACK);
+        return append_ack(text);
     }
     Ok(())
 }
 
 /// Appends the request with its message, once the call was finished.
-fn append_whole_request(
+fn append_due_request(
     alloc: Global,
-    text: &mut Text,
+    text: &mut BytesMut,
     authority: Address,
     before: &[Entry],
 ) -> Result<(), NoMemory>
-    ensures { OnOk result (text.new ≡ text.old ++ request_so_far authority before.now) }
+    ensures { OnOk result (text.new.items ≡ text.old.items ++ request_so_far authority before.now) }
 {
     if !is_finished(before) {
         return Ok(());
@@ -161,11 +164,21 @@ fn append_whole_request(
     let Some(message) = sent_message(before) else {
         return Ok(());
     };
-    append_request(
-        alloc,
-        text,
-        authority,
-        request.path().as_slice(),
-        message.as_slice(),
-    )
+    append_short_request(alloc, text, authority, request, message.as_slice())
+}
+
+/// Appends the request with a message that one DATA frame holds, as each message of the first call is.
+fn append_short_request(
+    alloc: Global,
+    text: &mut BytesMut,
+    authority: Address,
+    request: &Request,
+    message: &[u8],
+) -> Result<(), NoMemory>
+    ensures { OnOk result (text.new.items ≡ text.old.items ++ short_request authority request.now message.now) }
+{
+    if message.len() > LONGEST_MESSAGE {
+        return Ok(());
+    }
+    append_request(alloc, text, authority, request, message)
 }

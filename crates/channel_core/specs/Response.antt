@@ -1,0 +1,185 @@
+-- The response on a stream, as a function of all bytes of its connection: a head or none, the bytes of its messages, and an
+-- end or none (gRPC over HTTP/2, "Responses"; RFC 9113, sections 5.1, 6.4, 6.8 and 8.1).
+use Rattle.std.specs.Prelude.{ℕ, ◌+◌, ◌%◌, ◌*◌, Bool, true, false, Option, Some, None, List, [], ◌∷◌, ◌++◌, ◌==◌, ◌&&◌, ◌||◌, not, length, drop, codes, nat_lt, nat_le, nat_eq, slice_get, slice_index_or, is_none, is_some, if◌then◌else◌}
+use Rattle.std.specs.List.{starts_with}
+use Rattle.std.specs.Option.{option_map_or}
+use Rattle.grpc_base.specs.declared.code.Code.{Code}
+use Rattle.grpc_base.specs.declared.code.Code.TheVariants as code
+use Rattle.grpc_base.specs.declared.fields.Field.{Field}
+use Rattle.grpc_base.specs.declared.plan.Pushback.{Pushback}
+use Rattle.grpc_base.specs.declared.plan.Pushback.TheVariants as pushback
+use Rattle.grpc_base.specs.Numbers.{is_number, number_of}
+use Rattle.attempt_ledger.specs.declared.news.EndNews.{EndNews}
+use Rattle.attempt_ledger.specs.declared.row.RowCause.{RowCause}
+use Rattle.attempt_ledger.specs.declared.row.RowCause.TheVariants as cause
+use Rattle.grpc_meta.specs.ResponseFields.{pushback_of, shown_of, values_of}
+use Rattle.grpc_status.specs.StatusMaps.{code_of_text, http_codes, looked_up, reset_codes, text_of_message}
+use Rattle.h2_frame.specs.declared.kinds.TheConstants.{DATA, GOAWAY, RST_STREAM, WINDOW_UPDATE}
+use Rattle.h2_frame.specs.declared.flags.TheConstants.{END_STREAM}
+use Rattle.h2_frame.specs.declared.error_codes.TheConstants.{REFUSED_STREAM}
+use Rattle.h2_frame.specs.Frames.{FrameSeen, has_flag, number_31}
+use Rattle.channel_core.specs.Messages.{Flaw, BadFlag, messages_of}
+use Rattle.channel_core.specs.Said.{FrameAt, HeaderList, Said, Headers, Other, content_of, said_of}
+
+-- what came on a stream
+pub record Response : Type 0 where
+  -- the metadata of its head
+  pub head : Option (List Field)
+  -- the bytes of its messages
+  pub data_ : List ℕ
+  pub end : Option EndNews
+
+-- a number of four bytes at a place of a payload
+abbrev pub number_at : ℕ → List ℕ → ℕ
+number_at place payload =
+    slice_index_or payload place 0 * 16777216 + slice_index_or payload (place + 1) 0 * 65536
+    + slice_index_or payload (place + 2) 0 * 256 + slice_index_or payload (place + 3) 0
+
+-- the HTTP status of a header list: that of its one `:status`, if that has three digits (RFC 9110, section 15)
+abbrev pub three_digits : List (List ℕ) → Option ℕ
+three_digits (value ∷ []) = if (length value == 3) && is_number value then Some (number_of value) else None
+three_digits _ = None
+
+abbrev pub http_status : List Field → Option ℕ
+http_status fields = three_digits (values_of (codes ":status") fields)
+
+-- whether a status is that of an interim response (RFC 9110, section 15.2)
+abbrev pub is_interim : Option ℕ → Bool
+is_interim None = false
+is_interim (Some status) = nat_le 100 status && nat_lt status 200
+
+-- whether a content type is that of gRPC: `application/grpc`, alone or followed by `+` or `;`
+abbrev pub is_grpc : Option (List ℕ) → Bool
+is_grpc None = false
+is_grpc (Some value) =
+    starts_with nat_eq value (codes "application/grpc")
+    && option_map_or (λ b. (b == 43) || (b == 59)) (slice_get value 16) true
+
+-- whether a header list is the head of a response
+abbrev pub is_head : List Field → Bool
+is_head fields = option_map_or (λ s. s == 200) (http_status fields) false && is_grpc (slice_get (values_of (codes "content-type") fields) 0)
+
+-- an end that a header block makes, of this code and cause: with its first `grpc-message` and its metadata
+abbrev pub end_with : Code → RowCause → Pushback → List Field → ℕ → EndNews
+end_with c why asks fields seen = record {
+  code = c;
+  text = option_map_or text_of_message (slice_get (values_of (codes "grpc-message") fields) 0) [];
+  meta = shown_of fields;
+  pushback = asks;
+  unseen = false;
+  seen = seen;
+  cause = why;
+}
+
+-- the code of an HTTP status ("HTTP to gRPC Status Code Mapping"); 2 where there is none
+abbrev pub http_code : List Field → Code
+http_code fields = option_map_or (λ s. looked_up http_codes s) (http_status fields) code.Unknown
+
+-- what a header list that may end a stream asks of the next attempt
+abbrev pub asked : Bool → List Field → Pushback
+asked ends fields = if ends then pushback_of (values_of (codes "grpc-retry-pushback-ms") fields) else pushback.None
+
+-- the end by trailers, or by a response of trailers alone: by its one `grpc-status`, and by its HTTP status where it has none
+abbrev pub status_end : List (List ℕ) → List Field → ℕ → EndNews
+status_end [] fields seen = end_with (http_code fields) cause.Http (asked true fields) fields seen
+status_end (value ∷ []) fields seen = end_with (code_of_text value) cause.Status (asked true fields) fields seen
+status_end (value ∷ other ∷ more) fields seen = end_with code.Unknown cause.Status (asked true fields) fields seen
+
+-- the end by a header block that breaks a rule of the stream
+abbrev pub framing_end : HeaderList → EndNews
+framing_end h = end_with code.Internal cause.Framing (asked h.ends h.fields) h.fields h.end
+
+-- an end that no header block makes
+abbrev pub bare_end : Code → RowCause → Bool → ℕ → EndNews
+bare_end c why unseen seen = record {
+  code = c;
+  text = [];
+  meta = [];
+  pushback = pushback.None;
+  unseen = unseen;
+  seen = seen;
+  cause = why;
+}
+
+-- whether a code is OK
+abbrev pub is_ok : Code → Bool
+is_ok code.Ok = true
+is_ok _ = false
+
+-- whether an end by this code would cut a message off
+abbrev pub is_cut : ℕ → List ℕ → Code → Bool
+is_cut limit bytes c = is_ok c && nat_lt 0 (length (messages_of limit bytes).rest)
+
+-- trailers
+abbrev pub trailers_end : ℕ → List ℕ → HeaderList → EndNews
+trailers_end limit bytes h =
+    let end = status_end (values_of (codes "grpc-status") h.fields) h.fields h.end in
+    if is_cut limit bytes end.code then framing_end h else end
+
+-- a header list in the place of the head: an interim response is passed over
+abbrev pub before_head : Response → HeaderList → Response
+before_head r h =
+    if is_interim (http_status h.fields) then (if h.ends then record r { end = Some (framing_end h) } else r)
+    else if h.ends then record r { end = Some (status_end (values_of (codes "grpc-status") h.fields) h.fields h.end) }
+    else if is_head h.fields then record r { head = Some (shown_of h.fields) }
+    else if is_none (http_status h.fields) then record r { end = Some (framing_end h) }
+    else record r { end = Some (end_with (http_code h.fields) cause.Http pushback.None h.fields h.end) }
+
+-- a header list behind the head: trailers, which end the stream
+abbrev pub after_head : ℕ → Response → HeaderList → Response
+after_head limit r h = if h.ends then record r { end = Some (trailers_end limit r.data_ h) } else record r { end = Some (framing_end h) }
+
+abbrev pub with_headers : ℕ → Response → HeaderList → Response
+with_headers limit r h = if is_none r.head then before_head r h else after_head limit r h
+
+-- whether the next message has a bad flag
+abbrev pub has_bad_flag : Option Flaw → Bool
+has_bad_flag (Some BadFlag) = true
+has_bad_flag _ = false
+
+-- DATA: it may not come before a head, nor hold a message with a bad flag, nor end a stream without trailers
+abbrev pub with_data : ℕ → Response → FrameAt → Response
+with_data limit r a =
+    let bytes = r.data_ ++ content_of a.frame in
+    if is_none r.head then record r { end = Some (bare_end code.Internal cause.Framing false a.end) }
+    else if has_bad_flag (messages_of limit bytes).flaw then record r { data_ = bytes; end = Some (bare_end code.Internal cause.Framing false a.end) }
+    else if has_flag a.frame.flags END_STREAM then record r { data_ = bytes; end = Some (bare_end code.Unknown cause.Http false a.end) }
+    else record r { data_ = bytes }
+
+-- a frame of the stream
+abbrev pub with_own_frame : ℕ → Response → FrameAt → Response
+with_own_frame limit r a =
+    if a.frame.kind == DATA then with_data limit r a
+    else if a.frame.kind == RST_STREAM then
+    record r {
+      end = Some (bare_end (looked_up reset_codes (number_at 0 a.frame.payload)) cause.Reset
+          ((number_at 0 a.frame.payload == REFUSED_STREAM) && is_none r.head) a.end);
+    }
+    else if (a.frame.kind == WINDOW_UPDATE) && (number_at 0 a.frame.payload % 2147483648 == 0) then
+    record r { end = Some (bare_end code.Internal cause.Framing false a.end) }
+    else r
+
+-- a frame that is no part of a header block: one of the stream, or a GOAWAY that leaves the stream out
+abbrev pub with_frame : ℕ → ℕ → Response → FrameAt → Response
+with_frame limit stream r a =
+    if (a.frame.kind == GOAWAY) && nat_lt (number_at 0 a.frame.payload % 2147483648) stream then
+    record r { end = Some (bare_end code.Unavailable cause.Goaway true a.end) }
+    else if a.frame.stream == stream then with_own_frame limit r a
+    else r
+
+abbrev pub with_said : ℕ → ℕ → Response → Said → Response
+with_said limit stream r (Headers h) = if h.stream == stream then with_headers limit r h else r
+with_said limit stream r (Other a) = with_frame limit stream r a
+
+-- the response with all that is said up to its end
+abbrev pub response_from : ℕ → ℕ → Response → List Said → Response
+response_from limit stream r [] = r
+response_from limit stream r (s ∷ said) = if is_some r.end then r else response_from limit stream (with_said limit stream r s) said
+
+-- nothing came yet
+abbrev pub no_response : Response
+no_response = record { head = None; data_ = []; end = None }
+
+-- the response on a stream with these bytes of its connection; no message of it is longer than the limit
+abbrev pub response_on : ℕ → ℕ → List ℕ → Response
+response_on limit stream bytes = response_from limit stream no_response (said_of bytes)
