@@ -1,0 +1,4 @@
+pub mod AddressLaws
+pub mod Digits
+pub mod TextLaws
+pub mod Words

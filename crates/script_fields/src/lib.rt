@@ -1,0 +1,14 @@
+// The fields of scripts and reports: numbers, bytes, texts, addresses and metadata, spelled and read.
+#![tactic(auto)]
+
+mod read;
+mod write;
+
+pub use read::{
+    address_of, behind, between, bytes_of, bytes_or_dash, cut_at, number_before, number_within,
+};
+pub use write::{
+    append_address, append_addresses, append_config, append_digits, append_hex, append_hex_of_word,
+    append_hex_word, append_meta, append_number, append_number_or_dash, append_text, append_wait,
+    append_word,
+};
