@@ -115,11 +115,11 @@ other_byte : (x b : ℕ) → x ≢ b → (x == b) ≡ false
 other_byte x b other = grind (arith, nat_tests, other)
 
 -- a text cut at a byte that its front does not have
-parted-cut : (b : ℕ) (s rest : List ℕ) → AllByRecursion (λ d. d ≢ b) s → parted b (s ++ b ∷ rest) ≡ s ∷ parted b rest
+pub parted-cut : (b : ℕ) (s rest : List ℕ) → AllByRecursion (λ d. d ≢ b) s → parted b (s ++ b ∷ rest) ≡ s ∷ parted b rest
 parted-cut b [] rest free = rw (same_byte b) refl
 parted-cut b (x ∷ s) rest free = rw (other_byte x b free.0) (rw (parted-cut b s rest free.1) refl)
 
-parted-free : (b : ℕ) (s : List ℕ) → AllByRecursion (λ d. d ≢ b) s → parted b s ≡ s ∷ []
+pub parted-free : (b : ℕ) (s : List ℕ) → AllByRecursion (λ d. d ≢ b) s → parted b s ≡ s ∷ []
 parted-free b [] free = refl
 parted-free b (x ∷ s) free = rw (other_byte x b free.0) (rw (parted-free b s free.1) refl)
 

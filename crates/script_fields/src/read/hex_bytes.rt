@@ -1,6 +1,7 @@
 // Bytes in lower-case hex.
 ghost use Rattle.std.specs.Prelude.{◌≡◌, ◌<◌, ◌≢◌, ◌/◌, ◌%◌, ℕ, List, IfSome, IfNone, IfOk};
 ghost use Rattle.script_fields.specs.Spelling.{lower_digit, hex_digits, hex_or_dash};
+ghost use Rattle.script_fields.specs.Reading.{SpellsWord};
 ghost use Rattle.script_fields.specs.Values.{IsBytes};
 
 use grpc_base::NoMemory;
@@ -61,4 +62,25 @@ pub fn bytes_or_dash(alloc: Global, text: &[u8]) -> Result<Option<Vec<u8>>, NoMe
         return Ok(None);
     }
     bytes_of(alloc, text)
+}
+
+/// The word that these sixteen digits spell, the highest byte first.
+pub fn word_of_hex(text: &[u8]) -> Option<u64>
+    ensures some { IfSome result (SpellsWord text.now) }
+    ensures none { IfNone result ((w : ℕ) → SpellsWord text.now w → ⊥) }
+{
+    if text.len() != 16 {
+        return None;
+    }
+    let bytes = [
+        byte_of(text[0], text[1])?,
+        byte_of(text[2], text[3])?,
+        byte_of(text[4], text[5])?,
+        byte_of(text[6], text[7])?,
+        byte_of(text[8], text[9])?,
+        byte_of(text[10], text[11])?,
+        byte_of(text[12], text[13])?,
+        byte_of(text[14], text[15])?,
+    ];
+    Some(u64::from_be_bytes(bytes))
 }
