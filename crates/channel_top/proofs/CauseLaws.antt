@@ -9,7 +9,7 @@ use Rattle.channel_top.specs.declared.shape.first.ShapeFault.{ShapeFault}
 use Rattle.channel_top.specs.declared.shape.first.ShapeFault.TheVariants as fault
 use Rattle.channel_top.specs.Shape.{IsShapeLine, cause_of, is_unknown_event}
 use Rattle.channel_top.specs.Reading.{IsBadAt, IsToldAt}
-use Rattle.channel_top.proofs.TextLaws.{parted-some, parts_of_cut, parts_of_whole}
+use Rattle.script_fields.proofs.TextLaws.{parted-some, parts_of_cut, parts_of_whole}
 
 pub unknown_none : (line : List ℕ) → All (λ d. d ≢ 32) line → false ≡ is_unknown_event line
 unknown_none line free =

@@ -13,7 +13,7 @@ use Rattle.grpc_base.specs.declared.request.RequestFault.{RequestFault}
 use Rattle.grpc_base.specs.declared.request.RequestFault.TheVariants as refusal
 use Rattle.script_text.specs.Spelling.{address_text, event_words, hex_or_dash, words}
 use Rattle.channel_top.specs.Shape.{IsAddress, IsAnswer, IsBytes, StandsAt, answer_frame, settings_frame}
-use Rattle.channel_top.proofs.TextLaws.{same_behind}
+use Rattle.script_fields.proofs.TextLaws.{same_behind}
 use Rattle.std.specs.List.{AllByRecursion, list_all}
 use Rattle.std.proofs.lemmas.List.Elements.{recursion_from_All, All-from_recursion}
 use Rattle.std.proofs.lemmas.Bool.Decides.{nat_tests}

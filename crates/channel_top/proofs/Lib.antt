@@ -5,5 +5,4 @@ pub mod InputLaws
 pub mod RunLaws
 pub mod ScriptLaws
 pub mod ShortScript
-pub mod TextLaws
 pub mod WordLaws

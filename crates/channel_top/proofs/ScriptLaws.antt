@@ -11,7 +11,7 @@ use Rattle.channel_top.specs.declared.shape.first.ShapeFault.{ShapeFault}
 use Rattle.channel_top.specs.declared.shape.first.ShapeFault.TheVariants as fault
 use Rattle.channel_top.specs.Shape.{IsAddress, IsBadLine, IsFirstBadLine, IsFirstCall, IsGoodLine, IsShapeLine, IsStampedAt, cause_of, target_text}
 use Rattle.channel_top.specs.Reading.{IsBadAt, IsShapeFault, IsToldAt}
-use Rattle.channel_top.proofs.TextLaws.{parted-blank, parted-some}
+use Rattle.script_fields.proofs.TextLaws.{parted-blank, parted-some}
 
 -- n - 1 lines are read; rest is what stands behind them
 pub record IsRead (input : List ℕ) (n : ℕ) (authority : Address) (events : List Stamped) (rest : List ℕ) : Type 0 where

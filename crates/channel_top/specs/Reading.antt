@@ -1,5 +1,5 @@
 -- What the reader of the first script tells at one line and of the whole.
-use Rattle.std.specs.Prelude.{◌≡◌, ◌<◌, ◌↔◌, ◌⊎◌, ℕ, List, Some, IsTrue, length, slice_get}
+use Rattle.std.specs.Prelude.{◌≡◌, ◌<◌, ◌↔◌, ℕ, List, Some, IsTrue, length, slice_get}
 use Rattle.channel_top.specs.declared.shape.first.ShapeFault.{ShapeFault}
 use Rattle.channel_top.specs.declared.shape.first.ShapeFault.TheVariants as fault
 use Rattle.channel_top.specs.Shape.{IsFirstBadLine, IsShapeLine, StandsAt, cause_of}
@@ -22,10 +22,6 @@ IsBadAt n parts (fault.BadLine line cause ended) =
     IsToldAt n parts (fault.BadLine line cause ended)
     × ((text : List ℕ) → slice_get parts 0 ≡ Some text → 1 < length parts → IsShapeLine n text → ⊥)
 IsBadAt n parts fault.NoMemory = Unit {0}
-
--- a byte that is no digit
-abbrev pub IsNoDigit : ℕ → Type 0
-IsNoDigit b = (b < 48) ⊎ (57 < b)
 
 -- a text spells this event, which may stand in the line of that number
 abbrev pub IsEventText : ℕ → List ℕ → Event → Type 0

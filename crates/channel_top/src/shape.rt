@@ -3,15 +3,11 @@ ghost use Rattle.std.specs.Prelude.{◌≡◌, IfOk, IfErr};
 ghost use Rattle.channel_top.specs.Shape.{IsFirstCall, target_text};
 ghost use Rattle.channel_top.specs.Reading.{IsShapeFault};
 
-mod address;
 mod answer;
 mod cause;
-mod cut;
 mod event;
 mod first;
-mod hex;
 mod line;
-mod number;
 #[cfg(test)]
 mod tests;
 

@@ -1,7 +1,7 @@
--- Joined texts as what a writer appends: the first one, and each other behind the byte.
-use Rattle.std.proofs.Common.{◌≡◌, ℕ, ◌+◌, ◌-◌, ◌<◌, ◌≤◌, List, [], ◌∷◌, ◌++◌, length, get_or, take, drop, refl, sym, ap, ◌∙◌, append_assoc, arith}
+-- Words and lines as what a writer appends.
+use Rattle.std.proofs.Common.{◌≡◌, ℕ, ◌+◌, ◌<◌, List, [], ◌∷◌, ◌++◌, length, get_or, take, drop, refl, sym, ap, ◌∙◌, append_assoc}
 use Rattle.std.specs.Prelude.{map, codes, flat_map}
-use Rattle.std.proofs.lemmas.List.{append-nil, map-append, take_all, take_more, take-append-drop}
+use Rattle.std.proofs.lemmas.List.{append-nil, map-append, take_more, take-append-drop}
 use Rattle.std.proofs.lemmas.Grind.{flat_map-append}
 use Rattle.attempt_ledger.specs.declared.journal.Journal.{Journal}
 use Rattle.attempt_ledger.specs.declared.row.Row.{Row}
@@ -9,14 +9,7 @@ use Rattle.grpc_base.specs.declared.event.Entry.{Entry}
 use Rattle.attempt_ledger.specs.declared.ledger.Ledger.{Ledger}
 use Rattle.script_text.specs.Output.{spaced}
 use Rattle.script_text.specs.Report.{channel_text, entry_text, row_text, end_text, lines_text, report_of}
-use Rattle.grpc_base.specs.declared.address.Address.{Address}
-use Rattle.grpc_base.specs.declared.fields.Field.{Field}
-use Rattle.script_text.specs.Spelling.{joined, words, address_text, addresses_text, pair_text, meta_text}
-
--- texts made of the values of a list
-pub joined-map : {X : Type 0} (byte : ℕ) (f : X → List ℕ) (x : X) (xs : List X) → joined byte (map f (x ∷ xs)) ≡ f x ++ flat_map (λ y. byte ∷ f y) xs
-joined-map byte f x [] = sym (append-nil (f x))
-joined-map byte f x (y ∷ ys) = ap (λ t. f x ++ byte ∷ t) (joined-map byte f y ys)
+use Rattle.script_text.specs.Spelling.{words}
 
 -- words
 pub words_are : (w : List ℕ) (ws : List (List ℕ)) → words (w ∷ ws) ≡ w ++ spaced ws
@@ -25,19 +18,6 @@ words_are w (v ∷ vs) = ap (λ t. w ++ 32 ∷ t) (words_are v vs)
 
 pub spaced-append : (vs ws : List (List ℕ)) → spaced (vs ++ ws) ≡ spaced vs ++ spaced ws
 spaced-append vs ws = flat_map-append (λ (w : List ℕ). 32 ∷ w) vs ws
-
--- addresses and pairs by their first and the others
-pub addresses_parts : (xs : List Address) (d : Address) → 1 ≤ length xs → addresses_text xs ≡ address_text (get_or xs 0 d) ++ flat_map (λ a. 44 ∷ address_text a) (take (length xs - 1) (drop 1 xs))
-addresses_parts [] d some = absurd (omega arith)
-addresses_parts (x ∷ rest) d some =
-    joined-map 44 address_text x rest
-    ∙ ap (λ (t : List Address). address_text x ++ flat_map (λ a. 44 ∷ address_text a) t) (sym (take_all (length (x ∷ rest) - 1) rest (omega arith)))
-
-pub meta_parts : (xs : List Field) (d : Field) → 1 ≤ length xs → meta_text xs ≡ pair_text (get_or xs 0 d) ++ flat_map (λ f. 44 ∷ pair_text f) (take (length xs - 1) (drop 1 xs))
-meta_parts [] d some = absurd (omega arith)
-meta_parts (x ∷ rest) d some =
-    joined-map 44 pair_text x rest
-    ∙ ap (λ (t : List Field). pair_text x ++ flat_map (λ f. 44 ∷ pair_text f) t) (sym (take_all (length (x ∷ rest) - 1) rest (omega arith)))
 
 -- the words of an entry
 pub entry_parts : (moment word : List ℕ) (event reply : List (List ℕ)) → words (moment ∷ word ∷ event ++ codes "=" ∷ reply) ≡ moment ++ 32 ∷ word ++ spaced event ++ 32 ∷ codes "=" ++ spaced reply

@@ -4,11 +4,11 @@ ghost use Rattle.grpc_base.specs.declared.event.Event.TheVariants as event;
 ghost use Rattle.script_text.specs.Output.{spaced};
 ghost use Rattle.script_text.specs.Spelling.{event_words, hex_or_dash, hex_digits, word_bytes, addresses_text, config_text};
 
-use crate::numbers::{append_number, append_number_or_dash, append_word};
-use crate::texts::{
-    append_addresses, append_config, append_hex_of_word, append_hex_word, append_meta, append_wait,
-};
 use grpc_base::{AddressList, Event, NoMemory, Octets, Request};
+use script_fields::{
+    append_addresses, append_config, append_hex_of_word, append_hex_word, append_meta,
+    append_number, append_number_or_dash, append_wait, append_word,
+};
 use std::alloc::Global;
 
 /// Appends an event's words.

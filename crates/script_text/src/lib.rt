@@ -2,12 +2,10 @@
 #![tactic(auto)]
 
 mod events;
-mod numbers;
 mod output;
 mod replies;
 mod report;
 mod rows;
-mod texts;
 
 pub use report::{ReportFault, write_report};
 

@@ -5,10 +5,12 @@ ghost use Rattle.script_text.specs.Output.{spaced};
 ghost use Rattle.script_text.specs.Spelling.{reply_words, cause_text, config_fault_words, json_fault_text, hex_or_dash, meta_text, percent_text, address_text};
 
 use crate::events::append_numbered;
-use crate::numbers::{append_digits, append_number, append_word};
-use crate::texts::{append_address, append_hex_word, append_meta, append_text};
 use grpc_base::{
     Address, Code, ConfigFault, EndCause, JsonFault, Metadata, NoMemory, Octets, Reply, Text,
+};
+use script_fields::{
+    append_address, append_digits, append_hex_word, append_meta, append_number, append_text,
+    append_word,
 };
 use std::alloc::Global;
 

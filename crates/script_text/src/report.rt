@@ -5,13 +5,13 @@ ghost use Rattle.script_text.specs.Output.{Passes};
 ghost use Rattle.script_text.specs.Report.{channel_text, entry_text, row_text, end_text, lines_text, report_of};
 
 use crate::events::append_event;
-use crate::numbers::{append_digits, append_number, append_word};
 use crate::output::{write_chunk, write_out};
 use crate::replies::append_reply;
 use crate::rows::append_row;
 use attempt_ledger::{Journal, Ledger, Row};
 use gate_io::Sink;
 use grpc_base::{Entry, NoMemory, Text};
+use script_fields::{append_digits, append_number, append_word};
 use std::alloc::Global;
 
 /// Why a report was not written whole; a front of it was.

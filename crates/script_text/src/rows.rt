@@ -4,9 +4,9 @@ ghost use Rattle.script_text.specs.Output.{spaced};
 ghost use Rattle.script_text.specs.Spelling.{number_or_dash};
 ghost use Rattle.script_text.specs.Report.{kind_text, row_cause_text, pushback_text, placed_words, ended_words, row_text};
 
-use crate::numbers::{append_number, append_number_or_dash, append_word};
 use attempt_ledger::{Placed, Row, RowCause, RowEnd, RowKind};
 use grpc_base::{NoMemory, Pushback};
+use script_fields::{append_number, append_number_or_dash, append_word};
 
 /// Appends the line of a row.
 pub fn append_row(out: &mut Vec<u8>, row: &Row) -> Result<(), NoMemory>

@@ -2,7 +2,7 @@
 ghost use Rattle.std.specs.Prelude.{◌↔◌, IsTrue};
 ghost use Rattle.channel_top.specs.Shape.{IsAnswer};
 
-use crate::shape::cut::behind;
+use script_fields::behind;
 
 /// Everything before a `grpc-status` of one byte.
 const ONE: &[u8; 67] =

@@ -5,7 +5,7 @@ ghost use Rattle.std.specs.Cmp.Lexicographic.{pointwise};
 ghost use Rattle.script_text.specs.Spelling.{event_names};
 ghost use Rattle.channel_top.specs.Shape.{cause_of, is_unknown_event};
 
-use crate::shape::cut::cut_at;
+use script_fields::cut_at;
 
 /// The cause of the bad line of this number: 5 for an unknown event past the first line, else 13.
 pub fn cause_at(line: u64, text: &[u8]) -> u8

@@ -2,11 +2,9 @@
 ghost use Rattle.std.specs.Prelude.{IfSome, IfNone, IfOk};
 ghost use Rattle.channel_top.specs.Reading.{IsEventText, IsNoEventText};
 
-use crate::shape::address::address_of;
 use crate::shape::answer::is_answer;
-use crate::shape::cut::{behind, between};
-use crate::shape::hex::bytes_or_dash;
 use grpc_base::{AddressList, Event, Metadata, NoMemory, Octets, Request, Text};
+use script_fields::{address_of, behind, between, bytes_or_dash};
 use std::alloc::Global;
 
 /// A message of this length and its five bytes of framing fit one DATA frame.
@@ -37,6 +35,7 @@ pub fn event_at(alloc: Global, line: u64, text: &[u8]) -> Result<Option<Event>, 
 }
 
 /// One address, and no service config.
+#[tactic(auto, using(crate::proofs::AddressLaws::channel_address, crate::proofs::AddressLaws::field_address))]
 fn resolved(text: &[u8]) -> Option<Event>
     ensures some { IfSome result (IsEventText 2 text.now) }
     ensures none { IfNone result (IsNoEventText 2 text.now) }

@@ -8,12 +8,10 @@ ghost use Rattle.channel_top.specs.Shape.{IsAddress, IsStampedAt, target_text};
 ghost use Rattle.channel_top.specs.Reading.{IsToldAt, IsBadAt};
 
 use crate::ShapeFault;
-use crate::shape::address::address_of;
 use crate::shape::cause::cause_at;
-use crate::shape::cut::{behind, cut_at};
 use crate::shape::event::event_at;
-use crate::shape::number::number_before;
 use grpc_base::{Address, Moment, NoMemory, Stamped};
+use script_fields::{address_of, behind, cut_at, number_before};
 use std::alloc::Global;
 
 /// The latest moment of the script; the first dial is given up one nanosecond later.
@@ -78,6 +76,7 @@ pub fn event_line(alloc: Global, line: u64, text: &[u8]) -> Result<(Stamped, &[u
 }
 
 /// The target that the channel line has, and its address.
+#[tactic(auto, using(crate::proofs::AddressLaws::channel_address, crate::proofs::AddressLaws::field_address))]
 fn target_of(text: &[u8]) -> Option<(&[u8], Address)>
     ensures some { IfSome result (λ r. IsAddress r.1 × (r.0.now ≡ target_text r.1) × (text.now ≡ channel_text r.0.now)) }
     ensures none { IfNone result ((a : address.Address) → IsAddress a → text.now ≡ channel_text (target_text a) → ⊥) }

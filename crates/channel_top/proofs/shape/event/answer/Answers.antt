@@ -3,7 +3,7 @@ use Rattle.std.specs.Prelude.{codes}
 use Rattle.std.proofs.lemmas.Bool.{true≢false}
 use Rattle.script_text.specs.Spelling.{hex_or_dash}
 use Rattle.channel_top.specs.Shape.{IsAnswer, IsBytes}
-use Rattle.channel_top.proofs.TextLaws.{dash_one, same_behind}
+use Rattle.script_fields.proofs.TextLaws.{dash_one, same_behind}
 use Rattle.channel_top.proofs.EventLaws.{answer_bytes, answer_only, arrived_text}
 use Rattle.channel_top.proofs.shape.event.answer.Goals as goal
 

@@ -1,7 +1,7 @@
 use Rattle.std.proofs.Common.{◌≡◌, sym, subst, ◌∙◌}
 use Rattle.std.specs.Prelude.{codes}
 use Rattle.grpc_base.specs.Requests.{IsPath, RequestSeen}
-use Rattle.channel_top.proofs.TextLaws.{same_behind}
+use Rattle.script_fields.proofs.TextLaws.{same_behind}
 use Rattle.channel_top.proofs.EventLaws.{begin_only, refused, same_before}
 use Rattle.channel_top.proofs.shape.event.begin.Goals as goal
 

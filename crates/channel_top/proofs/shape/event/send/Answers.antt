@@ -2,7 +2,7 @@ use Rattle.std.proofs.Common.{◌≡◌, ◌++◌, ℕ, List, ap, arith, length,
 use Rattle.std.specs.Prelude.{codes}
 use Rattle.script_text.specs.Spelling.{hex_or_dash}
 use Rattle.channel_top.specs.Shape.{IsBytes}
-use Rattle.channel_top.proofs.TextLaws.{dash_one, same_behind}
+use Rattle.script_fields.proofs.TextLaws.{dash_one, same_behind}
 use Rattle.channel_top.proofs.EventLaws.{send_only, send_text}
 use Rattle.channel_top.proofs.shape.event.send.Goals as goal
 

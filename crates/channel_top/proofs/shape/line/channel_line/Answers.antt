@@ -2,7 +2,7 @@ use Rattle.std.proofs.Common.{◌≡◌, ◌++◌, ◌∷◌, ℕ, List, ap, ◌
 use Rattle.script_text.specs.Spelling.{parted}
 use Rattle.script_text.specs.Report.{channel_text}
 use Rattle.channel_top.specs.Shape.{target_text}
-use Rattle.channel_top.proofs.TextLaws.{parts_of_cut}
+use Rattle.script_fields.proofs.TextLaws.{parts_of_cut}
 use Rattle.channel_top.proofs.CauseLaws.{bad_open, bad_shape}
 use Rattle.channel_top.proofs.EventLaws.{no_first}
 use Rattle.channel_top.proofs.shape.line.channel_line.Goals as goal

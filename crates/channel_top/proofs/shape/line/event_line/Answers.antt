@@ -2,7 +2,7 @@ use Rattle.std.proofs.Common.{◌≡◌, ◌++◌, ◌∷◌, ℕ, List, ap, ari
 use Rattle.grpc_base.specs.declared.event.Stamped.{Stamped}
 use Rattle.script_text.specs.Spelling.{parted, stamped_text}
 use Rattle.channel_top.specs.Shape.{IsStampedAt}
-use Rattle.channel_top.proofs.TextLaws.{parts_of_cut}
+use Rattle.script_fields.proofs.TextLaws.{parts_of_cut}
 use Rattle.channel_top.proofs.CauseLaws.{bad_open, bad_shape}
 use Rattle.channel_top.proofs.shape.line.event_line.Goals as goal
 

@@ -2,7 +2,7 @@ use Rattle.std.proofs.Common.{◌≡◌, ◌++◌, ◌∷◌, arith, inl, ◌∙
 use Rattle.std.specs.Prelude.{decimal}
 use Rattle.script_text.specs.Spelling.{event_words, words}
 use Rattle.channel_top.specs.Reading.{IsNoEventText}
-use Rattle.channel_top.proofs.TextLaws.{same_number}
+use Rattle.script_fields.proofs.TextLaws.{same_number}
 use Rattle.channel_top.proofs.EventLaws.{stamped_is}
 use Rattle.channel_top.proofs.shape.line.stamped_of.Goals as goal
 

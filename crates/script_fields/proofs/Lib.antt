@@ -1,0 +1,9 @@
+pub mod AddressLaws
+pub mod Digits
+pub mod ListedLaws
+pub mod MetaLaws
+pub mod NumberLaws
+pub mod PartLaws
+pub mod TextLaws
+pub mod WordLaws
+pub mod Words

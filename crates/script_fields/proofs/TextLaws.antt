@@ -1,0 +1,241 @@
+-- Texts of numbers, hex and parts.
+use Rattle.std.proofs.Common.{length-append, ◌≡◌, ◌≢◌, ℕ, ◌+◌, ◌/◌, ◌%◌, ◌^◌, ◌<◌, ◌≤◌, List, [], ◌∷◌, ◌++◌, length, refl, ap, sym, subst, inl, inr, ◌⊎◌, arith, All, take, drop, ◌-◌, ◌∙◌, true, false, Bool, Option, Some, None, Result, Ok, Err, get_or}
+use Rattle.std.specs.Cmp.Lexicographic.{pointwise}
+use Rattle.std.specs.Option.{MatchOption}
+use Rattle.std.proofs.lemmas.Slice.Eq.{bytes_eq-Decides}
+use Rattle.std.proofs.lemmas.List.{take-append-drop}
+use Rattle.std.proofs.lemmas.Bool.{true≢false}
+use Rattle.std.proofs.lemmas.Grind.{common_steps}
+use Rattle.std.proofs.lemmas.Bool.Decides.{nat_tests}
+use Rattle.std.specs.List.{AllByRecursion}
+use Rattle.std.specs.Prelude.{decimal, IfOk, IfSome, IfNone, nat_eq, ◌==◌}
+use Rattle.std.proofs.lemmas.Fmt.{decimal_injective, decimal_by_steps}
+use Rattle.std.proofs.lemmas.List.Elements.{recursion_from_All, All-from_get_or, All-from_recursion}
+use Rattle.script_fields.specs.Spelling.{hex_digits, hex_or_dash, lower_digit, parted}
+use Rattle.script_fields.specs.Values.{IsBytes}
+use Rattle.script_fields.specs.Values.{IsNoDigit}
+
+-- a fact on an option that is none, where the fact holds anyway
+pub if_none : {X : Type 0} (o : Option X) {P : Type 0} → P → IfNone o P
+if_none (Some x) p = tt
+if_none None p = p
+
+-- a digit
+abbrev IsDigit : ℕ → Type 0
+IsDigit d = (48 ≤ d) × (d ≤ 57)
+
+pub push_all : (P : ℕ → Type 0) (xs : List ℕ) (x : ℕ) → AllByRecursion P xs → P x → AllByRecursion P (xs ++ x ∷ [])
+push_all P [] x all p = (p, tt)
+push_all P (y ∷ xs) x all p = (all.0, push_all P xs x all.1 p)
+
+digits_only : (n : ℕ) → n < 2 ^ 64 → AllByRecursion IsDigit (decimal n)
+digits_only = decimal_by_steps (λ n ds. AllByRecursion IsDigit ds)
+    (λ n small. ((omega arith, omega arith), tt))
+    (λ n ds large all. push_all IsDigit ds (48 + n % 10) all (omega arith, omega arith))
+
+free_list : (b : ℕ) (ds : List ℕ) → IsNoDigit b → AllByRecursion IsDigit ds → AllByRecursion (λ d. d ≢ b) ds
+free_list b [] nd all = tt
+free_list b (d ∷ ds) nd all = ((λ e. grind (arith, nd, all.0, e)), free_list b ds nd all.1)
+
+-- a number has no other byte than digits
+pub free_of : (b n : ℕ) → IsNoDigit b → n < 2 ^ 64 → AllByRecursion (λ d. d ≢ b) (decimal n)
+free_of b n nd small = free_list b (decimal n) nd (digits_only n small)
+
+-- a text has one cut at the first of a byte
+pub one_cut : (b : ℕ) (s t m n : List ℕ) → AllByRecursion (λ d. d ≢ b) s → AllByRecursion (λ d. d ≢ b) t → s ++ b ∷ m ≡ t ++ b ∷ n → (s ≡ t) × (m ≡ n)
+one_cut b [] [] m n p q e = (refl, (cc))
+one_cut b [] (y ∷ t) m n p q e = absurd (q.0 (cc))
+one_cut b (x ∷ s) [] m n p q e = absurd (p.0 (cc))
+one_cut b (x ∷ s) (y ∷ t) m n p q e =
+    let head : x ≡ y = (cc) in
+    let rest : s ++ b ∷ m ≡ t ++ b ∷ n = (cc) in
+    let both : (s ≡ t) × (m ≡ n) = one_cut b s t m n p.1 q.1 rest in
+    let front : s ≡ t = both.0 in
+    ((cc), both.1)
+
+no_cut_list : (b : ℕ) (s m : List ℕ) → AllByRecursion (λ d. d ≢ b) (s ++ b ∷ m) → ⊥
+no_cut_list b [] m all = all.0 refl
+no_cut_list b (x ∷ s) m all = no_cut_list b s m all.1
+
+-- a text without a byte has no cut at it
+pub no_cut : (b : ℕ) (text s m : List ℕ) → All (λ d. d ≢ b) text → text ≡ s ++ b ∷ m → ⊥
+no_cut b text s m all e = no_cut_list b s m (recursion_from_All (λ d. d ≢ b) (s ++ b ∷ m) (subst (All (λ d. d ≢ b)) e all))
+
+-- a number before a byte, cut there
+pub number_cut : (b n : ℕ) (text s m rest : List ℕ) → IsNoDigit b → n < 2 ^ 64 → All (λ d. d ≢ b) s → text ≡ s ++ b ∷ m → text ≡ decimal n ++ b ∷ rest → (s ≡ decimal n) × (m ≡ rest)
+number_cut b n text s m rest nd small free e f =
+    one_cut b s (decimal n) m rest (recursion_from_All (λ d. d ≢ b) s free) (free_of b n nd small) (sym e ∙ f)
+
+-- two numbers before a byte
+pub same_number : (b n k : ℕ) (text r s : List ℕ) → IsNoDigit b → n < 2 ^ 64 → k < 2 ^ 64 → text ≡ decimal n ++ b ∷ r → text ≡ decimal k ++ b ∷ s → (n ≡ k) × (r ≡ s)
+same_number b n k text r s nd small small_k e f =
+    let both : (decimal n ≡ decimal k) × (r ≡ s) = one_cut b (decimal n) (decimal k) r s (free_of b n nd small) (free_of b k nd small_k) (sym e ∙ f) in
+    (decimal_injective n k small small_k both.0, both.1)
+
+-- hex
+digit_one : (d e : ℕ) → d < 16 → e < 16 → lower_digit d ≡ lower_digit e → d ≡ e
+digit_one d e d_small e_small same = grind (arith, nat_tests)
+
+byte_one : (x y : ℕ) → x < 256 → y < 256 → lower_digit (x / 16) ≡ lower_digit (y / 16) → lower_digit (x % 16) ≡ lower_digit (y % 16) → x ≡ y
+byte_one x y x_small y_small high low =
+    let h : x / 16 ≡ y / 16 = digit_one (x / 16) (y / 16) (omega arith) (omega arith) high in
+    let l : x % 16 ≡ y % 16 = digit_one (x % 16) (y % 16) (omega arith) (omega arith) low in
+    omega arith
+
+-- what stands behind the digits of bytes is the digits of bytes
+pub hex_behind : (xs v rest : List ℕ) → AllByRecursion (λ b. b < 256) v → hex_digits xs ++ rest ≡ hex_digits v → (w : List ℕ) × AllByRecursion (λ b. b < 256) w × (rest ≡ hex_digits w)
+hex_behind [] v rest all e = (v, all, e)
+hex_behind (x ∷ xs) [] rest all e = absurd (grind (arith, common_steps, e))
+hex_behind (x ∷ xs) (y ∷ v) rest all e =
+    let tail : hex_digits xs ++ rest ≡ hex_digits v = (cc) in
+    hex_behind xs v rest all.1 tail
+
+-- bytes have one spelling, and no spelling is that of two
+pub hex_one : (v w : List ℕ) → AllByRecursion (λ b. b < 256) v → AllByRecursion (λ b. b < 256) w → hex_digits v ≡ hex_digits w → v ≡ w
+hex_one [] [] p q e = refl
+hex_one [] (y ∷ w) p q e = absurd (grind (arith, common_steps, e))
+hex_one (x ∷ v) [] p q e = absurd (grind (arith, common_steps, e))
+hex_one (x ∷ v) (y ∷ w) p q e =
+    let high : lower_digit (x / 16) ≡ lower_digit (y / 16) = (cc) in
+    let low : lower_digit (x % 16) ≡ lower_digit (y % 16) = (cc) in
+    let tail : hex_digits v ≡ hex_digits w = (cc) in
+    let head : x ≡ y = byte_one x y p.0 q.0 high low in
+    let same : v ≡ w = hex_one v w p.1 q.1 tail in
+    (cc)
+
+-- parts
+pub bool_cases : (t : Bool) → (t ≡ true) ⊎ (t ≡ false)
+bool_cases true = inl refl
+bool_cases false = inr refl
+
+same_byte : (b : ℕ) → (b == b) ≡ true
+same_byte b = grind (arith, nat_tests)
+
+other_byte : (x b : ℕ) → x ≢ b → (x == b) ≡ false
+other_byte x b other = grind (arith, nat_tests, other)
+
+-- a text cut at a byte that its front does not have
+pub parted-cut : (b : ℕ) (s rest : List ℕ) → AllByRecursion (λ d. d ≢ b) s → parted b (s ++ b ∷ rest) ≡ s ∷ parted b rest
+parted-cut b [] rest free = rw (same_byte b) refl
+parted-cut b (x ∷ s) rest free = rw (other_byte x b free.0) (rw (parted-cut b s rest free.1) refl)
+
+pub parted-free : (b : ℕ) (s : List ℕ) → AllByRecursion (λ d. d ≢ b) s → parted b s ≡ s ∷ []
+parted-free b [] free = refl
+parted-free b (x ∷ s) free = rw (other_byte x b free.0) (rw (parted-free b s free.1) refl)
+
+pub parts_of_cut : (b : ℕ) (text s rest : List ℕ) → text ≡ s ++ b ∷ rest → All (λ d. d ≢ b) s → parted b text ≡ s ∷ parted b rest
+parts_of_cut b text s rest e free = ap (parted b) e ∙ parted-cut b s rest (recursion_from_All (λ d. d ≢ b) s free)
+
+pub parts_of_whole : (b : ℕ) (text : List ℕ) → All (λ d. d ≢ b) text → parted b text ≡ text ∷ []
+parts_of_whole b text free = parted-free b text (recursion_from_All (λ d. d ≢ b) text free)
+
+-- there is always a first part
+pub parted-some : (b : ℕ) (s : List ℕ) → (part : List ℕ) × (parts : List (List ℕ)) × (parted b s ≡ part ∷ parts)
+parted-some b [] = ([], [], refl)
+parted-some b (x ∷ s) =
+    let p : (part : List ℕ) × (parts : List (List ℕ)) × (parted b s ≡ part ∷ parts) = parted-some b s in
+    elim (bool_cases (x == b)) [
+      | inl same ↦ ([], parted b s, rw same refl)
+      | inr other ↦ (x ∷ p.0, p.1, rw other (rw p.2 refl))
+    ]
+
+-- a text of one empty part is empty
+pub parted-blank : (b : ℕ) (s : List ℕ) → parted b s ≡ [] ∷ [] → s ≡ []
+parted-blank b [] e = refl
+parted-blank b (x ∷ s) e =
+    let p : (part : List ℕ) × (parts : List (List ℕ)) × (parted b s ≡ part ∷ parts) = parted-some b s in
+    elim (bool_cases (x == b)) [
+      | inl same ↦ (let e2 : [] ∷ parted b s ≡ [] ∷ [] = (rw same at e) in let e3 : [] ∷ (p.0 ∷ p.1) ≡ [] ∷ [] = (rw p.2 at e2) in absurd ((cc)))
+      | inr other ↦ (let e2 : parted b (x ∷ s) ≡ (x ∷ p.0) ∷ p.1 = rw other (rw p.2 refl) in let e3 : (x ∷ p.0) ∷ p.1 ≡ [] ∷ [] = sym e2 ∙ e in absurd ((cc)))
+    ]
+
+take-append-le2 : (head rest : List ℕ) → take (length head) (head ++ rest) ≡ head
+take-append-le2 head rest = grind (arith, common_steps)
+
+-- a front that was taken off, and one that was not
+pub front_taken : {X : Type 0} (now : X → List ℕ) (o : Option X) (text head : List ℕ) → MatchOption o (pointwise nat_eq (take (length head) text) head ≡ false) (λ x. (pointwise nat_eq (take (length head) text) head ≡ true) × (now x ≡ drop (length head) text) × (length (now x) + length head ≡ length text)) → IfSome o (λ x. text ≡ head ++ now x)
+front_taken now (Some x) text head h =
+    let front : take (length head) text ≡ head = (bytes_eq-Decides (take (length head) text) head).0 h.0 in
+    sym (take-append-drop (length head) text) ∙ ap (λ t. t ++ drop (length head) text) front ∙ ap (λ t. head ++ t) (sym h.1)
+front_taken now None text head h = tt
+
+pub front_not_taken : {X : Type 0} (now : X → List ℕ) (o : Option X) (text head : List ℕ) → MatchOption o (pointwise nat_eq (take (length head) text) head ≡ false) (λ x. (pointwise nat_eq (take (length head) text) head ≡ true) × (now x ≡ drop (length head) text) × (length (now x) + length head ≡ length text)) → IfNone o ((rest : List ℕ) → text ≢ head ++ rest)
+front_not_taken now (Some x) text head h = tt
+front_not_taken now None text head h = λ rest e.
+    let front : take (length head) text ≡ head = ap (take (length head)) e ∙ take-append-le2 head rest in
+    true≢false (sym ((bytes_eq-Decides (take (length head) text) head).1 front) ∙ h)
+
+-- an end that was taken off what stands behind a front, and one that was not
+pub end_taken : {X : Type 0} (now : X → List ℕ) (o : Option X) (text head rest tail : List ℕ) → text ≡ head ++ rest → MatchOption o (pointwise nat_eq (drop (length rest - length tail) rest) tail ≡ false) (λ x. (pointwise nat_eq (drop (length rest - length tail) rest) tail ≡ true) × (now x ≡ take (length rest - length tail) rest) × (length (now x) + length tail ≡ length rest)) → IfSome o (λ x. text ≡ head ++ (now x ++ tail))
+end_taken now (Some x) text head rest tail e h =
+    let back : drop (length rest - length tail) rest ≡ tail = (bytes_eq-Decides (drop (length rest - length tail) rest) tail).0 h.0 in
+    e ∙ ap (λ t. head ++ t) (sym (take-append-drop (length rest - length tail) rest) ∙ ap (λ t. take (length rest - length tail) rest ++ t) back ∙ ap (λ t. t ++ tail) (sym h.1))
+end_taken now None text head rest tail e h = tt
+
+pub same_behind : (head x y : List ℕ) → head ++ x ≡ head ++ y → x ≡ y
+same_behind [] x y e = e
+same_behind (h ∷ head) x y e = (let tail : head ++ x ≡ head ++ y = (cc) in same_behind head x y tail)
+
+drop_front : (part tail : List ℕ) → drop (length part) (part ++ tail) ≡ tail
+drop_front [] tail = refl
+drop_front (x ∷ part) tail = drop_front part tail
+
+pub end_not_taken : {X : Type 0} (now : X → List ℕ) (o : Option X) (text head rest tail : List ℕ) → text ≡ head ++ rest → MatchOption o (pointwise nat_eq (drop (length rest - length tail) rest) tail ≡ false) (λ x. (pointwise nat_eq (drop (length rest - length tail) rest) tail ≡ true) × (now x ≡ take (length rest - length tail) rest) × (length (now x) + length tail ≡ length rest)) → IfNone o ((part : List ℕ) → text ≢ head ++ (part ++ tail))
+end_not_taken now (Some x) text head rest tail e h = tt
+end_not_taken now None text head rest tail e h = λ part f.
+    let is : rest ≡ part ++ tail = same_behind head rest (part ++ tail) (sym e ∙ f) in
+    let short : length rest - length tail ≡ length part = (let l : length rest ≡ length part + length tail = ap length is ∙ length-append part tail in omega (arith, l)) in
+    let back : drop (length rest - length tail) rest ≡ tail = ap (λ k. drop k rest) short ∙ ap (drop (length part)) is ∙ drop_front part tail in
+    true≢false (sym ((bytes_eq-Decides (drop (length rest - length tail) rest) tail).1 back) ∙ h)
+
+-- bytes that are told by their spelling
+pub bytes_from : (v : List ℕ) → IsBytes v → AllByRecursion (λ b. b < 256) v
+bytes_from v all = recursion_from_All (λ b. b < 256) v all
+
+short_of : (w rest : List ℕ) → rest ≡ hex_digits w → 1 ≤ length rest → 2 ≤ length rest
+short_of [] rest e filled = (let l : length rest ≡ 0 = ap length e in absurd (omega (arith, l)))
+short_of (x ∷ w) rest e filled = (let l : length rest ≡ length (lower_digit (x / 16) ∷ lower_digit (x % 16) ∷ hex_digits w) = ap length e in omega (arith, l))
+
+pub hex_short : (text bytes v rest : List ℕ) → IsBytes v → text ≡ hex_digits bytes ++ rest → text ≡ hex_digits v → 1 ≤ length rest → length rest < 2 → ⊥
+hex_short text bytes v rest all e f filled short =
+    let w : (w : List ℕ) × AllByRecursion (λ b. b < 256) w × (rest ≡ hex_digits w) = hex_behind bytes v rest (bytes_from v all) (sym e ∙ f) in
+    let long : 2 ≤ length rest = short_of w.0 rest w.2 filled in
+    omega (arith, long, short)
+
+two_of : (w rest : List ℕ) → AllByRecursion (λ b. b < 256) w → rest ≡ hex_digits w → 1 ≤ length rest → (b : ℕ) × (b < 256) × (get_or rest 0 0 ≡ lower_digit (b / 16)) × (get_or rest 1 0 ≡ lower_digit (b % 16))
+two_of [] rest p e filled = (let l : length rest ≡ 0 = ap length e in absurd (omega (arith, l)))
+two_of (x ∷ w) rest p e filled = (x, p.0, ap (λ (t : List ℕ). get_or t 0 0) e, ap (λ (t : List ℕ). get_or t 1 0) e)
+
+pub hex_other : (text bytes v rest : List ℕ) (high low : ℕ) → IsBytes v → text ≡ hex_digits bytes ++ rest → text ≡ hex_digits v → 1 ≤ length rest → high ≡ get_or rest 0 0 → low ≡ get_or rest 1 0 → ((b : ℕ) → b < 256 → high ≡ lower_digit (b / 16) → low ≡ lower_digit (b % 16) → ⊥) → ⊥
+hex_other text bytes v rest high low all e f filled h l none =
+    let w : (w : List ℕ) × AllByRecursion (λ b. b < 256) w × (rest ≡ hex_digits w) = hex_behind bytes v rest (bytes_from v all) (sym e ∙ f) in
+    let x : (b : ℕ) × (b < 256) × (get_or rest 0 0 ≡ lower_digit (b / 16)) × (get_or rest 1 0 ≡ lower_digit (b % 16)) = two_of w.0 rest w.1 w.2 filled in
+    none x.0 x.1 (h ∙ x.2) (l ∙ x.3)
+
+-- bytes that are a dash or hex have one spelling, and no spelling is that of two
+pub dash_one : (v w : List ℕ) → IsBytes v → IsBytes w → hex_or_dash v ≡ hex_or_dash w → v ≡ w
+dash_one [] [] p q e = refl
+dash_one [] (y ∷ w) p q e = (let rest : [] ≡ lower_digit (y % 16) ∷ hex_digits w = (cc) in absurd ((cc)))
+dash_one (x ∷ v) [] p q e = (let rest : lower_digit (x % 16) ∷ hex_digits v ≡ [] = (cc) in absurd ((cc)))
+dash_one (x ∷ v) (y ∷ w) p q e = hex_one (x ∷ v) (y ∷ w) (bytes_from (x ∷ v) p) (bytes_from (y ∷ w) q) e
+
+pub dash_some : (v text : List ℕ) → text ≢ [] → text ≡ hex_digits v → text ≡ hex_or_dash v
+dash_some [] text filled e = absurd (filled e)
+dash_some (x ∷ v) text filled e = e
+
+pub dash_none : (v text : List ℕ) → text ≢ 45 ∷ [] → text ≡ hex_or_dash v → text ≡ hex_digits v
+dash_none [] text other e = absurd (other e)
+dash_none (x ∷ v) text other e = e
+
+-- what no option spells, from what none spells
+pub map_none : {X E : Type 0} (r : Result (Option X) E) (P Q : Type 0) → (P → Q) → IfOk r (λ o. IfNone o P) → IfOk r (λ o. IfNone o Q)
+map_none (Ok (Some x)) P Q f h = tt
+map_none (Ok None) P Q f h = f h
+map_none (Err e) P Q f h = tt
+
+pub push_bytes : (xs : List ℕ) (x : ℕ) → IsBytes xs → x < 256 → IsBytes (xs ++ x ∷ [])
+push_bytes xs x all small = All-from_recursion (λ b. b < 256) (xs ++ x ∷ []) (push_all (λ b. b < 256) xs x (bytes_from xs all) small)
+
+-- what a slice keeps of its bytes
+pub bytes_of_slice : (xs : List ℕ) → ((i : ℕ) → get_or xs i 0 < 256) → IsBytes xs
+bytes_of_slice xs fits = All-from_get_or (λ b. b < 256) xs 0 (λ i within. fits i)
