@@ -1,13 +1,11 @@
 -- What the top call reads, runs and writes, by its status.
-use Rattle.std.specs.Prelude.{◌≡◌, ◌<◌, ◌⊎◌, ℕ, Option, List, [], ◌∷◌, ◌++◌, length, codes, decimal}
+use Rattle.std.specs.Prelude.{◌≡◌, ◌<◌, ◌⊎◌, ℕ, Option, List, [], ◌∷◌, ◌++◌, length, map, max, codes, decimal}
 use Rattle.grpc_base.specs.declared.address.Address.{Address}
-use Rattle.grpc_base.specs.declared.event.Entry.{Entry}
-use Rattle.grpc_base.specs.declared.event.Reply.{Reply}
 use Rattle.grpc_base.specs.declared.event.Stamped.{Stamped}
 use Rattle.attempt_ledger.specs.declared.journal.Journal.{Journal}
 use Rattle.attempt_ledger.specs.declared.ledger.Ledger.{Ledger}
 use Rattle.gate_io.specs.Outside.{Appends, IsAtEnd, Rises, Takes}
-use Rattle.channel_core.specs.Core.{CoreSeen, Steps, entry_made, ledger_of}
+use Rattle.channel_core.specs.Lawful.{IsLawful}
 use Rattle.script_text.specs.Spelling.{parted}
 use Rattle.script_text.specs.Report.{report_of}
 use Rattle.channel_top.specs.Shape.{IsFirstBadLine, IsFirstCall, target_text}
@@ -28,19 +26,18 @@ line_fault_text line cause = codes "fault line " ++ decimal line ++ codes " caus
 abbrev pub IsReplay : List (List ℕ) → Type 0
 IsReplay commands = commands ≡ codes "replay" ∷ []
 
--- the steps of a channel on these events, behind the entries that it has
-abbrev pub run_from : Address → List Entry → List Stamped → List Entry
-run_from authority before [] = before
-run_from authority before (s ∷ events) = run_from authority (before ++ entry_made authority before (ledger_of before) s ∷ []) events
+-- moments that never fall: each the highest so far
+abbrev pub highest_so_far : ℕ → List ℕ → List ℕ
+highest_so_far last [] = []
+highest_so_far last (m ∷ moments) = max m last ∷ highest_so_far (max m last) moments
 
--- a step of a channel, whatever it replies
-abbrev pub StepsOn : CoreSeen → CoreSeen → Stamped → Type 0
-StepsOn old new s = (r : Reply) × Steps old new s r
-
--- a session: a new channel was given these events in order, and nothing else
+-- a session: a new channel was given these events in order and nothing else, each with its word and at the later of its moment
+-- and the last step's; journal and ledger keep the laws
 pub record IsSession (authority : Address) (events : List Stamped) (journal : Journal) (ledger : Ledger) : Type 0 where
-  pub run : journal.entries ≡ run_from authority [] events
-  pub written : ledger ≡ ledger_of journal.entries
+  pub events_are : map (λ e. e.event) journal.entries ≡ map (λ s. s.event) events
+  pub words_are : map (λ e. e.word) journal.entries ≡ map (λ s. s.word) events
+  pub moments_are : map (λ e. e.moment) journal.entries ≡ highest_so_far 0 (map (λ s. s.moment) events)
+  pub lawful : IsLawful authority journal.entries ledger
 
 -- the report of a session was written
 pub record WritesSession (authority : Address) (events : List Stamped) (taken taken' : Option (List ℕ)) : Type 0 where

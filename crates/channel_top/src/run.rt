@@ -1,8 +1,8 @@
 // A session: a new channel is given the events of a script, one behind another.
-ghost use Rattle.std.specs.Prelude.{◌≡◌, ◌++◌, ◌∷◌, [], map, OnOk};
-ghost use Rattle.channel_core.specs.Core.{IsNew, ledger_of};
+ghost use Rattle.std.specs.Prelude.{◌≡◌, ◌++◌, ◌∷◌, [], false, map, OnOk};
+ghost use Rattle.channel_core.specs.Core.{IsNew};
 ghost use Rattle.channel_core.specs.FirstCall.{AreFirstEvents, stamped_of};
-ghost use Rattle.channel_top.specs.Top.{StepsOn, run_from};
+ghost use Rattle.channel_top.specs.Runs.{HasRun, StepsOn};
 
 use channel_core::{ChannelCore, CoreError};
 use grpc_base::Stamped;
@@ -11,8 +11,7 @@ use grpc_base::Stamped;
 pub fn run_events(core: &mut ChannelCore, events: Vec<Stamped>) -> Result<(), CoreError>
     requires new { IsNew core.old.authority core.old }
     requires first { AreFirstEvents events.items }
-    ensures run { OnOk result (core.new.journal.entries ≡ run_from core.old.authority [] events.items) }
-    ensures written { OnOk result (core.new.ledger ≡ ledger_of core.new.journal.entries) }
+    ensures run { OnOk result (HasRun core.old.authority events.items core.new) }
 {
     let mut rest = events.into_iter();
     while let Some(stamped) = rest.next() {
