@@ -31,14 +31,6 @@ dynamic_at t (suc i) place is h =
     let same : i ≡ place = omega (arith, is) in
     rw same (behind static_table t.entries place (past_end static_table place h) ∙ ap (λ n. slice_get t.entries (place - n)) static_length)
 
-none_past : (xs : List Field) (i : ℕ) → length xs ≤ i → slice_get xs i ≡ None
-none_past [] i h = refl
-none_past (x ∷ xs) zero h = absurd (omega (arith, h))
-none_past (x ∷ xs) (suc i) h = none_past xs i (omega (arith, h))
-
-pub beyond : (place : ℕ) → 61 ≤ place → slice_get static_table place ≡ None
-beyond place h = none_past static_table place (omega (arith, static_length, h))
-
 -- the search for an entry is as far as a place
 abbrev pub IsSought : (Field → Bool) → ℕ → Type 0
 IsSought test place = index_where test ≡ position_from test (place + 1) (drop place static_table)

@@ -1,11 +1,15 @@
 -- The static table of RFC 7541, appendix A.
-use Rattle.std.specs.Prelude.{List, [], ◌∷◌, codes}
+use Rattle.std.specs.Prelude.{ℕ, List, [], ◌∷◌, codes}
 use Prim.Native.String.{String}
 use Rattle.grpc_base.specs.declared.fields.Field.{Field}
 
+-- a name and a value as a field
+abbrev pub field_of : List ℕ → List ℕ → Field
+field_of name value = record { name = name; value = value }
+
 -- an entry of this name and value
 abbrev pub entry : String → String → Field
-entry name value = record { name = codes name; value = codes value }
+entry name value = field_of (codes name) (codes value)
 
 -- the entries from index 1 to 61
 unfoldable pub static_table : List Field
