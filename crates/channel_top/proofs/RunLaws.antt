@@ -1,5 +1,9 @@
 -- A session, event by event: its events stay the first of the script, and its journal has those that were given so far.
-use Rattle.std.proofs.Common.{◌≡◌, ◌<◌, ℕ, ◌+◌, ◌-◌, max, Option, Some, None, List, [], ◌∷◌, ◌++◌, map, length, length-append, refl, ap, ◌∙◌, sym, subst, slice_get, arith, append_assoc, append-nil, option_map, false}
+use Rattle.std.proofs.Common.{◌≡◌, ◌<◌, ℕ, ◌+◌, ◌-◌, max, Option, Some, None, List, [], ◌∷◌, ◌++◌, map, length, length-append, refl, ap, ◌∙◌, sym, subst, slice_get, arith, append_assoc, append-nil, option_map, false, Bool}
+use Rattle.std.specs.Prelude.{Err, OnOk, Ok, Result, is_err}
+use Rattle.gate_io.specs.Outside.{Appends}
+use Rattle.attempt_ledger.specs.declared.journal.Journal.{Journal}
+use Rattle.attempt_ledger.specs.declared.ledger.Ledger.{Ledger}
 use Rattle.std.specs.Option.{option_map_or}
 use Rattle.std.proofs.lemmas.List.{map-append}
 use Rattle.std.proofs.lemmas.Option.{slice_get-map}
@@ -13,8 +17,11 @@ use Rattle.channel_core.specs.FirstCall.{AreFirstEvents, IsStampedAt, first_mome
 use Rattle.channel_core.specs.Steps.{last_moment}
 use Rattle.channel_core.specs.Core.{CoreSeen, Gains, IsNew, moment_of}
 use Rattle.channel_core.proofs.Places.{EachFrom, from_each, front_of, joined_each, rest_of, to_each}
+use Rattle.channel_core.specs.Lawful.{IsLawful}
+use Rattle.script_text.specs.Report.{report_of}
 use Rattle.channel_top.specs.Runs.{HasRun}
-use Rattle.channel_top.specs.Top.{highest_so_far}
+use Rattle.channel_top.specs.Shape.{target_text}
+use Rattle.channel_top.specs.Top.{WritesSession, highest_so_far}
 
 -- the newest of the first events, with those before it
 pub AreFirstEvents-front : (xs ys : List Stamped) (s : Stamped) → AreFirstEvents (xs ++ s ∷ ys) → AreFirstEvents (xs ++ s ∷ [])
@@ -135,4 +142,27 @@ IsRunning-done authority all core left running none =
       events_are = sym (append-nil (map (λ x. x.event) core.journal.entries)) ∙ end.events;
       words_are = sym (append-nil (map (λ x. x.word) core.journal.entries)) ∙ end.words;
       moments_are = sym (append-nil (map (λ x. x.moment) core.journal.entries)) ∙ end.moments;
+    }
+
+-- what holds of a run holds where it gave no fault
+pub on_ok : {P : Type 0} {X E : Type 0} → (r : Result X E) (failed : Bool) → failed ≡ is_err r → failed ≡ false → OnOk r P → P
+on_ok (Ok x) failed is no holds = holds
+on_ok (Err x) failed is no holds = absurd (cc)
+
+-- the report of a channel that has run these events is that of their session
+pub session_written : (authority : Address) (target : List ℕ) (events : List Stamped) (core : CoreSeen) (journal : Journal) (ledger : Ledger) (taken taken' : Option (List ℕ)) → HasRun authority events core → journal ≡ core.journal → ledger ≡ core.ledger → (core.spent ≡ false → IsLawful core.authority core.journal.entries ledger) → target ≡ target_text authority → Appends taken taken' (report_of target journal ledger) → WritesSession authority events taken taken'
+session_written authority target events core journal ledger taken taken' run j l lawful same written =
+    let laws : IsLawful authority journal.entries ledger =
+    subst (λ (x : Journal). IsLawful authority x.entries ledger) (sym j)
+    (subst (λ (a : Address). IsLawful a core.journal.entries ledger) run.authority_is (lawful run.unspent)) in
+    record {
+      journal = journal;
+      ledger = ledger;
+      session = record {
+        events_are = ap (λ (x : Journal). map (λ e. e.event) x.entries) j ∙ run.events_are;
+        words_are = ap (λ (x : Journal). map (λ e. e.word) x.entries) j ∙ run.words_are;
+        moments_are = ap (λ (x : Journal). map (λ e. e.moment) x.entries) j ∙ run.moments_are;
+        lawful = laws;
+      };
+      written = subst (λ (t : List ℕ). Appends taken taken' (report_of t journal ledger)) same written;
     }
