@@ -1,12 +1,77 @@
-// A rack over boxed policies of the channel.
+// A rack over boxed policies of the channel, and over plain ones.
 ghost use Rattle.std.specs.Prelude.{◌≡◌, map, true};
 ghost use Rattle.policy_rack.specs.Kinds.{are_ready};
+ghost use Rattle.grpc_base.specs.declared.kind.Kind.TheVariants as kind;
+ghost use Rattle.lb_kinds.specs.Seen.{of_kind};
 
-use crate::{Rack, boxes_ready};
+use crate::{Rack, boxes_ready, policies_ready};
+use arrayvec::ArrayVec;
 use grpc_base::{Conn, Kind, Pick};
 use lb_kinds::{PickFirst, RoundRobin};
 use lb_policy::{Balancer, Policy, SubSeen};
 use std::test::Fail;
+
+/// A policy that is in no box.
+#[derive(Drop)]
+enum Plain {
+    First(PickFirst),
+    Round(RoundRobin),
+}
+
+impl Balancer for Plain {
+    ghost use Rattle.policy_rack.specs.declared.tests.Plain.TheVariants as plain;
+
+    ghost seen = { λ p. elim p [ plain.First policy ↦ of_kind kind.PickFirst policy | plain.Round policy ↦ of_kind kind.RoundRobin policy ] };
+
+    fn kind(&self) -> Kind {
+        match self {
+            Plain::First(policy) => policy.kind(),
+            Plain::Round(policy) => policy.kind(),
+        }
+    }
+
+    fn reset(&mut self) {
+        match self {
+            Plain::First(policy) => policy.reset(),
+            Plain::Round(policy) => policy.reset(),
+        }
+    }
+
+    fn accept(&mut self, subs: &[SubSeen]) {
+        match self {
+            Plain::First(policy) => policy.accept(subs),
+            Plain::Round(policy) => policy.accept(subs),
+        }
+    }
+
+    fn note(&mut self, sub: u32, state: Conn) {
+        match self {
+            Plain::First(policy) => policy.note(sub, state),
+            Plain::Round(policy) => policy.note(sub, state),
+        }
+    }
+
+    fn wish(&self) -> ArrayVec<u32, 64> {
+        match self {
+            Plain::First(policy) => policy.wish(),
+            Plain::Round(policy) => policy.wish(),
+        }
+    }
+
+    fn state(&self) -> Conn {
+        match self {
+            Plain::First(policy) => policy.state(),
+            Plain::Round(policy) => policy.state(),
+        }
+    }
+
+    fn pick(&mut self) -> Pick {
+        match self {
+            Plain::First(policy) => policy.pick(),
+            Plain::Round(policy) => policy.pick(),
+        }
+    }
+}
 
 /// Hands the rack a result of one subchannel.
 fn adopted<P: Balancer>(rack: &mut Rack<P>, kind: Kind, sub: u32, state: Conn) -> u32 {
@@ -88,5 +153,22 @@ fn asks_the_current_policy(rt: HostRuntime) -> Result<(), Fail> {
     boxes.push(Box::new(alloc, RoundRobin::new())?)?;
     assert!(rt; boxes_ready(&boxes));
     assert_eq!(rt; first_pick(boxes), Some((1, Pick::Place(7))));
+    Ok(())
+}
+
+#[test]
+fn holds_plain_policies(rt: HostRuntime) -> Result<(), Fail> {
+    let alloc = rt.alloc();
+    let mut plain = Vec::new(alloc);
+    plain.push(Plain::Round(RoundRobin::new()))?;
+    assert!(rt; !policies_ready(plain.as_slice()));
+    plain.push(Plain::First(PickFirst::new()))?;
+    assert!(rt; policies_ready(plain.as_slice()));
+    assert_eq!(rt; three_results(plain), "");
+    let mut plain = Vec::new(alloc);
+    plain.push(Plain::First(PickFirst::new()))?;
+    plain.push(Plain::Round(RoundRobin::new()))?;
+    assert!(rt; policies_ready(plain.as_slice()));
+    assert_eq!(rt; first_pick(plain), Some((1, Pick::Place(7))));
     Ok(())
 }
