@@ -129,6 +129,19 @@ fn third_result_is_for_the_first_generation(rt: HostRuntime) -> Result<(), Fail>
     Ok(())
 }
 
+/// Whether a pending generation takes over once its subchannel is READY, and not before from a READY one.
+fn takes_over<P: Balancer>(policies: Vec<P>) -> bool
+    requires { are_ready (map P.seen policies.items) ≡ true }
+{
+    let mut rack = Rack::new(policies);
+    let _first = adopted(&mut rack, Kind::PickFirst, 1, Conn::Ready);
+    let _second = adopted(&mut rack, Kind::RoundRobin, 2, Conn::Connecting);
+    let early = rack.take_over();
+    rack.note(2, Conn::Ready);
+    let late = rack.take_over();
+    !early && late && rack.current() == Some((2, Kind::RoundRobin))
+}
+
 /// What the first pick request gets after a result of one READY subchannel.
 fn first_pick<P: Balancer>(policies: Vec<P>) -> Option<(u32, Pick)>
     requires { are_ready (map P.seen policies.items) ≡ true }
@@ -170,5 +183,21 @@ fn holds_plain_policies(rt: HostRuntime) -> Result<(), Fail> {
     plain.push(Plain::Round(RoundRobin::new()))?;
     assert!(rt; policies_ready(plain.as_slice()));
     assert_eq!(rt; first_pick(plain), Some((1, Pick::Place(7))));
+    let mut plain = Vec::new(alloc);
+    plain.push(Plain::First(PickFirst::new()))?;
+    plain.push(Plain::Round(RoundRobin::new()))?;
+    assert!(rt; policies_ready(plain.as_slice()));
+    assert!(rt; takes_over(plain));
+    Ok(())
+}
+
+#[test]
+fn lets_a_ready_generation_take_over(rt: HostRuntime) -> Result<(), Fail> {
+    let alloc = rt.alloc();
+    let mut boxes: Vec<Box<dyn Policy>> = Vec::new(alloc);
+    boxes.push(Box::new(alloc, PickFirst::new())?)?;
+    boxes.push(Box::new(alloc, RoundRobin::new())?)?;
+    assert!(rt; boxes_ready(&boxes));
+    assert!(rt; takes_over(boxes));
     Ok(())
 }
