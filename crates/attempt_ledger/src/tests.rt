@@ -1,5 +1,5 @@
 // Rows by hand, each clause of the numbering of attempts broken once.
-use crate::{Placed, Row, RowCause, RowEnd, RowKind, check_rows};
+use crate::{Journal, Ledger, Placed, Row, RowCause, RowEnd, RowKind, check_rows};
 use grpc_base::{
     CallPlan, Chosen, Code, CodeSet, Duration, HedgePolicy, MessageLimit, Metadata, Moment,
     Pushback, RetryPolicy, Text,
@@ -180,4 +180,13 @@ fn each_fault_is_told_at_its_row(rt: HostRuntime) -> Result<(), Fail> {
         assert!(rt; told(letter, rows.as_slice())? == (place, law), "{line}");
     }
     Ok(())
+}
+
+#[test]
+fn new_ones_are_empty(rt: HostRuntime) {
+    let ledger = Ledger::new(rt.alloc());
+    assert_eq!(rt; ledger.at(), 0);
+    assert!(rt; ledger.rows.is_empty());
+    assert!(rt; ledger.calls.is_empty());
+    assert!(rt; Journal::new(rt.alloc()).entries.is_empty());
 }
