@@ -1,1 +1,4 @@
+pub mod Faults
 pub mod Journals
+pub mod NextRow
+pub mod Numbering

@@ -6,9 +6,12 @@ mod check;
 mod journal;
 mod ledger;
 mod news;
+mod numbering;
 mod row;
+#[cfg(test)]
+mod tests;
 
-pub use check::RowFault;
+pub use check::{RowFault, check_rows};
 pub use journal::Journal;
 pub use ledger::{Ask, CallEnd, CallSeen, Generation, Ledger, LinkSeen};
 pub use news::{EndNews, News};

@@ -146,8 +146,8 @@ IsRunning-done authority all core left running none =
 
 -- what holds of a run holds where it gave no fault
 pub on_ok : {P : Type 0} {X E : Type 0} → (r : Result X E) (failed : Bool) → failed ≡ is_err r → failed ≡ false → OnOk r P → P
-on_ok (Ok x) failed is no holds = holds
-on_ok (Err x) failed is no holds = absurd (cc)
+on_ok (Ok x) failed is passed holds = holds
+on_ok (Err x) failed is passed holds = absurd (cc)
 
 -- the report of a channel that has run these events is that of their session
 pub session_written : (authority : Address) (target : List ℕ) (events : List Stamped) (core : CoreSeen) (journal : Journal) (ledger : Ledger) (taken taken' : Option (List ℕ)) → HasRun authority events core → journal ≡ core.journal → ledger ≡ core.ledger → (core.spent ≡ false → IsLawful core.authority core.journal.entries ledger) → target ≡ target_text authority → Appends taken taken' (report_of target journal ledger) → WritesSession authority events taken taken'

@@ -40,6 +40,33 @@ fn view_of(states: [Conn; 4]) -> [SubSeen; 4]
     ]
 }
 
+/// Hands a policy the first so many of the subchannels 1 to 4, in these states.
+fn give<P: Policy>(policy: &mut P, states: [Conn; 4], count: u32)
+    ensures { (P.seen policy.new).turns ≡ (P.seen policy.old).turns }
+{
+    let [first, second, third, fourth] = view_of(states);
+    match count {
+        0 => policy.accept(&[]),
+        1 => policy.accept(&[first]),
+        2 => policy.accept(&[first, second]),
+        3 => policy.accept(&[first, second, third]),
+        _ => policy.accept(&[first, second, third, fourth]),
+    }
+}
+
+/// The digit of a subchannel that is not there.
+const ABSENT: u32 = 4;
+
+/// The digits of so many subchannels in the combination of this number.
+fn digits_of(number: u32, count: u32) -> [u32; 4] {
+    [
+        if count > 0 { number % 4 } else { ABSENT },
+        if count > 1 { number / 4 % 4 } else { ABSENT },
+        if count > 2 { number / 16 % 4 } else { ABSENT },
+        if count > 3 { number / 64 % 4 } else { ABSENT },
+    ]
+}
+
 /// The number of the first subchannel whose digit passes, or 0.
 fn first_where(digits: [u32; 4], from: u32, to: u32) -> u32 {
     let place = digits
@@ -48,39 +75,84 @@ fn first_where(digits: [u32; 4], from: u32, to: u32) -> u32 {
     place.map_or(0, |place| place as u32 + 1)
 }
 
+/// What any policy answers for such digits: its state, and its first pick.
+fn wanted(digits: [u32; 4]) -> (Conn, Pick) {
+    match (first_where(digits, 2, 2), first_where(digits, 0, 2)) {
+        (0, 0) => (Conn::Failure, Pick::Fail),
+        (0, _) => (Conn::Connecting, Pick::Wait),
+        (ready, _) => (Conn::Ready, Pick::Place(ready)),
+    }
+}
+
+/// A number with one decimal digit more.
+fn with_digit(number: u32, digit: u32) -> u32 {
+    number.wrapping_mul(10).wrapping_add(digit)
+}
+
+/// The subchannels that a policy wishes connected, as decimal digits in their order.
+fn wish_of<P: Policy>(policy: &P) -> u32 {
+    let mut wish = 0;
+    for sub in policy.wish().as_slice() {
+        wish = with_digit(wish, *sub);
+    }
+    wish
+}
+
+/// `pick_first` wishes the first one that is not in TRANSIENT_FAILURE, and none while one is READY.
+fn first_wish(digits: [u32; 4]) -> u32 {
+    if first_where(digits, 2, 2) == 0 {
+        first_where(digits, 0, 2)
+    } else {
+        0
+    }
+}
+
+/// `round_robin` wishes each one that is IDLE or CONNECTING.
+fn round_wish(digits: [u32; 4]) -> u32 {
+    let mut wish = 0;
+    for (place, digit) in digits.iter().enumerate() {
+        if *digit < 2 {
+            wish = with_digit(wish, place as u32 + 1);
+        }
+    }
+    wish
+}
+
+/// What a policy answers where it was given so many subchannels in these states.
+fn told<P: Policy>(policy: &mut P, digits: [u32; 4], count: u32) -> (u32, (Conn, Pick)) {
+    policy.reset();
+    let [first, second, third, fourth] = digits;
+    let states = [
+        state_of(first),
+        state_of(second),
+        state_of(third),
+        state_of(fourth),
+    ];
+    give(policy, states, count);
+    (wish_of(policy), (policy.state(), policy.pick()))
+}
+
+/// How many subchannels there are, and how many combinations of their states.
+static COMBINATIONS: [(u32, u32); 5] = [(0, 1), (1, 4), (2, 16), (3, 64), (4, 256)];
+
 #[test]
 fn answers_each_combination_of_states(rt: HostRuntime) {
-    for number in 0..256u32 {
-        let digits = [number % 4, number / 4 % 4, number / 16 % 4, number / 64];
-        let view = view_of([
-            state_of(digits[0]),
-            state_of(digits[1]),
-            state_of(digits[2]),
-            state_of(digits[3]),
-        ]);
-        let ready = first_where(digits, 2, 2);
-        let open = first_where(digits, 0, 2);
-        let (state, pick) = match (ready, open) {
-            (0, 0) => (Conn::Failure, Pick::Fail),
-            (0, _) => (Conn::Connecting, Pick::Wait),
-            (_, _) => (Conn::Ready, Pick::Place(ready)),
-        };
-        let mut first = PickFirst::new();
-        first.accept(&view);
-        let wish = if ready == 0 { open } else { 0 };
-        assert_eq!(rt; first.state(), state, "at {number}");
-        assert_eq!(rt;
-            first.wish().as_slice().first().copied().unwrap_or(0),
-            wish,
-            "at {number}"
-        );
-        assert_eq!(rt; first.pick(), pick, "at {number}");
-        let mut round = RoundRobin::new();
-        round.accept(&view);
-        assert_eq!(rt; round.state(), state, "at {number}");
-        assert_eq!(rt; round.wish().contains(&1), digits[0] < 2, "at {number}");
-        assert_eq!(rt; round.wish().contains(&4), digits[3] < 2, "at {number}");
-        assert_eq!(rt; round.pick(), pick, "at {number}");
+    let mut first = PickFirst::new();
+    let mut round = RoundRobin::new();
+    for (count, combinations) in COMBINATIONS {
+        for number in 0..combinations {
+            let digits = digits_of(number, count);
+            let told_first = told(&mut first, digits, count);
+            let told_round = told(&mut round, digits, count);
+            assert!(rt;
+                told_first == (first_wish(digits), wanted(digits)),
+                "at {count} {number}"
+            );
+            assert!(rt;
+                told_round == (round_wish(digits), wanted(digits)),
+                "at {count} {number}"
+            );
+        }
     }
 }
 

@@ -1,12 +1,77 @@
-// A rack over boxed policies of the channel.
+// A rack over boxed policies of the channel, and over plain ones.
 ghost use Rattle.std.specs.Prelude.{◌≡◌, map, true};
 ghost use Rattle.policy_rack.specs.Kinds.{are_ready};
+ghost use Rattle.grpc_base.specs.declared.kind.Kind.TheVariants as kind;
+ghost use Rattle.lb_kinds.specs.Seen.{of_kind};
 
-use crate::{Rack, boxes_ready};
+use crate::{Rack, boxes_ready, policies_ready};
+use arrayvec::ArrayVec;
 use grpc_base::{Conn, Kind, Pick};
 use lb_kinds::{PickFirst, RoundRobin};
 use lb_policy::{Balancer, Policy, SubSeen};
 use std::test::Fail;
+
+/// A policy that is in no box.
+#[derive(Drop)]
+enum Plain {
+    First(PickFirst),
+    Round(RoundRobin),
+}
+
+impl Balancer for Plain {
+    ghost use Rattle.policy_rack.specs.declared.tests.Plain.TheVariants as plain;
+
+    ghost seen = { λ p. elim p [ plain.First policy ↦ of_kind kind.PickFirst policy | plain.Round policy ↦ of_kind kind.RoundRobin policy ] };
+
+    fn kind(&self) -> Kind {
+        match self {
+            Plain::First(policy) => policy.kind(),
+            Plain::Round(policy) => policy.kind(),
+        }
+    }
+
+    fn reset(&mut self) {
+        match self {
+            Plain::First(policy) => policy.reset(),
+            Plain::Round(policy) => policy.reset(),
+        }
+    }
+
+    fn accept(&mut self, subs: &[SubSeen]) {
+        match self {
+            Plain::First(policy) => policy.accept(subs),
+            Plain::Round(policy) => policy.accept(subs),
+        }
+    }
+
+    fn note(&mut self, sub: u32, state: Conn) {
+        match self {
+            Plain::First(policy) => policy.note(sub, state),
+            Plain::Round(policy) => policy.note(sub, state),
+        }
+    }
+
+    fn wish(&self) -> ArrayVec<u32, 64> {
+        match self {
+            Plain::First(policy) => policy.wish(),
+            Plain::Round(policy) => policy.wish(),
+        }
+    }
+
+    fn state(&self) -> Conn {
+        match self {
+            Plain::First(policy) => policy.state(),
+            Plain::Round(policy) => policy.state(),
+        }
+    }
+
+    fn pick(&mut self) -> Pick {
+        match self {
+            Plain::First(policy) => policy.pick(),
+            Plain::Round(policy) => policy.pick(),
+        }
+    }
+}
 
 /// Hands the rack a result of one subchannel.
 fn adopted<P: Balancer>(rack: &mut Rack<P>, kind: Kind, sub: u32, state: Conn) -> u32 {
@@ -64,6 +129,19 @@ fn third_result_is_for_the_first_generation(rt: HostRuntime) -> Result<(), Fail>
     Ok(())
 }
 
+/// Whether a pending generation takes over once its subchannel is READY, and not before from a READY one.
+fn takes_over<P: Balancer>(policies: Vec<P>) -> bool
+    requires { are_ready (map P.seen policies.items) ≡ true }
+{
+    let mut rack = Rack::new(policies);
+    let _first = adopted(&mut rack, Kind::PickFirst, 1, Conn::Ready);
+    let _second = adopted(&mut rack, Kind::RoundRobin, 2, Conn::Connecting);
+    let early = rack.take_over();
+    rack.note(2, Conn::Ready);
+    let late = rack.take_over();
+    !early && late && rack.current() == Some((2, Kind::RoundRobin))
+}
+
 /// What the first pick request gets after a result of one READY subchannel.
 fn first_pick<P: Balancer>(policies: Vec<P>) -> Option<(u32, Pick)>
     requires { are_ready (map P.seen policies.items) ≡ true }
@@ -88,5 +166,38 @@ fn asks_the_current_policy(rt: HostRuntime) -> Result<(), Fail> {
     boxes.push(Box::new(alloc, RoundRobin::new())?)?;
     assert!(rt; boxes_ready(&boxes));
     assert_eq!(rt; first_pick(boxes), Some((1, Pick::Place(7))));
+    Ok(())
+}
+
+#[test]
+fn holds_plain_policies(rt: HostRuntime) -> Result<(), Fail> {
+    let alloc = rt.alloc();
+    let mut plain = Vec::new(alloc);
+    plain.push(Plain::Round(RoundRobin::new()))?;
+    assert!(rt; !policies_ready(plain.as_slice()));
+    plain.push(Plain::First(PickFirst::new()))?;
+    assert!(rt; policies_ready(plain.as_slice()));
+    assert_eq!(rt; three_results(plain), "");
+    let mut plain = Vec::new(alloc);
+    plain.push(Plain::First(PickFirst::new()))?;
+    plain.push(Plain::Round(RoundRobin::new()))?;
+    assert!(rt; policies_ready(plain.as_slice()));
+    assert_eq!(rt; first_pick(plain), Some((1, Pick::Place(7))));
+    let mut plain = Vec::new(alloc);
+    plain.push(Plain::First(PickFirst::new()))?;
+    plain.push(Plain::Round(RoundRobin::new()))?;
+    assert!(rt; policies_ready(plain.as_slice()));
+    assert!(rt; takes_over(plain));
+    Ok(())
+}
+
+#[test]
+fn lets_a_ready_generation_take_over(rt: HostRuntime) -> Result<(), Fail> {
+    let alloc = rt.alloc();
+    let mut boxes: Vec<Box<dyn Policy>> = Vec::new(alloc);
+    boxes.push(Box::new(alloc, PickFirst::new())?)?;
+    boxes.push(Box::new(alloc, RoundRobin::new())?)?;
+    assert!(rt; boxes_ready(&boxes));
+    assert!(rt; takes_over(boxes));
     Ok(())
 }

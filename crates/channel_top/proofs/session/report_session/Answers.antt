@@ -2,6 +2,6 @@ use Rattle.channel_top.proofs.RunLaws.{on_ok, session_written}
 use Rattle.channel_top.proofs.session.report_session.Goals as goal
 
 pub returns-in-Ok-clause-written : goal.returns-in-Ok-clause-written
-returns-in-Ok-clause-written {g} c = λ all.
+returns-in-Ok-clause-written g c = λ all.
     session_written c.args.script.authority _ c.args.script.events.items _ _ _ _ _
     (on_ok c.run_events.result c.is_err.result c.is_err.ensures.value c.if-is_err.false c.run_events.ensures.run) ? ? ? ? ?

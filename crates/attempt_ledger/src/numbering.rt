@@ -1,0 +1,116 @@
+// The numbering of a call's attempts: their kinds, numbers and count, and the order of what happened to each.
+ghost use Rattle.std.specs.Prelude.{◌≡◌, ◌↔◌, IsTrue, IfSome, IfNone};
+ghost use Rattle.attempt_ledger.specs.Faults.{IsFirstFault};
+ghost use Rattle.attempt_ledger.specs.NextRow.{IsNext, IsNextAttempt, IsOfAnAttempt, count_with};
+ghost use Rattle.attempt_ledger.specs.Numbering.{IsInOrder, IsNumbered, is_transparent, kind_by_number, most_attempts};
+
+use crate::{Row, RowCause, RowKind};
+use grpc_base::{CallPlan, Code};
+
+fn is_transparent(kind: RowKind) -> bool
+    ensures { result ≡ is_transparent kind }
+{
+    matches!(kind, RowKind::Transparent)
+}
+
+fn most_attempts(plan: &CallPlan) -> u32
+    ensures { result ≡ most_attempts plan.now }
+{
+    match plan {
+        CallPlan::None => 1,
+        CallPlan::Retry(policy) => policy.max,
+        CallPlan::Hedge(policy) => policy.max,
+    }
+}
+
+/// The kind of the attempt of this number; None where the plan allows no second one.
+fn kind_by_number(plan: &CallPlan, number: u32) -> Option<RowKind>
+    ensures { result ≡ kind_by_number plan.now number }
+{
+    if number == 1 {
+        return Some(RowKind::First);
+    }
+    match plan {
+        CallPlan::None => None,
+        CallPlan::Retry(_) => Some(RowKind::Retry),
+        CallPlan::Hedge(_) => Some(RowKind::Hedge),
+    }
+}
+
+/// Whether the row was due, was placed and ended in this order; without a placing only a failed pick ends it.
+fn is_in_order(row: &Row) -> bool
+    ensures { IsTrue result ↔ IsInOrder row.now }
+{
+    match (&row.placed, &row.ended) {
+        (Some(placed), Some(end)) => {
+            row.due <= placed.moment.nanos() && placed.moment.nanos() <= end.moment.nanos()
+        }
+        (Some(placed), None) => row.due <= placed.moment.nanos(),
+        (None, Some(end)) => {
+            row.stream.is_none()
+                && matches!(end.code, Code::Unavailable)
+                && matches!(end.cause, RowCause::Pick)
+        }
+        (None, None) => row.stream.is_none(),
+    }
+}
+
+/// Whether the attempt of this number is of this kind.
+fn has_kind(plan: &CallPlan, number: u32, kind: RowKind) -> bool
+    ensures { IsTrue result ↔ (Some kind ≡ kind_by_number plan.now number) }
+{
+    match kind_by_number(plan, number) {
+        Some(wanted) => kind == wanted,
+        None => false,
+    }
+}
+
+fn is_of_an_attempt(count: u32, row: &Row) -> bool
+    ensures { IsTrue result ↔ IsOfAnAttempt count row.now }
+{
+    1 <= row.number && row.number <= count
+}
+
+fn is_next_attempt(plan: &CallPlan, count: u32, row: &Row) -> bool
+    ensures { IsTrue result ↔ IsNextAttempt plan.now count row.now }
+{
+    row.number > count
+        && row.number - count == 1
+        && row.number <= most_attempts(plan)
+        && has_kind(plan, row.number, row.kind)
+}
+
+/// How many attempts there are with this row; None where it may not follow so many.
+fn counted(plan: &CallPlan, count: u32, row: &Row) -> Option<u32>
+    ensures some { IfSome result (λ n. IsNext plan.now count row.now × (n ≡ count_with count row.now)) }
+    ensures none { IfNone result (IsNext plan.now count row.now → ⊥) }
+{
+    if !is_in_order(row) {
+        None
+    } else if is_transparent(row.kind) {
+        if is_of_an_attempt(count, row) {
+            Some(count)
+        } else {
+            None
+        }
+    } else if is_next_attempt(plan, count, row) {
+        Some(row.number)
+    } else {
+        None
+    }
+}
+
+/// The place, from 1, of the first row at which they are not numbered. None where they are.
+pub fn first_misnumbered(plan: &CallPlan, rows: &[Row]) -> Option<u64>
+    ensures none { IfNone result (IsNumbered plan.now rows.now) }
+    ensures some { IfSome result (λ place. IsFirstFault (IsNumbered plan.now) rows.now place) }
+{
+    let mut count = 0;
+    for (place, row) in rows.iter().enumerate() {
+        match counted(plan, count, row) {
+            Some(more) => count = more,
+            None => return Some(place as u64 + 1),
+        }
+    }
+    None
+}
