@@ -1,24 +1,28 @@
-// Values of an independent model, and worked examples.
+// Values of an independent model, rules at their bounds, and worked examples.
 use crate::{pushback, request_fields, shown, timeout_text};
 use grpc_base::{Address, Field, Fields, Metadata, Octets, Pushback, Request, Text};
 use std::alloc::Global;
 use std::test::Fail;
 
-/// The bytes of these hexadecimal digits.
-fn octets_of(alloc: Global, digits: &str) -> Result<Octets, Fail> {
+/// The bytes of a text in which `%` and two hexadecimal digits stand for a byte.
+fn octets_of(alloc: Global, text: &str) -> Result<Octets, Fail> {
     let mut bytes = Vec::new(alloc);
-    for pair in digits.as_bytes().chunks(2) {
-        bytes.push(u8::from_str_radix(std::str::from_utf8(pair)?, 16)?)?;
+    let mut pieces = text.split('%');
+    bytes.extend_from_slice(pieces.next().ok_or("a piece")?.as_bytes())?;
+    for piece in pieces {
+        let digits = piece.get(..2).ok_or("two digits")?;
+        bytes.push(u8::from_str_radix(digits, 16)?)?;
+        bytes.extend_from_slice(piece.get(2..).ok_or("two digits")?.as_bytes())?;
     }
     Ok(Octets::of_vec(bytes)?)
 }
 
-/// The fields of a line of `name=value`, the values in hexadecimal digits.
+/// The fields of a line of `name=value`.
 fn fields_of(alloc: Global, line: &str) -> Result<Fields, Fail> {
     let mut fields = Fields::new(alloc);
     for item in line.split(' ') {
         if let Some((name, value)) = item.split_once('=') {
-            let name = Octets::of_slice(alloc, name.as_bytes())?;
+            let name = octets_of(alloc, name)?;
             let value = octets_of(alloc, value)?;
             fields.push(Field { name, value })?;
         }
@@ -26,13 +30,59 @@ fn fields_of(alloc: Global, line: &str) -> Result<Fields, Fail> {
     Ok(fields)
 }
 
-/// Each line a response and what of it is shown.
-static SHOWN: &str = ":status=323030 grpc-other=78 grpc-message=6d > grpc-other=78
-content-type=61 grpc-status=30 grpc-encoding=69 grpc-accept-encoding=67 grpc-retry-pushback-ms=31 x=79 > x=79
-X=79 k-bin=41413d v=01 v=7f date= > date=
-v=80 v=09 =63 > v=80 v=09
-k-bin=415038 k-bin=4150383d k-bin=415039 > k-bin=00ff k-bin=00ff
-k-bin=4150382c21212c4151 k-bin= k-bin=4150382c > k-bin=00ff k-bin=01 k-bin= k-bin=00ff k-bin=";
+/// Each line the fields of a response, and what of them is shown.
+static SHOWN: &str = ":status=200 >
+content-type=application/grpc >
+grpc-status=0 >
+grpc-message=m >
+grpc-encoding=identity >
+grpc-accept-encoding=gzip >
+grpc-retry-pushback-ms=1 >
+grpc-other=x > grpc-other=x
+x=y > x=y
+X=y >
+a%20b=c >
+=c >
+k-bin=AP8 > k-bin=%00%ff
+k-bin=AP8= > k-bin=%00%ff
+k-bin=AA= >
+k-bin=AP8,AQ > k-bin=%00%ff k-bin=%01
+k-bin=AP8,!!,AQ > k-bin=%00%ff k-bin=%01
+k-bin=AP9 >
+k-bin= > k-bin=
+k-bin=AP8, > k-bin=%00%ff k-bin=
+k-bin=AQ,AQ,AQ,AQ,AQ,AQ,AQ,AQ,AQ,AQ,AQ,AQ,AQ,AQ,AQ,AQ,AQ,AQ,AQ,AQ,AQ,AQ,AQ,AQ,AQ,AQ,AQ,AQ,AQ,AQ,AQ,AQ,AQ,AQ,AQ,AQ,AQ,AQ,AQ,AQ,AQ,AQ,AQ,AQ,AQ,AQ,AQ,AQ,AQ,AQ,AQ,AQ,AQ,AQ,AQ,AQ,AQ,AQ,AQ,AQ,AQ,AQ,AQ,AQ > k-bin=%01 k-bin=%01 k-bin=%01 k-bin=%01 k-bin=%01 k-bin=%01 k-bin=%01 k-bin=%01 k-bin=%01 k-bin=%01 k-bin=%01 k-bin=%01 k-bin=%01 k-bin=%01 k-bin=%01 k-bin=%01 k-bin=%01 k-bin=%01 k-bin=%01 k-bin=%01 k-bin=%01 k-bin=%01 k-bin=%01 k-bin=%01 k-bin=%01 k-bin=%01 k-bin=%01 k-bin=%01 k-bin=%01 k-bin=%01 k-bin=%01 k-bin=%01 k-bin=%01 k-bin=%01 k-bin=%01 k-bin=%01 k-bin=%01 k-bin=%01 k-bin=%01 k-bin=%01 k-bin=%01 k-bin=%01 k-bin=%01 k-bin=%01 k-bin=%01 k-bin=%01 k-bin=%01 k-bin=%01 k-bin=%01 k-bin=%01 k-bin=%01 k-bin=%01 k-bin=%01 k-bin=%01 k-bin=%01 k-bin=%01 k-bin=%01 k-bin=%01 k-bin=%01 k-bin=%01 k-bin=%01 k-bin=%01 k-bin=%01 k-bin=%01
+k-bin=AQ,AQ,AQ,AQ,AQ,AQ,AQ,AQ,AQ,AQ,AQ,AQ,AQ,AQ,AQ,AQ,AQ,AQ,AQ,AQ,AQ,AQ,AQ,AQ,AQ,AQ,AQ,AQ,AQ,AQ,AQ,AQ,AQ,AQ,AQ,AQ,AQ,AQ,AQ,AQ,AQ,AQ,AQ,AQ,AQ,AQ,AQ,AQ,AQ,AQ,AQ,AQ,AQ,AQ,AQ,AQ,AQ,AQ,AQ,AQ,AQ,AQ,AQ,AQ,AQ >
+v=%01 >
+v=%80 > v=%80
+v=%09 > v=%09
+v=%7f >
+date= > date=
+grpc-encoding=identity k-bin= > k-bin=
+v=%01 k-bin=AP8,AQ > k-bin=%00%ff k-bin=%01
+grpc-retry-pushback-ms=1 X=y >
+k-bin= :status=200 grpc-status=0 k-bin=AP8,!!,AQ k-bin= content-type=application/grpc > k-bin= k-bin=%00%ff k-bin=%01 k-bin=
+:status=200 grpc-other=x grpc-message=m > grpc-other=x
+a%20b=c content-type=application/grpc grpc-message=m >
+k-bin=AP8= v=%80 k-bin=AP8,AQ grpc-other=x :status=200 > k-bin=%00%ff v=%80 k-bin=%00%ff k-bin=%01 grpc-other=x
+v=%09 k-bin=AP8,AQ > v=%09 k-bin=%00%ff k-bin=%01
+k-bin=AA= v=%01 >
+grpc-other=x k-bin=AA= v=%7f > grpc-other=x
+k-bin=AP8 date= :status=200 x=y grpc-encoding=identity k-bin=AP9 > k-bin=%00%ff date= x=y
+v=%80 v=%01 v=%09 x=y grpc-status=0 > v=%80 v=%09 x=y
+k-bin=AP9 k-bin= v=%80 =c =c > k-bin= v=%80
+k-bin=AP8,AQ k-bin=AQ,AQ,AQ,AQ,AQ,AQ,AQ,AQ,AQ,AQ,AQ,AQ,AQ,AQ,AQ,AQ,AQ,AQ,AQ,AQ,AQ,AQ,AQ,AQ,AQ,AQ,AQ,AQ,AQ,AQ,AQ,AQ,AQ,AQ,AQ,AQ,AQ,AQ,AQ,AQ,AQ,AQ,AQ,AQ,AQ,AQ,AQ,AQ,AQ,AQ,AQ,AQ,AQ,AQ,AQ,AQ,AQ,AQ,AQ,AQ,AQ,AQ,AQ,AQ,AQ v=%01 k-bin=AP8= k-bin=AP8,!!,AQ > k-bin=%00%ff k-bin=%01 k-bin=%00%ff k-bin=%00%ff k-bin=%01
+k-bin=AP8= content-type=application/grpc k-bin=AP8= grpc-encoding=identity > k-bin=%00%ff k-bin=%00%ff
+v=%09 k-bin=AQ,AQ,AQ,AQ,AQ,AQ,AQ,AQ,AQ,AQ,AQ,AQ,AQ,AQ,AQ,AQ,AQ,AQ,AQ,AQ,AQ,AQ,AQ,AQ,AQ,AQ,AQ,AQ,AQ,AQ,AQ,AQ,AQ,AQ,AQ,AQ,AQ,AQ,AQ,AQ,AQ,AQ,AQ,AQ,AQ,AQ,AQ,AQ,AQ,AQ,AQ,AQ,AQ,AQ,AQ,AQ,AQ,AQ,AQ,AQ,AQ,AQ,AQ,AQ,AQ grpc-accept-encoding=gzip k-bin=AP8, =c > v=%09 k-bin=%00%ff k-bin=
+v=%7f a%20b=c grpc-accept-encoding=gzip v=%01 v=%80 > v=%80
+k-bin= k-bin=AQ,AQ,AQ,AQ,AQ,AQ,AQ,AQ,AQ,AQ,AQ,AQ,AQ,AQ,AQ,AQ,AQ,AQ,AQ,AQ,AQ,AQ,AQ,AQ,AQ,AQ,AQ,AQ,AQ,AQ,AQ,AQ,AQ,AQ,AQ,AQ,AQ,AQ,AQ,AQ,AQ,AQ,AQ,AQ,AQ,AQ,AQ,AQ,AQ,AQ,AQ,AQ,AQ,AQ,AQ,AQ,AQ,AQ,AQ,AQ,AQ,AQ,AQ,AQ,AQ k-bin=AA= grpc-accept-encoding=gzip v=%09 > k-bin= v=%09
+grpc-encoding=identity k-bin= k-bin=AP8, x=y v=%80 > k-bin= k-bin=%00%ff k-bin= x=y v=%80
+k-bin=AP8,AQ k-bin=AP8, > k-bin=%00%ff k-bin=%01 k-bin=%00%ff k-bin=
+grpc-other=x k-bin=AP8 > grpc-other=x k-bin=%00%ff
+x=y :status=200 grpc-encoding=identity k-bin=AP8,AQ grpc-retry-pushback-ms=1 X=y > x=y k-bin=%00%ff k-bin=%01
+grpc-encoding=identity v=%80 grpc-encoding=identity :status=200 grpc-other=x k-bin=AP8, > v=%80 grpc-other=x k-bin=%00%ff k-bin=
+grpc-encoding=identity k-bin=AP8,!!,AQ X=y grpc-other=x grpc-encoding=identity > k-bin=%00%ff k-bin=%01 grpc-other=x
+k-bin=AQ,AQ,AQ,AQ,AQ,AQ,AQ,AQ,AQ,AQ,AQ,AQ,AQ,AQ,AQ,AQ,AQ,AQ,AQ,AQ,AQ,AQ,AQ,AQ,AQ,AQ,AQ,AQ,AQ,AQ,AQ,AQ,AQ,AQ,AQ,AQ,AQ,AQ,AQ,AQ,AQ,AQ,AQ,AQ,AQ,AQ,AQ,AQ,AQ,AQ,AQ,AQ,AQ,AQ,AQ,AQ,AQ,AQ,AQ,AQ,AQ,AQ,AQ,AQ k-bin=AP9 > k-bin=%01 k-bin=%01 k-bin=%01 k-bin=%01 k-bin=%01 k-bin=%01 k-bin=%01 k-bin=%01 k-bin=%01 k-bin=%01 k-bin=%01 k-bin=%01 k-bin=%01 k-bin=%01 k-bin=%01 k-bin=%01 k-bin=%01 k-bin=%01 k-bin=%01 k-bin=%01 k-bin=%01 k-bin=%01 k-bin=%01 k-bin=%01 k-bin=%01 k-bin=%01 k-bin=%01 k-bin=%01 k-bin=%01 k-bin=%01 k-bin=%01 k-bin=%01 k-bin=%01 k-bin=%01 k-bin=%01 k-bin=%01 k-bin=%01 k-bin=%01 k-bin=%01 k-bin=%01 k-bin=%01 k-bin=%01 k-bin=%01 k-bin=%01 k-bin=%01 k-bin=%01 k-bin=%01 k-bin=%01 k-bin=%01 k-bin=%01 k-bin=%01 k-bin=%01 k-bin=%01 k-bin=%01 k-bin=%01 k-bin=%01 k-bin=%01 k-bin=%01 k-bin=%01 k-bin=%01 k-bin=%01 k-bin=%01 k-bin=%01 k-bin=%01";
 
 #[test]
 fn responses_are_shown(rt: HostRuntime) -> Result<(), Fail> {
@@ -46,29 +96,147 @@ fn responses_are_shown(rt: HostRuntime) -> Result<(), Fail> {
     Ok(())
 }
 
+/// How many pairs are shown of a response with one field.
+fn shown_of(alloc: Global, name: &[u8], value: &[u8]) -> Result<usize, Fail> {
+    let mut fields = Fields::new(alloc);
+    let name = Octets::of_slice(alloc, name)?;
+    let value = Octets::of_slice(alloc, value)?;
+    fields.push(Field { name, value })?;
+    Ok(shown(alloc, &fields)?.len())
+}
+
 #[test]
-fn texts_past_64_are_passed_over(rt: HostRuntime) -> Result<(), Fail> {
+fn names_and_values_of_responses_have_their_bytes(rt: HostRuntime) -> Result<(), Fail> {
     let alloc = rt.alloc();
-    let mut line = String::from_str(alloc, "k-bin=4151")?;
-    for _ in 1..64 {
-        line.push_str("2c4151")?;
+    // the bytes of a token (RFC 9110, section 5.6.2) but the capitals
+    let letters = b"!#$%&'*+-.^_`|~0123456789abcdefghijklmnopqrstuvwxyz";
+    for byte in 0..=255u8 {
+        let is_name = letters.contains(&byte);
+        assert_eq!(rt;
+            shown_of(alloc, &[byte], b"")?,
+            usize::from(is_name),
+            "{byte}"
+        );
+        let is_value = byte == 9 || byte >= 32 && byte != 127;
+        assert_eq!(rt;
+            shown_of(alloc, b"v", &[byte])?,
+            usize::from(is_value),
+            "{byte}"
+        );
     }
-    assert_eq!(rt; shown(alloc, &fields_of(alloc, line.as_str())?)?.len(), 64);
-    line.push_str("2c4151")?;
-    assert_eq!(rt; shown(alloc, &fields_of(alloc, line.as_str())?)?.len(), 0);
+    let mut name = Vec::new(alloc);
+    for _ in 0..65_535u32 {
+        name.push(b'a')?;
+    }
+    assert_eq!(rt; shown_of(alloc, &name, b"")?, 1);
+    name.push(b'a')?;
+    assert_eq!(rt; shown_of(alloc, &name, b"")?, 0);
+    Ok(())
+}
+
+#[test]
+fn names_and_values_of_requests_have_their_bytes(rt: HostRuntime) -> Result<(), Fail> {
+    let alloc = rt.alloc();
+    for byte in 0..=255u8 {
+        let is_name = b"-._0123456789abcdefghijklmnopqrstuvwxyz".contains(&byte);
+        let mut meta = Metadata::new(alloc);
+        assert_eq!(rt; meta.push(&[byte], b"").is_ok(), is_name, "{byte}");
+        let is_value = byte > b' ' && byte <= b'~';
+        let mut meta = Metadata::new(alloc);
+        assert_eq!(rt; meta.push(b"v", &[byte]).is_ok(), is_value, "{byte}");
+        let is_path = is_value && byte != b'/';
+        let path = Text::of_slice(alloc, &[b'/', byte, b'/', byte])?;
+        let request = Request::new(path, Metadata::new(alloc), None, None);
+        assert_eq!(rt; request.is_ok(), is_path, "{byte}");
+    }
+    let mut path = Text::of_slice(alloc, b"/s/")?;
+    for _ in 3..1_024u32 {
+        path.push(b'm')?;
+    }
+    let longer = path.copy()?;
+    assert!(rt; Request::new(path, Metadata::new(alloc), None, None).is_ok());
+    let mut longer = longer;
+    longer.push(b'm')?;
+    assert!(rt; Request::new(longer, Metadata::new(alloc), None, None).is_err());
     Ok(())
 }
 
 /// Each line a time left in nanoseconds and its text.
 static TIMES: &str = "1 1n
+2 2n
+999 999n
 99999999 99999999n
 100000000 100000u
 100000001 100001u
-99999999000 99999999u
+99999999999 100000m
+100000000000 100000m
 99999999001 100000m
+99999999000000 99999999m
 99999999000001 100000S
+99999999000000000 99999999S
 99999999000000001 1666667M
-1000000000000000000 16666667M";
+1000000000000000000 16666667M
+999999999999999999 16666667M
+954 954n
+59660015491 59660016u
+98235304144332557 98235305S
+5452 5452n
+51908 51908n
+350 350n
+9584400299134301 9584401S
+3 3n
+199883 199883n
+66334 66334n
+39609 39609n
+37588456980609 37588457m
+319589135167674246 5326486M
+76839872920 76839873u
+1252206 1252206n
+35 35n
+6965 6965n
+483380367171320 483381S
+573734 573734n
+8921120988031 8921121m
+4965573 4965573n
+9 9n
+91691650082 91691651u
+736372632 736373u
+7021100 7021100n
+7797854 7797854n
+58645939 58645939n
+272589250 272590u
+28395992914801750 28395993S
+20582222200769732 20582223S
+502829264236 502830m
+8 8n
+14526067646314 14526068m
+97332912483417003 97332913S
+592097712 592098u
+6737599543 6737600u
+5156287847 5156288u
+3 3n
+636 636n
+494581909216126953 8243032M
+4149 4149n
+6692 6692n
+29720 29720n
+430196 430196n
+4218083 4218083n
+3772032146569512 3772033S
+9589871809652 9589872m
+1486 1486n
+92143 92143n
+60630273296701 60630274m
+7470 7470n
+67194959046801540 67194960S
+9454818500927195 9454819S
+9239366146634 9239367m
+6560757024975178 6560758S
+458 458n
+551336075523 551337m
+746 746n
+83386071434410 83386072m
+566036037080 566037m";
 
 #[test]
 fn times_have_their_texts(rt: HostRuntime) -> Result<(), Fail> {
@@ -82,39 +250,38 @@ fn times_have_their_texts(rt: HostRuntime) -> Result<(), Fail> {
     Ok(())
 }
 
-/// Each line a value and its wait, where it says one.
-static PUSHBACKS: &str = "30 0
-37 7
-303037 7
-32313437343833363437 2147483647
-32313437343833363438 -
-30303030303030303031 1
-3030303030303030303031 -
-2d31 -
-30303778 -
-2b31 -
-2031 -
- -";
+/// Each line a pushback, as milliseconds, `stop` or `-` for none, and the fields that say it.
+static PUSHBACKS: &str = "-
+0 grpc-retry-pushback-ms=0
+7 grpc-retry-pushback-ms=7
+stop grpc-retry-pushback-ms=-1
+stop grpc-retry-pushback-ms=007x
+7 grpc-retry-pushback-ms=007
+2147483647 grpc-retry-pushback-ms=2147483647
+stop grpc-retry-pushback-ms=2147483648
+1 grpc-retry-pushback-ms=0000000001
+stop grpc-retry-pushback-ms=00000000001
+stop grpc-retry-pushback-ms=1 grpc-retry-pushback-ms=2
+stop grpc-retry-pushback-ms=
+stop grpc-retry-pushback-ms=+1
+stop grpc-retry-pushback-ms=%201
+stop grpc-retry-pushback-ms=1.0
+stop grpc-retry-pushback-ms=9999999999
+- grpc-retry-pushback=37 k=7
+7 k=31 grpc-retry-pushback-ms=7 k=1
+stop grpc-retry-pushback-ms=7 k=1 grpc-retry-pushback-ms=7";
 
 #[test]
 fn pushbacks_are_read(rt: HostRuntime) -> Result<(), Fail> {
     let alloc = rt.alloc();
-    assert_eq!(rt; pushback(&fields_of(alloc, "k=37")?), Pushback::None);
     for line in PUSHBACKS.lines() {
-        let (value, want) = line.split_once(' ').ok_or("a line")?;
-        let want = match want.parse::<u32>() {
-            Ok(millis) => Pushback::After(millis),
-            Err(_) => Pushback::Stop,
+        let want = match line.split(' ').next().ok_or("a word")? {
+            "-" => Pushback::None,
+            "stop" => Pushback::Stop,
+            millis => Pushback::After(millis.parse::<u32>()?),
         };
-        let fields = format!(in alloc; "k=31 grpc-retry-pushback-ms={value}")?;
-        assert_eq!(rt;
-            pushback(&fields_of(alloc, fields.as_str())?),
-            want,
-            "{line}"
-        );
+        assert_eq!(rt; pushback(&fields_of(alloc, line)?), want, "{line}");
     }
-    let two = "grpc-retry-pushback-ms=37 k=31 grpc-retry-pushback-ms=37";
-    assert_eq!(rt; pushback(&fields_of(alloc, two)?), Pushback::Stop);
     Ok(())
 }
 

@@ -53,11 +53,12 @@ fn numbers_have_their_codes(rt: HostRuntime) {
 
 #[test]
 fn texts_have_their_codes(rt: HostRuntime) {
-    let texts: [(&[u8], u32); 16] = [
+    let texts: [(&[u8], u32); 17] = [
         (b"0", 0),
         (b"1", 1),
         (b"16", 16),
         (b"17", 2),
+        (b"017", 2),
         (b"00", 0),
         (b"016", 16),
         (b"14", 14),
@@ -91,7 +92,7 @@ fn messages_are_decoded(rt: HostRuntime) -> Result<(), Fail> {
         (b"%00", b"\x00"),
         (b"caf%C3%A9", b"caf\xc3\xa9"),
         (b"%c3%a9%C3", b"\xc3\xa9\xef\xbf\xbd"),
-        (b"%f0%9f%98%80", b"\xf0\x9f\x98\x80"),
+        (b"\x25F0%9F%98%80", b"\xf0\x9f\x98\x80"),
         (b"%ED%A0%80", b"\xef\xbf\xbd\xef\xbf\xbd\xef\xbf\xbd"),
         (b"%25", b"%"),
         (b"100%", b"100%"),

@@ -15,4 +15,6 @@ pub use json::Json;
 pub use read::read_json;
 
 #[cfg(test)]
+mod fault_tests;
+#[cfg(test)]
 mod tests;
