@@ -150,11 +150,11 @@ on_ok (Ok x) failed is passed holds = holds
 on_ok (Err x) failed is passed holds = absurd (cc)
 
 -- the report of a channel that has run these events is that of their session
-pub session_written : (authority : Address) (target : List ℕ) (events : List Stamped) (core : CoreSeen) (journal : Journal) (ledger : Ledger) (taken taken' : Option (List ℕ)) → HasRun authority events core → journal ≡ core.journal → ledger ≡ core.ledger → (core.spent ≡ false → IsLawful core.authority core.journal.entries ledger) → target ≡ target_text authority → Appends taken taken' (report_of target journal ledger) → WritesSession authority events taken taken'
-session_written authority target events core journal ledger taken taken' run j l lawful same written =
+pub session_written : (authority other : Address) (target : List ℕ) (events : List Stamped) (core : CoreSeen) (journal : Journal) (ledger : Ledger) (taken taken' : Option (List ℕ)) → other ≡ authority → HasRun other events core → journal ≡ core.journal → ledger ≡ core.ledger → (core.spent ≡ false → IsLawful core.authority core.journal.entries ledger) → target ≡ target_text authority → Appends taken taken' (report_of target journal ledger) → WritesSession authority events taken taken'
+session_written authority other target events core journal ledger taken taken' is run j l lawful same written =
     let laws : IsLawful authority journal.entries ledger =
     subst (λ (x : Journal). IsLawful authority x.entries ledger) (sym j)
-    (subst (λ (a : Address). IsLawful a core.journal.entries ledger) run.authority_is (lawful run.unspent)) in
+    (subst (λ (a : Address). IsLawful a core.journal.entries ledger) (run.authority_is ∙ is) (lawful run.unspent)) in
     record {
       journal = journal;
       ledger = ledger;
