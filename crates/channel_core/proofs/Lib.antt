@@ -1,4 +1,5 @@
 pub mod CallLaws
+pub mod Examples
 pub mod FrameSizes
 pub mod Lawful
 pub mod ListLaws
