@@ -31,18 +31,22 @@ pub record IsReadList (text : List ℕ) (list : List Address) (count : ℕ) (res
 no_comma : IsNoDigit 44
 no_comma = inl (omega arith)
 
+no_dot : ◌≢◌ {A = ℕ} 46 44
+no_dot e = omega (arith, e)
+
+no_colon : ◌≢◌ {A = ℕ} 58 44
+no_colon e = omega (arith, e)
+
 before : (n b : ℕ) (rest : List ℕ) → n < 2 ^ 64 → b ≢ 44 → AllByRecursion (λ d. d ≢ 44) rest → AllByRecursion (λ d. d ≢ 44) (decimal n ++ b ∷ rest)
 before n b rest small other free = append_free (λ d. d ≢ 44) (decimal n) (b ∷ rest) (free_of 44 n no_comma small) (other, free)
 
 address_free : (a : Address) → IsAddress a → AllByRecursion (λ d. d ≢ 44) (address_text a)
 address_free a is =
-    let dot : 46 ≢ 44 = λ e. omega (arith, e) in
-    let colon : 58 ≢ 44 = λ e. omega (arith, e) in
     subst (AllByRecursion (λ d. d ≢ 44)) (sym (text_is_quad a))
-    (before (a.ip / 2 ^ 24) 46 _ (omega (arith, byte_a a is)) dot
-    (before (a.ip / 2 ^ 16 % 256) 46 _ (omega (arith, byte_b a)) dot
-    (before (a.ip / 2 ^ 8 % 256) 46 _ (omega (arith, byte_c a)) dot
-    (before (a.ip % 256) 58 _ (omega (arith, byte_d a)) colon (free_of 44 a.port no_comma (omega (arith, is.port_high)))))))
+    (before (a.ip / 2 ^ 24) 46 _ (omega (arith, byte_a a is)) no_dot
+    (before (a.ip / 2 ^ 16 % 256) 46 _ (omega (arith, byte_b a)) no_dot
+    (before (a.ip / 2 ^ 8 % 256) 46 _ (omega (arith, byte_c a)) no_dot
+    (before (a.ip % 256) 58 _ (omega (arith, byte_d a)) no_colon (free_of 44 a.port no_comma (omega (arith, is.port_high)))))))
 
 addresses_free : (xs : List Address) → AllByRecursion IsAddress xs → AllByRecursion (λ (v : List ℕ). AllByRecursion (λ d. d ≢ 44) v) (map address_text xs)
 addresses_free [] good = tt
