@@ -260,7 +260,3 @@ state_after before e =
     if list_any (λ x. is_settings_arrival x.event) before || is_settings_arrival e then conn.Ready
     else if list_any (λ x. is_resolved x.event) before || is_resolved e then conn.Connecting
     else conn.Idle
-
--- the moment of the last step
-abbrev pub last_moment : List Entry → ℕ
-last_moment entries = option_map_or (λ e. e.moment) (slice_get entries (length entries - 1)) 0
