@@ -1,0 +1,5 @@
+pub mod Answers
+pub mod Causes
+pub mod Events
+pub mod Fields
+pub mod Lines

@@ -1,0 +1,18 @@
+// The lines of scripts: what each line of a replay, live or server script says, or the first cause why it is bad.
+#![tactic(auto)]
+
+mod call;
+mod cause;
+mod channel;
+mod event;
+mod field;
+mod line;
+mod live;
+mod name;
+mod part;
+mod parts;
+mod raw;
+mod replay;
+mod request;
+mod split;
+mod stamped;
