@@ -19,7 +19,7 @@ use Rattle.script_fields.proofs.TextLaws.{bytes_from, dash_one, free_of, hex_one
 use Rattle.script_lines.specs.declared.cause.LineFault.{LineFault}
 use Rattle.script_lines.specs.declared.cause.LineFault.TheVariants as fault
 use Rattle.script_lines.specs.Causes.{bad_address, bad_hex, bad_number, past_limit}
-use Rattle.script_lines.specs.Fields.{HasForm, IsFieldFault, IsGood, addresses_field, config_field, config_or_dash_field, line_fault, message_field, worker_field}
+use Rattle.script_lines.specs.Fields.{HasForm, IsFieldFault, IsGood, IsNumber, number_limit, addresses_field, config_field, config_or_dash_field, line_fault, message_field, worker_field}
 use Rattle.script_lines.specs.Lines.{IsToldBy}
 
 pub no_worker : (n : ℕ) (text : List ℕ) (e : LineFault) → n ≡ 0 → text ≡ decimal n → e ≡ fault.Bad bad_number → IsToldBy (IsFieldFault worker_field text) e
@@ -110,3 +110,6 @@ addresses_told text field.Limit e is h =
     omega (arith, l, h.2, g.1.2)) in
     rw is (inr ((h.0, h.1), inl (none, refl)))
 addresses_told text field.NoMemory e is h = rw is tt
+
+pub other_number : (n k : ℕ) (text : List ℕ) (e : LineFault) → n < 2 ^ 64 → k < 2 ^ 64 → n ≢ k → text ≡ decimal n → e ≡ fault.Bad bad_number → IsToldBy (λ c. (IsNumber number_limit k text → ⊥) × (c ≡ bad_number)) e
+other_number n k text e small k_small other is told = rw told ((λ h. other (decimal_injective n k small k_small (sym is ∙ h.1))), refl)

@@ -1,5 +1,8 @@
 -- The lines of a server script.
-use Rattle.std.specs.Prelude.{◌≡◌, ◌≢◌, ◌≤◌, ◌⊎◌, ℕ, ◌+◌, Bool, true, false, ◌||◌, Option, Some, None, List, [], ◌∷◌, length, codes, All}
+use Rattle.std.specs.Prelude.{◌≡◌, ◌≢◌, ◌≤◌, ◌⊎◌, ℕ, ◌+◌, Bool, true, false, ◌||◌, Option, Some, None, List, [], ◌∷◌, length, codes, All, nat_eq}
+use Rattle.std.specs.Cmp.Lexicographic.{pointwise}
+use Rattle.std.specs.Map.{lookup}
+use Rattle.std.specs.Option.{unwrap_or}
 use Rattle.grpc_base.specs.declared.script.AnswerLine.{AnswerLine}
 use Rattle.grpc_base.specs.declared.script.AnswerPart.{AnswerPart}
 use Rattle.grpc_base.specs.declared.script.AnswerPart.TheVariants as part
@@ -113,21 +116,25 @@ IsPartsFault text c =
     ArePartsFault false (parted 44 text) c
     ⊎ ((ps : List AnswerPart) × AreParts false (parted 44 text) ps × (All IsWithin ps → ⊥) × (c ≡ past_limit))
 
--- how many lines of each path came before
+-- the paths of the lines before, each with how many of them it had
 abbrev pub Answered : Type 0
-Answered = List ℕ → ℕ
+Answered = List (List ℕ × ℕ)
+
+-- how many of the lines before have this path
+abbrev pub count_of : Answered → List ℕ → ℕ
+count_of answered path = unwrap_or (lookup (λ other. pointwise nat_eq path other) answered) 0
 
 -- an answer to the next request of its path
 abbrev pub IsAnswerText : Answered → List (List ℕ) → AnswerLine → Type 0
 IsAnswerText answered (name ∷ path ∷ n ∷ parts ∷ []) line =
-    (name ≡ codes "answer") × IsPath path × (line.path ≡ path) × (line.n ≡ answered path + 1) × IsNumber number_limit line.n n
+    (name ≡ codes "answer") × IsPath path × (line.path ≡ path) × (line.n ≡ count_of answered path + 1) × IsNumber number_limit line.n n
     × IsPartsText parts line.parts
 IsAnswerText answered texts line = ⊥
 
 abbrev pub IsAnswerFields : Answered → List (List ℕ) → ℕ → Type 0
 IsAnswerFields answered (path ∷ n ∷ parts ∷ []) c =
     IsFieldFault path_field path c
-    ⊎ (IsPath path × Before (IsNumber number_limit (answered path + 1) n) bad_number c (IsPartsFault parts c))
+    ⊎ (IsPath path × Before (IsNumber number_limit (count_of answered path + 1) n) bad_number c (IsPartsFault parts c))
 IsAnswerFields answered texts c = ⊥
 
 abbrev pub IsAnswerFault : Answered → List (List ℕ) → ℕ → Type 0

@@ -3,3 +3,4 @@ pub mod Causes
 pub mod Events
 pub mod Fields
 pub mod Lines
+pub mod Reader

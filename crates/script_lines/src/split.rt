@@ -47,6 +47,16 @@ pub fn two_fields(rest: Option<&[u8]>) -> Option<(&[u8], &[u8])>
     Some((a, b))
 }
 
+/// The three fields of a rest.
+pub fn three_fields(rest: Option<&[u8]>) -> Option<(&[u8], &[u8], &[u8])>
+    ensures some { IfSome result (λ p. fields_behind (option_copied rest.entry) ≡ p.0.now ∷ p.1.now ∷ p.2.now ∷ []) }
+    ensures none { IfNone result (length (fields_behind (option_copied rest.entry)) ≢ 3) }
+{
+    let (a, rest) = next_field(rest)?;
+    let (b, c) = two_fields(rest)?;
+    Some((a, b, c))
+}
+
 /// The four fields of a rest.
 pub fn four_fields(rest: Option<&[u8]>) -> Option<(&[u8], &[u8], &[u8], &[u8])>
     ensures some { IfSome result (λ p. fields_behind (option_copied rest.entry) ≡ p.0.now ∷ p.1.now ∷ p.2.now ∷ p.3.now ∷ []) }
