@@ -1,4 +1,5 @@
 pub mod CountLaws
 pub mod FieldLaws
+pub mod GrammarLaws
 pub mod LineLaws
 pub mod PartLaws
