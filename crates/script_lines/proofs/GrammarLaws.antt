@@ -1,6 +1,6 @@
 -- What is spelled so is read: no first fault, and one event.
-use Rattle.std.proofs.Common.{◌≡◌, ◌≢◌, ℕ, suc, ◌+◌, ◌≤◌, List, [], ◌∷◌, ◌++◌, map, length, arith, refl, ap, sym, subst, inl, inr, ◌⊎◌, ◌∙◌, IsTrue}
-use Rattle.std.specs.Prelude.{codes, Option, Some, None, nat_eq, if◌then◌else◌}
+use Rattle.std.proofs.Common.{◌≡◌, ℕ, suc, List, [], ◌∷◌, ◌++◌, map, length, arith, refl, ap, sym, subst, inl, inr, ◌⊎◌, ◌∙◌}
+use Rattle.std.specs.Prelude.{codes, nat_eq, if◌then◌else◌}
 use Rattle.std.specs.Cmp.Lexicographic.{pointwise}
 use Rattle.grpc_base.specs.declared.event.Event.{Event}
 use Rattle.grpc_base.specs.declared.event.Event.TheVariants as event

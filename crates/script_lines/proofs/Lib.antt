@@ -4,3 +4,4 @@ pub mod FieldLaws
 pub mod GrammarLaws
 pub mod LineLaws
 pub mod PartLaws
+pub mod ReaderLaws
