@@ -1,0 +1,6 @@
+pub mod Trees
+pub mod Choice
+pub mod Values
+pub mod Codes
+pub mod Places
+pub mod Policies
