@@ -4,3 +4,6 @@ pub mod Values
 pub mod Codes
 pub mod Places
 pub mod Policies
+pub mod Entries
+pub mod Keys
+pub mod Reading

@@ -3,9 +3,15 @@
 
 mod code;
 mod config;
+mod entry;
+mod known;
+mod method;
+mod path;
 mod place;
 mod plan;
+mod read;
 mod tree;
 mod value;
 
 pub use config::{Config, Method};
+pub use read::read_config;

@@ -2,7 +2,8 @@
 ghost use Rattle.std.specs.Prelude.{◌≡◌};
 ghost use Rattle.service_config.specs.Places.{field_name};
 
-use grpc_base::{JsonFault, NoMemory};
+use grpc_base::NoMemory;
+use std::alloc::{AllocError, AllocFailed};
 
 /// A field that is read.
 #[derive(Clone, Copy, Debug, PartialEq, Eq)]
@@ -86,7 +87,6 @@ pub enum Place {
 /// The first fault, with the place of what has it.
 #[derive(Clone, Copy, Debug, PartialEq, Eq)]
 pub enum Fault {
-    Json(JsonFault),
     /// The wrong kind of value, or one out of range.
     Wrong(Place),
     /// Both policies in one entry.
@@ -103,6 +103,28 @@ impl From<NoMemory> for Fault {
     ghost from_gives = { λ _ e. e ≡ faults.NoMemory };
 
     fn from(_e: NoMemory) -> Fault {
+        Fault::NoMemory
+    }
+}
+
+impl From<AllocError> for Fault {
+    ghost use Rattle.std.specs.Prelude.{◌≡◌};
+    ghost use Rattle.service_config.specs.declared.place.Fault.TheVariants as faults;
+
+    ghost from_gives = { λ _ e. e ≡ faults.NoMemory };
+
+    fn from(_e: AllocError) -> Fault {
+        Fault::NoMemory
+    }
+}
+
+impl<T: Drop> From<AllocFailed<T>> for Fault {
+    ghost use Rattle.std.specs.Prelude.{◌≡◌};
+    ghost use Rattle.service_config.specs.declared.place.Fault.TheVariants as faults;
+
+    ghost from_gives = { λ _ e. e ≡ faults.NoMemory };
+
+    fn from(_e: AllocFailed<T>) -> Fault {
         Fault::NoMemory
     }
 }
