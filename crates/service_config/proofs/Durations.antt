@@ -1,12 +1,12 @@
 -- How large durations and ratios are.
-use Rattle.std.proofs.Common.{◌≡◌, ℕ, ◌+◌, ◌-◌, ◌*◌, ◌/◌, ◌^◌, ◌≤◌, ◌<◌, List, [], ◌∷◌, Option, Some, None, Bool, true, false, refl, arith, length, sym, ◌∙◌}
+use Rattle.std.proofs.Common.{◌≡◌, ℕ, ◌+◌, ◌-◌, ◌*◌, ◌/◌, ◌^◌, ◌≤◌, ◌<◌, List, [], ◌∷◌, Option, Some, None, Bool, true, false, refl, arith, length}
 use Rattle.std.specs.Prelude.{take, nat_eq, nat_le, nat_lt, if◌then◌else◌, ◌&&◌, ◌||◌, ◌==◌}
 use Rattle.std.specs.List.{list_all, ends_with}
 use Rattle.std.proofs.Math.Nat.{mul-le-mul_right}
 use Rattle.std.proofs.lemmas.Bool.Decides.{nat_tests}
 use Rattle.json_text.specs.Numbers.{is_digit}
 use Rattle.json_text.specs.Decimals.{nanos_of, nanos_by, nanos_found, milli_of, milli_by, milli_found, parts_of, are_digits, is_canonical, value_of, fraction_of}
-use Rattle.service_config.specs.Values.{ratio_of, within_thousand}
+use Rattle.service_config.specs.Values.{within_thousand}
 
 -- the arm and the test of a choice that gives something
 module _ {A : Type 0} where

@@ -1,6 +1,6 @@
 -- Names are told apart by their keys.
 use Rattle.std.proofs.Common.{◌≡◌, ℕ, List, [], ◌∷◌, ◌++◌, refl, ap, ap₂, sym, subst, ◌∙◌, arith, Bool, true, false, drop, get_or, Vec, Global}
-use Rattle.std.specs.Prelude.{◌||◌, ◌&&◌, not, if◌then◌else◌, Result, Ok, Err}
+use Rattle.std.specs.Prelude.{◌||◌, ◌&&◌, not, if◌then◌else◌, Ok, Err}
 use Rattle.std.specs.List.{list_any}
 use Rattle.std.specs.Str.{bytes_eq}
 use Rattle.std.specs.Ordering.{nat_cmp, is_eq}
@@ -13,7 +13,6 @@ use Rattle.std.proofs.lemmas.Slice.Eq.{bytes_eq-Decides}
 use Rattle.service_config.specs.declared.config.Method.{Method}
 use Rattle.service_config.specs.declared.method.Settings.{Settings}
 use Rattle.service_config.specs.Entries.{NameSeen, key_from, has_name, method_of, added}
-use Rattle.service_config.specs.declared.place.Fault.{Fault}
 use Rattle.service_config.specs.declared.place.Fault.TheVariants as fault
 use Rattle.service_config.specs.Keys.{HasKeys}
 

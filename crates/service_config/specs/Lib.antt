@@ -7,3 +7,4 @@ pub mod Policies
 pub mod Entries
 pub mod Keys
 pub mod Reading
+pub mod Text

@@ -1,6 +1,6 @@
 -- The policies and the throttling of a config: which fields are read, in which order, and the first fault (gRFC A6,
 -- "Service Config Changes").
-use Rattle.std.specs.Prelude.{ℕ, ◌+◌, Bool, if◌then◌else◌, List, [], ◌∷◌, Option, Some, None, option_and_then, option_map, Result, Ok, Err}
+use Rattle.std.specs.Prelude.{ℕ, ◌+◌, List, [], ◌∷◌, Option, Some, None, option_and_then, option_map, Result, Ok, Err}
 use Rattle.std.specs.Option.{ok_or}
 use Rattle.grpc_base.specs.Codes.{CodesSeen, no_codes, with_code}
 use Rattle.grpc_base.specs.declared.plan.CallPlan.{CallPlan}

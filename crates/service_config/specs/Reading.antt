@@ -1,8 +1,7 @@
 -- What a text is read as for some kinds of policy, or its first fault (gRPC, "Service Config in gRPC"; gRFC A6): the
 -- JSON whole, the choice of the policy, each entry of methodConfig, the throttling.
-use Rattle.std.specs.Prelude.{◌≡◌, ℕ, ◌+◌, Bool, if◌then◌else◌, List, [], ◌∷◌, Option, Some, None, option_and_then, Result, Ok, Err}
+use Rattle.std.specs.Prelude.{◌≡◌, ℕ, ◌+◌, if◌then◌else◌, List, [], ◌∷◌, Option, Some, None, option_and_then, Result, Ok, Err}
 use Rattle.std.specs.Option.{ok_or, option_or}
-use Rattle.std.specs.List.{find}
 use Rattle.std.specs.Str.{bytes_eq}
 use Rattle.grpc_base.specs.Kinds.{KindsSeen, kind_name, has_kind}
 use Rattle.grpc_base.specs.declared.kind.Kind.{Kind}

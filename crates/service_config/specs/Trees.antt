@@ -1,7 +1,7 @@
 -- The parts of a JSON value (RFC 8259, section 3), in the text's order.
 use Rattle.std.specs.Prelude.{ℕ, Bool, List, [], ◌∷◌, Option, Some, None, if◌then◌else◌}
 use Rattle.std.specs.Str.{bytes_eq}
-use Rattle.json_text.specs.Tree.{Tree, null, boolean, number, string, list, object, Items, no_items, item_after, Members, no_members, member_after}
+use Rattle.json_text.specs.Tree.{Tree, boolean, number, string, list, object, Items, no_items, item_after, Members, no_members, member_after}
 use Rattle.json_text.specs.Views.{tree_of}
 use Rattle.json_text.specs.declared.json.Json.{Json}
 

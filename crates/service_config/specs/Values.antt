@@ -1,6 +1,6 @@
 -- How the value of a field is read; None where it is of the wrong kind or out of range (gRFC A6, "Service Config
 -- Changes"; service_config.proto; durations and 64-bit numbers as JSON: protobuf, "ProtoJSON Format").
-use Rattle.std.specs.Prelude.{ℕ, ◌+◌, ◌*◌, Bool, true, ◌&&◌, ◌||◌, ◌==◌, nat_le, nat_lt, if◌then◌else◌, List, [], ◌∷◌, Option, Some, None, option_and_then, option_map, min}
+use Rattle.std.specs.Prelude.{ℕ, ◌*◌, Bool, ◌&&◌, ◌||◌, ◌==◌, nat_le, nat_lt, if◌then◌else◌, List, Option, Some, None, option_and_then, min}
 use Rattle.std.specs.List.{list_all}
 use Rattle.json_text.specs.Tree.{Tree, number, string}
 use Rattle.json_text.specs.Decimals.{are_digits, value_of, parts_of, milli_of, nanos_of}

@@ -10,8 +10,13 @@ mod path;
 mod place;
 mod plan;
 mod read;
+mod text;
 mod tree;
 mod value;
 
 pub use config::{Config, Method};
 pub use read::read_config;
+pub use text::{append_config, config_text, fault_text};
+
+#[cfg(test)]
+mod tests;

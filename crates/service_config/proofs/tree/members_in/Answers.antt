@@ -1,4 +1,4 @@
-use Rattle.std.proofs.Common.{◌≡◌, ap, sym, Some, ◌∙◌, map, List, ℕ}
+use Rattle.std.proofs.Common.{ap, sym, Some, ◌∙◌, map, List, ℕ}
 use Rattle.json_text.specs.Views.{tree_of}
 use Rattle.json_text.specs.declared.json.Json.{Json}
 use Rattle.service_config.specs.Trees.{members_in, member_seen}

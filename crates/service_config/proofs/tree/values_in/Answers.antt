@@ -1,4 +1,4 @@
-use Rattle.std.proofs.Common.{◌≡◌, ap, sym, Some, ◌∙◌, map, List}
+use Rattle.std.proofs.Common.{ap, sym, Some, ◌∙◌, map, List}
 use Rattle.json_text.specs.Views.{tree_of}
 use Rattle.json_text.specs.declared.json.Json.{Json}
 use Rattle.service_config.specs.Trees.{values_in}
