@@ -1,0 +1,4 @@
+// Plain slow programs, each of which computes one definition over whole texts of bytes: tests compute the definitions with them.
+
+mod messages;
+mod tests;
