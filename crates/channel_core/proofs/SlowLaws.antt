@@ -2,13 +2,19 @@
 use Rattle.std.proofs.Common.{◌≡◌, ◌<◌, refl, ap, sym, subst, ◌∙◌, ℕ, zero, suc, ◌+◌, ◌-◌, ◌*◌, Bool, true, false, Some, None, List, [], ◌∷◌, length, take, drop, arith}
 use Rattle.std.specs.Prelude.{◌==◌, Option, nat_lt, nat_le, if◌then◌else◌}
 use Rattle.std.proofs.lemmas.Bool.Decides.{nat_tests}
-use Rattle.std.proofs.lemmas.List.{length-take-le}
+use Rattle.std.proofs.lemmas.List.{length-take-le, take_all}
 use Rattle.h2_frame.specs.Frames.{FrameSeen, IsFrame}
 use Rattle.h2_frame.specs.Readings.{Reading, Whole, Partial, Fault, frames_after, frames_within, reading_of}
 use Rattle.h2_frame.proofs.FrameLaws.{whole_is_frame}
-use Rattle.channel_core.specs.Said.{FrameAt, frames_at}
+use Rattle.h2_frame.specs.Frames.{has_flag}
+use Rattle.h2_frame.specs.declared.flags.TheConstants.{END_HEADERS}
+use Rattle.h2_hpack.specs.Blocks.{Reading as BlockReading, State, decoded, fields_in, table_in}
+use Rattle.h2_hpack.specs.declared.fault.HpackFault.{HpackFault}
+use Rattle.grpc_base.specs.declared.fields.Field.{Field}
+use Rattle.std.specs.Prelude.{Result, Ok, Err}
+use Rattle.channel_core.specs.Said.{Block, FrameAt, HeaderList, Headers, Other, Said, block_with, frames_at, said_from}
 use Rattle.channel_core.specs.Messages.{Flaw, BadFlag, TooLarge, Messages, before, messages_within}
-use Rattle.channel_core.specs.Slow.{first_message, flaw_at, flaw_behind, length_at, message_behind}
+use Rattle.channel_core.specs.Slow.{first_message, flaw_at, flaw_behind, length_at, list_then, message_behind, said_block}
 
 -- no message, and what is wrong with these bytes
 abbrev pub stopped : List ℕ → Option Flaw → Messages
@@ -99,3 +105,68 @@ frames_at_part before (suc most) bytes h = ap (λ (r : Reading). frames_at befor
 pub frames_at_fault : (before most : ℕ) (bytes : List ℕ) (code : ℕ) → reading_of bytes ≡ Fault code → frames_at before (frames_within most bytes) ≡ []
 frames_at_fault before zero bytes code h = refl
 frames_at_fault before (suc most) bytes code h = ap (λ (r : Reading). frames_at before (frames_after r (λ n. frames_within most (drop n bytes)))) h
+
+-- a block that decodes to a header list, and one that does not decode
+pub block_list : (x : Result BlockReading HpackFault) (b : Block) (fields : List Field) (after : State) (others : State → List Said) → fields_in x ≡ Ok fields → after ≡ table_in x → said_block x b others ≡ Headers (record { stream = b.stream; ends = b.ends; fields = fields; end = b.end }) ∷ others after
+block_list (Ok r) b fields after others e g =
+    let same : r.fields ≡ fields = (cc) in
+    ap (λ (l : List Field). Headers (record { stream = b.stream; ends = b.ends; fields = l; end = b.end }) ∷ others (Ok r.table)) same
+    ∙ ap (λ (s : State). Headers (record { stream = b.stream; ends = b.ends; fields = fields; end = b.end }) ∷ others s) (sym g)
+block_list (Err fault) b fields after others e g = absurd (cc)
+
+pub block_fault : (x : Result BlockReading HpackFault) (b : Block) (fault : HpackFault) (others : State → List Said) → x ≡ Err fault → said_block x b others ≡ []
+block_fault x b fault others e = ap (λ (y : Result BlockReading HpackFault). said_block y b others) e
+
+-- what is said with one frame more
+block_cases : (x : Result BlockReading HpackFault) (b : Block) (frames : List FrameAt) → (elim x [
+  | Err e ↦ []
+  | Ok r ↦ Headers (record { stream = b.stream; ends = b.ends; fields = r.fields; end = b.end }) ∷ said_from (Ok r.table) None frames
+]) ≡ said_block x b (λ s. said_from s None frames)
+block_cases (Ok r) b frames = refl
+block_cases (Err e) b frames = refl
+
+-- what is said with a frame and those behind it, by the block of which it is a part
+abbrev said_by_block : State → FrameAt → List FrameAt → Option Block → List Said
+said_by_block state a frames o = elim o [
+  | None ↦ Other a ∷ said_from state None frames
+  | Some b ↦ (if has_flag a.frame.flags END_HEADERS then (elim (decoded state b.bytes) [
+    | Err e ↦ []
+    | Ok r ↦ Headers (record { stream = b.stream; ends = b.ends; fields = r.fields; end = b.end }) ∷ said_from (Ok r.table) None frames
+  ])
+      else said_from state (Some b) frames)
+]
+
+said_in_steps : (state : State) (begun : Option Block) (a : FrameAt) (frames : List FrameAt) → said_from state begun (a ∷ frames) ≡ said_by_block state a frames (block_with begun a)
+said_in_steps state begun a frames = refl
+
+pub said_other : (state : State) (begun : Option Block) (a : FrameAt) (frames : List FrameAt) → block_with begun a ≡ None → said_from state begun (a ∷ frames) ≡ Other a ∷ said_from state None frames
+said_other state begun a frames e = said_in_steps state begun a frames ∙ ap (said_by_block state a frames) e
+
+pub said_going_on : (state : State) (begun : Option Block) (b : Block) (a : FrameAt) (frames : List FrameAt) → block_with begun a ≡ Some b → has_flag a.frame.flags END_HEADERS ≡ false → said_from state begun (a ∷ frames) ≡ said_from state (Some b) frames
+said_going_on state begun b a frames e flag =
+    said_in_steps state begun a frames ∙ ap (said_by_block state a frames) e
+    ∙ ap (λ (f : Bool). if f then (elim (decoded state b.bytes) [
+      | Err e ↦ []
+      | Ok r ↦ Headers (record { stream = b.stream; ends = b.ends; fields = r.fields; end = b.end }) ∷ said_from (Ok r.table) None frames
+    ]) else said_from state (Some b) frames) flag
+
+pub said_closed : (state : State) (begun : Option Block) (b : Block) (a : FrameAt) (frames : List FrameAt) → block_with begun a ≡ Some b → has_flag a.frame.flags END_HEADERS ≡ true → said_from state begun (a ∷ frames) ≡ said_block (decoded state b.bytes) b (λ s. said_from s None frames)
+said_closed state begun b a frames e flag =
+    said_in_steps state begun a frames ∙ ap (said_by_block state a frames) e
+    ∙ ap (λ (f : Bool). if f then (elim (decoded state b.bytes) [
+      | Err e ↦ []
+      | Ok r ↦ Headers (record { stream = b.stream; ends = b.ends; fields = r.fields; end = b.end }) ∷ said_from (Ok r.table) None frames
+    ]) else said_from state (Some b) frames) flag
+    ∙ block_cases (decoded state b.bytes) b frames
+
+-- a block that does not decode is the last, and one that does has its header list in front of what follows
+pub said_ends : (state after : State) (begun : Option Block) (b : Block) (a : FrameAt) (frames : List FrameAt) → block_with begun a ≡ Some b → has_flag a.frame.flags END_HEADERS ≡ true → ((others : State → List Said) → said_block (decoded state b.bytes) b others ≡ list_then None after others) → said_from state begun (a ∷ frames) ≡ []
+said_ends state after begun b a frames e flag h = said_closed state begun b a frames e flag ∙ h (λ s. said_from s None frames)
+
+pub said_list : (state after : State) (begun : Option Block) (b : Block) (a : FrameAt) (frames : List FrameAt) (l : HeaderList) → block_with begun a ≡ Some b → has_flag a.frame.flags END_HEADERS ≡ true → ((others : State → List Said) → said_block (decoded state b.bytes) b others ≡ list_then (Some l) after others) → said_from state begun (a ∷ frames) ≡ Headers l ∷ said_from after None frames
+said_list state after begun b a frames l e flag h = said_closed state begun b a frames e flag ∙ h (λ s. said_from s None frames)
+
+-- all behind the first
+pub behind_one : (frames : List FrameAt) → take (length frames - 1) (drop 1 frames) ≡ drop 1 frames
+behind_one [] = refl
+behind_one (a ∷ frames) = take_all (length (a ∷ frames) - 1) frames (omega arith)

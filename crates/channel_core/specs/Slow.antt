@@ -1,6 +1,9 @@
 -- What the plain programs that compute the definitions read on their way.
-use Rattle.std.specs.Prelude.{ℕ, ◌+◌, ◌*◌, ◌==◌, Option, Some, None, List, [], ◌∷◌, length, take, drop, nat_lt, nat_le, if◌then◌else◌}
+use Rattle.std.specs.Prelude.{ℕ, ◌+◌, ◌*◌, ◌==◌, Option, Some, None, List, [], ◌∷◌, length, take, drop, Result, Ok, Err, nat_lt, nat_le, if◌then◌else◌}
+use Rattle.h2_hpack.specs.Blocks.{Reading, State}
+use Rattle.h2_hpack.specs.declared.fault.HpackFault.{HpackFault}
 use Rattle.channel_core.specs.Messages.{Flaw, BadFlag, TooLarge}
+use Rattle.channel_core.specs.Said.{Block, HeaderList, Headers, Said}
 
 -- a length in four bytes, the highest first, and what is behind it
 abbrev pub length_at : List ℕ → Option (ℕ × List ℕ)
@@ -31,3 +34,13 @@ flaw_behind limit (Some x) = if nat_lt limit x.0 then Some TooLarge else None
 abbrev pub flaw_at : ℕ → List ℕ → Option Flaw
 flaw_at limit [] = None
 flaw_at limit (flag ∷ bytes) = if flag == 0 then flaw_behind limit (length_at bytes) else Some BadFlag
+
+-- what is said with a block, by what it decodes to, and behind it by the decoder's state
+abbrev pub said_block : Result Reading HpackFault → Block → (State → List Said) → List Said
+said_block (Err e) b others = []
+said_block (Ok r) b others = Headers (record { stream = b.stream; ends = b.ends; fields = r.fields; end = b.end }) ∷ others (Ok r.table)
+
+-- the same by the header list
+abbrev pub list_then : Option HeaderList → State → (State → List Said) → List Said
+list_then None state others = []
+list_then (Some h) state others = Headers h ∷ others state

@@ -27,6 +27,22 @@ impl Model for FrameEnd {
     ghost view = { λ a. record { frame = record { kind = a.kind; flags = a.flags; stream = a.stream; payload = a.payload }; end = a.end } };
 }
 
+impl FrameEnd {
+    /// The same frame; its bytes are shared.
+    pub fn share(&self) -> Result<FrameEnd, NoMemory>
+        ensures { IfOk result (λ a. a ≡ self.now) }
+    {
+        let payload = self.payload.share()?;
+        Ok(FrameEnd {
+            kind: self.kind,
+            flags: self.flags,
+            stream: self.stream,
+            payload,
+            end: self.end,
+        })
+    }
+}
+
 /// The frames that some bytes begin with.
 pub fn frames(alloc: Global, bytes: &[u8]) -> Result<Items<FrameEnd>, NoMemory>
     ensures { IfOk result (λ f. f ≡ frames_at 0 (frames_of bytes.now)) }

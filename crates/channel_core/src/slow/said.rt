@@ -1,8 +1,10 @@
 // What some bytes say: header lists, and other frames.
-ghost use Rattle.std.specs.Prelude.{◌≡◌, ◌∷◌, [], ◌++◌, ◌-◌, IfOk, Option, Some, None, drop, length, take, option_map};
+ghost use Rattle.std.specs.Prelude.{◌≡◌, List, ◌∷◌, [], ◌++◌, ◌-◌, IfOk, Option, Some, None, drop, length, take, option_map};
 ghost use Rattle.h2_frame.specs.Frames.{fields_size, has_flag, is_padded};
-ghost use Rattle.h2_hpack.specs.Blocks.{decoded};
-ghost use Rattle.channel_core.specs.Said.{Headers, Other, block_with, content_of, padding_of, said_from, said_of};
+ghost use Rattle.h2_hpack.specs.Blocks.{State, decoded};
+ghost use Rattle.channel_core.specs.Said.{Said, Headers, Other, block_with, content_of, padding_of, said_from, said_of};
+ghost use Rattle.channel_core.specs.Slow.{list_then, said_block};
+ghost use Rattle.channel_core.specs.declared.slow.said.SaidPart.TheVariants as parts;
 
 use crate::slow::frames::{FrameEnd, frames};
 use grpc_base::{Fields, Items, NoMemory, Octets};
@@ -26,6 +28,109 @@ impl Model for OpenBlock {
     ghost Value = { Block };
 
     ghost view = { λ b. record { stream = b.stream; ends = b.ends; bytes = b.bytes; end = b.end } };
+}
+
+/// A header list, with the stream on which it came and whether it ends that stream.
+#[derive(Debug, Drop)]
+pub struct SaidList {
+    pub stream: u32,
+    pub ends: bool,
+    pub fields: Fields,
+    pub end: u64,
+}
+
+impl Model for SaidList {
+    ghost use Rattle.channel_core.specs.Said.{HeaderList};
+
+    ghost Value = { HeaderList };
+
+    ghost view = { λ h. record { stream = h.stream; ends = h.ends; fields = h.fields; end = h.end } };
+}
+
+/// A header list, or a frame that is no part of a header block.
+#[derive(Debug, Drop)]
+pub enum SaidPart {
+    Headers(SaidList),
+    Other(FrameEnd),
+}
+
+/// What was said.
+#[derive(Debug, Drop)]
+pub struct SaidItem {
+    pub part: SaidPart,
+}
+
+impl Model for SaidItem {
+    ghost use Rattle.channel_core.specs.Said.{Said, Headers, Other};
+    ghost use Rattle.channel_core.specs.declared.slow.said.SaidPart.TheVariants as parts;
+
+    ghost Value = { Said };
+
+    ghost view = { λ s. elim s.part [ parts.Headers h ↦ Headers h | parts.Other a ↦ Other a ] };
+}
+
+/// What is said with some bytes, from the first frame on.
+pub fn said(alloc: Global, bytes: &[u8]) -> Result<Items<SaidItem>, NoMemory>
+    ensures { IfOk result (λ s. s ≡ said_of bytes.now) }
+{
+    let frames = frames(alloc, bytes)?;
+    let mut decoder = Decoder::new(alloc);
+    said_from(alloc, &mut decoder, None, frames.as_slice())
+}
+
+/// What frames say, by the block that is open and the state of the decoder.
+#[tactic(auto, using(crate::proofs::SlowLaws::said_ends, crate::proofs::SlowLaws::said_list, crate::proofs::SlowLaws::said_going_on, crate::proofs::SlowLaws::said_other))]
+fn said_from(
+    alloc: Global,
+    decoder: &mut Decoder,
+    begun: Option<OpenBlock>,
+    frames: &[FrameEnd],
+) -> Result<Items<SaidItem>, NoMemory>
+    ensures { IfOk result (λ s. s ≡ said_from decoder.old begun frames.now) }
+{
+    let [frame, rest @ ..] = frames else {
+        return Ok(Items::new(alloc));
+    };
+    let Some(block) = block_with(alloc, begun, frame)? else {
+        let others = said_from(alloc, decoder, None, rest)?;
+        return with_first(SaidPart::Other(frame.share()?), others);
+    };
+    if !has_flag(frame.flags, flags::END_HEADERS) {
+        return said_from(alloc, decoder, Some(block), rest);
+    }
+    let Some(list) = list_of(decoder, &block)? else {
+        return Ok(Items::new(alloc));
+    };
+    let others = said_from(alloc, decoder, None, rest)?;
+    with_first(SaidPart::Headers(list), others)
+}
+
+/// The header list of a whole block, or none where it cannot be decoded.
+#[tactic(auto, using(crate::proofs::SlowLaws::block_list, crate::proofs::SlowLaws::block_fault))]
+fn list_of(decoder: &mut Decoder, block: &OpenBlock) -> Result<Option<SaidList>, NoMemory>
+    ensures { IfOk result (λ o. (others : State → List Said) → said_block (decoded decoder.old block.now.bytes) block.now others ≡ list_then o decoder.new others) }
+{
+    match decoder.block(block.bytes.as_slice()) {
+        Ok(fields) => Ok(Some(SaidList {
+            stream: block.stream,
+            ends: block.ends,
+            fields,
+            end: block.end,
+        })),
+        Err(fault) => match fault {
+            HpackFault::NoMemory => Err(NoMemory),
+            _ => Ok(None),
+        },
+    }
+}
+
+/// One thing said before others.
+fn with_first(part: SaidPart, others: Items<SaidItem>) -> Result<Items<SaidItem>, NoMemory>
+    ensures { IfOk result (λ s. s ≡ elim part [ parts.Headers h ↦ Headers h | parts.Other a ↦ Other a ] ∷ others) }
+{
+    let mut said = others.into_vec();
+    said.insert(0, SaidItem { part })?;
+    Ok(Items::of_vec(said))
 }
 
 /// Whether a flag is set.
