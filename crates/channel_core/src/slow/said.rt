@@ -208,11 +208,7 @@ fn block_with(
 }
 
 /// An open block with the payload of one more frame.
-fn block_longer(
-    alloc: Global,
-    block: OpenBlock,
-    frame: &FrameEnd,
-) -> Result<OpenBlock, NoMemory>
+fn block_longer(alloc: Global, block: OpenBlock, frame: &FrameEnd) -> Result<OpenBlock, NoMemory>
     ensures { IfOk result (λ b. Some b ≡ block_with (Some block) frame.now) }
 {
     let mut bytes = Vec::from_slice(alloc, block.bytes.as_slice())?;

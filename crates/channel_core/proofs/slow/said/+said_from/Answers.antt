@@ -26,7 +26,7 @@ returns t c =
     let some : (others : State → List Said) → said_block (decoded c.args.decoder.now c.in-Some.block.bytes) c.in-Some.block others ≡ Headers c.in-Some-2.list ∷ others c.list_of.new.decoder = search rules in
     let behind : c.in_ok-others-2.others ≡ said_from c.list_of.new.decoder None (drop 1 c.args.frames.now) = c.in_ok-others-2.ensures ∙ ap (said_from c.list_of.new.decoder None) (behind_one c.args.frames.now) in
     subst (λ (v : List Said). IfOk c.with_first-2.result (λ s. s ≡ v))
-        (ap (λ (l : List Said). Headers c.in-Some-2.list ∷ l) behind
-        ∙ sym (ap (said_from c.args.decoder.now c.args.begun) split
-        ∙ said_list c.args.decoder.now c.list_of.new.decoder c.args.begun c.in-Some.block c.frame-item.result (drop 1 c.args.frames.now) c.in-Some-2.list block flag some))
-        c.with_first-2.ensures
+    (ap (λ (l : List Said). Headers c.in-Some-2.list ∷ l) behind
+    ∙ sym (ap (said_from c.args.decoder.now c.args.begun) split
+    ∙ said_list c.args.decoder.now c.list_of.new.decoder c.args.begun c.in-Some.block c.frame-item.result (drop 1 c.args.frames.now) c.in-Some-2.list block flag some))
+    c.with_first-2.ensures
