@@ -1,8 +1,8 @@
 use Rattle.std.proofs.Common.{rules, subst, ap, sym, ◌∙◌, ◌≡◌, List, ◌∷◌, [], IfOk, Some, None, drop, true}
 use Rattle.h2_frame.specs.Frames.{has_flag}
 use Rattle.h2_hpack.specs.Blocks.{State, decoded}
-use Rattle.channel_core.specs.Said.{FrameAt, Said, Headers, block_with, said_from}
-use Rattle.channel_core.specs.Slow.{list_then, said_block}
+use Rattle.channel_core.specs.Said.{Said, Headers, block_with, said_from}
+use Rattle.channel_core.specs.Slow.{said_block}
 use Rattle.channel_core.proofs.SlowLaws.{behind_one, said_ends, said_list}
 use Rattle.channel_core.proofs.slow.said.+said_from.Goals as goal
 
