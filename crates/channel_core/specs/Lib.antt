@@ -6,5 +6,6 @@ pub mod Messages
 pub mod Response
 pub mod Said
 pub mod Sent
+pub mod Slow
 pub mod Steps
 pub mod Wire

@@ -1,0 +1,122 @@
+// The definitions computed on small texts, with values that were found by hand or by another program.
+use crate::slow::messages::{FoundMessages, MessageFlaw, messages};
+use crate::slow::said::{SaidItem, SaidList, SaidPart, said};
+use grpc_base::NoMemory;
+use std::alloc::Global;
+use std::process::Abort;
+use std::test::Fail;
+
+/// The messages of some bytes, none longer than 4,194,304 bytes.
+fn found(alloc: Global, bytes: &[u8]) -> Result<FoundMessages, NoMemory> {
+    messages(alloc, 4_194_304, bytes)
+}
+
+/// That some bytes hold no whole message, but this flaw or none.
+fn holds_none(
+    rt: &impl Abort,
+    alloc: Global,
+    bytes: &[u8],
+    flaw: Option<MessageFlaw>,
+) -> Result<(), NoMemory> {
+    let none = found(alloc, bytes)?;
+    assert_eq!(rt; none.whole.len(), 0);
+    assert_eq!(rt; none.rest.as_slice(), bytes);
+    assert_eq!(rt; none.flaw, flaw);
+    Ok(())
+}
+
+#[test]
+fn messages_are_split(rt: HostRuntime) -> Result<(), Fail> {
+    let alloc = rt.alloc();
+    let two = found(alloc, b"\0\0\0\0\x02ok\0\0\0\0\0\0\0\0\0\x03hi")?;
+    let [ok, empty] = two.whole.as_slice() else {
+        return Err(Fail::from("two messages"));
+    };
+    assert_eq!(rt; ok.as_slice(), b"ok".as_slice());
+    assert_eq!(rt; empty.is_empty(), true);
+    assert_eq!(rt; two.rest.as_slice(), b"\0\0\0\0\x03hi".as_slice());
+    assert_eq!(rt; two.flaw, None);
+    holds_none(&rt, alloc, b"", None)?;
+    holds_none(&rt, alloc, b"\0\0\0\0", None)?;
+    holds_none(&rt, alloc, b"\0\0\x40\0\0", None)?;
+    holds_none(&rt, alloc, b"\x01\0\0\0\x02ok", Some(MessageFlaw::BadFlag))?;
+    holds_none(&rt, alloc, b"\0\0\x40\0\x01", Some(MessageFlaw::TooLarge))?;
+    Ok(())
+}
+
+/// SETTINGS, and a response of trailers alone.
+const ANSWER: [u8; 77] = [
+    0, 0, 0, 4, 0, 0, 0, 0, 0, 0, 0, 59, 1, 5, 0, 0, 0, 1, 0, 7, 58, 115, 116, 97, 116, 117, 115,
+    3, 50, 48, 48, 0, 12, 99, 111, 110, 116, 101, 110, 116, 45, 116, 121, 112, 101, 16, 97, 112,
+    112, 108, 105, 99, 97, 116, 105, 111, 110, 47, 103, 114, 112, 99, 0, 11, 103, 114, 112, 99, 45,
+    115, 116, 97, 116, 117, 115, 1, 48,
+];
+
+/// A client's SETTINGS and acknowledgement, and a request with one message.
+const REQUEST: [u8; 114] = [
+    0, 0, 12, 4, 0, 0, 0, 0, 0, 0, 2, 0, 0, 0, 0, 0, 6, 0, 0, 64, 0, 0, 0, 0, 4, 1, 0, 0, 0, 0, 0,
+    0, 59, 1, 4, 0, 0, 0, 1, 131, 134, 4, 6, 47, 97, 46, 66, 47, 67, 1, 15, 49, 50, 55, 46, 48, 46,
+    48, 46, 49, 58, 53, 48, 48, 53, 49, 0, 2, 116, 101, 8, 116, 114, 97, 105, 108, 101, 114, 115,
+    15, 16, 16, 97, 112, 112, 108, 105, 99, 97, 116, 105, 111, 110, 47, 103, 114, 112, 99, 0, 0, 7,
+    0, 1, 0, 0, 0, 1, 0, 0, 0, 0, 2, 104, 105,
+];
+
+/// The header list at a place of what was said.
+fn list_at(said: &[SaidItem], place: usize) -> Option<&SaidList> {
+    match said.get(place) {
+        Some(item) => match &item.part {
+            SaidPart::Headers(list) => Some(list),
+            SaidPart::Other(_) => None,
+        },
+        None => None,
+    }
+}
+
+/// That a header list has a field at a place.
+fn has_field(rt: &impl Abort, list: &SaidList, place: usize, name: &[u8], value: &[u8]) {
+    match list.fields.as_slice().get(place) {
+        Some(field) => {
+            assert_eq!(rt; field.name.as_slice(), name);
+            assert_eq!(rt; field.value.as_slice(), value);
+        }
+        None => {
+            assert!(rt; false, "no field");
+        }
+    }
+}
+
+#[test]
+fn an_answer_is_said(rt: HostRuntime) -> Result<(), Fail> {
+    let answer = said(rt.alloc(), &ANSWER)?;
+    assert_eq!(rt; answer.len(), 2);
+    let Some(list) = list_at(answer.as_slice(), 1) else {
+        return Err("a header list".into());
+    };
+    assert_eq!(rt; list.stream, 1);
+    assert_eq!(rt; list.ends, true);
+    assert_eq!(rt; list.end, 77);
+    assert_eq!(rt; list.fields.len(), 3);
+    has_field(&rt, list, 0, b":status", b"200");
+    has_field(&rt, list, 1, b"content-type", b"application/grpc");
+    has_field(&rt, list, 2, b"grpc-status", b"0");
+    Ok(())
+}
+
+#[test]
+fn a_request_is_said(rt: HostRuntime) -> Result<(), Fail> {
+    let request = said(rt.alloc(), &REQUEST)?;
+    assert_eq!(rt; request.len(), 4);
+    let Some(list) = list_at(request.as_slice(), 2) else {
+        return Err("a header list".into());
+    };
+    assert_eq!(rt; list.stream, 1);
+    assert_eq!(rt; list.ends, false);
+    assert_eq!(rt; list.fields.len(), 6);
+    has_field(&rt, list, 0, b":method", b"POST");
+    has_field(&rt, list, 1, b":scheme", b"http");
+    has_field(&rt, list, 2, b":path", b"/a.B/C");
+    has_field(&rt, list, 3, b":authority", b"127.0.0.1:50051");
+    has_field(&rt, list, 4, b"te", b"trailers");
+    has_field(&rt, list, 5, b"content-type", b"application/grpc");
+    Ok(())
+}
