@@ -1,6 +1,6 @@
 -- Fields of a text, and first faults behind what passed.
-use Rattle.std.proofs.Common.{◌≡◌, ◌≢◌, ℕ, ◌+◌, ◌<◌, ◌≤◌, List, [], ◌∷◌, length, refl, ap, sym, subst, inl, inr, ◌⊎◌, arith, ◌∙◌, Result, Ok, Err, IfErr, IsErrAnd}
-use Rattle.script_fields.specs.Spelling.{fields, parted}
+use Rattle.std.proofs.Common.{◌≡◌, ℕ, List, [], ◌∷◌, length, refl, ap, sym, subst, inl, inr, arith, ◌∙◌, Result, Ok, Err, IfErr, IsErrAnd}
+use Rattle.script_fields.specs.Spelling.{fields}
 use Rattle.script_fields.proofs.TextLaws.{parted-some}
 use Rattle.script_lines.specs.declared.cause.LineFault.{LineFault}
 use Rattle.script_lines.specs.declared.cause.LineFault.TheVariants as fault

@@ -1,11 +1,8 @@
 -- Parts of an answer, one after the other.
-use Rattle.std.proofs.Common.{◌≡◌, ℕ, List, [], ◌∷◌, ◌++◌, Bool, refl, ap, sym, subst, inl, inr, ◌∙◌, append_assoc, append-nil}
+use Rattle.std.proofs.Common.{◌≡◌, ℕ, List, [], ◌∷◌, ◌++◌, Bool, sym, subst, inr, append_assoc, append-nil}
 use Rattle.std.specs.Prelude.{◌||◌, false}
 use Rattle.grpc_base.specs.declared.script.AnswerPart.{AnswerPart}
-use Rattle.script_lines.specs.declared.cause.LineFault.{LineFault}
-use Rattle.script_lines.specs.Answers.{AreParts, ArePartsFault, IsPart, IsPartFault, is_end}
-use Rattle.script_lines.specs.Lines.{IsToldBy}
-use Rattle.script_lines.proofs.LineLaws.{told_by}
+use Rattle.script_lines.specs.Answers.{AreParts, ArePartsFault, IsPart, is_end}
 
 -- what is left gives the rest of the parts, or the first fault
 abbrev pub Continues : List (List ℕ) → Bool → List (List ℕ) → List AnswerPart → Type 0

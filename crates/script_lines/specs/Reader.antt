@@ -46,6 +46,11 @@ abbrev pub IsBadLine : ReaderSeen → List ℕ → Bool → BadLine → Type 0
 IsBadLine r text closed (bad.At number cause) = (number ≡ r.lines + 1) × IsLineFault r text closed cause
 IsBadLine r text closed bad.NoMemory = Unit {0}
 
+-- where a line and its cause are told, no line is spelled so
+abbrev pub IsNoLine : ReaderSeen → List ℕ → Bool → BadLine → Type 0
+IsNoLine r text closed (bad.At number cause) = (read : ScriptLine) → IsLine r text closed read → ⊥
+IsNoLine r text closed bad.NoMemory = Unit {0}
+
 -- one answer more of a path, where a line is one
 abbrev pub answer_count : ScriptLine → List ℕ → ℕ
 answer_count (line.Answer answer) path = if pointwise nat_eq answer.path path then 1 else 0

@@ -19,6 +19,8 @@ mod replay;
 mod request;
 mod split;
 mod stamped;
+#[cfg(test)]
+mod tests;
 
 pub use line::ScriptLine;
 pub use reader::{BadLine, ScriptKind, ScriptReader};

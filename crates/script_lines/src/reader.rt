@@ -3,7 +3,7 @@ ghost use Rattle.std.specs.Prelude.{◌≡◌, ◌+◌, ℕ, List, IfOk, IfErr, 
 ghost use Rattle.script_fields.specs.Spelling.{fields};
 ghost use Rattle.script_lines.specs.Answers.{count_of};
 ghost use Rattle.script_lines.specs.Lines.{IsRawLine, IsToldBy};
-ghost use Rattle.script_lines.specs.Reader.{IsBadLine, IsBehind, IsKindFault, IsKindLine, IsLine, IsNumberedFault, IsSame, answer_count};
+ghost use Rattle.script_lines.specs.Reader.{IsBadLine, IsBehind, IsKindFault, IsKindLine, IsLine, IsNoLine, IsNumberedFault, IsSame, answer_count};
 
 use crate::answer::next_answer;
 use crate::cause::LineFault;
@@ -75,6 +75,7 @@ impl ScriptReader {
     pub fn line(&mut self, text: &[u8], closed: bool) -> Result<ScriptLine, BadLine>
         ensures ok { IfOk result (IsLine self.old text.now closed) }
         ensures bad { IfErr result (IsBadLine self.old text.now closed) }
+        ensures no_line { IfErr result (IsNoLine self.old text.now closed) }
         ensures behind { IfOk result (λ read. IsBehind self.old read self.new) }
         ensures same { OnErr result (IsSame self.old self.new) }
     {

@@ -1,4 +1,4 @@
-use Rattle.std.proofs.Common.{◌<◌, ◌^◌, ◌+◌, arith}
+use Rattle.std.proofs.Common.{◌+◌, arith}
 use Rattle.script_lines.proofs.FieldLaws.{other_number}
 use Rattle.script_lines.proofs.answer.number_behind.Goals as goal
 

@@ -1,4 +1,3 @@
-use Rattle.std.proofs.Common.{refl}
 use Rattle.script_lines.proofs.LineLaws.{none_left}
 use Rattle.script_lines.proofs.event.bare.Goals as goal
 

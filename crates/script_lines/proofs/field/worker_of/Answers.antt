@@ -1,4 +1,3 @@
-use Rattle.std.proofs.Common.{arith}
 use Rattle.script_lines.proofs.FieldLaws.{no_worker}
 use Rattle.script_lines.proofs.field.worker_of.Goals as goal
 

@@ -1,4 +1,4 @@
-use Rattle.std.proofs.Common.{◌≡◌, ◌∷◌, [], ap, ◌∙◌}
+use Rattle.std.proofs.Common.{◌≡◌, ◌∷◌, ap, ◌∙◌}
 use Rattle.std.specs.Option.{option_copied}
 use Rattle.script_fields.specs.Spelling.{parted}
 use Rattle.script_lines.specs.Answers.{parts_behind}

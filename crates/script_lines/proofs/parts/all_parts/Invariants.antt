@@ -1,4 +1,4 @@
-use Rattle.std.proofs.Common.{◌≡◌, ◌++◌, ℕ, List, length, false}
+use Rattle.std.proofs.Common.{◌++◌, ℕ, List, length, false}
 use Rattle.std.specs.Option.{option_copied}
 use Rattle.grpc_base.specs.declared.script.AnswerPart.{AnswerPart}
 use Rattle.script_fields.specs.Spelling.{parted}

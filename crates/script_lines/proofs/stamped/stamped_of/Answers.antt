@@ -1,4 +1,4 @@
-use Rattle.std.proofs.Common.{◌≡◌, ◌∷◌, ap, sym, ◌∙◌}
+use Rattle.std.proofs.Common.{◌≡◌, ◌∷◌, ap, ◌∙◌}
 use Rattle.script_fields.specs.Spelling.{fields}
 use Rattle.script_lines.proofs.LineLaws.{moment_fault, told_exit, word_fault}
 use Rattle.script_lines.proofs.stamped.stamped_of.Goals as goal
