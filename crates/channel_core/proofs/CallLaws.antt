@@ -1,8 +1,8 @@
 -- The journal of the first call, entry by entry, and the laws that it keeps with its ledger. The script of the first call fixes the
 -- place of each event, so each law is computed for the eleven beginnings of that journal.
-use Rattle.std.proofs.Common.{◌≡◌, ◌≤◌, ◌<◌, ◌^◌, ℕ, zero, suc, ◌+◌, max, Bool, true, false, Option, Some, None, List, [], ◌∷◌, ◌++◌, map, length, take, refl, ap, ◌∙◌, sym, subst, arith, codes}
+use Rattle.std.proofs.Common.{◌≡◌, ◌≤◌, ℕ, ◌+◌, max, false, Option, Some, None, List, [], ◌∷◌, ◌++◌, map, length, take, refl, ap, ◌∙◌, arith}
 use Rattle.std.specs.Prelude.{option_to_list, nat_lt}
-use Rattle.std.specs.List.{AllByRecursion, enumerate_from, range_with_len}
+use Rattle.std.specs.List.{enumerate_from, range_with_len}
 use Rattle.grpc_base.specs.declared.address.Address.{Address}
 use Rattle.grpc_base.specs.declared.event.Conn.{Conn}
 use Rattle.grpc_base.specs.declared.event.Conn.TheVariants as conn

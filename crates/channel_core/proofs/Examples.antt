@@ -4,6 +4,7 @@ use Rattle.grpc_base.specs.declared.code.Code.TheVariants as code
 use Rattle.grpc_base.specs.declared.fields.Field.{Field}
 use Rattle.grpc_base.specs.declared.plan.Pushback.TheVariants as pushback
 use Rattle.attempt_ledger.specs.declared.row.RowCause.TheVariants as cause
+use Rattle.h2_hpack.specs.StaticTable.{static_table}
 use Rattle.channel_core.specs.Messages.{messages_of}
 use Rattle.channel_core.specs.Response.{response_on}
 use Rattle.channel_core.specs.Sent.{client_said, data_sent, is_complete, opened}
@@ -52,13 +53,16 @@ head_and_message : response_on 4194304 1 with_message ≡ record {
   data_ = 0 ∷ 0 ∷ 0 ∷ 0 ∷ 2 ∷ 111 ∷ 107 ∷ [];
   end = Some (record { code = code.Ok; text = []; meta = []; pushback = pushback.None; unseen = false; seen = 78; cause = cause.Status });
 }
+unfolding static_table
 head_and_message = refl
 
 the_message : (messages_of 4194304 (response_on 4194304 1 with_message).data_).whole ≡ (111 ∷ 107 ∷ []) ∷ []
+unfolding static_table
 the_message = refl
 
 -- nothing comes on another stream
 other_stream : (response_on 4194304 3 with_message).end ≡ None
+unfolding static_table
 other_stream = refl
 
 -- the request's header list
@@ -66,14 +70,17 @@ abbrev field : List ℕ → List ℕ → Field
 field name value = record { name = name; value = value }
 
 the_request : map (λ h. h.fields) (opened (client_said one_request)) ≡ (
-  field (codes ":method") (codes "POST") ∷ field (codes ":scheme") (codes "http") ∷ field (codes ":path") (codes "/a.B/C")
-  ∷ field (codes ":authority") (codes "127.0.0.1:50051") ∷ field (codes "te") (codes "trailers")
-  ∷ field (codes "content-type") (codes "application/grpc") ∷ []) ∷ []
+    field (codes ":method") (codes "POST") ∷ field (codes ":scheme") (codes "http") ∷ field (codes ":path") (codes "/a.B/C")
+    ∷ field (codes ":authority") (codes "127.0.0.1:50051") ∷ field (codes "te") (codes "trailers")
+    ∷ field (codes "content-type") (codes "application/grpc") ∷ []) ∷ []
+unfolding static_table
 the_request = refl
 
 -- its message, and its end
 the_data : data_sent 1 (client_said one_request) ≡ 0 ∷ 0 ∷ 0 ∷ 0 ∷ 2 ∷ 104 ∷ 105 ∷ []
+unfolding static_table
 the_data = refl
 
 the_end : is_complete 1 (client_said one_request) ≡ true
+unfolding static_table
 the_end = refl

@@ -1,8 +1,8 @@
 -- The frames of a request fit the limit of a frame.
-use Rattle.std.proofs.Common.{◌≡◌, ◌≤◌, ℕ, zero, suc, ◌+◌, ◌-◌, ◌*◌, ◌/◌, ◌%◌, ◌^◌, Bool, true, false, Option, Some, None, List, [], ◌∷◌, ◌++◌, length, length-append, refl, ap, ◌∙◌, sym, subst, arith}
+use Rattle.std.proofs.Common.{◌≡◌, ◌≤◌, ℕ, zero, suc, ◌+◌, ◌-◌, ◌/◌, ◌^◌, Bool, true, false, Option, Some, None, List, [], ◌∷◌, length, length-append, refl, ap, ◌∙◌, sym, arith}
 use Rattle.std.proofs.lemmas.Bool.Decides.{nat_tests}
 use Rattle.std.proofs.lemmas.List.Sums.{sum_by-cons}
-use Rattle.std.specs.Prelude.{nat_lt, nat_le, IsTrue, flat_map}
+use Rattle.std.specs.Prelude.{nat_lt, nat_le, IsTrue}
 use Rattle.grpc_base.specs.declared.fields.Field.{Field}
 use Rattle.grpc_meta.specs.RequestFields.{field_size, list_size}
 use Rattle.h2_frame.specs.Frames.{is_allowed}

@@ -1,5 +1,5 @@
 -- A list whose last element is changed.
-use Rattle.std.proofs.Common.{◌≡◌, List, [], ◌∷◌, ◌++◌, refl, ap, ◌∙◌, sym, append-nil}
+use Rattle.std.proofs.Common.{◌≡◌, List, [], ◌∷◌, ◌++◌, refl, ap, ◌∙◌, sym}
 use Rattle.channel_core.specs.Steps.{change_last}
 
 -- f of the last one of a list that ends with x

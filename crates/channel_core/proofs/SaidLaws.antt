@@ -1,5 +1,5 @@
 -- What is said with frames that are written one behind another, and with the bytes of the first call.
-use Rattle.std.proofs.Common.{◌≡◌, ◌≤◌, ◌<◌, ◌^◌, ℕ, zero, suc, lit<, ◌+◌, ◌-◌, Bool, true, false, Some, None, List, [], ◌∷◌, ◌++◌, length, take, drop, lit≤, append_assoc, refl, ap, ◌∙◌, sym, subst, arith, codes}
+use Rattle.std.proofs.Common.{◌≡◌, ◌≤◌, ◌<◌, ◌^◌, ℕ, lit<, ◌+◌, ◌-◌, true, false, None, List, [], ◌∷◌, ◌++◌, length, lit≤, append_assoc, refl, ap, ◌∙◌, sym, subst, arith, codes}
 use Rattle.std.specs.Prelude.{IsTrue, Ok, Err, Result}
 use Rattle.std.proofs.lemmas.List.{take_all}
 use Rattle.grpc_base.specs.declared.address.Address.{Address}
@@ -24,7 +24,7 @@ use Rattle.channel_core.specs.Messages.{framed, framed_all}
 use Rattle.channel_core.specs.Sent.{data_sent}
 use Rattle.channel_core.specs.Wire.{client_settings, data_frame, head_frame, request_text, settings_ack}
 use Rattle.channel_core.proofs.FrameSizes.{block_fits, data_allowed, head_allowed, same_size}
-use Rattle.channel_core.specs.Said.{FrameAt, HeaderList, Said, Headers, Other, content_of, frames_at, said_from, said_of}
+use Rattle.channel_core.specs.Said.{FrameAt, Said, Headers, Other, content_of, frames_at, said_from, said_of}
 
 -- a frame that is written is the first one, whatever follows
 pub frames_front : (f : FrameSeen) (more : List ℕ) → f.stream < 2 ^ 31 → IsTrue (is_allowed f) → frames_of (written f ++ more) ≡ f ∷ frames_of more
@@ -129,6 +129,6 @@ sends_all entries call stream said all finished =
     let same : length (data_sent stream said) ≡ length (framed_all (accepted call entries)) = ap length all in
     let within : length (framed_all (accepted call entries)) ≤ length (data_sent stream said) = omega arith in
     record {
-  front = all ∙ sym (take_all (length (data_sent stream said)) (framed_all (accepted call entries)) within);
-  complete = λ ends. (finished, all);
-}
+      front = all ∙ sym (take_all (length (data_sent stream said)) (framed_all (accepted call entries)) within);
+      complete = λ ends. (finished, all);
+    }

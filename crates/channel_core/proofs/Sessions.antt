@@ -1,11 +1,11 @@
 -- The sessions of the first call: how many events came, with their moments and random words, and what they say.
-use Rattle.std.proofs.Common.{◌≡◌, ◌≤◌, ◌<◌, ◌⊎◌, inl, inr, ℕ, zero, suc, ◌+◌, Option, Some, None, List, [], ◌∷◌, ◌++◌, map, length, refl, ap, ap₂, ◌∙◌, sym, subst, slice_get, arith, lit≤, codes}
+use Rattle.std.proofs.Common.{◌≡◌, ◌≤◌, inl, inr, ℕ, zero, suc, ◌+◌, None, List, [], ◌∷◌, length, refl, ap, ap₂, subst, arith, lit≤, codes}
 use Rattle.grpc_base.specs.declared.address.Address.{Address}
 use Rattle.grpc_base.specs.declared.event.Event.{Event}
 use Rattle.grpc_base.specs.declared.event.Event.TheVariants as event
 use Rattle.grpc_base.specs.declared.event.Stamped.{Stamped}
-use Rattle.grpc_base.specs.Requests.{IsName, IsNameByte, IsPath, IsRequest, RequestSeen}
-use Rattle.channel_core.specs.FirstCall.{AreFirstEvents, IsAnswer, IsStampedAt, StandsAt, answer_frame, first_message_limit, settings_frame}
+use Rattle.grpc_base.specs.Requests.{IsRequest, RequestSeen}
+use Rattle.channel_core.specs.FirstCall.{AreFirstEvents, StandsAt, answer_frame, first_message_limit, settings_frame}
 
 -- what a first call says: an address, a request without metadata, its message, and the value of its `grpc-status`
 pub record Call : Type 0 where

@@ -1,5 +1,5 @@
 -- The ledger of a journal with one entry more, and where its event stands in the script.
-use Rattle.std.proofs.Common.{◌≡◌, ◌≤◌, ◌<◌, ℕ, ◌+◌, Bool, false, Some, List, [], ◌∷◌, ◌++◌, map, length, length-append, refl, ap, ◌∙◌, sym, subst, arith, slice_get}
+use Rattle.std.proofs.Common.{◌≡◌, ℕ, ◌+◌, Bool, false, Some, List, [], ◌∷◌, ◌++◌, map, length, refl, ap, ◌∙◌, sym, arith, slice_get}
 use Rattle.grpc_base.specs.declared.address.Address.{Address}
 use Rattle.grpc_base.specs.declared.event.Entry.{Entry}
 use Rattle.grpc_base.specs.declared.event.Reply.{Reply}
@@ -8,7 +8,7 @@ use Rattle.attempt_ledger.specs.declared.journal.Journal.{Journal}
 use Rattle.attempt_ledger.specs.declared.ledger.Ledger.{Ledger}
 use Rattle.channel_core.specs.FirstCall.{AreFirstEvents, IsStampedAt, StandsAt, stamped_of}
 use Rattle.channel_core.specs.Steps.{next_place, state_after, told}
-use Rattle.channel_core.specs.Core.{CoreSeen, Gains, entry_made, ledger_made, ledger_of, moment_of, no_ledger, written_by}
+use Rattle.channel_core.specs.Core.{Gains, entry_made, ledger_made, ledger_of, moment_of, no_ledger, written_by}
 
 -- one entry more is written last
 written_by-snoc : (ledger : Ledger) (n : ℕ) (entries : List Entry) (e : Entry) → written_by ledger n (entries ++ e ∷ []) ≡ told (written_by ledger n entries) (next_place (n + length entries)) e.moment e.event

@@ -1,7 +1,7 @@
 -- Texts that are appended part by part, and taken off part by part.
-use Rattle.std.proofs.Common.{◌≡◌, ℕ, ◌+◌, ◌<◌, ◌≤◌, List, [], ◌∷◌, ◌++◌, length, drop, take, min, slice_index_or, append_assoc, ap, ◌∙◌, sym, subst, refl, arith, inl, inr, length-append, append-nil}
+use Rattle.std.proofs.Common.{◌≡◌, ℕ, ◌+◌, ◌<◌, ◌≤◌, List, [], ◌∷◌, ◌++◌, length, drop, take, min, slice_index_or, append_assoc, ap, ◌∙◌, sym, arith, inl, inr, length-append, append-nil}
 use Rattle.std.proofs.lemmas.Bool.{cases_lt}
-use Rattle.std.proofs.lemmas.Grind.{common_steps, flat_map-append}
+use Rattle.std.proofs.lemmas.Grind.{flat_map-append}
 use Rattle.std.proofs.lemmas.List.{drop_all, drop-drop, take_more}
 use Rattle.grpc_base.specs.declared.event.Entry.{Entry}
 use Rattle.channel_core.specs.Steps.{drained_in, drained}

@@ -1,5 +1,6 @@
 -- The channel as its callers see it, and what one step does.
-use Rattle.std.specs.Prelude.{◌≡◌, ◌≤◌, ℕ, ◌+◌, Bool, false, List, [], ◌∷◌, ◌++◌, length, max}
+use Rattle.std.specs.Prelude.{◌≡◌, ◌≤◌, ℕ, ◌+◌, ◌-◌, Bool, false, List, [], ◌∷◌, ◌++◌, length, max, slice_get}
+use Rattle.std.specs.Option.{option_map_or}
 use Rattle.grpc_base.specs.declared.address.Address.{Address}
 use Rattle.grpc_base.specs.declared.event.Conn.{Conn}
 use Rattle.grpc_base.specs.declared.event.Entry.{Entry}
@@ -9,7 +10,7 @@ use Rattle.attempt_ledger.specs.declared.journal.Journal.{Journal}
 use Rattle.attempt_ledger.specs.declared.ledger.Ledger.{Ledger}
 use Rattle.grpc_meta.specs.RequestFields.{authority_of}
 use Rattle.channel_core.specs.FirstCall.{AreFirstEvents}
-use Rattle.channel_core.specs.Steps.{last_moment, next_place, reply_to, state_after, told}
+use Rattle.channel_core.specs.Steps.{next_place, reply_to, state_after, told}
 
 -- a channel: the authority of its requests, its journal and its ledger, and whether it ran out of memory in mid-step
 pub record CoreSeen : Type 0 where
@@ -30,6 +31,10 @@ written_by ledger n (e ∷ entries) = written_by (told ledger (next_place n) e.m
 -- the ledger of a journal
 abbrev pub ledger_of : List Entry → Ledger
 ledger_of entries = written_by no_ledger 0 entries
+
+-- the moment of the last step
+abbrev pub last_moment : List Entry → ℕ
+last_moment entries = option_map_or (λ e. e.moment) (slice_get entries (length entries - 1)) 0
 
 -- the moment of a step: no earlier than the step before
 abbrev pub moment_of : List Entry → Stamped → ℕ

@@ -1,6 +1,6 @@
 -- The laws of journal and ledger. Each is an equation of two lists, or holds of each element; an entry more adds its own facts
 -- and leaves what was said of the earlier ones.
-use Rattle.std.specs.Prelude.{◌≡◌, ◌≤◌, ℕ, pred, ◌+◌, ◌-◌, Bool, true, false, Option, Some, None, List, [], ◌∷◌, ◌++◌, ◌==◌, ◌&&◌, ◌||◌, length, take, drop, map, filter, filter_map, find, slice_get, unwrap_or, is_some, if◌then◌else◌, option_map, option_and_then}
+use Rattle.std.specs.Prelude.{◌≡◌, ◌≤◌, ℕ, pred, ◌+◌, ◌-◌, Bool, true, false, Option, Some, None, List, [], ◌∷◌, ◌==◌, ◌&&◌, ◌||◌, length, take, drop, map, filter, filter_map, find, slice_get, unwrap_or, is_some, if◌then◌else◌, option_map, option_and_then}
 use Rattle.std.specs.List.{AllByRecursion, enumerate_from, list_any, position_from, range_with_len}
 use Rattle.std.specs.Option.{option_map_or}
 use Rattle.grpc_base.specs.declared.address.Address.{Address}

@@ -1,5 +1,5 @@
 -- Messages as they are framed (gRPC over HTTP/2, "Length-Prefixed-Message").
-use Rattle.std.specs.Prelude.{ℕ, zero, suc, ◌+◌, ◌*◌, Bool, true, false, Option, Some, None, List, [], ◌∷◌, ◌++◌, length, take, drop, nat_lt, nat_le, if◌then◌else◌, flat_map}
+use Rattle.std.specs.Prelude.{ℕ, zero, suc, ◌+◌, ◌*◌, Option, Some, None, List, [], ◌∷◌, ◌++◌, length, take, drop, nat_lt, nat_le, if◌then◌else◌, flat_map}
 use Rattle.h2_frame.specs.Frames.{bytes_32}
 
 -- a message: a flag 0, for it is not compressed, its length in four bytes, and its bytes

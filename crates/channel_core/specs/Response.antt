@@ -1,6 +1,6 @@
 -- The response on a stream, as a function of all bytes of its connection: a head or none, the bytes of its messages, and an
 -- end or none (gRPC over HTTP/2, "Responses"; RFC 9113, sections 5.1, 6.4, 6.8 and 8.1).
-use Rattle.std.specs.Prelude.{ℕ, ◌+◌, ◌%◌, ◌*◌, Bool, true, false, Option, Some, None, List, [], ◌∷◌, ◌++◌, ◌==◌, ◌&&◌, ◌||◌, not, length, drop, codes, nat_lt, nat_le, nat_eq, slice_get, slice_index_or, is_none, is_some, if◌then◌else◌}
+use Rattle.std.specs.Prelude.{ℕ, ◌+◌, ◌%◌, ◌*◌, Bool, true, false, Option, Some, None, List, [], ◌∷◌, ◌++◌, ◌==◌, ◌&&◌, ◌||◌, length, codes, nat_lt, nat_le, nat_eq, slice_get, slice_index_or, is_none, is_some, if◌then◌else◌}
 use Rattle.std.specs.List.{starts_with}
 use Rattle.std.specs.Option.{option_map_or}
 use Rattle.grpc_base.specs.declared.code.Code.{Code}
@@ -17,7 +17,7 @@ use Rattle.grpc_status.specs.StatusMaps.{code_of_text, http_codes, looked_up, re
 use Rattle.h2_frame.specs.declared.kinds.TheConstants.{DATA, GOAWAY, RST_STREAM, WINDOW_UPDATE}
 use Rattle.h2_frame.specs.declared.flags.TheConstants.{END_STREAM}
 use Rattle.h2_frame.specs.declared.error_codes.TheConstants.{REFUSED_STREAM}
-use Rattle.h2_frame.specs.Frames.{FrameSeen, has_flag, number_31}
+use Rattle.h2_frame.specs.Frames.{has_flag}
 use Rattle.channel_core.specs.Messages.{Flaw, BadFlag, messages_of}
 use Rattle.channel_core.specs.Said.{FrameAt, HeaderList, Said, Headers, Other, content_of, said_of}
 

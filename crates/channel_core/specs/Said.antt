@@ -1,6 +1,6 @@
 -- What a side of a connection says with its frames: header lists, each of a whole header block, and other frames
 -- (RFC 9113, sections 4.1, 4.3 and 6; RFC 7541).
-use Rattle.std.specs.Prelude.{ℕ, ◌+◌, ◌-◌, Bool, true, false, ◌&&◌, not, Option, Some, None, List, [], ◌∷◌, ◌++◌, ◌==◌, length, take, drop, slice_index_or, if◌then◌else◌, Ok, Err}
+use Rattle.std.specs.Prelude.{ℕ, ◌+◌, ◌-◌, Bool, false, ◌&&◌, not, Option, Some, None, List, [], ◌∷◌, ◌++◌, ◌==◌, length, take, drop, slice_index_or, if◌then◌else◌, Ok, Err}
 use Rattle.grpc_base.specs.declared.fields.Field.{Field}
 use Rattle.h2_frame.specs.declared.kinds.TheConstants.{HEADERS, SETTINGS}
 use Rattle.h2_frame.specs.declared.flags.TheConstants.{ACK, END_HEADERS, END_STREAM}

@@ -1,11 +1,10 @@
 -- The request on a stream, as a function of all bytes that the client sent on a connection: its header list, the bytes of its
 -- messages, and whether it is complete (RFC 9113, sections 3.4, 4.1, 6.1, 6.2 and 8.1).
-use Rattle.std.specs.Prelude.{ℕ, Bool, List, [], ◌∷◌, ◌==◌, ◌&&◌, drop, filter, filter_map, flat_map, map, Option, Some, None, Ok, if◌then◌else◌}
+use Rattle.std.specs.Prelude.{ℕ, Bool, List, [], ◌==◌, ◌&&◌, drop, filter_map, flat_map, Option, Some, None, if◌then◌else◌}
 use Rattle.std.specs.List.{list_any}
-use Rattle.grpc_base.specs.declared.fields.Field.{Field}
 use Rattle.h2_frame.specs.declared.kinds.TheConstants.{DATA}
 use Rattle.h2_frame.specs.declared.flags.TheConstants.{END_STREAM}
-use Rattle.h2_frame.specs.Frames.{FrameSeen, has_flag}
+use Rattle.h2_frame.specs.Frames.{has_flag}
 use Rattle.channel_core.specs.Said.{HeaderList, Said, Headers, Other, content_of, said_of}
 
 -- what the client says: all but the preface, whose 24 bytes every connection begins with (section 3.4)

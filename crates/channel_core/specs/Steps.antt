@@ -1,5 +1,5 @@
 -- One step of the channel on the first call: what it replies, and what it writes into the ledger.
-use Rattle.std.specs.Prelude.{ℕ, suc, zero, ◌+◌, Bool, true, false, Option, Some, None, List, [], ◌∷◌, ◌++◌, length, take, drop, codes, nat_eq, nat_lt, nat_le, min, ◌&&◌, ◌||◌, ◌==◌, if◌then◌else◌, option_map, option_and_then, slice_get, slice_index_or, ◌-◌, max, flat_map}
+use Rattle.std.specs.Prelude.{ℕ, suc, zero, ◌+◌, Bool, true, false, Option, Some, None, List, [], ◌∷◌, ◌++◌, length, take, drop, codes, nat_eq, nat_lt, nat_le, min, ◌&&◌, ◌||◌, ◌==◌, if◌then◌else◌, option_map, option_and_then, slice_get, slice_index_or, ◌-◌, flat_map}
 use Rattle.std.specs.Option.{option_map_or}
 use Rattle.std.specs.List.{list_any}
 use Rattle.std.specs.Cmp.Lexicographic.{pointwise}
@@ -19,10 +19,7 @@ use Rattle.grpc_base.specs.declared.plan.Pushback.TheVariants as pushback
 use Rattle.grpc_base.specs.Requests.{RequestSeen}
 use Rattle.attempt_ledger.specs.declared.ledger.Ledger.{Ledger}
 use Rattle.attempt_ledger.specs.declared.ledger.CallSeen.{CallSeen}
-use Rattle.attempt_ledger.specs.declared.ledger.CallEnd.{CallEnd}
 use Rattle.attempt_ledger.specs.declared.ledger.LinkSeen.{LinkSeen}
-use Rattle.attempt_ledger.specs.declared.ledger.Ask.{Ask}
-use Rattle.attempt_ledger.specs.declared.ledger.Generation.{Generation}
 use Rattle.attempt_ledger.specs.declared.row.Row.{Row}
 use Rattle.attempt_ledger.specs.declared.row.RowEnd.{RowEnd}
 use Rattle.attempt_ledger.specs.declared.row.RowKind.TheVariants as row_kind
@@ -263,7 +260,3 @@ state_after before e =
     if list_any (λ x. is_settings_arrival x.event) before || is_settings_arrival e then conn.Ready
     else if list_any (λ x. is_resolved x.event) before || is_resolved e then conn.Connecting
     else conn.Idle
-
--- the moment of the last step
-abbrev pub last_moment : List Entry → ℕ
-last_moment entries = option_map_or (λ e. e.moment) (slice_get entries (length entries - 1)) 0

@@ -1,7 +1,8 @@
 // What the journal tells of the call so far. The journal is the one record, so nothing is kept twice.
 ghost use Rattle.std.specs.Prelude.{◌≡◌, max, option_map};
 ghost use Rattle.std.specs.List.{list_any};
-ghost use Rattle.channel_core.specs.Steps.{address_in, first_of, is_finish, is_resolved, is_settings_arrival, last_end, last_moment, message_in, request_in, state_after};
+ghost use Rattle.channel_core.specs.Core.{last_moment};
+ghost use Rattle.channel_core.specs.Steps.{address_in, first_of, is_finish, is_resolved, is_settings_arrival, last_end, message_in, request_in, state_after};
 
 use crate::answer::is_settings_frame;
 use attempt_ledger::{Row, RowEnd};

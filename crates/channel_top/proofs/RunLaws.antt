@@ -14,8 +14,7 @@ use Rattle.grpc_base.specs.declared.event.Event.{Event}
 use Rattle.grpc_base.specs.declared.event.Reply.{Reply}
 use Rattle.grpc_base.specs.declared.event.Stamped.{Stamped}
 use Rattle.channel_core.specs.FirstCall.{AreFirstEvents, IsStampedAt, first_moment_limit, stamped_of}
-use Rattle.channel_core.specs.Steps.{last_moment}
-use Rattle.channel_core.specs.Core.{CoreSeen, Gains, IsNew, moment_of}
+use Rattle.channel_core.specs.Core.{CoreSeen, Gains, IsNew, last_moment, moment_of}
 use Rattle.channel_core.proofs.Places.{EachFrom, from_each, front_of, joined_each, rest_of, to_each}
 use Rattle.channel_core.specs.Lawful.{IsLawful}
 use Rattle.script_text.specs.Report.{report_of}

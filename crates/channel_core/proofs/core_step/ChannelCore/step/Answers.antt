@@ -1,4 +1,4 @@
-use Rattle.std.proofs.Common.{◌≡◌, ◌++◌, ◌∷◌, [], List, map, ap, sym, ◌∙◌, subst, false}
+use Rattle.std.proofs.Common.{◌++◌, ◌∷◌, [], map, sym, subst, false}
 use Rattle.channel_core.specs.Core.{CoreSeen, Gains}
 use Rattle.channel_core.specs.FirstCall.{AreFirstEvents, stamped_of}
 use Rattle.channel_core.proofs.Lawful.{lawful, run_made}
