@@ -1,5 +1,5 @@
 -- What a run of reads gave is the pieces joined.
-use Rattle.std.proofs.Common.{◌≡◌, ◌≤◌, ℕ, Option, Some, None, List, [], ◌++◌, take, append_assoc, ap, ◌∙◌, sym, refl}
+use Rattle.std.proofs.Common.{◌≡◌, ℕ, Option, Some, None, List, [], ◌++◌, append_assoc, ap, ◌∙◌, sym, refl}
 use Rattle.gate_io.specs.Outside.{Takes}
 use Rattle.channel_top.specs.declared.input.Ending.{Ending}
 use Rattle.channel_top.specs.declared.input.Ending.TheVariants as ending

@@ -1,8 +1,6 @@
 pub mod AddressLaws
-pub mod CauseLaws
-pub mod EventLaws
+pub mod AnswerLaws
 pub mod InputLaws
 pub mod RunLaws
-pub mod ScriptLaws
-pub mod ShortScript
+pub mod ShapeLaws
 pub mod WordLaws

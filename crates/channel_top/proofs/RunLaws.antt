@@ -1,5 +1,5 @@
 -- A session, event by event: its events stay the first of the script, and its journal has those that were given so far.
-use Rattle.std.proofs.Common.{◌≡◌, ◌<◌, ℕ, ◌+◌, ◌-◌, max, Option, Some, None, List, [], ◌∷◌, ◌++◌, map, length, length-append, refl, ap, ◌∙◌, sym, subst, slice_get, arith, append_assoc, append-nil, option_map, false, Bool}
+use Rattle.std.proofs.Common.{◌≡◌, ◌<◌, ℕ, ◌+◌, ◌-◌, Option, Some, None, List, [], ◌∷◌, ◌++◌, map, length, length-append, refl, ap, ◌∙◌, sym, subst, slice_get, arith, append_assoc, append-nil, option_map, false, Bool}
 use Rattle.std.specs.Prelude.{Err, OnOk, Ok, Result, is_err}
 use Rattle.gate_io.specs.Outside.{Appends}
 use Rattle.attempt_ledger.specs.declared.journal.Journal.{Journal}
@@ -10,7 +10,6 @@ use Rattle.std.proofs.lemmas.Option.{slice_get-map}
 use Rattle.grpc_base.specs.declared.address.Address.{Address}
 use Rattle.grpc_base.specs.declared.event.Conn.{Conn}
 use Rattle.grpc_base.specs.declared.event.Entry.{Entry}
-use Rattle.grpc_base.specs.declared.event.Event.{Event}
 use Rattle.grpc_base.specs.declared.event.Reply.{Reply}
 use Rattle.grpc_base.specs.declared.event.Stamped.{Stamped}
 use Rattle.channel_core.specs.FirstCall.{AreFirstEvents, IsStampedAt, first_moment_limit, stamped_of}

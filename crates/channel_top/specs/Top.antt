@@ -1,18 +1,15 @@
 -- What the top call reads, runs and writes, by its status.
-use Rattle.std.specs.Prelude.{◌≡◌, ◌<◌, ◌⊎◌, ℕ, Option, List, [], ◌∷◌, ◌++◌, length, map, max, codes, decimal}
+use Rattle.std.specs.Prelude.{◌≡◌, ◌⊎◌, ℕ, Option, List, [], ◌∷◌, ◌++◌, map, max, codes, decimal}
 use Rattle.grpc_base.specs.declared.address.Address.{Address}
 use Rattle.grpc_base.specs.declared.event.Stamped.{Stamped}
 use Rattle.attempt_ledger.specs.declared.journal.Journal.{Journal}
 use Rattle.attempt_ledger.specs.declared.ledger.Ledger.{Ledger}
-use Rattle.gate_io.specs.Outside.{Appends, IsAtEnd, Rises, Takes}
+use Rattle.gate_io.specs.Outside.{Appends, IsAtEnd, Takes}
 use Rattle.channel_core.specs.Lawful.{IsLawful}
-use Rattle.script_text.specs.Spelling.{parted}
+use Rattle.script_input.specs.Reading.{FindsBad, ReadsScript, StopsReading}
+use Rattle.script_input.specs.Scripts.{IsScript}
 use Rattle.script_text.specs.Report.{report_of}
-use Rattle.channel_top.specs.Shape.{IsFirstBadLine, IsFirstCall, target_text}
-
--- how many bytes of an input are judged; a script in shape is always shorter
-abbrev pub judged_limit : ℕ
-judged_limit = 65536
+use Rattle.channel_top.specs.Shape.{IsFirstCall, IsFirstOutOfShape, target_text}
 
 -- the line that tells wrong words
 abbrev pub words_fault_text : List ℕ
@@ -49,8 +46,10 @@ pub record WritesSession (authority : Address) (events : List Stamped) (taken ta
 -- a script of the first call was read, and the report of its session was written
 pub record Reports (input : List ℕ) (taken taken' : Option (List ℕ)) : Type 0 where
   pub authority : Address
+  pub addresses : List Address
   pub events : List Stamped
-  pub script : IsFirstCall input authority events
+  pub script : IsScript input (target_text authority) addresses events
+  pub first : IsFirstCall (target_text authority) events authority
   pub report : WritesSession authority events taken taken'
 
 -- status 0: the input was read to its end; no bytes give no bytes, and any others are a script whose report was written
@@ -60,29 +59,28 @@ pub record IsDone (left left' taken taken' : Option (List ℕ)) : Type 0 where
   pub at_end : IsAtEnd left'
   pub done : ((input ≡ []) × (taken' ≡ taken)) ⊎ ((input ≡ [] → ⊥) × Reports input taken taken')
 
--- status 3: the first bad line of the bytes that were read was told. They are all that there are, or as many as are judged, or a
--- line feed ends that line
+-- the cause of a line that says something and is not in the shape of the first call
+abbrev pub out_of_shape : ℕ
+out_of_shape = 13
+
+-- the input was read to its end and is a script, and this is its first line that is not in the shape of the first call
+pub record FindsOutOfShape (left left' : Option (List ℕ)) (n : ℕ) : Type 0 where
+  pub target : List ℕ
+  pub addresses : List Address
+  pub events : List Stamped
+  pub script : ReadsScript left left' target addresses events
+  pub first : IsFirstOutOfShape target events n
+
+-- status 3: the first bad line was told; of a script that has none, the first line out of shape
 pub record TellsBadLine (left left' taken taken' : Option (List ℕ)) : Type 0 where
-  pub input : List ℕ
   pub line : ℕ
   pub cause : ℕ
-  pub read : Takes left left' input
-  pub judged : IsAtEnd left' ⊎ ((length input ≡ judged_limit) ⊎ (line < length (parted 10 input)))
-  pub bad : IsFirstBadLine input line cause
+  pub bad : FindsBad left left' line cause ⊎ ((cause ≡ out_of_shape) × FindsOutOfShape left left' line)
   pub written : Appends taken taken' (line_fault_text line cause)
-
--- what a failed read leaves undecided: the bytes before it are a whole script, or no line feed ends their first bad line
-abbrev pub IsUndecided : List ℕ → Type 0
-IsUndecided input =
-    ((authority : Address) × ((events : List Stamped) × IsFirstCall input authority events))
-    ⊎ ((line : ℕ) × ((cause : ℕ) × IsFirstBadLine input line cause × (line < length (parted 10 input) → ⊥)))
 
 -- status 4: a read failed before the input's end and before its first bad line; nothing was written
 pub record StopsAtRead (left left' taken taken' : Option (List ℕ)) (faults faults' : ℕ) : Type 0 where
-  pub input : List ℕ
-  pub read : Takes left left' input
-  pub failed : Rises faults faults'
-  pub undecided : IsUndecided input
+  pub stops : StopsReading left left' faults faults'
   pub written : taken' ≡ taken
 
 -- status 2: the words are wrong, and nothing was read

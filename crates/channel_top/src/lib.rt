@@ -2,7 +2,10 @@
 #![tactic(auto)]
 
 mod input;
+mod replay;
 mod run;
+#[cfg(test)]
+mod script_tests;
 mod session;
 mod shape;
 mod tell;
@@ -10,5 +13,4 @@ mod top;
 #[cfg(test)]
 mod top_tests;
 
-pub use shape::{FirstCall, ShapeFault, read_first_call};
 pub use top::{run_channel, run_steady};

@@ -3,10 +3,8 @@ ghost use Rattle.std.specs.Prelude.{◌≡◌, ◌⊎◌, Some, None, map, strin
 ghost use Rattle.gate_io.specs.Outside.{Rises};
 ghost use Rattle.channel_top.specs.Top.{IsDone, IsReplay, StopsAtRead, TellsBadLine, TellsWords};
 
-use crate::input::{Ending, read_input};
-use crate::session::report_session;
-use crate::shape::{ShapeFault, read_first_call};
-use crate::tell::{WORDS_FAULT, is_replay, tell_line};
+use crate::replay::run_replay;
+use crate::tell::{WORDS_FAULT, is_replay};
 use gate_io::{Sink, Source, SteadySink, SteadySource, write_whole};
 use std::alloc::Global;
 
@@ -16,7 +14,7 @@ use std::alloc::Global;
 /// |---|---|---|
 /// | 0 | done | the report; nothing for a script of no bytes |
 /// | 2 | the words are not exactly `replay` | `fault words` |
-/// | 3 | a line of the script is not in its shape | `fault line <n> cause <c>` |
+/// | 3 | a line of the script is bad, or it is not in the shape of the first call | `fault line <n> cause <c>` |
 /// | 4 | a read failed before the input's end and its first bad line | nothing |
 /// | 5 | a write failed | a front of the output |
 /// | 6 | out of memory | a front of the output |
@@ -43,38 +41,7 @@ pub fn run_channel<S: Source, K: Sink>(
         }
         return 5;
     }
-    let Ok(input) = read_input(alloc, script) else {
-        return 6;
-    };
-    if input.bytes.is_empty() {
-        if input.ending == Ending::End {
-            return 0;
-        }
-    }
-    match read_first_call(alloc, input.bytes.as_slice()) {
-        Ok(first) => match input.ending {
-            Ending::End => match report_session(alloc, first, report) {
-                Ok(true) => 0,
-                Ok(false) => 5,
-                Err(_) => 6,
-            },
-            Ending::Limit => unreachable!(),
-            Ending::Failed => 4,
-        },
-        Err(ShapeFault::BadLine { line, cause, ended }) => {
-            if input.ending == Ending::Failed {
-                if !ended {
-                    return 4;
-                }
-            }
-            match tell_line(alloc, report, line, cause) {
-                Ok(true) => 3,
-                Ok(false) => 5,
-                Err(_) => 6,
-            }
-        }
-        Err(ShapeFault::NoMemory) => 6,
-    }
+    run_replay(alloc, script, report)
 }
 
 /// Runs the program over ends that never fail: statuses 4 and 5 do not occur, and the others are those of `run_channel`.

@@ -1,171 +1,90 @@
-// The event of each line of the script, by the line's number.
-ghost use Rattle.std.specs.Prelude.{IfSome, IfNone, IfOk};
-ghost use Rattle.channel_top.specs.Reading.{IsEventText, IsNoEventText};
+// The event of each line of the first call, by the line's number.
+ghost use Rattle.std.specs.Prelude.{◌≡◌, ◌≤◌, ◌↔◌, ◌⊎◌, ◌∷◌, [], None, IsTrue, length};
+ghost use Rattle.grpc_base.specs.declared.address.Address as address;
+ghost use Rattle.grpc_base.specs.Requests.{IsRequest};
+ghost use Rattle.channel_top.specs.Shape.{IsAddress, IsAnswer, IsBytes, IsStampedAt, StandsAt, first_message_limit, settings_frame};
 
 use crate::shape::answer::is_answer;
-use grpc_base::{AddressList, Event, Metadata, NoMemory, Octets, Request, Text};
-use script_fields::{address_of, behind, between, bytes_or_dash};
-use std::alloc::Global;
+use grpc_base::{AddressList, Event, Octets, Request, Stamped};
 
 /// A message of this length and its five bytes of framing fit one DATA frame.
 const MESSAGE_LIMIT: usize = 16_379;
 
-/// A SETTINGS frame without a payload (RFC 9113, section 6.5), and its spelling.
+/// The first dial is given up at this moment.
+const MOMENT_LIMIT: u64 = 20_000_000_000;
+
+/// A SETTINGS frame without a payload (RFC 9113, section 6.5).
 const SETTINGS: [u8; 9] = [0, 0, 0, 4, 0, 0, 0, 0, 0];
 
-/// The event that this text spells, of those that may stand in the line of this number.
-pub fn event_at(alloc: Global, line: u64, text: &[u8]) -> Result<Option<Event>, NoMemory>
-    ensures some { IfOk result (λ o. IfSome o (IsEventText line text.now)) }
-    ensures none { IfOk result (λ o. IfNone o (IsNoEventText line text.now)) }
+/// Whether this event, with its moment and its random word, may be the line of this number.
+pub fn is_stamped_at(line: usize, stamped: &Stamped) -> bool
+    ensures { IsTrue result ↔ IsStampedAt line stamped.now }
+{
+    let _word = stamped.word;
+    let moment = stamped.moment.nanos();
+    moment < MOMENT_LIMIT && stands_at(line, &stamped.event)
+}
+
+/// Whether this event may stand in the line of this number.
+fn stands_at(line: usize, event: &Event) -> bool
+    ensures { IsTrue result ↔ StandsAt line event.now }
+{
+    match event {
+        Event::Resolved { addresses, config } => {
+            line == 2 && config.is_none() && is_one_address(addresses)
+        }
+        Event::TakeDial => line == 3,
+        Event::LinkUp { sub } => line == 4 && *sub == 1,
+        Event::Drain { link, room } => (line == 5 || line == 10) && *link == 1 && *room == 65536,
+        Event::Arrived { link, piece } => *link == 1 && arrives_at(line, piece),
+        Event::Begin { request } => line == 7 && is_plain(request),
+        Event::Send { call, message } => line == 8 && *call == 1 && is_short(message.as_slice()),
+        Event::Finish { call } => line == 9 && *call == 1,
+        Event::Take { call } => line == 12 && *call == 1,
+        _ => false,
+    }
+}
+
+/// Whether this is a list of one address with a port.
+fn is_one_address(addresses: &AddressList) -> bool
+    ensures { IsTrue result ↔ ((a : address.Address) × IsAddress a × (addresses.now ≡ a ∷ [])) }
+{
+    let [first, others @ ..] = addresses.as_slice() else {
+        return false;
+    };
+    let address = *first;
+    address.port != 0 && others.is_empty()
+}
+
+/// Whether these bytes may arrive in the line of this number: the server's SETTINGS, and its answer.
+fn arrives_at(line: usize, piece: &Octets) -> bool
+    ensures { IsTrue result ↔ (((line ≡ 6) × (piece.now ≡ settings_frame)) ⊎ ((line ≡ 11) × IsAnswer piece.now)) }
 {
     match line {
-        2 => Ok(resolved(text)),
-        3 => Ok(dial(text)),
-        4 => Ok(link_up(text)),
-        5 => Ok(drain(text)),
-        6 => settings(alloc, text),
-        7 => begin(alloc, text),
-        8 => send(alloc, text),
-        9 => Ok(finish(text)),
-        10 => Ok(drain(text)),
-        11 => answer(alloc, text),
-        12 => Ok(take(text)),
-        _ => Ok(None),
+        6 => is_settings(piece.as_slice()),
+        11 => is_answer(piece.as_slice()),
+        _ => false,
     }
 }
 
-/// One address, and no service config.
-#[tactic(auto, using(crate::proofs::AddressLaws::channel_address, crate::proofs::AddressLaws::field_address))]
-fn resolved(text: &[u8]) -> Option<Event>
-    ensures some { IfSome result (IsEventText 2 text.now) }
-    ensures none { IfNone result (IsNoEventText 2 text.now) }
+/// Whether this is the server's SETTINGS.
+fn is_settings(piece: &[u8]) -> bool
+    ensures { IsTrue result ↔ (piece.now ≡ settings_frame) }
 {
-    let item = between(text, b"resolved ", b" -")?;
-    let address = address_of(item)?;
-    let mut addresses = AddressList::new();
-    if addresses.push(address).is_err() {
-        return None;
-    }
-    Some(Event::Resolved {
-        addresses,
-        config: None,
-    })
+    piece == SETTINGS.as_slice()
 }
 
-fn dial(text: &[u8]) -> Option<Event>
-    ensures some { IfSome result (IsEventText 3 text.now) }
-    ensures none { IfNone result (IsNoEventText 3 text.now) }
+/// Whether this is a call without metadata, wait-for-ready or a timeout.
+fn is_plain(request: &Request) -> bool
+    ensures { IsTrue result ↔ (IsRequest request.now × (request.now.meta ≡ []) × (request.now.wait ≡ None) × (request.now.timeout ≡ None)) }
 {
-    if text != b"dial".as_slice() {
-        return None;
-    }
-    Some(Event::TakeDial)
+    let _path = request.path();
+    request.meta().is_empty() && request.wait().is_none() && request.timeout().is_none()
 }
 
-fn link_up(text: &[u8]) -> Option<Event>
-    ensures some { IfSome result (IsEventText 4 text.now) }
-    ensures none { IfNone result (IsNoEventText 4 text.now) }
+/// Whether a message is short enough.
+fn is_short(message: &[u8]) -> bool
+    ensures { IsTrue result ↔ (IsBytes message.now × (length message.now ≤ first_message_limit)) }
 {
-    if text != b"up 1".as_slice() {
-        return None;
-    }
-    Some(Event::LinkUp { sub: 1 })
-}
-
-fn drain(text: &[u8]) -> Option<Event>
-    ensures some_first { IfSome result (IsEventText 5 text.now) }
-    ensures none_first { IfNone result (IsNoEventText 5 text.now) }
-    ensures some { IfSome result (IsEventText 10 text.now) }
-    ensures none { IfNone result (IsNoEventText 10 text.now) }
-{
-    if text != b"drain 1 65536".as_slice() {
-        return None;
-    }
-    Some(Event::Drain {
-        link: 1,
-        room: 65536,
-    })
-}
-
-/// The server's SETTINGS.
-fn settings(alloc: Global, text: &[u8]) -> Result<Option<Event>, NoMemory>
-    ensures some { IfOk result (λ o. IfSome o (IsEventText 6 text.now)) }
-    ensures none { IfOk result (λ o. IfNone o (IsNoEventText 6 text.now)) }
-{
-    if text != b"arrived 1 000000040000000000".as_slice() {
-        return Ok(None);
-    }
-    let piece = Octets::of_slice(alloc, &SETTINGS)?;
-    Ok(Some(Event::Arrived { link: 1, piece }))
-}
-
-/// A call without metadata, wait-for-ready or a timeout.
-fn begin(alloc: Global, text: &[u8]) -> Result<Option<Event>, NoMemory>
-    ensures some { IfOk result (λ o. IfSome o (IsEventText 7 text.now)) }
-    ensures none { IfOk result (λ o. IfNone o (IsNoEventText 7 text.now)) }
-{
-    let Some(path) = between(text, b"begin ", b" - - -") else {
-        return Ok(None);
-    };
-    let path = Text::of_slice(alloc, path)?;
-    let Ok(request) = Request::new(path, Metadata::new(alloc), None, None) else {
-        return Ok(None);
-    };
-    Ok(Some(Event::Begin { request }))
-}
-
-/// A message of the call.
-fn send(alloc: Global, text: &[u8]) -> Result<Option<Event>, NoMemory>
-    ensures some { IfOk result (λ o. IfSome o (IsEventText 8 text.now)) }
-    ensures none { IfOk result (λ o. IfNone o (IsNoEventText 8 text.now)) }
-{
-    let Some(digits) = behind(text, b"send 1 ") else {
-        return Ok(None);
-    };
-    let Some(message) = bytes_or_dash(alloc, digits)? else {
-        return Ok(None);
-    };
-    let message = Octets::of_vec(message)?;
-    if message.len() > MESSAGE_LIMIT {
-        return Ok(None);
-    }
-    Ok(Some(Event::Send { call: 1, message }))
-}
-
-fn finish(text: &[u8]) -> Option<Event>
-    ensures some { IfSome result (IsEventText 9 text.now) }
-    ensures none { IfNone result (IsNoEventText 9 text.now) }
-{
-    if text != b"finish 1".as_slice() {
-        return None;
-    }
-    Some(Event::Finish { call: 1 })
-}
-
-/// The server's answer.
-fn answer(alloc: Global, text: &[u8]) -> Result<Option<Event>, NoMemory>
-    ensures some { IfOk result (λ o. IfSome o (IsEventText 11 text.now)) }
-    ensures none { IfOk result (λ o. IfNone o (IsNoEventText 11 text.now)) }
-{
-    let Some(digits) = behind(text, b"arrived 1 ") else {
-        return Ok(None);
-    };
-    let Some(piece) = bytes_or_dash(alloc, digits)? else {
-        return Ok(None);
-    };
-    if !is_answer(piece.as_slice()) {
-        return Ok(None);
-    }
-    let piece = Octets::of_vec(piece)?;
-    Ok(Some(Event::Arrived { link: 1, piece }))
-}
-
-fn take(text: &[u8]) -> Option<Event>
-    ensures some { IfSome result (IsEventText 12 text.now) }
-    ensures none { IfNone result (IsNoEventText 12 text.now) }
-{
-    if text != b"take 1".as_slice() {
-        return None;
-    }
-    Some(Event::Take { call: 1 })
+    message.len() <= MESSAGE_LIMIT
 }

@@ -1,7 +1,7 @@
 use Rattle.std.proofs.Common.{sym, arith}
 use Rattle.std.proofs.lemmas.Bool.{true≢false}
 use Rattle.script_fields.proofs.TextLaws.{bytes_of_slice}
-use Rattle.channel_top.proofs.EventLaws.{is_first, is_neither, is_second}
+use Rattle.channel_top.proofs.AnswerLaws.{is_first, is_neither, is_second}
 use Rattle.channel_top.proofs.shape.answer.is_answer.Goals as goal
 
 pub returns-in-Some : goal.returns-in-Some

@@ -1,0 +1,45 @@
+-- What a run of reads gave is the pieces joined.
+use Rattle.std.proofs.Common.{◌≡◌, ◌∙◌, ℕ, List, [], ◌++◌, Option, Some, None, Result, Ok, Err, ap, append_assoc, inl, inr, subst, sym}
+use Rattle.std.specs.Prelude.{IfErr}
+use Rattle.std.specs.Result.{IsErrAnd}
+use Rattle.gate_io.specs.Outside.{IsAtEnd, Takes}
+use Rattle.script_input.specs.declared.collected.Collected.{Collected}
+use Rattle.script_input.specs.declared.fault.InputFault.{InputFault}
+use Rattle.script_input.specs.declared.fault.InputFault.TheVariants as fault
+use Rattle.script_input.specs.declared.script.Script.{Script}
+use Rattle.script_input.specs.Collecting.{HasRead, IsDecided, IsUnfinished, IsUnscript}
+use Rattle.script_input.specs.Reading.{GivesNone}
+
+-- what a `?` hands on
+pub exit_of : {X : Type 0} (r : Result X InputFault) (P : InputFault → Type 0) (e : InputFault) → IsErrAnd r (λ y. y ≡ e) → P e → IfErr r P
+exit_of (Ok x) P e h p = tt
+exit_of (Err y) P e h p = subst P (sym h) p
+
+-- one piece behind another
+pub Takes-append : (a b c : Option (List ℕ)) (xs ys : List ℕ) → Takes a b xs → Takes b c ys → Takes a c (xs ++ ys)
+Takes-append (Some a) (Some b) (Some c) xs ys p q = p ∙ ap (λ (t : List ℕ). xs ++ t) q ∙ sym (append_assoc xs ys c)
+Takes-append (Some a) (Some b) None xs ys p q = q
+Takes-append (Some a) None c xs ys p q = absurd p
+Takes-append None (Some b) c xs ys p q = absurd p
+Takes-append None None (Some c) xs ys p q = q
+Takes-append None None None xs ys p q = tt
+
+-- a bad line in the newest piece
+pub bad_piece : (a b c : Option (List ℕ)) (f f' : ℕ) (s : Collected) (input piece : List ℕ) (e : InputFault) → Takes a b input → Takes b c piece → HasRead input s → IsDecided s piece e → GivesNone a c f f' e
+bad_piece a b c f f' s input piece (fault.BadLine n cause) before next h decided =
+    record { input = input ++ piece; read = Takes-append a b c input piece before next; bad = inr (λ more. decided input h more) }
+bad_piece a b c f f' s input piece fault.NoMemory before next h decided = tt
+bad_piece a b c f f' s input piece fault.Empty before next h decided = absurd (decided input h [])
+bad_piece a b c f f' s input piece fault.ReadFailed before next h decided = absurd (decided input h [])
+
+-- no script at the end
+none_of : (a b : Option (List ℕ)) (f f' : ℕ) (input : List ℕ) (e : InputFault) → Takes a b input → IsAtEnd b → IsUnscript input e → GivesNone a b f f' e
+none_of a b f f' input fault.Empty took ended is = (subst (Takes a b) is took, ended)
+none_of a b f f' input (fault.BadLine n cause) took ended is = record { input = input; read = took; bad = inl (ended, is) }
+none_of a b f f' input fault.NoMemory took ended is = tt
+none_of a b f f' input fault.ReadFailed took ended is = absurd is
+
+pub none_at_end : (a b c : Option (List ℕ)) (f f' : ℕ) (s : Collected) (input : List ℕ) (r : Result Script InputFault) → Takes a b input → HasRead input s → IsAtEnd b → c ≡ b → IfErr r (IsUnfinished s) → IfErr r (GivesNone a c f f')
+none_at_end a b c f f' s input (Ok script) took h ended same unfinished = tt
+none_at_end a b c f f' s input (Err e) took h ended same unfinished =
+    subst (λ (o : Option (List ℕ)). GivesNone a o f f' e) (sym same) (none_of a b f f' input e took ended (unfinished input h))

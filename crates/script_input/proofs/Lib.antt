@@ -1,0 +1,4 @@
+pub mod InputLaws
+pub mod LineLaws
+pub mod PartLaws
+pub mod StateLaws

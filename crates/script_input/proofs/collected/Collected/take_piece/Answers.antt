@@ -1,0 +1,42 @@
+use Rattle.std.proofs.Common.{◌≡◌, ◌++◌, ◌∷◌, ◌∙◌, [], ap, append_assoc, sym, subst, List, ℕ, append-nil}
+use Rattle.script_input.specs.Collecting.{IsDecided, Leads}
+use Rattle.script_input.proofs.InputLaws.{exit_of}
+use Rattle.script_input.proofs.StateLaws.{decided_on, leads_on}
+use Rattle.script_input.proofs.collected.Collected.take_piece.Goals as goal
+
+pub returns-in_err-take_line-clause-bad : goal.returns-in_err-take_line-clause-bad
+returns-in_err-take_line-clause-bad c =
+    let front : List ℕ = c.loop-text.invariant.0 in
+    let line : List ℕ = c.in-Some.text.now ++ 10 ∷ [] in
+    let cut : c.loop-text.rest.now ≡ c.in-Some.text.now ++ 10 ∷ c.in-Some.behind.now = c.in-Some.ensures.some.0 in
+    let whole : c.args.piece.now ≡ front ++ (line ++ c.in-Some.behind.now) = c.loop-text.invariant.1 ∙ ap (λ (r : List ℕ). front ++ r) (cut ∙ sym (append_assoc c.in-Some.text.now (10 ∷ []) c.in-Some.behind.now)) in
+    let decided : IsDecided c.args.self.now (front ++ (line ++ c.in-Some.behind.now)) c.in_err-take_line.field-0.0 =
+    decided_on _ _ front line c.in-Some.behind.now _ c.loop-text.invariant.2 c.in_err-take_line.ensures.bad in
+    exit_of c.from_residual.result _ c.in_err-take_line.field-0.0 c.from_residual.ensures.1
+    (subst (λ (p : List ℕ). IsDecided c.args.self.now p c.in_err-take_line.field-0.0) (sym whole) decided)
+
+pub loop-text-preserved : goal.loop-text-preserved
+loop-text-preserved c =
+    let front : List ℕ = c.loop-text.invariant.0 in
+    let line : List ℕ = c.in-Some.text.now ++ 10 ∷ [] in
+    let cut : c.loop-text.rest.now ≡ c.in-Some.text.now ++ 10 ∷ c.in-Some.behind.now = c.in-Some.ensures.some.0 in (
+      front ++ line,
+      (c.loop-text.invariant.1 ∙ ap (λ (r : List ℕ). front ++ r) (cut ∙ sym (append_assoc c.in-Some.text.now (10 ∷ []) c.in-Some.behind.now)) ∙ sym (append_assoc front line c.in-Some.behind.now)),
+      leads_on _ _ _ front line c.loop-text.invariant.2 c.in_ok-take_line.ensures.ok,
+      c.in_ok-take_line.ensures.replay,
+    )
+
+pub returns-in_err-take_front-clause-bad : goal.returns-in_err-take_front-clause-bad
+returns-in_err-take_front-clause-bad c =
+    let front : List ℕ = c.loop-text.invariant.0 in
+    let rest : List ℕ = c.loop-text.rest.now in
+    let whole : c.args.piece.now ≡ front ++ (rest ++ []) = c.loop-text.invariant.1 ∙ ap (λ (r : List ℕ). front ++ r) (sym (append-nil rest)) in
+    let decided : IsDecided c.args.self.now (front ++ (rest ++ [])) c.in_err-take_front.field-0.0 =
+    decided_on _ _ front rest [] _ c.loop-text.invariant.2 c.in_err-take_front.ensures.bad in
+    exit_of c.from_residual-in_err-take_front.result _ c.in_err-take_front.field-0.0 c.from_residual-in_err-take_front.ensures.1
+    (subst (λ (p : List ℕ). IsDecided c.args.self.now p c.in_err-take_front.field-0.0) (sym whole) decided)
+
+pub returns-clause-ok : goal.returns-clause-ok
+returns-clause-ok c =
+    subst (λ (p : List ℕ). Leads c.args.self.now c.take_front.new.self p) (sym c.loop-text.invariant.1)
+    (leads_on _ _ _ c.loop-text.invariant.0 c.loop-text.rest.now c.loop-text.invariant.2 c.in_ok-take_front.ensures.ok)

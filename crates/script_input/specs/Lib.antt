@@ -1,0 +1,3 @@
+pub mod Collecting
+pub mod Reading
+pub mod Scripts

@@ -1,0 +1,37 @@
+// Why a source gave no script.
+use std::alloc::{AllocError, AllocFailed};
+
+/// Why a source gave no script.
+#[derive(Clone, Copy, Debug, PartialEq, Eq)]
+pub enum InputFault {
+    /// The input has no bytes.
+    Empty,
+    /// The first bad line, counted from 1, and its cause, from 1 to 12.
+    BadLine { line: u64, cause: u8 },
+    /// A read failed before the input's end and before its first bad line.
+    ReadFailed,
+    /// Out of memory.
+    NoMemory,
+}
+
+impl From<AllocError> for InputFault {
+    ghost use Rattle.std.specs.Prelude.{◌≡◌};
+    ghost use Rattle.script_input.specs.declared.fault.InputFault.TheVariants as faults;
+
+    ghost from_gives = { λ _ e. e ≡ faults.NoMemory };
+
+    fn from(_e: AllocError) -> InputFault {
+        InputFault::NoMemory
+    }
+}
+
+impl<T: Drop> From<AllocFailed<T>> for InputFault {
+    ghost use Rattle.std.specs.Prelude.{◌≡◌};
+    ghost use Rattle.script_input.specs.declared.fault.InputFault.TheVariants as faults;
+
+    ghost from_gives = { λ _ e. e ≡ faults.NoMemory };
+
+    fn from(_e: AllocFailed<T>) -> InputFault {
+        InputFault::NoMemory
+    }
+}

@@ -1,0 +1,13 @@
+// A replay script, read from a source to its end or its first bad line.
+#![tactic(auto)]
+
+mod collected;
+mod fault;
+mod read;
+mod script;
+#[cfg(test)]
+mod tests;
+
+pub use fault::InputFault;
+pub use read::read_replay;
+pub use script::Script;
