@@ -1,0 +1,5 @@
+pub mod Trees
+pub mod Durations
+pub mod Letters
+pub mod Names
+pub mod Told

@@ -1,0 +1,118 @@
+-- What a text is read as for some kinds of policy, or its first fault (gRPC, "Service Config in gRPC"; gRFC A6): the
+-- JSON whole, the choice of the policy, each entry of methodConfig, the throttling.
+use Rattle.std.specs.Prelude.{◌≡◌, ℕ, ◌+◌, if◌then◌else◌, List, [], ◌∷◌, Option, Some, None, option_and_then, Result, Ok, Err}
+use Rattle.std.specs.Option.{ok_or, option_or}
+use Rattle.std.specs.Str.{bytes_eq}
+use Rattle.grpc_base.specs.Kinds.{KindsSeen, kind_name, has_kind}
+use Rattle.grpc_base.specs.declared.kind.Kind.{Kind}
+use Rattle.grpc_base.specs.declared.kind.Kind.TheVariants as kind
+use Rattle.grpc_base.specs.declared.event.JsonFault.{JsonFault}
+use Rattle.grpc_base.specs.declared.event.JsonFault.TheVariants as json
+use Rattle.grpc_base.specs.declared.event.ConfigFault.{ConfigFault}
+use Rattle.grpc_base.specs.declared.event.ConfigFault.TheVariants as told
+use Rattle.json_text.specs.Tree.{Tree}
+use Rattle.json_text.specs.Reading.{reading}
+use Rattle.service_config.specs.Trees.{values_in, members_in, text_in}
+use Rattle.service_config.specs.Codes.{same_letters}
+use Rattle.service_config.specs.Places.{path_of}
+use Rattle.service_config.specs.Policies.{Fields, ◌>>=◌, found_at, optional, value_of, fields_at, throttle_in}
+use Rattle.service_config.specs.Entries.{methods_in}
+use Rattle.service_config.specs.declared.place.Field.TheVariants as field
+use Rattle.service_config.specs.declared.place.Object.TheVariants as object
+use Rattle.service_config.specs.declared.place.Place.TheVariants as place
+use Rattle.service_config.specs.declared.place.Fault.{Fault}
+use Rattle.service_config.specs.declared.place.Fault.TheVariants as fault
+use Rattle.service_config.specs.declared.config.Config.{Config}
+
+-- the kind of this name, spelled exactly or in any case
+abbrev pub kind_named : List ℕ → Option Kind
+kind_named name =
+    if bytes_eq name (kind_name kind.PickFirst) then Some kind.PickFirst
+    else if bytes_eq name (kind_name kind.RoundRobin) then Some kind.RoundRobin
+    else None
+
+abbrev pub kind_like : List ℕ → Option Kind
+kind_like name =
+    if same_letters name (kind_name kind.PickFirst) then Some kind.PickFirst
+    else if same_letters name (kind_name kind.RoundRobin) then Some kind.RoundRobin
+    else None
+
+-- a kind, where it is supported
+abbrev pub supported : KindsSeen → Option Kind → Option Kind
+supported kinds None = None
+supported kinds (Some k) = if has_kind kinds k then Some k else None
+
+-- the name in an entry of loadBalancingConfig, which has one key with any value
+abbrev pub only_name : Fields → Option (List ℕ)
+only_name [] = None
+only_name (m ∷ []) = Some m.0
+only_name (m ∷ (n ∷ ms)) = None
+
+abbrev pub policy_name : Tree → Option (List ℕ)
+policy_name v = option_and_then only_name (members_in v)
+
+-- the first supported kind of these entries, of which the first has this place, unless one was found before
+abbrev pub first_kind : KindsSeen → ℕ → Option Kind → List Tree → Result (Option Kind) Fault
+first_kind kinds i found [] = Ok found
+first_kind kinds i found (v ∷ vs) =
+    found_at (place.Element object.Config field.LoadBalancingConfig i) (policy_name v) >>= λ name.
+    first_kind kinds (i + 1) (option_or found (supported kinds (kind_named name))) vs
+
+-- the policy by its name, pick_first where it is absent
+abbrev pub named_kind : KindsSeen → Option (List ℕ) → Option Kind
+named_kind kinds None = supported kinds (Some kind.PickFirst)
+named_kind kinds (Some name) = supported kinds (kind_like name)
+
+-- loadBalancingPolicy is read only where there is no loadBalancingConfig
+abbrev pub kind_by : KindsSeen → Fields → Option Tree → Result (Option Kind) Fault
+kind_by kinds fields None = optional text_in object.Config field.LoadBalancingPolicy fields >>= λ name. Ok (named_kind kinds name)
+kind_by kinds fields (Some v) = found_at (place.Field object.Config field.LoadBalancingConfig) (values_in v) >>= λ vs. first_kind kinds 0 None vs
+
+unfoldable pub kind_in : KindsSeen → Fields → Result Kind Fault
+kind_in kinds fields = kind_by kinds fields (value_of field.LoadBalancingConfig fields) >>= λ k. ok_or k fault.NoSupportedPolicy
+
+-- the members of the object at the top
+unfoldable pub config_in : KindsSeen → Fields → Result Config Fault
+config_in kinds fields =
+    kind_in kinds fields >>= λ kind.
+    methods_in fields >>= λ methods.
+    throttle_in fields >>= λ throttle.
+    Ok (record { kind = kind; throttle = throttle; methods = methods })
+
+-- a fault as it is told, with its path
+abbrev pub told_of : Fault → ConfigFault
+told_of (fault.Wrong p) = told.Field (path_of p)
+told_of (fault.BothPolicies i) = told.BothPolicies (path_of (place.Whole (object.Entry i)))
+told_of (fault.RepeatedName i j) = told.RepeatedName (path_of (place.Whole (object.Name i j)))
+told_of fault.NoSupportedPolicy = told.NoSupportedPolicy
+told_of fault.NoMemory = told.NoMemory
+
+abbrev pub told_by : Result Config Fault → Result Config ConfigFault
+told_by (Ok c) = Ok c
+told_by (Err f) = Err (told_of f)
+
+-- a JSON text always has an object at its top, so that it is never wrong as a whole
+unfoldable pub config_in_tree : KindsSeen → Tree → Result Config Fault
+config_in_tree kinds v = fields_at object.Config v >>= λ fields. config_in kinds fields
+
+abbrev pub config_at : KindsSeen → Result Tree JsonFault → Result Config ConfigFault
+config_at kinds (Ok v) = told_by (config_in_tree kinds v)
+config_at kinds (Err f) = Err (told.Json f)
+
+-- the config of a text for these kinds, or its first fault
+abbrev pub config_of : KindsSeen → List ℕ → Result Config ConfigFault
+config_of kinds bytes = config_at kinds (reading bytes)
+
+-- a fault of the JSON text; want of memory is none of them
+abbrev pub json_told : JsonFault → ConfigFault
+json_told json.NoMemory = told.NoMemory
+json_told f = told.Json f
+
+-- What a function returned is this, unless memory ran out.
+abbrev pub FailsBy : ConfigFault → Result Config ConfigFault → Type 0
+FailsBy told.NoMemory read = Unit {0}
+FailsBy f read = read ≡ Err f
+
+abbrev pub Tells : Result Config ConfigFault → Result Config ConfigFault → Type 0
+Tells (Ok c) read = read ≡ Ok c
+Tells (Err e) read = FailsBy e read

@@ -1,0 +1,166 @@
+// A service config of a text.
+ghost use Rattle.std.specs.Prelude.{◌≡◌, None, Err, map, option_map};
+ghost use Rattle.json_text.specs.Views.{tree_of};
+ghost use Rattle.service_config.specs.Trees.{member_seen};
+ghost use Rattle.service_config.specs.Policies.{value_of};
+ghost use Rattle.service_config.specs.Entries.{Gives};
+ghost use Rattle.service_config.specs.Reading.{kind_named, kind_like, supported, only_name, policy_name, first_kind, named_kind, kind_by, kind_in, config_in, config_in_tree, json_told, config_of, Tells};
+ghost use Rattle.grpc_base.specs.declared.event.ConfigFault.TheVariants as told;
+ghost use Rattle.grpc_base.specs.declared.event.JsonFault.TheVariants as json;
+ghost use Rattle.service_config.specs.declared.place.Field.TheVariants as field;
+
+use crate::code::same_letters;
+use crate::config::Config;
+use crate::entry::methods_in;
+use crate::method::text;
+use crate::path::told;
+use crate::place::{Fault, Field, Object, Place};
+use crate::plan::{fields_at, throttle_in, value_of};
+use crate::tree::{members_in, values_in};
+use grpc_base::{ConfigFault, Items, JsonFault, Kind, KindSet, Text};
+use json_text::{Json, read_json};
+use std::alloc::Global;
+
+/// The kind of this name, spelled exactly.
+fn kind_named(name: &[u8]) -> Option<Kind>
+    ensures { result ≡ kind_named name.now }
+{
+    if name == Kind::PickFirst.name().as_bytes() {
+        return Some(Kind::PickFirst);
+    }
+    if name == Kind::RoundRobin.name().as_bytes() {
+        return Some(Kind::RoundRobin);
+    }
+    None
+}
+
+/// The kind of this name in any case.
+fn kind_like(name: &[u8]) -> Option<Kind>
+    ensures { result ≡ kind_like name.now }
+{
+    if same_letters(name, Kind::PickFirst.name().as_bytes()) {
+        return Some(Kind::PickFirst);
+    }
+    if same_letters(name, Kind::RoundRobin.name().as_bytes()) {
+        return Some(Kind::RoundRobin);
+    }
+    None
+}
+
+fn supported(kinds: KindSet, kind: Option<Kind>) -> Option<Kind>
+    ensures { result ≡ supported kinds kind }
+{
+    let kind = kind?;
+    if kinds.has(kind) { Some(kind) } else { None }
+}
+
+fn only_name(members: &[(Text, Json)]) -> Option<&[u8]>
+    ensures { option_map (λ n. n.now) result ≡ only_name (map member_seen members.now) }
+{
+    match members {
+        [member] => Some(member.0.as_slice()),
+        _ => None,
+    }
+}
+
+/// The name in an entry of `loadBalancingConfig`.
+fn policy_name(value: &Json) -> Option<&[u8]>
+    ensures { option_map (λ n. n.now) result ≡ policy_name (tree_of value.now) }
+{
+    only_name(members_in(value)?)
+}
+
+/// The first supported kind of these entries.
+fn first_kind(kinds: KindSet, values: &[Json]) -> Result<Option<Kind>, Fault>
+    ensures { result ≡ first_kind kinds 0 None (map tree_of values.now) }
+{
+    let mut found = None;
+    for (at, value) in values.iter().enumerate() {
+        let place = Place::Element(Object::Config, Field::LoadBalancingConfig, at);
+        let name = policy_name(value).ok_or(Fault::Wrong(place))?;
+        found = found.or(supported(kinds, kind_named(name)));
+    }
+    Ok(found)
+}
+
+/// The policy by its name, `pick_first` where it is absent.
+fn named_kind(kinds: KindSet, name: Option<&[u8]>) -> Option<Kind>
+    ensures { result ≡ named_kind kinds (option_map (λ n. n.now) name.entry) }
+{
+    match name {
+        None => supported(kinds, Some(Kind::PickFirst)),
+        Some(name) => supported(kinds, kind_like(name)),
+    }
+}
+
+fn kind_by(kinds: KindSet, fields: &[(Text, Json)]) -> Result<Option<Kind>, Fault>
+    ensures { result ≡ kind_by kinds (map member_seen fields.now) (value_of field.LoadBalancingConfig (map member_seen fields.now)) }
+{
+    let Some(value) = value_of(fields, Field::LoadBalancingConfig) else {
+        let name = text(Object::Config, Field::LoadBalancingPolicy, fields)?;
+        return Ok(named_kind(kinds, name));
+    };
+    let wrong = Fault::Wrong(Place::Field(Object::Config, Field::LoadBalancingConfig));
+    let values = values_in(value).ok_or(wrong)?;
+    first_kind(kinds, values)
+}
+
+/// The load balancing policy.
+#[tactic(auto, unfolding(crate::specs::Reading::kind_in))]
+fn kind_in(kinds: KindSet, fields: &[(Text, Json)]) -> Result<Kind, Fault>
+    ensures { result ≡ kind_in kinds (map member_seen fields.now) }
+{
+    let kind = kind_by(kinds, fields)?;
+    kind.ok_or(Fault::NoSupportedPolicy)
+}
+
+/// The config in the members of the object at the top.
+#[tactic(auto, unfolding(crate::specs::Reading::config_in))]
+fn config_in(alloc: Global, kinds: KindSet, fields: &[(Text, Json)]) -> Result<Config, Fault>
+    ensures { Gives (λ c. c) result (config_in kinds (map member_seen fields.now)) }
+{
+    let kind = kind_in(kinds, fields)?;
+    let methods = methods_in(alloc, fields)?;
+    let throttle = throttle_in(fields)?;
+    Ok(Config {
+        kind,
+        throttle,
+        methods: Items::of_vec(methods),
+    })
+}
+
+#[tactic(auto, unfolding(crate::specs::Reading::config_in_tree))]
+fn config_in_tree(alloc: Global, kinds: KindSet, value: &Json) -> Result<Config, Fault>
+    ensures { Gives (λ c. c) result (config_in_tree kinds (tree_of value.now)) }
+{
+    let fields = fields_at(Object::Config, value)?;
+    config_in(alloc, kinds, fields)
+}
+
+/// A fault of the JSON text.
+fn json_told(fault: JsonFault) -> ConfigFault
+    ensures { result ≡ json_told fault }
+{
+    match fault {
+        JsonFault::NoMemory => ConfigFault::NoMemory,
+        _ => ConfigFault::Json { fault },
+    }
+}
+
+/// Reads a service config, where these kinds of load balancing policy are supported, or tells its first fault. The
+/// tests go in this order: the JSON whole, the choice of the policy, each entry of `methodConfig`, the throttling.
+#[tactic(auto, using(crate::proofs::Told::json_tells, crate::proofs::Told::fault_tells))]
+pub fn read_config(alloc: Global, bytes: &[u8], kinds: KindSet) -> Result<Config, ConfigFault>
+    // What is read, or which fault is told at which path; out of memory alone is free.
+    ensures exact { Tells result (config_of kinds bytes.now) }
+    // Out of memory is never told as a fault of the JSON text.
+    ensures memory { result ≡ Err (told.Json json.NoMemory) → ⊥ }
+{
+    match read_json(alloc, bytes) {
+        Ok(value) => match config_in_tree(alloc, kinds, &value) {
+            Ok(config) => Ok(config),
+            Err(fault) => Err(told(alloc, fault)),
+        },
+        Err(fault) => Err(json_told(fault)),
+    }
+}
