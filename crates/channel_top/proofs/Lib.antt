@@ -1,8 +1,9 @@
 pub mod AddressLaws
 pub mod CauseLaws
+pub mod ConfigLaws
 pub mod EventLaws
 pub mod InputLaws
 pub mod RunLaws
 pub mod ScriptLaws
 pub mod ShortScript
-pub mod WordLaws
+pub mod WordFaults

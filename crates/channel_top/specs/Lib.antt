@@ -1,5 +1,8 @@
+pub mod ConfigMode
 pub mod Ending
+pub mod Modes
 pub mod Reading
 pub mod Runs
 pub mod Shape
 pub mod Top
+pub mod Words
