@@ -20,7 +20,7 @@ Takes-append None None (Some c) xs ys p q = q
 Takes-append None None None xs ys p q = tt
 
 -- an input that was read to the limit is as long as that
-pub limit_is_long : (e : Ending) (left : Option (List ℕ)) (n f f' : ℕ) → EndsSo e left n f f' → e ≡ ending.Limit → n ≡ 65536
-limit_is_long ending.Limit left n f f' h same = h
-limit_is_long ending.End left n f f' h same = absurd (cc)
-limit_is_long ending.Failed left n f f' h same = absurd (cc)
+pub limit_is_long : (limit : ℕ) (e : Ending) (left : Option (List ℕ)) (n f f' : ℕ) → EndsSo limit e left n f f' → e ≡ ending.Limit → n ≡ limit
+limit_is_long limit ending.Limit left n f f' h same = h
+limit_is_long limit ending.End left n f f' h same = absurd (cc)
+limit_is_long limit ending.Failed left n f f' h same = absurd (cc)

@@ -1,6 +1,7 @@
 pub mod AddressLaws
 pub mod AnswerLaws
+pub mod ConfigLaws
 pub mod InputLaws
 pub mod RunLaws
 pub mod ShapeLaws
-pub mod WordLaws
+pub mod WordFaults

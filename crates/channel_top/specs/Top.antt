@@ -19,10 +19,6 @@ words_fault_text = codes "fault words" ++ 10 ∷ []
 abbrev pub line_fault_text : ℕ → ℕ → List ℕ
 line_fault_text line cause = codes "fault line " ++ decimal line ++ codes " cause " ++ decimal cause ++ 10 ∷ []
 
--- the words of a command are exactly `replay`
-abbrev pub IsReplay : List (List ℕ) → Type 0
-IsReplay commands = commands ≡ codes "replay" ∷ []
-
 -- moments that never fall: each the highest so far
 abbrev pub highest_so_far : ℕ → List ℕ → List ℕ
 highest_so_far last [] = []

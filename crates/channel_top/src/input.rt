@@ -7,7 +7,7 @@ use gate_io::{ReadAnswer, Source};
 use grpc_base::NoMemory;
 use std::alloc::Global;
 
-/// How many bytes of an input are judged.
+/// How many bytes of a script are judged.
 pub const JUDGED: usize = 65_536;
 
 /// How reading stopped.
@@ -28,16 +28,16 @@ pub struct Input {
     pub ending: Ending,
 }
 
-/// Reads to the input's end, to the limit, or to the first read that fails.
-pub fn read_input<S: Source>(alloc: Global, source: &mut S) -> Result<Input, NoMemory>
+/// Reads to the input's end, to a limit of bytes, or to the first read that fails.
+pub fn read_input<S: Source>(alloc: Global, source: &mut S, limit: usize) -> Result<Input, NoMemory>
     ensures read { IfOk result (λ i. Takes (S.left source.old) (S.left source.new) i.bytes.items) }
-    ensures ending { IfOk result (λ i. EndsSo i.ending (S.left source.new) (length i.bytes.items) (S.faults source.old) (S.faults source.new)) }
+    ensures ending { IfOk result (λ i. EndsSo limit i.ending (S.left source.new) (length i.bytes.items) (S.faults source.old) (S.faults source.new)) }
     ensures count { S.faults source.old ≤ S.faults source.new }
 {
     let mut bytes = Vec::new(alloc);
     let mut buf = [0u8; 4096];
     loop {
-        let room = JUDGED - bytes.len();
+        let room = limit - bytes.len();
         if room == 0 {
             return Ok(Input {
                 bytes,

@@ -1,6 +1,9 @@
-// The top call of the program: reads a script, runs the channel on it and writes the report.
+// The top call of the program: reads its words and runs the mode that they name.
 #![tactic(auto)]
 
+mod config_mode;
+#[cfg(test)]
+mod config_tests;
 mod input;
 mod replay;
 mod run;
@@ -12,5 +15,6 @@ mod tell;
 mod top;
 #[cfg(test)]
 mod top_tests;
+mod words;
 
 pub use top::{run_channel, run_steady};

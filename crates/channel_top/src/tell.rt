@@ -1,7 +1,7 @@
 // The one-line answers of the program.
-ghost use Rattle.std.specs.Prelude.{◌≡◌, ◌++◌, ◌↔◌, true, false, codes, decimal, map, string_bytes, IsTrue, IfOk, OnOk};
+ghost use Rattle.std.specs.Prelude.{◌≡◌, ◌++◌, true, false, decimal, IfOk, OnOk};
 ghost use Rattle.gate_io.specs.Outside.{Appends, Rises};
-ghost use Rattle.channel_top.specs.Top.{IsReplay, line_fault_text};
+ghost use Rattle.channel_top.specs.Top.{line_fault_text};
 
 use gate_io::{Sink, write_whole};
 use grpc_base::{NoMemory, Text};
@@ -10,23 +10,6 @@ use std::alloc::Global;
 
 /// The answer to wrong words.
 pub const WORDS_FAULT: &[u8] = b"fault words\n";
-
-/// Whether the words are exactly `replay`.
-pub fn is_replay(words: &[String]) -> bool
-    ensures { IsTrue result ↔ IsReplay (map string_bytes words.now) }
-{
-    if words.len() != 1 {
-        return false;
-    }
-    is_word(words[0].as_bytes())
-}
-
-/// Whether a word is `replay`.
-fn is_word(word: &[u8]) -> bool
-    ensures { IsTrue result ↔ (word.now ≡ codes "replay") }
-{
-    word == b"replay".as_slice()
-}
 
 /// Tells the first bad line of a script, and says whether the text was written; if not, a write failed.
 pub fn tell_line<K: Sink>(

@@ -1,21 +1,30 @@
 // The top call of the program.
 ghost use Rattle.std.specs.Prelude.{◌≡◌, ◌⊎◌, Some, None, map, string_bytes};
 ghost use Rattle.gate_io.specs.Outside.{Rises};
-ghost use Rattle.channel_top.specs.Top.{IsDone, IsReplay, StopsAtRead, TellsBadLine, TellsWords};
+ghost use Rattle.channel_top.specs.Modes.{Finishes, IsDoneIn, RefusesWords, StopsIn, StopsReading, TellsFault, TellsFaultIn};
+ghost use Rattle.channel_top.specs.Top.{IsDone, StopsAtRead, TellsBadLine};
 
+use crate::config_mode::run_config;
 use crate::replay::run_replay;
-use crate::tell::{WORDS_FAULT, is_replay};
+use crate::tell::WORDS_FAULT;
+use crate::words::{Asked, Mode, WordsFault, read_words};
 use gate_io::{Sink, Source, SteadySink, SteadySource, write_whole};
 use std::alloc::Global;
 
-/// Runs the program on its words: `replay` reads a script, runs it and writes the report.
+/// Runs the program on the words behind its name.
+///
+/// | Words | What it does |
+/// |---|---|
+/// | `replay` | reads a script, runs it and writes the report |
+/// | `config` | reads a service config and writes its reading |
+/// | `--help`, `--version`, alone or behind a mode | writes that text, and reads nothing |
 ///
 /// | Status | When | Written |
 /// |---|---|---|
-/// | 0 | done | the report; nothing for a script of no bytes |
-/// | 2 | the words are not exactly `replay` | `fault words` |
-/// | 3 | a line of the script is bad, or it is not in the shape of the first call | `fault line <n> cause <c>` |
-/// | 4 | a read failed before the input's end and its first bad line | nothing |
+/// | 0 | done | the whole output of the mode; nothing for a script of no bytes |
+/// | 2 | there is no first word, it is no mode, or `clap` refuses the words behind it | `fault words` |
+/// | 3 | a line of the script is bad or not in the shape of the first call, or the config has a fault | `fault line <n> cause <c>`, or `fault config <n> <detail>` |
+/// | 4 | a read failed before the input's end and its first fault | nothing |
 /// | 5 | a write failed | a front of the output |
 /// | 6 | out of memory | a front of the output |
 pub fn run_channel<S: Source, K: Sink>(
@@ -24,24 +33,48 @@ pub fn run_channel<S: Source, K: Sink>(
     script: &mut S,
     report: &mut K,
 ) -> u8
-    ensures done { result ≡ 0 → IsReplay (map string_bytes words.now)
-        × IsDone (S.left script.old) (S.left script.new) (K.taken report.old) (K.taken report.new) }
-    ensures words { result ≡ 2 → (IsReplay (map string_bytes words.now) → ⊥)
-        × TellsWords (S.left script.old) (S.left script.new) (K.taken report.old) (K.taken report.new) }
-    ensures line { result ≡ 3 → IsReplay (map string_bytes words.now)
-        × TellsBadLine (S.left script.old) (S.left script.new) (K.taken report.old) (K.taken report.new) }
-    ensures reading { result ≡ 4 → IsReplay (map string_bytes words.now)
-        × StopsAtRead (S.left script.old) (S.left script.new) (K.taken report.old) (K.taken report.new) (S.faults script.old) (S.faults script.new) }
+    ensures done { result ≡ 0 → Finishes (map string_bytes words.now) (S.left script.old) (S.left script.new) (K.taken report.old) (K.taken report.new) }
+    ensures words { result ≡ 2 → RefusesWords (map string_bytes words.now) (S.left script.old) (S.left script.new) (K.taken report.old) (K.taken report.new) }
+    ensures fault { result ≡ 3 → TellsFault (map string_bytes words.now) (S.left script.old) (S.left script.new) (K.taken report.old) (K.taken report.new) }
+    ensures reading { result ≡ 4 → StopsReading (map string_bytes words.now) (S.left script.old) (S.left script.new) (K.taken report.old) (K.taken report.new) (S.faults script.old) (S.faults script.new) }
     ensures writing { result ≡ 5 → Rises (K.faults report.old) (K.faults report.new) }
     ensures known { (result ≡ 0) ⊎ (result ≡ 2) ⊎ (result ≡ 3) ⊎ (result ≡ 4) ⊎ (result ≡ 5) ⊎ (result ≡ 6) }
 {
-    if !is_replay(words) {
-        if write_whole(report, WORDS_FAULT) {
-            return 2;
-        }
-        return 5;
+    match read_words(alloc, words) {
+        Ok(asked) => match asked {
+            Asked::Run(mode) => run_mode(alloc, mode, script, report),
+            Asked::Print(text) => {
+                if write_whole(report, text.as_bytes()) {
+                    return 0;
+                }
+                5
+            }
+        },
+        Err(fault) => match fault {
+            WordsFault::Wrong => {
+                if write_whole(report, WORDS_FAULT) {
+                    return 2;
+                }
+                5
+            }
+            WordsFault::NoMemory => 6,
+        },
     }
-    run_replay(alloc, script, report)
+}
+
+/// Runs a mode.
+fn run_mode<S: Source, K: Sink>(alloc: Global, mode: Mode, script: &mut S, report: &mut K) -> u8
+    ensures done { result ≡ 0 → IsDoneIn mode (S.left script.old) (S.left script.new) (K.taken report.old) (K.taken report.new) }
+    ensures fault { result ≡ 3 → TellsFaultIn mode (S.left script.old) (S.left script.new) (K.taken report.old) (K.taken report.new) }
+    ensures reading { result ≡ 4 → StopsIn mode (S.left script.old) (S.left script.new) (K.taken report.old) (K.taken report.new) (S.faults script.old) (S.faults script.new) }
+    ensures writing { result ≡ 5 → Rises (K.faults report.old) (K.faults report.new) }
+    ensures known { (result ≡ 0) ⊎ (result ≡ 3) ⊎ (result ≡ 4) ⊎ (result ≡ 5) ⊎ (result ≡ 6) }
+{
+    match mode {
+        Mode::Replay => run_replay(alloc, script, report),
+        Mode::Config => run_config(alloc, script, report),
+    }
+}
 }
 
 /// Runs the program over ends that never fail: statuses 4 and 5 do not occur, and the others are those of `run_channel`.
@@ -51,9 +84,9 @@ pub fn run_steady(
     script: &mut SteadySource,
     report: &mut SteadySink,
 ) -> u8
-    ensures done { result ≡ 0 → IsReplay (map string_bytes words.now) × IsDone (Some script.old) (Some script.new) None None }
-    ensures words { result ≡ 2 → (IsReplay (map string_bytes words.now) → ⊥) × TellsWords (Some script.old) (Some script.new) None None }
-    ensures line { result ≡ 3 → IsReplay (map string_bytes words.now) × TellsBadLine (Some script.old) (Some script.new) None None }
+    ensures done { result ≡ 0 → Finishes (map string_bytes words.now) (Some script.old) (Some script.new) None None }
+    ensures words { result ≡ 2 → RefusesWords (map string_bytes words.now) (Some script.old) (Some script.new) None None }
+    ensures fault { result ≡ 3 → TellsFault (map string_bytes words.now) (Some script.old) (Some script.new) None None }
     ensures known { (result ≡ 0) ⊎ (result ≡ 2) ⊎ (result ≡ 3) ⊎ (result ≡ 6) }
 {
     run_channel(alloc, words, script, report)

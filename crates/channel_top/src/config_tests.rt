@@ -1,0 +1,150 @@
+// The mode that reads a config, and the words, on whole inputs: every status, and what is written with it.
+use crate::run_channel;
+use gate_io::{MemSink, MemSource};
+use std::alloc::Global;
+use std::test::Fail;
+
+/// The words, 0x01, the input, 0x01, the status and behind it what is written, 0x02, and so on.
+static ANSWERS: &[u8] = b"\
+config\x01{\"loadBalancingConfig\":[{\"round_robin\":{}}],\"methodConfig\":[{\"name\":[{\"service\":\"a.B\"},{\"service\":\"a.C\",\"method\":\"Get\"}],\"timeout\":\"1.5s\",\"retryPolicy\":{\"maxAttempts\":9,\"initialBackoff\":\"0.1s\",\"maxBackoff\":\"1s\",\"backoffMultiplier\":2,\"retryableStatusCodes\":[\"UNAVAILABLE\"]},\"x\":1}],\"retryThrottling\":{\"maxTokens\":10,\"tokenRatio\":0.5466}}\x010policy round_robin\nthrottle 10000 546\nmethod a.B/* - 1500000000 - - retry 5 100000000 1000000000 2000 14\nmethod a.C/Get - 1500000000 - - retry 5 100000000 1000000000 2000 14\nend 2\n\x02\
+config\x01{}\x010policy pick_first\nthrottle - -\nend 0\n\x02\
+config --\x01{}\x010policy pick_first\nthrottle - -\nend 0\n\x02\
+config\x01{\"a\":1e2}\x013fault config 1 4:5\n\x02\
+config\x01{\"retryThrottling\":{\"maxTokens\":0}}\x013fault config 2 retryThrottling.maxTokens\n\x02\
+config\x01\x013fault config 1 1:0\n\x02\
+\x01{}\x012fault words\n\x02\
+confi\x01{}\x012fault words\n\x02\
+config more\x01{}\x012fault words\n\x02\
+config --seed\x01{}\x012fault words\n\x02\
+replay config\x01{}\x012fault words\n\x02\
+config -- more\x01{}\x012fault words\n\x02\
+--version\x01{}\x010grpcc 0.1.0\n\x02\
+config -V\x01{}\x010grpcc config 0.1.0\n\x02";
+
+/// The end of each text of help.
+static OPTIONS: &[u8] = b"Options:\n  -h, --help     Print help\n  -V, --version  Print version\n";
+
+fn words_of(alloc: Global, line: &[u8]) -> Result<Vec<String>, Fail> {
+    let mut words = Vec::new(alloc);
+    for word in line.split(|b| *b == b' ') {
+        let text = String::from_utf8_lossy(alloc, word)?;
+        words.push(text)?;
+    }
+    Ok(words)
+}
+
+/// The status and what was written, of words with a space between and bytes that are read in pieces of 64, where these calls
+/// of read and write fail.
+fn answer(
+    alloc: Global,
+    line: &[u8],
+    bytes: Vec<u8>,
+    failed_read: u64,
+    failed_write: u64,
+) -> Result<(u8, MemSink), Fail> {
+    let words = words_of(alloc, line)?;
+    let mut source = MemSource::new(bytes, 64, vec![in alloc; failed_read]?);
+    let mut report = MemSink::new(alloc, 65_536, vec![in alloc; failed_write]?);
+    let status = run_channel(alloc, words.as_slice(), &mut source, &mut report);
+    Ok((status, report))
+}
+
+fn bytes_of(alloc: Global, text: &[u8]) -> Result<Vec<u8>, Fail> {
+    let mut bytes = Vec::new(alloc);
+    bytes.extend_from_slice(text)?;
+    Ok(bytes)
+}
+
+fn is_answered(alloc: Global, record: &[u8]) -> Result<bool, Fail> {
+    let mut parts = record.split(|b| *b == 1);
+    let Some(line) = parts.next() else {
+        return Ok(false);
+    };
+    let Some(input) = parts.next() else {
+        return Ok(false);
+    };
+    let Some(want) = parts.next() else {
+        return Ok(false);
+    };
+    let (status, report) = answer(alloc, line, bytes_of(alloc, input)?, 0, 0)?;
+    let mut told = Vec::new(alloc);
+    told.push(status.saturating_add(b'0'))?;
+    told.extend_from_slice(report.taken())?;
+    Ok(told.as_slice() == want)
+}
+
+fn right_ones(alloc: Global, table: &[u8]) -> Result<usize, Fail> {
+    let mut right: usize = 0;
+    for record in table.split(|b| *b == 2) {
+        if is_answered(alloc, record)? {
+            right = right.saturating_add(1);
+        }
+    }
+    Ok(right)
+}
+
+#[test]
+fn each_line_of_words_has_its_answer(rt: HostRuntime) -> Result<(), Fail> {
+    assert_eq!(rt; right_ones(rt.alloc(), ANSWERS)?, 14);
+    Ok(())
+}
+
+fn prints_help(alloc: Global, line: &[u8]) -> Result<bool, Fail> {
+    let (status, report) = answer(alloc, line, Vec::new(alloc), 0, 0)?;
+    Ok(status == 0 && report.taken().ends_with(OPTIONS))
+}
+
+#[test]
+fn help_is_printed(rt: HostRuntime) -> Result<(), Fail> {
+    assert!(rt; prints_help(rt.alloc(), b"--help")?);
+    assert!(rt; prints_help(rt.alloc(), b"replay -h")?);
+    assert!(rt; prints_help(rt.alloc(), b"config --help")?);
+    Ok(())
+}
+
+/// Whether so many blanks, which are no config, are told so.
+fn is_told(alloc: Global, count: usize, failed_read: u64, want: &[u8]) -> Result<bool, Fail> {
+    let mut bytes = Vec::new(alloc);
+    for _ in 0..count {
+        bytes.push(b' ')?;
+    }
+    let (status, report) = answer(alloc, b"config", bytes, failed_read, 0)?;
+    Ok(status == 3 && report.taken() == want)
+}
+
+#[test]
+fn a_config_above_65536_bytes_is_too_long(rt: HostRuntime) -> Result<(), Fail> {
+    let alloc = rt.alloc();
+    assert!(rt; is_told(alloc, 65_536, 0, b"fault config 1 1:65536\n")?);
+    assert!(rt; is_told(alloc, 65_537, 0, b"fault config 1 5:65536\n")?);
+    // The 1,025th read gives byte 65,537, and there is no further one that could fail.
+    assert!(rt; is_told(alloc, 70_000, 1_026, b"fault config 1 5:65536\n")?);
+    Ok(())
+}
+
+/// The status where nothing is written.
+fn status_of(
+    alloc: Global,
+    line: &[u8],
+    failed_read: u64,
+    failed_write: u64,
+) -> Result<Option<u8>, Fail> {
+    let input =
+        b"{\"loadBalancingConfig\":[{\"round_robin\":{}}],\"passed over\":\"so that it takes two reads\"}";
+    let bytes = bytes_of(alloc, input)?;
+    let (status, report) = answer(alloc, line, bytes, failed_read, failed_write)?;
+    if report.taken().is_empty() {
+        return Ok(Some(status));
+    }
+    Ok(None)
+}
+
+#[test]
+fn a_fault_of_the_environment_has_its_status(rt: HostRuntime) -> Result<(), Fail> {
+    let alloc = rt.alloc();
+    assert!(rt; status_of(alloc, b"config", 2, 0)? == Some(4));
+    assert!(rt; status_of(alloc, b"config", 0, 1)? == Some(5));
+    assert!(rt; status_of(alloc, b"config --help", 0, 1)? == Some(5));
+    assert!(rt; status_of(alloc, b"config more", 0, 1)? == Some(5));
+    Ok(())
+}
