@@ -2,7 +2,6 @@
 ghost use Rattle.std.specs.Prelude.{◌≡◌, ◌⊎◌, Some, None, map, string_bytes};
 ghost use Rattle.gate_io.specs.Outside.{Rises};
 ghost use Rattle.channel_top.specs.Modes.{Finishes, IsDoneIn, RefusesWords, StopsIn, StopsReading, TellsFault, TellsFaultIn};
-ghost use Rattle.channel_top.specs.Top.{IsDone, StopsAtRead, TellsBadLine};
 
 use crate::config_mode::run_config;
 use crate::replay::run_replay;
@@ -74,7 +73,6 @@ fn run_mode<S: Source, K: Sink>(alloc: Global, mode: Mode, script: &mut S, repor
         Mode::Replay => run_replay(alloc, script, report),
         Mode::Config => run_config(alloc, script, report),
     }
-}
 }
 
 /// Runs the program over ends that never fail: statuses 4 and 5 do not occur, and the others are those of `run_channel`.
