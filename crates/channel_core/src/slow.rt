@@ -3,4 +3,5 @@
 mod frames;
 mod messages;
 mod said;
+mod sent;
 mod tests;
