@@ -1,5 +1,5 @@
 -- The definitions in the steps in which the plain programs compute them.
-use Rattle.std.proofs.Common.{◌≡◌, ◌<◌, refl, ap, sym, subst, ◌∙◌, ℕ, zero, suc, ◌+◌, ◌-◌, ◌*◌, Bool, true, false, Some, None, List, [], ◌∷◌, length, take, drop, arith}
+use Rattle.std.proofs.Common.{◌≡◌, ◌<◌, ◌≤◌, refl, ap, sym, subst, ◌∙◌, ℕ, zero, suc, ◌+◌, ◌-◌, ◌*◌, Bool, true, false, Some, None, List, [], ◌∷◌, length, take, drop, arith}
 use Rattle.std.specs.Prelude.{◌==◌, Option, nat_lt, nat_le, if◌then◌else◌}
 use Rattle.std.proofs.lemmas.Bool.Decides.{nat_tests}
 use Rattle.std.proofs.lemmas.List.{length-take-le, take_all}
@@ -14,6 +14,11 @@ use Rattle.grpc_base.specs.declared.fields.Field.{Field}
 use Rattle.std.specs.Prelude.{Result, Ok, Err}
 use Rattle.channel_core.specs.Said.{Block, FrameAt, HeaderList, Headers, Other, Said, block_with, frames_at, said_from}
 use Rattle.channel_core.specs.Messages.{Flaw, BadFlag, TooLarge, Messages, before, messages_within}
+use Rattle.std.specs.Char.{digit_value}
+use Rattle.grpc_base.specs.declared.code.Code.{Code}
+use Rattle.grpc_base.specs.declared.code.Code.TheVariants as code
+use Rattle.grpc_base.specs.Numbers.{number_of}
+use Rattle.channel_core.specs.Response.{is_ok}
 use Rattle.channel_core.specs.Slow.{first_message, flaw_at, flaw_behind, length_at, list_then, message_behind, said_block}
 
 -- no message, and what is wrong with these bytes
@@ -170,3 +175,41 @@ said_list state after begun b a frames l e flag h = said_closed state begun b a 
 pub behind_one : (frames : List FrameAt) → take (length frames - 1) (drop 1 frames) ≡ drop 1 frames
 behind_one [] = refl
 behind_one (a ∷ frames) = take_all (length (a ∷ frames) - 1) frames (omega arith)
+
+-- every code but OK
+pub not_ok : (c : Code) → (c ≡ code.Ok → ⊥) → is_ok c ≡ false
+not_ok code.Ok h = absurd (h refl)
+not_ok code.Cancelled h = refl
+not_ok code.Unknown h = refl
+not_ok code.InvalidArgument h = refl
+not_ok code.DeadlineExceeded h = refl
+not_ok code.NotFound h = refl
+not_ok code.AlreadyExists h = refl
+not_ok code.PermissionDenied h = refl
+not_ok code.ResourceExhausted h = refl
+not_ok code.FailedPrecondition h = refl
+not_ok code.Aborted h = refl
+not_ok code.OutOfRange h = refl
+not_ok code.Unimplemented h = refl
+not_ok code.Internal h = refl
+not_ok code.Unavailable h = refl
+not_ok code.DataLoss h = refl
+not_ok code.Unauthenticated h = refl
+
+-- what three bytes write is small
+digit_small : (b : ℕ) → digit_value b ≤ 36
+digit_small b = grind (arith, nat_tests)
+
+pub three_small : (value : List ℕ) → length value ≡ 3 → number_of value < 4000
+three_small [] three = absurd (omega arith)
+three_small (a ∷ []) three = absurd (omega arith)
+three_small (a ∷ b ∷ []) three = absurd (omega arith)
+three_small (a ∷ b ∷ c ∷ []) three =
+    let x : digit_value a ≤ 36 = digit_small a in
+    let y : digit_value b ≤ 36 = digit_small b in
+    let z : digit_value c ≤ 36 = digit_small c in
+    small (digit_value a) (digit_value b) (digit_value c) x y z
+  where
+    small : (x y z : ℕ) → x ≤ 36 → y ≤ 36 → z ≤ 36 → ((0 * 10 + x) * 10 + y) * 10 + z < 4000
+    small x y z p q r = omega arith
+three_small (a ∷ b ∷ c ∷ d ∷ value) three = absurd (omega arith)

@@ -2,5 +2,8 @@
 
 mod frames;
 mod messages;
+mod response;
 mod said;
+mod sent;
+mod status;
 mod tests;

@@ -47,6 +47,32 @@ impl Model for SaidList {
     ghost view = { λ h. record { stream = h.stream; ends = h.ends; fields = h.fields; end = h.end } };
 }
 
+impl SaidList {
+    /// The same header list; the bytes of its fields are shared.
+    pub fn copy(&self, alloc: Global) -> Result<SaidList, NoMemory>
+        ensures { IfOk result (λ h. h ≡ self.now) }
+    {
+        let fields = fields_copy(alloc, &self.fields)?;
+        Ok(SaidList {
+            stream: self.stream,
+            ends: self.ends,
+            fields,
+            end: self.end,
+        })
+    }
+}
+
+/// The same fields; their bytes are shared.
+fn fields_copy(alloc: Global, fields: &Fields) -> Result<Fields, NoMemory>
+    ensures { IfOk result (λ f. f ≡ fields.now) }
+{
+    let mut copy = Fields::new(alloc);
+    for field in fields.as_slice() {
+        copy.push(field.share()?)?;
+    }
+    Ok(copy)
+}
+
 /// A header list, or a frame that is no part of a header block.
 #[derive(Debug, Drop)]
 pub enum SaidPart {
@@ -134,7 +160,7 @@ fn with_first(part: SaidPart, others: Items<SaidItem>) -> Result<Items<SaidItem>
 }
 
 /// Whether a flag is set.
-fn has_flag(flags: u8, flag: u8) -> bool
+pub fn has_flag(flags: u8, flag: u8) -> bool
     ensures { result ≡ has_flag flags flag }
 {
     flags & flag != 0

@@ -1,7 +1,10 @@
 // The definitions computed on small texts, with values that were found by hand or by another program.
 use crate::slow::messages::{FoundMessages, MessageFlaw, messages};
+use crate::slow::response::{StreamResponse, response_on};
 use crate::slow::said::{SaidItem, SaidList, SaidPart, said};
-use grpc_base::NoMemory;
+use crate::slow::sent::{client_said, data_sent, is_complete, joined, opened};
+use attempt_ledger::RowCause;
+use grpc_base::{Code, NoMemory};
 use std::alloc::Global;
 use std::process::Abort;
 use std::test::Fail;
@@ -118,5 +121,184 @@ fn a_request_is_said(rt: HostRuntime) -> Result<(), Fail> {
     has_field(&rt, list, 3, b":authority", b"127.0.0.1:50051");
     has_field(&rt, list, 4, b"te", b"trailers");
     has_field(&rt, list, 5, b"content-type", b"application/grpc");
+    Ok(())
+}
+
+#[test]
+fn a_request_is_sent(rt: HostRuntime) -> Result<(), Fail> {
+    let alloc = rt.alloc();
+    let bytes = joined(alloc, b"PRI * HTTP/2.0\r\n\r\nSM\r\n\r\n", &REQUEST)?;
+    let said = client_said(alloc, bytes.as_slice())?;
+    let lists = opened(alloc, said.as_slice())?;
+    assert_eq!(rt; lists.len(), 1);
+    match lists.get(0) {
+        Some(list) => {
+            assert_eq!(rt; list.stream, 1);
+            assert_eq!(rt; list.fields.len(), 6);
+            has_field(&rt, list, 2, b":path", b"/a.B/C");
+        }
+        None => {
+            assert!(rt; false, "no header list");
+        }
+    }
+    let data = data_sent(alloc, 1, said.as_slice())?;
+    assert_eq!(rt; data.as_slice(), b"\0\0\0\0\x02hi".as_slice());
+    assert_eq!(rt; is_complete(1, said.as_slice()), true);
+    let other = data_sent(alloc, 3, said.as_slice())?;
+    assert_eq!(rt; other.is_empty(), true);
+    assert_eq!(rt; is_complete(3, said.as_slice()), false);
+    Ok(())
+}
+
+/// The response on a stream, no message of it longer than 4,194,304 bytes.
+fn response(alloc: Global, stream: u32, bytes: &[u8]) -> Result<StreamResponse, NoMemory> {
+    response_on(alloc, 4_194_304, stream, bytes)
+}
+
+/// That a response ends with this code and cause, and at this byte.
+fn has_end(rt: &impl Abort, response: &StreamResponse, code: Code, cause: RowCause, seen: u64) {
+    match &response.end {
+        Some(end) => {
+            assert_eq!(rt; end.code, code);
+            assert_eq!(rt; end.cause, cause);
+            assert_eq!(rt; end.seen, seen);
+        }
+        None => {
+            assert!(rt; false, "no end");
+        }
+    }
+}
+
+/// Whether a response ended where the server cannot have seen the request.
+fn is_unseen(response: &StreamResponse) -> bool {
+    match &response.end {
+        Some(end) => end.unseen,
+        None => false,
+    }
+}
+
+#[test]
+fn trailers_alone_answer(rt: HostRuntime) -> Result<(), Fail> {
+    let alloc = rt.alloc();
+    let whole = response(alloc, 1, &ANSWER)?;
+    has_end(&rt, &whole, Code::Ok, RowCause::Status, 77);
+    assert_eq!(rt; whole.head.is_none(), true);
+    assert_eq!(rt; whole.bytes.is_empty(), true);
+    assert_eq!(rt; is_unseen(&whole), false);
+    let part = response(alloc, 1, &ANSWER[..76])?;
+    assert_eq!(rt; part.end.is_none(), true);
+    Ok(())
+}
+
+/// SETTINGS, a head, one message, and trailers.
+const WHOLE: [u8; 78] = [
+    0, 0, 0, 4, 0, 0, 0, 0, 0, 0, 0, 20, 1, 4, 0, 0, 0, 1, 136, 15, 16, 16, 97, 112, 112, 108, 105,
+    99, 97, 116, 105, 111, 110, 47, 103, 114, 112, 99, 0, 0, 7, 0, 0, 0, 0, 0, 1, 0, 0, 0, 0, 2,
+    111, 107, 0, 0, 15, 1, 5, 0, 0, 0, 1, 0, 11, 103, 114, 112, 99, 45, 115, 116, 97, 116, 117,
+    115, 1, 48,
+];
+
+#[test]
+fn a_message_answers(rt: HostRuntime) -> Result<(), Fail> {
+    let alloc = rt.alloc();
+    let whole = response(alloc, 1, &WHOLE)?;
+    has_end(&rt, &whole, Code::Ok, RowCause::Status, 78);
+    match &whole.head {
+        Some(meta) => {
+            assert_eq!(rt; meta.is_empty(), true);
+        }
+        None => {
+            assert!(rt; false, "no head");
+        }
+    }
+    assert_eq!(rt; whole.bytes.as_slice(), b"\0\0\0\0\x02ok".as_slice());
+    let other = response(alloc, 3, &WHOLE)?;
+    assert_eq!(rt; other.head.is_none(), true);
+    assert_eq!(rt; other.bytes.is_empty(), true);
+    assert_eq!(rt; other.end.is_none(), true);
+    Ok(())
+}
+
+/// That the response on stream 1 ends with this code and cause, at the last byte, and whether it is unseen.
+fn ends(
+    rt: &impl Abort,
+    alloc: Global,
+    code: Code,
+    cause: RowCause,
+    unseen: bool,
+    bytes: &[u8],
+) -> Result<(), NoMemory> {
+    let ended = response(alloc, 1, bytes)?;
+    has_end(rt, &ended, code, cause, bytes.len() as u64);
+    assert_eq!(rt; is_unseen(&ended), unseen);
+    Ok(())
+}
+
+/// The same behind the head of `WHOLE`.
+fn ends_behind_head(
+    rt: &impl Abort,
+    alloc: Global,
+    code: Code,
+    cause: RowCause,
+    bytes: &[u8],
+) -> Result<(), NoMemory> {
+    let all = joined(alloc, &WHOLE[..38], bytes)?;
+    ends(rt, alloc, code, cause, false, all.as_slice())
+}
+
+/// A `grpc-status` that is no number.
+const BAD_STATUS: [u8; 26] = *b"\0\0\x11\x01\x05\0\0\0\x01\x88\0\x0bgrpc-status\x02xx";
+
+/// RST_STREAM with REFUSED_STREAM.
+const REFUSED: [u8; 13] = *b"\0\0\x04\x03\0\0\0\0\x01\0\0\0\x07";
+
+/// GOAWAY with the last stream 0.
+const GOAWAY: [u8; 17] = *b"\0\0\x08\x07\0\0\0\0\0\0\0\0\0\0\0\0\0";
+
+/// DATA with one byte of a message of two, and trailers with the status 0.
+const CUT: [u8; 39] =
+    *b"\0\0\x06\0\0\0\0\0\x01\0\0\0\0\x02o\0\0\x0f\x01\x05\0\0\0\x01\0\x0bgrpc-status\x010";
+
+#[test]
+fn ends_follow_the_rules(rt: HostRuntime) -> Result<(), Fail> {
+    let alloc = rt.alloc();
+    ends(
+        &rt,
+        alloc,
+        Code::Unknown,
+        RowCause::Status,
+        false,
+        &BAD_STATUS,
+    )?;
+    let not_found = b"\0\0\x01\x01\x05\0\0\0\x01\x8d";
+    ends(
+        &rt,
+        alloc,
+        Code::Unimplemented,
+        RowCause::Http,
+        false,
+        not_found,
+    )?;
+    ends(
+        &rt,
+        alloc,
+        Code::Unavailable,
+        RowCause::Reset,
+        true,
+        &REFUSED,
+    )?;
+    ends(
+        &rt,
+        alloc,
+        Code::Unavailable,
+        RowCause::Goaway,
+        true,
+        &GOAWAY,
+    )?;
+    let early = b"\0\0\x01\0\0\0\0\0\x01\0";
+    ends(&rt, alloc, Code::Internal, RowCause::Framing, false, early)?;
+    ends_behind_head(&rt, alloc, Code::Internal, RowCause::Framing, &CUT)?;
+    let last = b"\0\0\0\0\x01\0\0\0\x01";
+    ends_behind_head(&rt, alloc, Code::Unknown, RowCause::Http, last)?;
     Ok(())
 }
