@@ -1,10 +1,9 @@
 // Each public call of the plain data once, with values from the public documents.
 use crate::{
-    Address, AddressList, Code, CodeSet, Conn, Duration, Items, Kind, KindSet, ListFull, Metadata,
-    Moment, Octets, Request, RequestFault, Text,
+    Address, AddressList, Code, CodeSet, Conn, Duration, Kind, KindSet, ListFull, Metadata, Moment,
+    Request, RequestFault, Text,
 };
 use std::alloc::Global;
-use std::test::Fail;
 
 #[test]
 fn an_address_list_takes_64_and_no_repeat(rt: HostRuntime) {
@@ -76,24 +75,4 @@ fn numbers_keep_their_ranges(rt: HostRuntime) {
     assert!(rt; !kinds.has(Kind::PickFirst));
     assert_eq!(rt; Kind::of_name(b"pick_first"), Some(Kind::PickFirst));
     assert_eq!(rt; Kind::of_name(b"PICK_FIRST"), None);
-}
-
-#[test]
-fn lists_and_bytes_hold_what_was_put_in(rt: HostRuntime) -> Result<(), Fail> {
-    let mut items: Items<u64> = Items::new(rt.alloc());
-    items.reserve(2)?;
-    items.push(1)?;
-    items.push(2)?;
-    items.put(0, 3);
-    assert_eq!(rt; items.as_slice(), [3, 2].as_slice());
-    assert_eq!(rt; items.pop(), Some(2));
-    let octets = Octets::of_slice(rt.alloc(), b"hello")?;
-    let mut part = octets.part(1, 4)?;
-    part.advance(1);
-    assert_eq!(rt; part.as_slice(), b"ll".as_slice());
-    let mut text = Text::of_slice(rt.alloc(), b"ab")?;
-    text.push(b'c')?;
-    text.append(b"de")?;
-    assert_eq!(rt; text.copy()?.as_slice(), b"abcde".as_slice());
-    Ok(())
 }
