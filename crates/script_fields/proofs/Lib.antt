@@ -3,6 +3,7 @@ pub mod Digits
 pub mod ListedLaws
 pub mod MetaLaws
 pub mod NumberLaws
+pub mod OneLaws
 pub mod PartLaws
 pub mod TextLaws
 pub mod WordLaws
