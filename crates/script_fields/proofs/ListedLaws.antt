@@ -53,7 +53,7 @@ addresses_free [] good = tt
 addresses_free (x ∷ xs) good = (address_free x good.0, addresses_free xs good.1)
 
 -- a text that is no dash has the spellings of its addresses as its parts
-addresses_parted : (text : List ℕ) (xs : List Address) → text ≢ 45 ∷ [] → SpellsAddresses text xs → parted 44 text ≡ map address_text xs
+pub addresses_parted : (text : List ℕ) (xs : List Address) → text ≢ 45 ∷ [] → SpellsAddresses text xs → parted 44 text ≡ map address_text xs
 addresses_parted text [] other spelled = absurd (other spelled.1)
 addresses_parted text (x ∷ xs) other spelled = ap (parted 44) spelled.1 ∙ parted-joined 44 (address_text x) (map address_text xs) (addresses_free (x ∷ xs) (recursion_from_All IsAddress (x ∷ xs) spelled.0))
 

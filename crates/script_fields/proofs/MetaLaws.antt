@@ -28,7 +28,7 @@ both_hold : (fs : List Field) → AllByRecursion IsPair fs → AllByRecursion (�
 both_hold [] p q = tt
 both_hold (f ∷ fs) p q = ((p.0, q.0), both_hold fs p.1 q.1)
 
-all_good : (fs : List Field) → IsRequestMetadata fs → All (λ f. IsBytes f.value) fs → AllByRecursion IsGood fs
+pub all_good : (fs : List Field) → IsRequestMetadata fs → All (λ f. IsBytes f.value) fs → AllByRecursion IsGood fs
 all_good fs p q = both_hold fs (recursion_from_All IsPair fs p.pairs_are) (recursion_from_All (λ f. IsBytes f.value) fs q)
 
 -- names and digits have neither a colon nor a comma
@@ -64,7 +64,7 @@ pairs_free [] good = tt
 pairs_free (f ∷ fs) good = (pair_free f good.0.0, pairs_free fs good.1)
 
 -- a text that is no dash has the spellings of its pairs as its parts
-meta_parted : (text : List ℕ) (pairs : List Field) → text ≢ 45 ∷ [] → SpellsMeta text pairs → parted 44 text ≡ map pair_text pairs
+pub meta_parted : (text : List ℕ) (pairs : List Field) → text ≢ 45 ∷ [] → SpellsMeta text pairs → parted 44 text ≡ map pair_text pairs
 meta_parted text [] other spelled = absurd (other spelled.2)
 meta_parted text (f ∷ fs) other spelled = ap (parted 44) spelled.2 ∙ parted-joined 44 (pair_text f) (map pair_text fs) (pairs_free (f ∷ fs) (all_good (f ∷ fs) spelled.0 spelled.1))
 
@@ -90,7 +90,7 @@ refused_long name value old f n v long within =
     let size : pair_size made ≡ pair_size f = ap pair_size same in
     omega (arith, long, within, size)
 
-pair_one : (f g : Field) → IsGood f → IsGood g → pair_text f ≡ pair_text g → f ≡ g
+pub pair_one : (f g : Field) → IsGood f → IsGood g → pair_text f ≡ pair_text g → f ≡ g
 pair_one f g p q e =
     let both : (f.name ≡ g.name) × (f.value ≡ g.value) =
     value_same (pair_text f) f.name (hex_digits f.value) f.value g refl (All-from_recursion (λ d. d ≢ 58) f.name (name_is_free f.name p.0.name_is).1) q.0 q.1 e p.1 refl in
