@@ -5,5 +5,6 @@ pub mod MetaLaws
 pub mod NumberLaws
 pub mod PartLaws
 pub mod TextLaws
+pub mod VisibleLaws
 pub mod WordLaws
 pub mod Words
