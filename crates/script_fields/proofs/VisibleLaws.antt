@@ -1,20 +1,23 @@
 -- A field is visible ASCII, and a list of addresses is spelled as itself.
-use Rattle.std.proofs.Common.{ℕ, ◌+◌, ◌/◌, ◌%◌, ◌^◌, ◌<◌, ◌≤◌, Bool, true, false, List, [], ◌∷◌, ◌++◌, Option, Some, None, All, map, ◌≡◌, sym, subst, arith}
-use Rattle.std.specs.List.{AllByRecursion}
+use Rattle.std.proofs.Common.{◌≡◌, ℕ, ◌+◌, ◌/◌, ◌%◌, ◌^◌, ◌<◌, ◌≤◌, Bool, true, false, Option, Some, None, List, [], ◌∷◌, ◌++◌, length, map, All, sym, ap, subst, ◌∙◌, inl, inr, arith, append_assoc, length-append}
+use Rattle.std.specs.List.{AllByRecursion, fold}
 use Rattle.std.specs.Prelude.{decimal, IfSome}
+use Rattle.std.proofs.lemmas.Bool.{cond-false}
 use Rattle.std.proofs.lemmas.Bool.Decides.{nat_tests}
 use Rattle.std.proofs.lemmas.Fmt.{decimal_by_steps}
-use Rattle.std.proofs.lemmas.List.Elements.{recursion_from_All}
+use Rattle.std.proofs.lemmas.List.{append-nil}
+use Rattle.std.proofs.lemmas.List.Elements.{All-from_recursion, All-push, recursion_from_All}
 use Rattle.grpc_base.specs.declared.address.Address.{Address}
 use Rattle.grpc_base.specs.declared.fields.Field.{Field}
+use Rattle.grpc_base.specs.Addresses.{has_address, with_address}
 use Rattle.grpc_base.specs.Metadata.{IsPair, IsRequestMetadata, is_meta_name_byte}
 use Rattle.grpc_base.specs.Requests.{IsName, IsPath}
-use Rattle.script_fields.specs.Reading.{SpellsConfig}
+use Rattle.script_fields.specs.Reading.{SpellsConfig, listed}
 use Rattle.script_fields.specs.Spelling.{address_text, addresses_text, config_text, dash, hex_digits, hex_or_dash, joined, lower_digit, meta_text, number_or_dash, pair_text, wait_text, word_bytes}
 use Rattle.script_fields.specs.Values.{IsAddress, IsBytes}
 use Rattle.script_fields.proofs.AddressLaws.{byte_a, byte_b, byte_c, byte_d, text_is_quad}
 use Rattle.script_fields.proofs.MetaLaws.{append_free}
-use Rattle.script_fields.proofs.TextLaws.{bytes_from, push_all}
+use Rattle.script_fields.proofs.TextLaws.{bool_cases, bytes_from, push_all}
 
 -- visible ASCII
 abbrev pub IsVisible : ℕ → Type 0
@@ -124,3 +127,64 @@ path_visible path is =
     let slash : IsVisible 47 = (omega arith, omega arith) in
     subst (AllByRecursion IsVisible) (sym is.joined)
     (slash, visible_append is.service (47 ∷ is.method) (part_visible is.service is.service_is) (slash, part_visible is.method is.method_is))
+
+-- ---- lists of addresses
+
+with_good : (l : List Address) (a : Address) → All IsAddress l → IsAddress a → All IsAddress (with_address l a)
+with_good l a good is =
+    elim (bool_cases (has_address l a)) [
+      | inl there ↦ (rw there good)
+      | inr new ↦ (rw new (All-push IsAddress l a good is))
+    ]
+
+fold_good : (acc xs : List Address) → All IsAddress acc → AllByRecursion IsAddress xs → All IsAddress (fold with_address acc xs)
+fold_good acc [] good all = good
+fold_good acc (x ∷ xs) good all = fold_good (with_address acc x) xs (with_good acc x good all.0) all.1
+
+pub listed_addresses : (items : List Address) → All IsAddress items → All IsAddress (listed items)
+listed_addresses items good = fold_good [] items (All-from_recursion IsAddress [] tt) (recursion_from_All IsAddress items good)
+
+with_short : (l : List Address) (a : Address) → length (with_address l a) ≤ length l + 1
+with_short l a =
+    elim (bool_cases (has_address l a)) [
+      | inl there ↦ (rw there (omega arith))
+      | inr new ↦ (rw new (omega (arith, length-append l (a ∷ []))))
+    ]
+
+fold_short : (acc xs : List Address) → length (fold with_address acc xs) ≤ length acc + length xs
+fold_short acc [] = omega arith
+fold_short acc (x ∷ xs) = (let rest = fold_short (with_address acc x) xs in let one = with_short acc x in omega (arith, rest, one))
+
+pub listed_short : (items : List Address) → length (listed items) ≤ length items
+listed_short items = (let most = fold_short [] items in omega (arith, most))
+
+-- no address is had by those before it
+abbrev AreNew : List Address → List Address → Type 0
+AreNew before [] = Unit {0}
+AreNew before (a ∷ rest) = (has_address before a ≡ false) × AreNew (before ++ a ∷ []) rest
+
+new_push : (before xs : List Address) (a : Address) → AreNew before xs → has_address (before ++ xs) a ≡ false → AreNew before (xs ++ a ∷ [])
+new_push before [] a new none = (subst (λ (l : List Address). has_address l a ≡ false) (append-nil before) none, tt)
+new_push before (x ∷ xs) a new none =
+    (new.0, new_push (before ++ x ∷ []) xs a new.1 (subst (λ (l : List Address). has_address l a ≡ false) (sym (append_assoc before (x ∷ []) xs)) none))
+
+with_new : (l : List Address) (a : Address) → AreNew [] l → AreNew [] (with_address l a)
+with_new l a new =
+    elim (bool_cases (has_address l a)) [
+      | inl there ↦ (rw there new)
+      | inr none ↦ (rw none (new_push [] l a new none))
+    ]
+
+all_new : (acc xs : List Address) → AreNew [] acc → AreNew [] (fold with_address acc xs)
+all_new acc [] new = new
+all_new acc (x ∷ xs) new = all_new (with_address acc x) xs (with_new acc x new)
+
+-- such a list is that of its own addresses
+fold_of_new : (before xs : List Address) → AreNew before xs → fold with_address before xs ≡ before ++ xs
+fold_of_new before [] new = sym (append-nil before)
+fold_of_new before (x ∷ xs) new =
+    let one : with_address before x ≡ before ++ x ∷ [] = cond-false _ _ _ new.0 in
+    ap (λ (l : List Address). fold with_address l xs) one ∙ fold_of_new (before ++ x ∷ []) xs new.1 ∙ append_assoc before (x ∷ []) xs
+
+pub listed_again : (items : List Address) → listed (listed items) ≡ listed items
+listed_again items = fold_of_new [] (listed items) (all_new [] items tt)
