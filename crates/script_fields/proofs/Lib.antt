@@ -6,5 +6,6 @@ pub mod NumberLaws
 pub mod OneLaws
 pub mod PartLaws
 pub mod TextLaws
+pub mod VisibleLaws
 pub mod WordLaws
 pub mod Words
