@@ -7,7 +7,12 @@ use Rattle.grpc_base.specs.declared.event.Event.{Event}
 use Rattle.grpc_base.specs.declared.event.Event.TheVariants as event
 use Rattle.grpc_base.specs.declared.event.Reply.{Reply}
 use Rattle.grpc_base.specs.declared.event.Reply.TheVariants as reply
+use Rattle.grpc_base.specs.declared.event.Stamped.{Stamped}
 use Rattle.grpc_base.specs.Requests.{RequestSeen}
+
+-- the event of an entry, with the step's moment and its random word
+abbrev pub stamped_of : Entry → Stamped
+stamped_of e = record { moment = e.moment; word = e.word; event = e.event }
 
 -- the bytes that an entry brought on a link: those of a piece that was not refused
 abbrev pub arrived_by : ℕ → Event → Reply → List ℕ

@@ -1,11 +1,11 @@
 -- The events of the first call: which may come at which place.
 use Rattle.std.specs.Prelude.{◌≡◌, ◌≤◌, ◌<◌, ◌⊎◌, ℕ, ◌+◌, ◌^◌, Some, None, List, [], ◌∷◌, ◌++◌, length, codes, slice_get, All}
 use Rattle.grpc_base.specs.declared.address.Address.{Address}
-use Rattle.grpc_base.specs.declared.event.Entry.{Entry}
 use Rattle.grpc_base.specs.declared.event.Event.{Event}
 use Rattle.grpc_base.specs.declared.event.Event.TheVariants as event
 use Rattle.grpc_base.specs.declared.event.Stamped.{Stamped}
 use Rattle.grpc_base.specs.Requests.{IsRequest}
+pub use Rattle.attempt_ledger.specs.Journals.{stamped_of}
 
 -- a SETTINGS frame without a payload (RFC 9113, section 6.5)
 abbrev pub settings_frame : List ℕ
@@ -73,10 +73,6 @@ pub record IsStampedAt (n : ℕ) (s : Stamped) : Type 0 where
   pub moment : s.moment < first_moment_limit
   pub word : s.word < 2 ^ 64
   pub event : StandsAt n s.event
-
--- the event of an entry, at the moment of its step
-abbrev pub stamped_of : Entry → Stamped
-stamped_of e = record { moment = e.moment; word = e.word; event = e.event }
 
 -- the first events of the first call's script, as many as there are
 abbrev pub AreFirstEvents : List Stamped → Type 0

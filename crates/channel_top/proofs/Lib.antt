@@ -1,4 +1,5 @@
 pub mod AddressLaws
+pub mod AgainLaws
 pub mod AnswerLaws
 pub mod ConfigLaws
 pub mod InputLaws

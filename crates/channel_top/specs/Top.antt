@@ -1,14 +1,17 @@
 -- What the top call reads, runs and writes, by its status.
-use Rattle.std.specs.Prelude.{◌≡◌, ◌⊎◌, ℕ, Option, List, [], ◌∷◌, ◌++◌, map, max, codes, decimal}
+use Rattle.std.specs.Prelude.{◌≡◌, ◌≤◌, ◌⊎◌, ℕ, Option, List, [], ◌∷◌, ◌++◌, length, map, max, codes, decimal, All}
 use Rattle.grpc_base.specs.declared.address.Address.{Address}
 use Rattle.grpc_base.specs.declared.event.Stamped.{Stamped}
+use Rattle.attempt_ledger.specs.Journals.{stamped_of}
 use Rattle.attempt_ledger.specs.declared.journal.Journal.{Journal}
 use Rattle.attempt_ledger.specs.declared.ledger.Ledger.{Ledger}
 use Rattle.gate_io.specs.Outside.{Appends, IsAtEnd, Takes}
 use Rattle.channel_core.specs.Lawful.{IsLawful}
 use Rattle.script_input.specs.Reading.{FindsBad, ReadsScript, StopsReading}
-use Rattle.script_input.specs.Scripts.{IsScript}
-use Rattle.script_text.specs.Report.{report_of}
+use Rattle.script_input.specs.Scripts.{IsOnlyScript, IsScript}
+use Rattle.script_lines.specs.Lines.{line_bytes}
+use Rattle.script_text.specs.Report.{channel_text, lines_text, report_of}
+use Rattle.script_text.specs.Spelling.{stamped_text}
 use Rattle.channel_top.specs.Shape.{IsFirstCall, IsFirstOutOfShape, target_text}
 
 -- the line that tells wrong words
@@ -32,6 +35,15 @@ pub record IsSession (authority : Address) (events : List Stamped) (journal : Jo
   pub moments_are : map (λ e. e.moment) journal.entries ≡ highest_so_far 0 (map (λ s. s.moment) events)
   pub lawful : IsLawful authority journal.entries ledger
 
+-- the script of these events, in its own spelling
+abbrev pub script_of : List ℕ → List Stamped → List ℕ
+script_of target events = lines_text (channel_text target ∷ map stamped_text events)
+
+-- it is read as these events, where none of its lines is too long for a script
+abbrev pub IsScriptAgain : List ℕ → List Address → List Stamped → Type 0
+IsScriptAgain target addresses events =
+    All (λ s. length (stamped_text s) ≤ line_bytes) events → IsScript (script_of target events) target addresses events
+
 -- the report of a session was written
 pub record WritesSession (authority : Address) (events : List Stamped) (taken taken' : Option (List ℕ)) : Type 0 where
   pub journal : Journal
@@ -39,14 +51,17 @@ pub record WritesSession (authority : Address) (events : List Stamped) (taken ta
   pub session : IsSession authority events journal ledger
   pub written : Appends taken taken' (report_of (target_text authority) journal ledger)
 
--- a script of the first call was read, and the report of its session was written
+-- the one script that these bytes spell, of the first call, was read, and the report of its session was written; the report's
+-- lines of entries are, up to each ` = `, a script again
 pub record Reports (input : List ℕ) (taken taken' : Option (List ℕ)) : Type 0 where
   pub authority : Address
   pub addresses : List Address
   pub events : List Stamped
   pub script : IsScript input (target_text authority) addresses events
   pub first : IsFirstCall (target_text authority) events authority
+  pub only : IsOnlyScript input (target_text authority) addresses events
   pub report : WritesSession authority events taken taken'
+  pub again : IsScriptAgain (target_text authority) addresses (map stamped_of report.journal.entries)
 
 -- status 0: the input was read to its end; no bytes give no bytes, and any others are a script whose report was written
 pub record IsDone (left left' taken taken' : Option (List ℕ)) : Type 0 where

@@ -65,7 +65,7 @@ with_length xs a =
       | inr new ↦ (rw new (omega (arith, length-append xs (a ∷ []))))
     ]
 
-fold_length : (acc xs : List Address) → length (fold with_address acc xs) ≤ length acc + length xs
+pub fold_length : (acc xs : List Address) → length (fold with_address acc xs) ≤ length acc + length xs
 fold_length acc [] = omega arith
 fold_length acc (x ∷ xs) = (let rest = fold_length (with_address acc x) xs in let one = with_length acc x in omega (arith, rest, one))
 

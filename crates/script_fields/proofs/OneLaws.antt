@@ -25,7 +25,7 @@ pub piece_one : (text v w : List ℕ) → SpellsPiece text v → SpellsPiece tex
 piece_one text v w p q = hex_one v w (bytes_from v p.0) (bytes_from w q.0) (sym p.2 ∙ q.2)
 
 -- a dash is no digits of bytes
-dash_no_piece : (v : List ℕ) → SpellsPiece dash v → ⊥
+pub dash_no_piece : (v : List ℕ) → SpellsPiece dash v → ⊥
 dash_no_piece [] p = p.1 refl
 dash_no_piece (x ∷ v) p = (let l : length dash ≡ length (hex_digits (x ∷ v)) = ap length p.2 in absurd (omega (arith, l)))
 

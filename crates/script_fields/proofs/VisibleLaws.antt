@@ -1,5 +1,5 @@
 -- A field is visible ASCII, and a list of addresses is spelled as itself.
-use Rattle.std.proofs.Common.{◌≡◌, ℕ, ◌+◌, ◌/◌, ◌%◌, ◌^◌, ◌<◌, ◌≤◌, Bool, true, false, Option, Some, None, List, [], ◌∷◌, ◌++◌, length, map, All, sym, ap, subst, ◌∙◌, inl, inr, arith, append_assoc, length-append}
+use Rattle.std.proofs.Common.{◌≡◌, ℕ, ◌+◌, ◌/◌, ◌%◌, ◌^◌, ◌<◌, ◌≤◌, Bool, true, false, Option, Some, None, List, [], ◌∷◌, ◌++◌, length, map, All, sym, ap, subst, ◌∙◌, inl, inr, arith, append_assoc}
 use Rattle.std.specs.List.{AllByRecursion, fold}
 use Rattle.std.specs.Prelude.{decimal, IfSome}
 use Rattle.std.proofs.lemmas.Bool.{cond-false}
@@ -16,6 +16,7 @@ use Rattle.script_fields.specs.Reading.{SpellsConfig, listed}
 use Rattle.script_fields.specs.Spelling.{address_text, addresses_text, config_text, dash, hex_digits, hex_or_dash, joined, lower_digit, meta_text, number_or_dash, pair_text, wait_text, word_bytes}
 use Rattle.script_fields.specs.Values.{IsAddress, IsBytes}
 use Rattle.script_fields.proofs.AddressLaws.{byte_a, byte_b, byte_c, byte_d, text_is_quad}
+use Rattle.script_fields.proofs.ListedLaws.{fold_length}
 use Rattle.script_fields.proofs.MetaLaws.{append_free}
 use Rattle.script_fields.proofs.TextLaws.{bool_cases, bytes_from, push_all}
 
@@ -144,19 +145,8 @@ fold_good acc (x ∷ xs) good all = fold_good (with_address acc x) xs (with_good
 pub listed_addresses : (items : List Address) → All IsAddress items → All IsAddress (listed items)
 listed_addresses items good = fold_good [] items (All-from_recursion IsAddress [] tt) (recursion_from_All IsAddress items good)
 
-with_short : (l : List Address) (a : Address) → length (with_address l a) ≤ length l + 1
-with_short l a =
-    elim (bool_cases (has_address l a)) [
-      | inl there ↦ (rw there (omega arith))
-      | inr new ↦ (rw new (omega (arith, length-append l (a ∷ []))))
-    ]
-
-fold_short : (acc xs : List Address) → length (fold with_address acc xs) ≤ length acc + length xs
-fold_short acc [] = omega arith
-fold_short acc (x ∷ xs) = (let rest = fold_short (with_address acc x) xs in let one = with_short acc x in omega (arith, rest, one))
-
 pub listed_short : (items : List Address) → length (listed items) ≤ length items
-listed_short items = (let most = fold_short [] items in omega (arith, most))
+listed_short items = (let most = fold_length [] items in omega (arith, most))
 
 -- no address is had by those before it
 abbrev AreNew : List Address → List Address → Type 0

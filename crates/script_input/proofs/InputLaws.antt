@@ -1,14 +1,16 @@
 -- What a run of reads gave is the pieces joined.
 use Rattle.std.proofs.Common.{◌≡◌, ◌∙◌, ℕ, List, [], ◌++◌, Option, Some, None, Result, Ok, Err, ap, append_assoc, inl, inr, subst, sym}
-use Rattle.std.specs.Prelude.{IfErr}
+use Rattle.std.specs.Prelude.{IfErr, IfOk}
 use Rattle.std.specs.Result.{IsErrAnd}
 use Rattle.gate_io.specs.Outside.{IsAtEnd, Takes}
 use Rattle.script_input.specs.declared.collected.Collected.{Collected}
 use Rattle.script_input.specs.declared.fault.InputFault.{InputFault}
 use Rattle.script_input.specs.declared.fault.InputFault.TheVariants as fault
 use Rattle.script_input.specs.declared.script.Script.{Script}
-use Rattle.script_input.specs.Collecting.{HasRead, IsDecided, IsUnfinished, IsUnscript}
-use Rattle.script_input.specs.Reading.{GivesNone}
+use Rattle.script_input.specs.Collecting.{HasRead, IsDecided, IsFinished, IsUnfinished, IsUnscript}
+use Rattle.script_input.specs.Reading.{GivesNone, ReadsScript}
+use Rattle.script_input.specs.Scripts.{IsScript}
+use Rattle.script_input.proofs.ScriptLaws.{script_one}
 
 -- what a `?` hands on
 pub exit_of : {X : Type 0} (r : Result X InputFault) (P : InputFault → Type 0) (e : InputFault) → IsErrAnd r (λ y. y ≡ e) → P e → IfErr r P
@@ -43,3 +45,16 @@ pub none_at_end : (a b c : Option (List ℕ)) (f f' : ℕ) (s : Collected) (inpu
 none_at_end a b c f f' s input (Ok script) took h ended same unfinished = tt
 none_at_end a b c f f' s input (Err e) took h ended same unfinished =
     subst (λ (o : Option (List ℕ)). GivesNone a o f f' e) (sym same) (none_of a b f f' input e took ended (unfinished input h))
+
+-- the one script at the end
+pub script_at_end : (a b c : Option (List ℕ)) (s : Collected) (input : List ℕ) (r : Result Script InputFault) → Takes a b input → HasRead input s → IsAtEnd b → c ≡ b → IfOk r (IsFinished s) → IfOk r (λ x. ReadsScript a c x.target x.addresses x.events.items)
+script_at_end a b c s input (Err e) took h ended same finished = tt
+script_at_end a b c s input (Ok x) took h ended same finished =
+    let script : IsScript input x.target x.addresses x.events.items = finished input h in
+    record {
+      input = input;
+      read = subst (λ (o : Option (List ℕ)). Takes a o input) (sym same) took;
+      at_end = subst IsAtEnd (sym same) ended;
+      script = script;
+      only = script_one input x.target x.addresses x.events.items script;
+    }

@@ -1,4 +1,5 @@
 pub mod InputLaws
 pub mod LineLaws
 pub mod PartLaws
+pub mod ScriptLaws
 pub mod StateLaws

@@ -5,14 +5,15 @@ use Rattle.grpc_base.specs.declared.event.Stamped.{Stamped}
 use Rattle.gate_io.specs.Outside.{IsAtEnd, Rises, Takes}
 use Rattle.script_input.specs.declared.fault.InputFault.{InputFault}
 use Rattle.script_input.specs.declared.fault.InputFault.TheVariants as fault
-use Rattle.script_input.specs.Scripts.{IsFirstBad, IsFront, IsScript}
+use Rattle.script_input.specs.Scripts.{IsFirstBad, IsFront, IsOnlyScript, IsScript}
 
--- a script, with nothing left behind it
+-- a script, with nothing left behind it, and the only one that its bytes spell
 pub record ReadsScript (left left' : Option (List ℕ)) (target : List ℕ) (addresses : List Address) (events : List Stamped) : Type 0 where
   pub input : List ℕ
   pub read : Takes left left' input
   pub at_end : IsAtEnd left'
   pub script : IsScript input target addresses events
+  pub only : IsOnlyScript input target addresses events
 
 -- the first bad line of the bytes that were read: they are all that there are, or that line stays the first bad one whatever follows
 pub record FindsBad (left left' : Option (List ℕ)) (n cause : ℕ) : Type 0 where

@@ -31,6 +31,12 @@ pub record IsScript (input target : List ℕ) (addresses : List Address) (events
   pub parts : parted 10 input ≡ texts ++ [] ∷ []
   pub lines : AreLines 1 texts (script_reads target addresses events)
 
+-- no other script is spelled so
+abbrev pub IsOnlyScript : List ℕ → List ℕ → List Address → List Stamped → Type 0
+IsOnlyScript input target addresses events =
+    (other : List ℕ) (others : List Address) (more : List Stamped) → IsScript input other others more
+    → (other ≡ target) × (others ≡ addresses) × (more ≡ events)
+
 -- whether a line feed stands behind a line: another part follows
 abbrev pub is_closed : List (List ℕ) → Bool
 is_closed [] = false

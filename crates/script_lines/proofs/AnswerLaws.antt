@@ -38,7 +38,7 @@ kind_back kind.Hold = refl
 same_parts : (a b : ℕ) (r s text : List ℕ) → text ≡ a ∷ r → text ≡ b ∷ s → (a ≡ b) × (r ≡ s)
 same_parts a b r s text e f = ((cc), (cc))
 
-part_same : (ended : Bool) (text : List ℕ) (k j : PartKind) (r s : List ℕ) → IsPartOf ended k text r → IsPartOf ended j text s → (k ≡ j) × (r ≡ s)
+pub part_same : (ended : Bool) (text : List ℕ) (k j : PartKind) (r s : List ℕ) → IsPartOf ended k text r → IsPartOf ended j text s → (k ≡ j) × (r ≡ s)
 part_same ended text k j r s p q =
     let both : (letter_of k ≡ letter_of j) × (r ≡ s) = same_parts (letter_of k) (letter_of j) r s text p.0 q.0 in
     (sym (kind_back k) ∙ ap kind_from both.0 ∙ kind_back j, both.1)
@@ -71,7 +71,7 @@ end_kind (part.Reset code) = refl
 end_kind part.Goaway = refl
 end_kind (part.Hold count) = refl
 
-same_end : (ended : Bool) (text : List ℕ) (p q : AnswerPart) → IsPart ended text p → IsPart ended text q → is_end p ≡ is_end q
+pub same_end : (ended : Bool) (text : List ℕ) (p q : AnswerPart) → IsPart ended text p → IsPart ended text q → is_end p ≡ is_end q
 same_end ended text p q s t = end_kind p ∙ ap kind_end (part_same ended text (part_kind p) (part_kind q) s.0 t.0 s.1 t.1).0 ∙ sym (end_kind q)
 
 good_parts : (ended : Bool) (texts : List (List ℕ)) (ps : List AnswerPart) (c : ℕ) → AreParts ended texts ps → ArePartsFault ended texts c → ⊥

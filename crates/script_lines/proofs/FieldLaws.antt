@@ -12,10 +12,11 @@ use Rattle.script_fields.specs.declared.fault.FieldFault.{FieldFault}
 use Rattle.script_fields.specs.declared.fault.FieldFault.TheVariants as field
 use Rattle.script_fields.specs.Reading.{SpellsAddresses, SpellsConfig, SpellsMessage, SpellsPiece, config_limit}
 use Rattle.script_fields.specs.Reading.{IsFieldFault as FaultIs}
-use Rattle.script_fields.specs.Spelling.{address_text, addresses_text, dash, hex_digits, joined, parted}
+use Rattle.script_fields.specs.Spelling.{address_text, addresses_text, dash, joined, parted}
 use Rattle.script_fields.specs.Values.{IsAddress, IsNoDigit}
 use Rattle.script_fields.proofs.AddressLaws.{byte_a, byte_b, byte_c, byte_d, text_is_quad}
-use Rattle.script_fields.proofs.TextLaws.{bytes_from, dash_one, free_of, hex_one, no_cut, parts_of_cut, parts_of_whole}
+use Rattle.script_fields.proofs.OneLaws.{dash_no_piece, piece_one}
+use Rattle.script_fields.proofs.TextLaws.{dash_one, free_of, no_cut, parts_of_cut, parts_of_whole}
 use Rattle.script_lines.specs.declared.cause.LineFault.{LineFault}
 use Rattle.script_lines.specs.declared.cause.LineFault.TheVariants as fault
 use Rattle.script_lines.specs.Causes.{bad_address, bad_hex, bad_number, past_limit}
@@ -79,17 +80,10 @@ message_told text field.Limit e is h =
     rw is (inr ((h.0, h.1), inl (none, refl)))
 message_told text field.NoMemory e is h = rw is tt
 
-same_piece : (text v w : List ℕ) → SpellsPiece text v → SpellsPiece text w → v ≡ w
-same_piece text v w p q = hex_one v w (bytes_from v p.0) (bytes_from w q.0) (sym p.2 ∙ q.2)
-
-dash_no_piece : (v : List ℕ) → SpellsPiece dash v → ⊥
-dash_no_piece [] p = p.1 refl
-dash_no_piece (x ∷ v) p = (let l : length dash ≡ length (hex_digits (x ∷ v)) = ap length p.2 in absurd (omega (arith, l)))
-
 long_config : (text : List ℕ) (c d : Option (List ℕ)) → SpellsConfig text c → IsSomeAnd c (λ v. config_limit < length v) → SpellsConfig text d → IfSome d (λ v. length v ≤ config_limit) → ⊥
 long_config text None d p beyond q within = absurd beyond
 long_config text (Some v) None p beyond q within = dash_no_piece v (subst (λ t. SpellsPiece t v) q p)
-long_config text (Some v) (Some w) p beyond q within = (let l : length v ≡ length w = ap length (same_piece text v w p q) in omega (arith, l, beyond, within))
+long_config text (Some v) (Some w) p beyond q within = (let l : length v ≡ length w = ap length (piece_one text v w p q) in omega (arith, l, beyond, within))
 
 pub config_told : (text : List ℕ) (f : FieldFault) (e : LineFault) → e ≡ line_fault bad_hex f → FaultIs (SpellsConfig text) (λ c. IsSomeAnd c (λ v. config_limit < length v)) f → IsToldBy (IsFieldFault config_or_dash_field text) e
 config_told text field.Form e is h = rw is (inl ((λ v. h v.0 v.1), refl))
@@ -98,7 +92,7 @@ config_told text field.NoMemory e is h = rw is tt
 
 pub long_piece : (text v : List ℕ) (e : LineFault) → SpellsPiece text v → config_limit < length v → e ≡ fault.Bad past_limit → IsToldBy (IsFieldFault config_field text) e
 long_piece text v e p beyond is =
-    let none : IsGood config_field text → ⊥ = λ g. (let l : length v ≡ length g.0 = ap length (same_piece text v g.0 p g.1.0) in omega (arith, l, beyond, g.1.1)) in
+    let none : IsGood config_field text → ⊥ = λ g. (let l : length v ≡ length g.0 = ap length (piece_one text v g.0 p g.1.0) in omega (arith, l, beyond, g.1.1)) in
     rw is (inr ((v, p), inl (none, refl)))
 
 pub addresses_told : (text : List ℕ) (f : FieldFault) (e : LineFault) → e ≡ line_fault bad_address f → FaultIs (SpellsAddresses text) (λ xs. address_limit < length xs) f → IsToldBy (IsFieldFault addresses_field text) e

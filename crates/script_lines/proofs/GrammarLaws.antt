@@ -97,7 +97,7 @@ name_back name.Ping = refl
 name_back name.Tick = refl
 name_back name.Shutdown = refl
 
-same_name : (a b : EventName) → name_text a ≡ name_text b → a ≡ b
+pub same_name : (a b : EventName) → name_text a ≡ name_text b → a ≡ b
 same_name a b e = sym (name_back a) ∙ ap name_from e ∙ name_back b
 
 good_event : (k : EventName) (others : List (List ℕ)) (texts : List (List ℕ)) (c : ℕ) → texts ≡ name_text k ∷ others → AreGood (event_fields k) others → IsEventFault texts c → ⊥
@@ -159,6 +159,9 @@ read_stamped (m ∷ (w ∷ (n ∷ others))) s c t (inr h) = behind h.1
     behind (inl f) = good_field word_field w c (s.word, t.1) f
     behind (inr f) = read_event (n ∷ others) s.event c t.2 f.1
 
+pub one_target : (x y : List ℕ) → channel_words x ≡ channel_words y → x ≡ y
+one_target x y e = (cc)
+
 -- a channel line has no fault
 pub read_channel : (texts : List (List ℕ)) (target : List ℕ) (addresses : List Address) (c : ℕ) → IsChannelText texts target addresses → IsChannelFault texts c → ⊥
 read_channel texts target addresses c t (inl f) = f.0 target t.0
@@ -166,9 +169,6 @@ read_channel texts target addresses c t (inr f) =
     let words : channel_words f.0 ≡ channel_words target = sym f.1 ∙ t.0 in
     let same : f.0 ≡ target = one_target f.0 target words in
     f.2 addresses (ap target_of same ∙ t.1)
-  where
-    one_target : (x y : List ℕ) → channel_words x ≡ channel_words y → x ≡ y
-    one_target x y e = (cc)
 
 -- a line of a replay script has no fault
 pub read_replay : (n : ℕ) (texts : List (List ℕ)) (read : ScriptLine) (c : ℕ) → IsReplayLine n texts read → IsReplayFault n texts c → ⊥
@@ -192,7 +192,7 @@ read_call (worker ∷ (path ∷ (wait ∷ (timeout ∷ (meta ∷ messages))))) n
     ((n, t.0), (t.1.0, ((call.request.wait, t.1.2), ((call.request.timeout, t.1.3), ((call.request.meta, t.1.4), good_messages call.messages messages t.3))))) f.1
 read_call texts n call c t f = t
 
-other_names : codes "config" ≡ codes "call" → ⊥
+pub other_names : codes "config" ≡ codes "call" → ⊥
 other_names e = (cc)
 
 read_live_text : (n : ℕ) (texts : List (List ℕ)) (read : ScriptLine) (c : ℕ) → IsLiveText n texts read → IsLiveTextFault n texts c → ⊥

@@ -1,7 +1,10 @@
+pub mod AgainLaws
 pub mod AnswerLaws
 pub mod CountLaws
 pub mod FieldLaws
 pub mod GrammarLaws
 pub mod LineLaws
+pub mod OneEvent
+pub mod OneLine
 pub mod PartLaws
 pub mod ReaderLaws

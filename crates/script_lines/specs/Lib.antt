@@ -4,3 +4,4 @@ pub mod Events
 pub mod Fields
 pub mod Lines
 pub mod Reader
+pub mod Spelling

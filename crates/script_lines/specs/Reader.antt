@@ -33,6 +33,10 @@ IsKindFault script.Server n answered texts c = IsAnswerFault answered texts c
 abbrev pub IsLine : ReaderSeen → List ℕ → Bool → ScriptLine → Type 0
 IsLine r text closed read = IsRawLine (r.lines + 1) text closed × IsKindLine r.kind (r.lines + 1) r.answered (fields text) read
 
+-- no other line is spelled so
+abbrev pub IsOnlyLine : ReaderSeen → List ℕ → Bool → ScriptLine → Type 0
+IsOnlyLine r text closed read = (other : ScriptLine) → IsLine r text closed other → other ≡ read
+
 -- the first cause why a line is none: the tests of every line, and after them those of the kind
 abbrev pub IsNumberedFault : ScriptKind → ℕ → Answered → List ℕ → Bool → ℕ → Type 0
 IsNumberedFault kind n answered text closed c =

@@ -3,7 +3,8 @@ ghost use Rattle.std.specs.Prelude.{◌≡◌, ◌+◌, ℕ, List, IfOk, IfErr, 
 ghost use Rattle.script_fields.specs.Spelling.{fields};
 ghost use Rattle.script_lines.specs.Answers.{count_of};
 ghost use Rattle.script_lines.specs.Lines.{IsRawLine, IsToldBy};
-ghost use Rattle.script_lines.specs.Reader.{IsBadLine, IsBehind, IsKindFault, IsKindLine, IsLine, IsNoLine, IsNumberedFault, IsSame, answer_count};
+ghost use Rattle.script_lines.specs.Reader.{IsBadLine, IsBehind, IsKindFault, IsKindLine, IsLine, IsNoLine, IsNumberedFault, IsOnlyLine, IsSame, answer_count};
+ghost use Rattle.script_lines.specs.Spelling.{IsReadAgain};
 
 use crate::answer::next_answer;
 use crate::cause::LineFault;
@@ -70,11 +71,14 @@ impl ScriptReader {
         }
     }
 
-    /// Reads the next line: its bytes without the line feed, and whether one ended it. BadLine names the line and
-    /// the first cause in the order of the tests. The reader is as before where it answers an error.
+    /// Reads the next line: its bytes without the line feed, and whether one ended it. What it says is the one thing
+    /// that they spell, and is read again from its own spelling. BadLine names the line and the first cause in the
+    /// order of the tests. The reader is as before where it answers an error.
     pub fn line(&mut self, text: &[u8], closed: bool) -> Result<ScriptLine, BadLine>
         ensures ok { IfOk result (IsLine self.old text.now closed) }
         ensures bad { IfErr result (IsBadLine self.old text.now closed) }
+        ensures only { IfOk result (IsOnlyLine self.old text.now closed) }
+        ensures again { IfOk result IsReadAgain }
         ensures no_line { IfErr result (IsNoLine self.old text.now closed) }
         ensures behind { IfOk result (λ read. IsBehind self.old read self.new) }
         ensures same { OnErr result (IsSame self.old self.new) }

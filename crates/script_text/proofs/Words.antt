@@ -1,15 +1,18 @@
 -- Words and lines as what a writer appends.
 use Rattle.std.proofs.Common.{◌≡◌, ℕ, ◌+◌, ◌<◌, List, [], ◌∷◌, ◌++◌, length, get_or, take, drop, refl, sym, ap, ◌∙◌, append_assoc}
-use Rattle.std.specs.Prelude.{map, codes, flat_map}
+use Rattle.std.specs.Prelude.{map, codes, decimal, flat_map}
 use Rattle.std.proofs.lemmas.List.{append-nil, map-append, take_more, take-append-drop}
 use Rattle.std.proofs.lemmas.Grind.{flat_map-append}
 use Rattle.attempt_ledger.specs.declared.journal.Journal.{Journal}
 use Rattle.attempt_ledger.specs.declared.row.Row.{Row}
+use Rattle.grpc_base.specs.Codes.{code_number}
 use Rattle.grpc_base.specs.declared.event.Entry.{Entry}
+use Rattle.grpc_base.specs.declared.event.Reply.{Reply}
+use Rattle.grpc_base.specs.declared.event.Reply.TheVariants as reply
 use Rattle.attempt_ledger.specs.declared.ledger.Ledger.{Ledger}
 use Rattle.script_text.specs.Output.{spaced}
 use Rattle.script_text.specs.Report.{channel_text, entry_text, row_text, end_text, lines_text, report_of}
-use Rattle.script_text.specs.Spelling.{words}
+use Rattle.script_text.specs.Spelling.{address_text, cause_text, config_fault_words, hex_or_dash, meta_text, percent_text, reply_words, words}
 
 -- words
 pub words_are : (w : List ℕ) (ws : List (List ℕ)) → words (w ∷ ws) ≡ w ++ spaced ws
@@ -19,12 +22,37 @@ words_are w (v ∷ vs) = ap (λ t. w ++ 32 ∷ t) (words_are v vs)
 pub spaced-append : (vs ws : List (List ℕ)) → spaced (vs ++ ws) ≡ spaced vs ++ spaced ws
 spaced-append vs ws = flat_map-append (λ (w : List ℕ). 32 ∷ w) vs ws
 
+spaced_words : (w : List ℕ) (ws : List (List ℕ)) → spaced (w ∷ ws) ≡ 32 ∷ words (w ∷ ws)
+spaced_words w ws = ap (λ t. 32 ∷ t) (sym (words_are w ws))
+
+some_reply : (r : Reply) → (w : List ℕ) × (ws : List (List ℕ)) × (reply_words r ≡ w ∷ ws)
+some_reply (reply.Call call) = (codes "call", decimal call ∷ [], refl)
+some_reply reply.Done = (codes "done", [], refl)
+some_reply (reply.Full held) = (codes "full", decimal held ∷ [], refl)
+some_reply (reply.Head meta) = (codes "head", meta_text meta ∷ [], refl)
+some_reply (reply.Message octets) = (codes "message", hex_or_dash octets ∷ [], refl)
+some_reply (reply.End code text meta cause) = (codes "end", decimal (code_number code) ∷ percent_text text ∷ meta_text meta ∷ cause_text cause ∷ [], refl)
+some_reply reply.NotYet = (codes "notyet", [], refl)
+some_reply (reply.BadConfig f) = (codes "badconfig", config_fault_words f, refl)
+some_reply (reply.Dial sub address until) = (codes "dial", decimal sub ∷ address_text address ∷ decimal until ∷ [], refl)
+some_reply (reply.Link link) = (codes "link", decimal link ∷ [], refl)
+some_reply (reply.Octets octets) = (codes "octets", hex_or_dash octets ∷ [], refl)
+some_reply (reply.Refused refusal) = (codes "refused", decimal refusal ∷ [], refl)
+
+spaced_reply : (r : Reply) → spaced (reply_words r) ≡ 32 ∷ words (reply_words r)
+spaced_reply r =
+    let some : (w : List ℕ) × (ws : List (List ℕ)) × (reply_words r ≡ w ∷ ws) = some_reply r in
+    ap spaced some.2 ∙ spaced_words some.0 some.1 ∙ ap (λ ws. 32 ∷ words ws) (sym some.2)
+
+equals_sign : (t : List ℕ) → codes " = " ++ t ≡ 32 ∷ codes "=" ++ 32 ∷ t
+equals_sign t = refl
+
 -- the words of an entry
-pub entry_parts : (moment word : List ℕ) (event reply : List (List ℕ)) → words (moment ∷ word ∷ event ++ codes "=" ∷ reply) ≡ moment ++ 32 ∷ word ++ spaced event ++ 32 ∷ codes "=" ++ spaced reply
-entry_parts moment word event reply =
-    let rest : spaced (event ++ codes "=" ∷ reply) ≡ spaced event ++ spaced (codes "=" ∷ reply) = spaced-append event (codes "=" ∷ reply) in
-    words_are moment (word ∷ event ++ codes "=" ∷ reply)
-    ∙ ap (λ t. moment ++ (32 ∷ word ++ t)) rest
+pub entry_parts : (moment word : List ℕ) (event : List (List ℕ)) (r : Reply) → words (moment ∷ word ∷ event) ++ codes " = " ++ words (reply_words r) ≡ moment ++ 32 ∷ word ++ spaced event ++ 32 ∷ codes "=" ++ spaced (reply_words r)
+entry_parts moment word event r =
+    ap (λ t. t ++ codes " = " ++ words (reply_words r)) (words_are moment (word ∷ event))
+    ∙ append_assoc (moment ++ spaced (word ∷ event)) (codes " = ") (words (reply_words r))
+    ∙ ap (λ t. (moment ++ spaced (word ∷ event)) ++ t) (equals_sign (words (reply_words r)) ∙ ap (λ t. 32 ∷ codes "=" ++ t) (sym (spaced_reply r)))
     ∙ simp append_assoc refl
 
 -- the words of a row

@@ -1,9 +1,10 @@
 -- The report of a session: the channel line, a line for each entry, a line for each row, and the end line.
-use Rattle.std.specs.Prelude.{ℕ, Option, Some, None, List, [], ◌∷◌, ◌++◌, map, length, codes, decimal, flat_map}
+use Rattle.std.specs.Prelude.{ℕ, Option, Some, None, List, [], ◌∷◌, ◌++◌, map, length, codes, decimal}
 use Rattle.grpc_base.specs.declared.event.Entry.{Entry}
 use Rattle.grpc_base.specs.declared.plan.Pushback.{Pushback}
 use Rattle.grpc_base.specs.declared.plan.Pushback.TheVariants as pushback
 use Rattle.grpc_base.specs.Codes.{code_number}
+use Rattle.attempt_ledger.specs.Journals.{stamped_of}
 use Rattle.attempt_ledger.specs.declared.journal.Journal.{Journal}
 use Rattle.attempt_ledger.specs.declared.ledger.Ledger.{Ledger}
 use Rattle.attempt_ledger.specs.declared.row.Row.{Row}
@@ -13,15 +14,12 @@ use Rattle.attempt_ledger.specs.declared.row.RowKind.{RowKind}
 use Rattle.attempt_ledger.specs.declared.row.RowKind.TheVariants as kind
 use Rattle.attempt_ledger.specs.declared.row.RowCause.{RowCause}
 use Rattle.attempt_ledger.specs.declared.row.RowCause.TheVariants as cause
-use Rattle.script_text.specs.Spelling.{words, dash, number_or_dash, event_words, reply_words}
+pub use Rattle.script_text.specs.Spelling.{channel_text, lines_text}
+use Rattle.script_text.specs.Spelling.{dash, number_or_dash, reply_words, stamped_text, words}
 
--- the channel line
-abbrev pub channel_text : List ℕ → List ℕ
-channel_text target = words (codes "channel" ∷ codes "1" ∷ target ∷ [])
-
--- an entry: a line of a script with the step's moment, and the reply behind ` = `
+-- an entry: a line of a script with the step's moment, and behind ` = ` the reply
 abbrev pub entry_text : Entry → List ℕ
-entry_text e = words (decimal e.moment ∷ decimal e.word ∷ event_words e.event ++ codes "=" ∷ reply_words e.reply)
+entry_text e = stamped_text (stamped_of e) ++ codes " = " ++ words (reply_words e.reply)
 
 -- why an attempt was made
 abbrev pub kind_text : RowKind → List ℕ
@@ -68,10 +66,6 @@ row_text r =
 abbrev pub end_text : Journal → Ledger → List ℕ
 end_text journal ledger =
     words (codes "end" ∷ decimal (length journal.entries) ∷ decimal (length ledger.calls) ∷ decimal (length ledger.rows) ∷ decimal (length ledger.links) ∷ [])
-
--- lines, each ended by a line feed
-abbrev pub lines_text : List (List ℕ) → List ℕ
-lines_text lines = flat_map (λ line. line ++ 10 ∷ []) lines
 
 -- the report of a target, a journal and a ledger
 abbrev pub report_of : List ℕ → Journal → Ledger → List ℕ

@@ -1,8 +1,7 @@
--- How events and replies are spelled, in scripts and in reports alike: words with one space between.
+-- How replies are spelled, in reports alone: words with one space between. Events are spelled as scripts spell them.
 use Rattle.std.specs.Prelude.{ℕ, List, [], ◌∷◌, ◌++◌, codes, decimal}
 pub use Rattle.script_fields.specs.Spelling.{address_text, joined, words, parted, fields, dash, number_or_dash, lower_digit, upper_digit, hex_digits, hex_or_dash, word_bytes, percent_byte, percent_text, addresses_text, pair_text, meta_text, wait_text, config_text}
-use Rattle.grpc_base.specs.declared.event.Event.{Event}
-use Rattle.grpc_base.specs.declared.event.Event.TheVariants as event
+pub use Rattle.script_lines.specs.Spelling.{channel_text, event_words, lines_text, stamped_text}
 use Rattle.grpc_base.specs.declared.event.Reply.{Reply}
 use Rattle.grpc_base.specs.declared.event.Reply.TheVariants as reply
 use Rattle.grpc_base.specs.declared.event.EndCause.{EndCause}
@@ -11,37 +10,7 @@ use Rattle.grpc_base.specs.declared.event.ConfigFault.{ConfigFault}
 use Rattle.grpc_base.specs.declared.event.ConfigFault.TheVariants as fault
 use Rattle.grpc_base.specs.declared.event.JsonFault.{JsonFault}
 use Rattle.grpc_base.specs.declared.event.JsonFault.TheVariants as json
-use Rattle.grpc_base.specs.declared.event.Stamped.{Stamped}
 use Rattle.grpc_base.specs.Codes.{code_number}
-
--- an event: its name and its fields
-abbrev pub event_words : Event → List (List ℕ)
-event_words (event.Begin r) = codes "begin" ∷ r.path ∷ wait_text r.wait ∷ number_or_dash r.timeout ∷ meta_text r.meta ∷ []
-event_words (event.Send call message) = codes "send" ∷ decimal call ∷ hex_or_dash message ∷ []
-event_words (event.Finish call) = codes "finish" ∷ decimal call ∷ []
-event_words (event.Take call) = codes "take" ∷ decimal call ∷ []
-event_words (event.Cancel call) = codes "cancel" ∷ decimal call ∷ []
-event_words (event.Resolved addresses config) = codes "resolved" ∷ addresses_text addresses ∷ config_text config ∷ []
-event_words event.ResolveFailed = codes "unresolved" ∷ []
-event_words event.TakeDial = codes "dial" ∷ []
-event_words (event.LinkUp sub) = codes "up" ∷ decimal sub ∷ []
-event_words (event.DialFailed sub) = codes "nodial" ∷ decimal sub ∷ []
-event_words (event.Arrived link piece) = codes "arrived" ∷ decimal link ∷ hex_or_dash piece ∷ []
-event_words (event.LinkLost link) = codes "lost" ∷ decimal link ∷ []
-event_words (event.Drain link room) = codes "drain" ∷ decimal link ∷ decimal room ∷ []
-event_words (event.Ping link word) = codes "ping" ∷ decimal link ∷ hex_digits (word_bytes word) ∷ []
-event_words event.Tick = codes "tick" ∷ []
-event_words event.Shutdown = codes "shutdown" ∷ []
-
--- the names of events
-abbrev pub event_names : List (List ℕ)
-event_names =
-    codes "begin" ∷ codes "send" ∷ codes "finish" ∷ codes "take" ∷ codes "cancel" ∷ codes "resolved" ∷ codes "unresolved" ∷ codes "dial"
-    ∷ codes "up" ∷ codes "nodial" ∷ codes "arrived" ∷ codes "lost" ∷ codes "drain" ∷ codes "ping" ∷ codes "tick" ∷ codes "shutdown" ∷ []
-
--- a line of a script: the moment, the random word and the event
-abbrev pub stamped_text : Stamped → List ℕ
-stamped_text s = words (decimal s.moment ∷ decimal s.word ∷ event_words s.event)
 
 -- why a call ended
 abbrev pub cause_text : EndCause → List ℕ

@@ -8,6 +8,7 @@ mod report;
 mod rows;
 
 pub use report::{ReportFault, write_report};
+pub use script_lines::{BadLine, ScriptKind, ScriptLine, ScriptReader};
 
 #[cfg(test)]
 mod tests;

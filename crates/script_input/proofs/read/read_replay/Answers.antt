@@ -1,6 +1,6 @@
 use Rattle.std.proofs.Common.{◌≤◌, arith, length, take}
 use Rattle.std.proofs.lemmas.Grind.{common_steps}
-use Rattle.script_input.proofs.InputLaws.{Takes-append, bad_piece, exit_of, none_at_end}
+use Rattle.script_input.proofs.InputLaws.{Takes-append, bad_piece, exit_of, none_at_end, script_at_end}
 use Rattle.script_input.proofs.read.read_replay.Goals as goal
 
 pub loop-count-smaller : goal.loop-count-smaller
@@ -22,3 +22,7 @@ returns-in_err-take_piece-in-Got-clause-bad g c =
 pub returns-in-End-clause-bad : goal.returns-in-End-clause-bad
 returns-in-End-clause-bad g c =
     none_at_end _ _ _ _ _ c.loop-count.collected c.loop-count.invariant.0 c.finish.result c.loop-count.invariant.1 c.loop-count.invariant.2 c.in-End.ensures.bytes.0 c.in-End.ensures.bytes.1 c.finish.ensures.bad
+
+pub returns-in-End-clause-ok : goal.returns-in-End-clause-ok
+returns-in-End-clause-ok g c =
+    script_at_end _ _ _ c.loop-count.collected c.loop-count.invariant.0 c.finish.result c.loop-count.invariant.1 c.loop-count.invariant.2 c.in-End.ensures.bytes.0 c.in-End.ensures.bytes.1 c.finish.ensures.ok

@@ -1,5 +1,7 @@
 use Rattle.std.proofs.Common.{sym}
-use Rattle.script_lines.specs.Reader.{IsLineFault, ReaderSeen}
+use Rattle.script_lines.specs.Reader.{IsLine, IsLineFault, ReaderSeen}
+use Rattle.script_lines.proofs.AgainLaws.{line_again}
+use Rattle.script_lines.proofs.OneLine.{line_one}
 use Rattle.script_lines.proofs.ReaderLaws.{read_line}
 use Rattle.script_lines.proofs.reader.ScriptReader.line.Goals as goal
 
@@ -8,3 +10,15 @@ returns-in-Err-Bad-clause-no_line c =
     let r : ReaderSeen = record { kind = c.self.inside.kind; lines = c.self.inside.lines; answered = c.self.inside.counts } in
     let told : IsLineFault r c.args.text.now c.args.closed c.in-Err-Bad.cause = (rw c.in-Err-Bad.field-0-is at c.in-Err-Bad.ensures.bad) in
     rw (sym c.self.view_is) (λ read t. read_line r c.args.text.now c.args.closed read c.in-Err-Bad.cause t told)
+
+pub returns-in-Ok-clause-only : goal.returns-in-Ok-clause-only
+returns-in-Ok-clause-only c =
+    let r : ReaderSeen = record { kind = c.self.inside.kind; lines = c.self.inside.lines; answered = c.self.inside.counts } in
+    let t : IsLine r c.args.text.now c.args.closed c.in-Ok.read = c.in-Ok.ensures.ok in
+    rw (sym c.self.view_is) (line_one r c.args.text.now c.args.closed c.in-Ok.read t)
+
+pub returns-in-Ok-clause-again : goal.returns-in-Ok-clause-again
+returns-in-Ok-clause-again c =
+    let r : ReaderSeen = record { kind = c.self.inside.kind; lines = c.self.inside.lines; answered = c.self.inside.counts } in
+    let t : IsLine r c.args.text.now c.args.closed c.in-Ok.read = c.in-Ok.ensures.ok in
+    line_again r c.args.text.now c.args.closed c.in-Ok.read t

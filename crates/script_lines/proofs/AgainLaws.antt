@@ -1,0 +1,226 @@
+-- What a line says is read again from its own spelling.
+use Rattle.std.proofs.Common.{◌≡◌, ◌≢◌, ◌≤◌, ◌<◌, ◌^◌, ℕ, ◌+◌, Bool, true, List, [], ◌∷◌, ◌++◌, length, All, Option, Some, None, refl, ap, sym, subst, arith, ◌∙◌}
+use Rattle.std.specs.List.{AllByRecursion, list_all}
+use Rattle.std.specs.Prelude.{IfSome, decimal, nat_le, ◌&&◌}
+use Rattle.std.proofs.lemmas.Bool.{and_parts}
+use Rattle.std.proofs.lemmas.Bool.Decides.{nat_tests}
+use Rattle.std.proofs.lemmas.List.Elements.{All-from_recursion}
+use Rattle.grpc_base.specs.declared.address.Address.{Address}
+use Rattle.grpc_base.specs.declared.event.Event.{Event}
+use Rattle.grpc_base.specs.declared.event.Event.TheVariants as event
+use Rattle.grpc_base.specs.declared.event.Stamped.{Stamped}
+use Rattle.grpc_base.specs.Limits.{duration_limit, moment_limit}
+use Rattle.grpc_base.specs.Requests.{IsPath, RequestSeen}
+use Rattle.script_fields.specs.Reading.{SpellsNumberOrDash, listed}
+use Rattle.script_fields.specs.Spelling.{addresses_text, config_text, fields, hex_digits, hex_or_dash, joined, meta_text, number_or_dash, wait_text, word_bytes, words}
+use Rattle.script_fields.specs.Values.{IsAddress}
+use Rattle.script_fields.proofs.PartLaws.{joined-parted, parted-joined}
+use Rattle.script_fields.proofs.VisibleLaws.{IsVisible, addresses_visible, config_visible, hex_or_dash_visible, listed_addresses, listed_again, listed_short, meta_visible, number_or_dash_visible, number_visible, path_visible, wait_visible, word_visible}
+use Rattle.script_lines.specs.declared.line.ScriptLine.{ScriptLine}
+use Rattle.script_lines.specs.declared.line.ScriptLine.TheVariants as line
+use Rattle.script_lines.specs.declared.name.EventName.{EventName}
+use Rattle.script_lines.specs.declared.name.EventName.TheVariants as name
+use Rattle.script_lines.specs.declared.reader.ScriptKind.{ScriptKind}
+use Rattle.script_lines.specs.declared.reader.ScriptKind.TheVariants as script
+use Rattle.script_lines.specs.Answers.{Answered}
+use Rattle.script_lines.specs.Events.{IsEventText, name_text}
+use Rattle.script_lines.specs.Fields.{AreAddresses, IsConfigOrDash, IsNumber, IsPiece, IsRequestText, number_limit}
+use Rattle.script_lines.specs.Lines.{IsChannelText, IsLiveLine, IsLiveText, IsReplayLine, IsStampedText, channel_words}
+use Rattle.script_lines.specs.Reader.{IsKindLine, IsLine, ReaderSeen}
+use Rattle.script_lines.specs.Spelling.{IsReadAgain, IsSpelled, at_moment, channel_text, event_words, stamped_text}
+
+-- ---- words of visible bytes
+
+abbrev AreVisible : List (List ℕ) → Type 0
+AreVisible ws = AllByRecursion (λ w. AllByRecursion IsVisible w) ws
+
+no_space : (w : List ℕ) → AllByRecursion IsVisible w → AllByRecursion (λ d. d ≢ 32) w
+no_space [] v = tt
+no_space (b ∷ w) v = ((λ e. omega (arith, v.0.0, e)), no_space w v.1)
+
+no_spaces : (ws : List (List ℕ)) → AreVisible ws → AllByRecursion (λ (w : List ℕ). AllByRecursion (λ d. d ≢ 32) w) ws
+no_spaces [] v = tt
+no_spaces (w ∷ ws) v = (no_space w v.0, no_spaces ws v.1)
+
+-- words are the fields of their line
+words_fields : (w : List ℕ) (ws : List (List ℕ)) → AreVisible (w ∷ ws) → fields (words (w ∷ ws)) ≡ w ∷ ws
+words_fields w ws v = parted-joined 32 w ws (no_spaces (w ∷ ws) v)
+
+abbrev IsPrintable : ℕ → Type 0
+IsPrintable b = (32 ≤ b) × (b ≤ 126)
+
+printable_before : (w rest : List ℕ) → AllByRecursion IsVisible w → AllByRecursion IsPrintable rest → AllByRecursion IsPrintable (w ++ rest)
+printable_before [] rest v p = p
+printable_before (b ∷ w) rest v p = ((omega (arith, v.0.0), v.0.1), printable_before w rest v.1 p)
+
+printable_alone : (w : List ℕ) → AllByRecursion IsVisible w → AllByRecursion IsPrintable w
+printable_alone [] v = tt
+printable_alone (b ∷ w) v = ((omega (arith, v.0.0), v.0.1), printable_alone w v.1)
+
+words_printable : (ws : List (List ℕ)) → AreVisible ws → AllByRecursion IsPrintable (words ws)
+words_printable [] v = tt
+words_printable (w ∷ []) v = printable_alone w v.0
+words_printable (w ∷ (x ∷ ws)) v = printable_before w (32 ∷ joined 32 (x ∷ ws)) v.0 ((omega arith, omega arith), words_printable (x ∷ ws) v.1)
+
+-- ---- names
+
+abbrev is_visible : ℕ → Bool
+is_visible b = nat_le 33 b && nat_le b 126
+
+tested : (s : List ℕ) → list_all is_visible s ≡ true → AllByRecursion IsVisible s
+tested [] e = tt
+tested (b ∷ s) e =
+    let both = and_parts (is_visible b) (list_all is_visible s) e in
+    ((grind (arith, nat_tests, both.0), grind (arith, nat_tests, both.0)), tested s both.1)
+
+name_tested : (k : EventName) → list_all is_visible (name_text k) ≡ true
+name_tested name.Begin = refl
+name_tested name.Send = refl
+name_tested name.Finish = refl
+name_tested name.Take = refl
+name_tested name.Cancel = refl
+name_tested name.Resolved = refl
+name_tested name.Unresolved = refl
+name_tested name.Dial = refl
+name_tested name.Up = refl
+name_tested name.NoDial = refl
+name_tested name.Arrived = refl
+name_tested name.Lost = refl
+name_tested name.Drain = refl
+name_tested name.Ping = refl
+name_tested name.Tick = refl
+name_tested name.Shutdown = refl
+
+name_visible : (k : EventName) → AllByRecursion IsVisible (name_text k)
+name_visible k = tested (name_text k) (name_tested k)
+
+-- ---- values
+
+timeout_small : (t : Option ℕ) → IfSome t (λ n. n ≤ duration_limit) → IfSome t (λ n. n < 2 ^ 64)
+timeout_small None small = tt
+timeout_small (Some n) small = omega (arith, small)
+
+call_visible : (n : ℕ) (text : List ℕ) → IsNumber number_limit n text → AllByRecursion IsVisible (decimal n)
+call_visible n text t = number_visible n (omega (arith, t.0))
+
+request_again : (r : RequestSeen) (path wait timeout meta : List ℕ) → IsRequestText r path wait timeout meta → IsRequestText r r.path (wait_text r.wait) (number_or_dash r.timeout) (meta_text r.meta)
+request_again r path wait timeout meta t = (
+  subst IsPath (sym t.1) t.0,
+  refl,
+  refl,
+  (subst (λ x. SpellsNumberOrDash x r.timeout) t.3.1 t.3.0, refl, t.3.2),
+  (t.4.0, t.4.1, refl),
+)
+
+addresses_again : (xs : List Address) (text : List ℕ) → AreAddresses xs text → AreAddresses xs (addresses_text xs)
+addresses_again xs text t =
+    let good : All IsAddress xs = subst (All IsAddress) (sym t.3) (listed_addresses t.0 t.1.0) in
+    let short : length xs ≤ length t.0 = subst (λ (ys : List Address). length ys ≤ length t.0) (sym t.3) (listed_short t.0) in
+    let same : xs ≡ listed xs = t.3 ∙ sym (listed_again t.0) ∙ ap listed (sym t.3) in
+    (xs, (good, refl), omega (arith, short, t.2), same)
+
+addresses_are_visible : (xs : List Address) (text : List ℕ) → AreAddresses xs text → AllByRecursion IsVisible (addresses_text xs)
+addresses_are_visible xs text t = addresses_visible xs (subst (All IsAddress) (sym t.3) (listed_addresses t.0 t.1.0))
+
+config_again : (config : Option (List ℕ)) (text : List ℕ) → IsConfigOrDash config text → IsConfigOrDash config (config_text config)
+config_again None text t = (refl, tt)
+config_again (Some bytes) text t = ((t.0.0, t.0.1, refl), t.1)
+
+piece_again : (piece text : List ℕ) → IsPiece piece text → IsPiece piece (hex_or_dash piece)
+piece_again [] text t = absurd (t.1 refl)
+piece_again (b ∷ piece) text t = (t.0, t.1, refl)
+
+-- ---- events
+
+-- an event is read from its own words
+event_again : (texts : List (List ℕ)) (e : Event) → IsEventText texts e → IsEventText (event_words e) e
+event_again texts (event.Begin r) t = (r.path, wait_text r.wait, number_or_dash r.timeout, meta_text r.meta, refl, request_again r t.0 t.1 t.2 t.3 t.5)
+event_again texts (event.Send n bytes) t = (decimal n, hex_or_dash bytes, refl, (t.3.0, refl), ((t.4.0.0, refl), t.4.1))
+event_again texts (event.Finish n) t = (decimal n, refl, (t.2.0, refl))
+event_again texts (event.Take n) t = (decimal n, refl, (t.2.0, refl))
+event_again texts (event.Cancel n) t = (decimal n, refl, (t.2.0, refl))
+event_again texts (event.Resolved addresses config) t = (addresses_text addresses, config_text config, refl, addresses_again addresses t.0 t.3, config_again config t.1 t.4)
+event_again texts event.ResolveFailed t = refl
+event_again texts event.TakeDial t = refl
+event_again texts (event.LinkUp n) t = (decimal n, refl, (t.2.0, refl))
+event_again texts (event.DialFailed n) t = (decimal n, refl, (t.2.0, refl))
+event_again texts (event.Arrived n bytes) t = (decimal n, hex_or_dash bytes, refl, (t.3.0, refl), piece_again bytes t.1 t.4)
+event_again texts (event.LinkLost n) t = (decimal n, refl, (t.2.0, refl))
+event_again texts (event.Drain n m) t = (decimal n, decimal m, refl, (t.3.0, refl), (t.4.0, refl))
+event_again texts (event.Ping n w) t = (decimal n, hex_digits (word_bytes w), refl, (t.3.0, refl), (t.4.0, refl))
+event_again texts event.Tick t = refl
+event_again texts event.Shutdown t = refl
+
+words_visible : (texts : List (List ℕ)) (e : Event) → IsEventText texts e → AreVisible (event_words e)
+words_visible texts (event.Begin r) t = (name_visible name.Begin, (path_visible r.path (subst IsPath (sym t.5.1) t.5.0), (wait_visible r.wait, (number_or_dash_visible r.timeout (timeout_small r.timeout t.5.3.2), (meta_visible r.meta t.5.4.0 t.5.4.1, tt)))))
+words_visible texts (event.Send n bytes) t = (name_visible name.Send, (call_visible n t.0 t.3, (hex_or_dash_visible bytes t.4.0.0, tt)))
+words_visible texts (event.Finish n) t = (name_visible name.Finish, (call_visible n t.0 t.2, tt))
+words_visible texts (event.Take n) t = (name_visible name.Take, (call_visible n t.0 t.2, tt))
+words_visible texts (event.Cancel n) t = (name_visible name.Cancel, (call_visible n t.0 t.2, tt))
+words_visible texts (event.Resolved addresses config) t = (name_visible name.Resolved, (addresses_are_visible addresses t.0 t.3, (config_visible t.1 config t.4.0, tt)))
+words_visible texts event.ResolveFailed t = (name_visible name.Unresolved, tt)
+words_visible texts event.TakeDial t = (name_visible name.Dial, tt)
+words_visible texts (event.LinkUp n) t = (name_visible name.Up, (call_visible n t.0 t.2, tt))
+words_visible texts (event.DialFailed n) t = (name_visible name.NoDial, (call_visible n t.0 t.2, tt))
+words_visible texts (event.Arrived n bytes) t = (name_visible name.Arrived, (call_visible n t.0 t.3, (hex_or_dash_visible bytes t.4.0, tt)))
+words_visible texts (event.LinkLost n) t = (name_visible name.Lost, (call_visible n t.0 t.2, tt))
+words_visible texts (event.Drain n m) t = (name_visible name.Drain, (call_visible n t.0 t.3, (call_visible m t.1 t.4, tt)))
+words_visible texts (event.Ping n w) t = (name_visible name.Ping, (call_visible n t.0 t.3, (word_visible w, tt)))
+words_visible texts event.Tick t = (name_visible name.Tick, tt)
+words_visible texts event.Shutdown t = (name_visible name.Shutdown, tt)
+
+-- ---- lines
+
+-- a stamped event is read from its own line, at whatever moment
+pub stamped_again : (texts : List (List ℕ)) (s : Stamped) (moment : ℕ) → moment ≤ moment_limit → IsStampedText texts s → IsSpelled (at_moment s moment)
+stamped_again (first ∷ (word ∷ others)) s moment within t =
+    let ws : List (List ℕ) = decimal s.word ∷ event_words s.event in
+    let visible : AreVisible (decimal moment ∷ ws) = (number_visible moment (omega (arith, within)), (number_visible s.word (omega (arith, t.1.0)), words_visible others s.event t.2)) in
+    let line : fields (stamped_text (at_moment s moment)) ≡ decimal moment ∷ ws = words_fields (decimal moment) ws visible in
+    (
+      (All-from_recursion IsPrintable (stamped_text (at_moment s moment)) (words_printable (decimal moment ∷ ws) visible), refl),
+      subst (λ (ts : List (List ℕ)). IsStampedText ts (at_moment s moment)) (sym line) ((within, refl), (t.1.0, refl), event_again others s.event t.2),
+    )
+stamped_again [] s moment within t = absurd t
+stamped_again (first ∷ []) s moment within t = absurd t
+
+-- a channel line is its own spelling
+pub channel_is : (text target : List ℕ) → fields text ≡ channel_words target → text ≡ channel_text target
+channel_is text target e = sym (joined-parted 32 text) ∙ ap words e
+
+channel_again : (text target : List ℕ) (addresses : List Address) → IsChannelText (fields text) target addresses → IsChannelText (fields (channel_text target)) target addresses
+channel_again text target addresses t = (ap fields (sym (channel_is text target t.0)) ∙ t.0, t.1)
+
+replay_again : (n : ℕ) (text : List ℕ) (read : ScriptLine) → IsReplayLine n (fields text) read → IsReadAgain read
+replay_again n text (line.Channel target addresses) t = channel_again text target addresses t.1
+replay_again n text (line.Event s) t = λ moment within. stamped_again (fields text) s moment within t.1
+replay_again n text (line.Config config) t = tt
+replay_again n text (line.Call worker call) t = tt
+replay_again n text (line.Answer answer) t = tt
+
+no_live_event : (n : ℕ) (texts : List (List ℕ)) (s : Stamped) → IsLiveText n texts (line.Event s) → ⊥
+no_live_event n [] s t = t
+no_live_event n (name ∷ others) s t = t
+
+live_again : (n : ℕ) (text : List ℕ) (read : ScriptLine) → IsLiveLine n (fields text) read → IsReadAgain read
+live_again n text (line.Channel target addresses) t = channel_again text target addresses t.1
+live_again n text (line.Event s) t = absurd (no_live_event n (fields text) s t.1)
+live_again n text (line.Config config) t = tt
+live_again n text (line.Call worker call) t = tt
+live_again n text (line.Answer answer) t = tt
+
+server_again : (n : ℕ) (answered : Answered) (texts : List (List ℕ)) (read : ScriptLine) → IsKindLine script.Server n answered texts read → IsReadAgain read
+server_again n answered texts (line.Channel target addresses) t = absurd t
+server_again n answered texts (line.Event s) t = absurd t
+server_again n answered texts (line.Config config) t = tt
+server_again n answered texts (line.Call worker call) t = tt
+server_again n answered texts (line.Answer answer) t = tt
+
+kind_again : (k : ScriptKind) (n : ℕ) (answered : Answered) (text : List ℕ) (read : ScriptLine) → IsKindLine k n answered (fields text) read → IsReadAgain read
+kind_again script.Replay n answered text read t = replay_again n text read t
+kind_again script.Live n answered text read t = live_again n text read t
+kind_again script.Server n answered text read t = server_again n answered (fields text) read t
+
+-- what a line says is read again from its own spelling
+pub line_again : (r : ReaderSeen) (text : List ℕ) (closed : Bool) (read : ScriptLine) → IsLine r text closed read → IsReadAgain read
+line_again r text closed read t = kind_again r.kind (r.lines + 1) r.answered text read t.1
