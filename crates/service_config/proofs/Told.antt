@@ -7,11 +7,12 @@ use Rattle.grpc_base.specs.declared.event.ConfigFault.{ConfigFault}
 use Rattle.grpc_base.specs.declared.event.ConfigFault.TheVariants as told
 use Rattle.json_text.specs.Tree.{Tree}
 use Rattle.json_text.specs.Reading as read
-use Rattle.service_config.specs.declared.place.Fault.{Fault}
-use Rattle.service_config.specs.declared.place.Fault.TheVariants as fault
+use Rattle.config_values.specs.Places.{told_of}
+use Rattle.config_values.specs.declared.place.Fault.{Fault}
+use Rattle.config_values.specs.declared.place.Fault.TheVariants as fault
 use Rattle.service_config.specs.declared.config.Config.{Config}
 use Rattle.service_config.specs.Entries.{Fails}
-use Rattle.service_config.specs.Reading.{told_of, told_by, json_told, config_at, FailsBy}
+use Rattle.service_config.specs.Reading.{told_by, json_told, config_at, FailsBy}
 
 -- a fault of the JSON text
 pub json_tells : (kinds : KindsSeen) (f : JsonFault) (r : Result Tree JsonFault) → read.Fails f r → FailsBy (json_told f) (config_at kinds r)

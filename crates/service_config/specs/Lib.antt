@@ -1,9 +1,4 @@
-pub mod Trees
 pub mod Choice
-pub mod Values
-pub mod Codes
-pub mod Places
-pub mod Policies
 pub mod Entries
 pub mod Keys
 pub mod Reading

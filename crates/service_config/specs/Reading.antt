@@ -12,16 +12,16 @@ use Rattle.grpc_base.specs.declared.event.ConfigFault.{ConfigFault}
 use Rattle.grpc_base.specs.declared.event.ConfigFault.TheVariants as told
 use Rattle.json_text.specs.Tree.{Tree}
 use Rattle.json_text.specs.Reading.{reading}
-use Rattle.service_config.specs.Trees.{values_in, members_in, text_in}
-use Rattle.service_config.specs.Codes.{same_letters}
-use Rattle.service_config.specs.Places.{path_of}
-use Rattle.service_config.specs.Policies.{Fields, ◌>>=◌, found_at, optional, value_of, fields_at, throttle_in}
+use Rattle.config_values.specs.Trees.{values_in, members_in, text_in}
+use Rattle.config_values.specs.Codes.{same_letters}
+use Rattle.config_values.specs.Places.{told_of}
+use Rattle.config_values.specs.Policies.{Fields, ◌>>=◌, found_at, optional, value_of, fields_at, throttle_in}
 use Rattle.service_config.specs.Entries.{methods_in}
-use Rattle.service_config.specs.declared.place.Field.TheVariants as field
-use Rattle.service_config.specs.declared.place.Object.TheVariants as object
-use Rattle.service_config.specs.declared.place.Place.TheVariants as place
-use Rattle.service_config.specs.declared.place.Fault.{Fault}
-use Rattle.service_config.specs.declared.place.Fault.TheVariants as fault
+use Rattle.config_values.specs.declared.place.Field.TheVariants as field
+use Rattle.config_values.specs.declared.place.Object.TheVariants as object
+use Rattle.config_values.specs.declared.place.Place.TheVariants as place
+use Rattle.config_values.specs.declared.place.Fault.{Fault}
+use Rattle.config_values.specs.declared.place.Fault.TheVariants as fault
 use Rattle.service_config.specs.declared.config.Config.{Config}
 
 -- the kind of this name, spelled exactly or in any case
@@ -79,14 +79,7 @@ config_in kinds fields =
     throttle_in fields >>= λ throttle.
     Ok (record { kind = kind; throttle = throttle; methods = methods })
 
--- a fault as it is told, with its path
-abbrev pub told_of : Fault → ConfigFault
-told_of (fault.Wrong p) = told.Field (path_of p)
-told_of (fault.BothPolicies i) = told.BothPolicies (path_of (place.Whole (object.Entry i)))
-told_of (fault.RepeatedName i j) = told.RepeatedName (path_of (place.Whole (object.Name i j)))
-told_of fault.NoSupportedPolicy = told.NoSupportedPolicy
-told_of fault.NoMemory = told.NoMemory
-
+-- a reading whose fault is told
 abbrev pub told_by : Result Config Fault → Result Config ConfigFault
 told_by (Ok c) = Ok c
 told_by (Err f) = Err (told_of f)

@@ -12,7 +12,7 @@ use Rattle.grpc_base.specs.declared.event.JsonFault.{JsonFault}
 use Rattle.grpc_base.specs.declared.event.JsonFault.TheVariants as json
 use Rattle.grpc_base.specs.declared.event.ConfigFault.{ConfigFault}
 use Rattle.grpc_base.specs.declared.event.ConfigFault.TheVariants as fault
-use Rattle.service_config.specs.Codes.{failures}
+use Rattle.config_values.specs.Codes.{failures}
 use Rattle.service_config.specs.declared.config.Config.{Config}
 use Rattle.service_config.specs.declared.config.Method.{Method}
 

@@ -1,15 +1,13 @@
 // The entries of `methodConfig`, one by one.
 ghost use Rattle.std.specs.Prelude.{◌≡◌, [], map};
 ghost use Rattle.json_text.specs.Views.{tree_of};
-ghost use Rattle.service_config.specs.Trees.{member_seen};
+ghost use Rattle.config_values.specs.Trees.{member_seen};
 ghost use Rattle.service_config.specs.Entries.{Gives, entries_from, methods_in};
 
 use crate::config::Method;
 use crate::known::Known;
 use crate::method::with_entry;
-use crate::place::{Fault, Field, Object, Place};
-use crate::plan::value_of;
-use crate::tree::values_in;
+use config_values::{Fault, Field, Object, Place, value_of, values_in};
 use grpc_base::Text;
 use json_text::Json;
 use std::alloc::Global;

@@ -5,7 +5,7 @@ ghost use Rattle.service_config.specs.Keys.{HasKeys};
 
 use crate::config::Method;
 use crate::method::{Name, Settings};
-use crate::place::Fault;
+use config_values::Fault;
 use grpc_base::{NoMemory, Text};
 use std::alloc::Global;
 use std::collections::BTreeSet;

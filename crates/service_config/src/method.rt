@@ -1,16 +1,15 @@
 // An entry of `methodConfig`: its names, and what it says of them.
-ghost use Rattle.std.specs.Prelude.{◌≡◌, [], map, option_map};
+ghost use Rattle.std.specs.Prelude.{◌≡◌, [], map};
 ghost use Rattle.json_text.specs.Views.{tree_of};
-ghost use Rattle.service_config.specs.Trees.{member_seen, text_in, flag_in};
-ghost use Rattle.service_config.specs.Values.{size};
-ghost use Rattle.service_config.specs.Policies.{seen_by, optional};
+ghost use Rattle.config_values.specs.Trees.{member_seen};
+ghost use Rattle.config_values.specs.Policies.{seen_by};
 ghost use Rattle.service_config.specs.Entries.{Gives, name_seen, name_of, name_in, name_at, names_from, names_in, settings_in, read_entry, added_from, entry_at};
 
 use crate::known::Known;
-use crate::place::{Fault, Field, Object, Place};
-use crate::plan::{duration, fields_at, plan_in, value_of};
-use crate::tree::{flag_in, text_in, values_in};
-use crate::value;
+use config_values::{
+    Fault, Field, Object, Place, duration, fields_at, flag, plan_in, size, text, value_of,
+    values_in,
+};
 use grpc_base::{CallPlan, Duration, Text};
 use json_text::Json;
 use std::alloc::Global;
@@ -30,23 +29,6 @@ pub struct Settings {
     pub request: Option<u32>,
     pub response: Option<u32>,
     pub plan: CallPlan,
-}
-
-/// A text that may be absent.
-pub fn text<'a>(
-    object: Object,
-    field: Field,
-    fields: &'a [(Text, Json)],
-) -> Result<Option<&'a [u8]>, Fault>
-    ensures { seen_by (λ t. option_map (λ s. s.now) t) result ≡ optional text_in object field (map member_seen fields.now) }
-{
-    let Some(value) = value_of(fields, field) else {
-        return Ok(None);
-    };
-    match text_in(value) {
-        Some(text) => Ok(Some(text)),
-        None => Err(Fault::Wrong(Place::Field(object, field))),
-    }
 }
 
 fn name_of<'a>(object: Object, service: &'a [u8], method: &'a [u8]) -> Result<Name<'a>, Fault>
@@ -101,30 +83,6 @@ fn names_in<'a>(
     let wrong = Fault::Wrong(Place::Field(Object::Entry(entry), Field::Name));
     let values = values_in(value).ok_or(wrong)?;
     names_of(alloc, entry, values)
-}
-
-fn flag(object: Object, field: Field, fields: &[(Text, Json)]) -> Result<Option<bool>, Fault>
-    ensures { result ≡ optional flag_in object field (map member_seen fields.now) }
-{
-    let Some(value) = value_of(fields, field) else {
-        return Ok(None);
-    };
-    match flag_in(value) {
-        Some(flag) => Ok(Some(flag)),
-        None => Err(Fault::Wrong(Place::Field(object, field))),
-    }
-}
-
-fn size(object: Object, field: Field, fields: &[(Text, Json)]) -> Result<Option<u32>, Fault>
-    ensures { result ≡ optional size object field (map member_seen fields.now) }
-{
-    let Some(value) = value_of(fields, field) else {
-        return Ok(None);
-    };
-    match value::size(value) {
-        Some(size) => Ok(Some(size)),
-        None => Err(Fault::Wrong(Place::Field(object, field))),
-    }
 }
 
 /// What an entry says of its names.

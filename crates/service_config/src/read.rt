@@ -1,22 +1,20 @@
 // A service config of a text.
 ghost use Rattle.std.specs.Prelude.{◌≡◌, None, Err, map, option_map};
 ghost use Rattle.json_text.specs.Views.{tree_of};
-ghost use Rattle.service_config.specs.Trees.{member_seen};
-ghost use Rattle.service_config.specs.Policies.{value_of};
+ghost use Rattle.config_values.specs.Trees.{member_seen};
+ghost use Rattle.config_values.specs.Policies.{value_of};
 ghost use Rattle.service_config.specs.Entries.{Gives};
 ghost use Rattle.service_config.specs.Reading.{kind_named, kind_like, supported, only_name, policy_name, first_kind, named_kind, kind_by, kind_in, config_in, config_in_tree, json_told, config_of, Tells};
 ghost use Rattle.grpc_base.specs.declared.event.ConfigFault.TheVariants as told;
 ghost use Rattle.grpc_base.specs.declared.event.JsonFault.TheVariants as json;
-ghost use Rattle.service_config.specs.declared.place.Field.TheVariants as field;
+ghost use Rattle.config_values.specs.declared.place.Field.TheVariants as field;
 
-use crate::code::same_letters;
 use crate::config::Config;
 use crate::entry::methods_in;
-use crate::method::text;
-use crate::path::told;
-use crate::place::{Fault, Field, Object, Place};
-use crate::plan::{fields_at, throttle_in, value_of};
-use crate::tree::{members_in, values_in};
+use config_values::{
+    Fault, Field, Object, Place, fields_at, members_in, same_letters, text, throttle_in, told,
+    value_of, values_in,
+};
 use grpc_base::{ConfigFault, Items, JsonFault, Kind, KindSet, Text};
 use json_text::{Json, read_json};
 use std::alloc::Global;

@@ -1,0 +1,3 @@
+pub mod Trees
+pub mod Durations
+pub mod Letters
