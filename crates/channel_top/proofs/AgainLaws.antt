@@ -1,20 +1,21 @@
 -- The events of a session that a script gave are a script again, at the moments of their steps.
-use Rattle.std.proofs.Common.{◌≡◌, ◌≤◌, ℕ, ◌+◌, List, [], ◌∷◌, map, refl, ap, sym, arith, ◌∙◌}
+use Rattle.std.proofs.Common.{◌≡◌, ◌≤◌, ℕ, ◌+◌, Option, List, [], ◌∷◌, ◌++◌, map, ap, sym, subst, inr, arith, ◌∙◌}
 use Rattle.std.specs.Prelude.{max}
 use Rattle.grpc_base.specs.declared.address.Address.{Address}
 use Rattle.grpc_base.specs.declared.event.Entry.{Entry}
-use Rattle.grpc_base.specs.declared.event.Event.{Event}
 use Rattle.grpc_base.specs.declared.event.Stamped.{Stamped}
 use Rattle.grpc_base.specs.Limits.{moment_limit}
 use Rattle.attempt_ledger.specs.declared.journal.Journal.{Journal}
 use Rattle.attempt_ledger.specs.declared.ledger.Ledger.{Ledger}
 use Rattle.attempt_ledger.specs.Journals.{stamped_of}
-use Rattle.script_fields.specs.Spelling.{fields}
+use Rattle.script_fields.specs.Spelling.{fields, parted}
 use Rattle.script_lines.specs.declared.line.ScriptLine.TheVariants as line
 use Rattle.script_lines.specs.Lines.{IsStampedText}
-use Rattle.script_input.specs.Scripts.{AreLines, IsScript, script_reads}
+use Rattle.script_input.specs.Reading.{ReadsScript}
+use Rattle.script_input.specs.Scripts.{AreLines, IsOnlyScript, IsScript, script_reads}
 use Rattle.script_input.proofs.ScriptLaws.{AreMoved, script_again}
-use Rattle.channel_top.specs.Top.{IsScriptAgain, IsSession, highest_so_far}
+use Rattle.channel_top.specs.Shape.{IsFirstCall, target_text}
+use Rattle.channel_top.specs.Top.{IsDone, IsScriptAgain, IsSession, WritesSession, highest_so_far}
 
 moment_within : (texts : List (List ℕ)) (s : Stamped) → IsStampedText texts s → s.moment ≤ moment_limit
 moment_within (moment ∷ (word ∷ others)) s t = t.0.0
@@ -51,3 +52,34 @@ session_again input target addresses authority events journal ledger script sess
     script_again input target addresses events (map stamped_of journal.entries) script
     (moved_lines 1 script.texts target addresses events journal.entries script.lines session.events_are session.words_are session.moments_are)
     short
+
+-- a script has a line
+some_input : (target : List ℕ) (addresses : List Address) (events : List Stamped) (texts : List (List ℕ)) → parted 10 [] ≡ texts ++ [] ∷ [] → AreLines 1 texts (script_reads target addresses events) → ⊥
+some_input target addresses events [] e t = t
+some_input target addresses events (text ∷ []) e t = (let bad : ◌≡◌ {A = List (List ℕ)} [] ([] ∷ []) = (cc) in absurd ((cc)))
+some_input target addresses events (text ∷ (next ∷ texts)) e t = (let bad : [] ≡ next ∷ (texts ++ [] ∷ []) = (cc) in absurd ((cc)))
+
+-- the script of the first call was read and its report written
+pub report_done : (left left' taken taken' : Option (List ℕ)) (target : List ℕ) (addresses : List Address) (events own : List Stamped) (authority : Address) → ReadsScript left left' target addresses events → IsFirstCall target events authority → own ≡ events → WritesSession authority own taken taken' → IsDone left left' taken taken'
+report_done left left' taken taken' target addresses events own authority read first same written =
+    let input : List ℕ = read.input in
+    let script : IsScript input (target_text authority) addresses events = subst (λ (t : List ℕ). IsScript input t addresses events) first.target_is read.script in
+    let report : WritesSession authority events taken taken' = subst (λ (es : List Stamped). WritesSession authority es taken taken') same written in
+    record {
+      input = input;
+      read = read.read;
+      at_end = read.at_end;
+      done = inr (
+        (λ none. some_input target addresses events read.script.texts (ap (parted 10) (sym none) ∙ read.script.parts) read.script.lines),
+        record {
+          authority = authority;
+          addresses = addresses;
+          events = events;
+          script = script;
+          first = subst (λ (t : List ℕ). IsFirstCall t events authority) first.target_is first;
+          only = subst (λ (t : List ℕ). IsOnlyScript input t addresses events) first.target_is read.only;
+          report = report;
+          again = session_again input (target_text authority) addresses authority events report.journal report.ledger script report.session;
+        },
+      );
+    }

@@ -1,4 +1,5 @@
-use Rattle.std.proofs.Common.{inr, refl}
+use Rattle.std.proofs.Common.{ap, inr, refl}
+use Rattle.channel_top.proofs.AgainLaws.{report_done}
 use Rattle.channel_top.proofs.replay.run_replay.Goals as goal
 
 pub returns-in-Err-first_call-clause-line : goal.returns-in-Err-first_call-clause-line
@@ -17,3 +18,8 @@ returns-in-Err-first_call-clause-line g c = λ three. record {
   );
   written = c.tell_bad.ensures.told three;
 }
+
+pub returns-in-Ok-first_call-clause-done : goal.returns-in-Ok-first_call-clause-done
+returns-in-Ok-first_call-clause-done g c = λ zero.
+    report_done _ _ _ _ c.in-Ok.read.target c.in-Ok.read.addresses c.in-Ok.read.events.items c.in-Ok-first_call.first.events.items c.in-Ok-first_call.first.authority
+    c.in-Ok.ensures.ok c.in-Ok-first_call.ensures.ok.0 (ap (λ v. v.items) c.in-Ok-first_call.ensures.ok.2) (c.report_first.ensures.done zero)
