@@ -121,25 +121,3 @@ fn a_script_has_so_many_lines(rt: HostRuntime) {
         assert_eq!(rt; test_line(number, text, closed), want, "line {number}");
     }
 }
-
-#[test]
-fn a_reader_counts_its_lines(rt: HostRuntime) {
-    let mut reader = ScriptReader::new(rt.alloc(), ScriptKind::Replay);
-    let first = reader.line(b"channel 1 ipv4:1.2.3.4", true);
-    assert!(rt; first.is_ok(), "the channel line");
-    for _ in 1..1_048_578 {
-        let read = reader.line(b"0 0 tick", true);
-        assert!(rt; read.is_ok(), "a line before the limit");
-    }
-    let past = reader.line(b"0 0 tick", true);
-    assert!(rt;
-        matches!(
-            past,
-            Err(BadLine::At {
-                line: 1_048_579,
-                cause: 12
-            })
-        ),
-        "one line more"
-    );
-}
