@@ -2,6 +2,8 @@
 #![tactic(auto)]
 
 mod answer;
+#[cfg(test)]
+mod bad_tests;
 mod call;
 mod cause;
 mod channel;
