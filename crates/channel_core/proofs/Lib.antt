@@ -6,7 +6,6 @@ pub mod ListLaws
 pub mod Places
 pub mod SaidLaws
 pub mod Sessions
-pub mod SlowLaws
 pub mod StepLaws
 pub mod TextLaws
 pub mod WireLaws

@@ -1,5 +1,5 @@
 -- One step of the channel on the first call: what it replies, and what it writes into the ledger.
-use Rattle.std.specs.Prelude.{ℕ, suc, zero, ◌+◌, Bool, true, false, Option, Some, None, List, [], ◌∷◌, ◌++◌, length, take, drop, codes, nat_eq, nat_lt, nat_le, min, ◌&&◌, ◌||◌, ◌==◌, if◌then◌else◌, option_map, option_and_then, slice_get, slice_index_or, ◌-◌, flat_map}
+use Rattle.std.specs.Prelude.{ℕ, suc, zero, ◌+◌, Bool, true, false, Option, Some, None, List, [], ◌∷◌, ◌++◌, length, take, drop, codes, nat_eq, nat_lt, nat_le, min, ◌&&◌, ◌||◌, ◌==◌, if◌then◌else◌, option_map, option_and_then, slice_index_or, flat_map}
 use Rattle.std.specs.Option.{option_map_or}
 use Rattle.std.specs.List.{list_any}
 use Rattle.std.specs.Cmp.Lexicographic.{pointwise}

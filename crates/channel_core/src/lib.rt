@@ -6,8 +6,6 @@ mod core_step;
 mod heard;
 mod record;
 mod replies;
-#[cfg(test)]
-mod slow;
 mod wire;
 
 pub use attempt_ledger::{Journal, Ledger};

@@ -1,6 +1,0 @@
-use Rattle.std.proofs.Common.{◌≡◌, take}
-use Rattle.channel_core.proofs.slow.said.fields_copy.Given as goal
-
--- the fields so far are copied
-abbrev pub invariant-loop-field : goal.invariant-loop-field
-invariant-loop-field l = l.copy ≡ take l.field-index l.fields

@@ -1,0 +1,18 @@
+// Plain slow programs, each of which computes one definition of `channel_core` over whole texts of bytes: tests compute the
+// definitions with them.
+#![tactic(auto)]
+
+mod frames;
+mod messages;
+mod response;
+mod said;
+mod sent;
+mod status;
+#[cfg(test)]
+mod tests;
+
+pub use frames::FrameEnd;
+pub use messages::{FoundMessages, MessageFlaw, messages_of};
+pub use response::{StreamResponse, response_on};
+pub use said::{SaidItem, SaidList, SaidPart, said_of};
+pub use sent::{client_said, data_sent, is_complete, opened};
