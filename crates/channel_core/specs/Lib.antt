@@ -6,6 +6,5 @@ pub mod Messages
 pub mod Response
 pub mod Said
 pub mod Sent
-pub mod Slow
 pub mod Steps
 pub mod Wire

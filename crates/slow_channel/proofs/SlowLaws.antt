@@ -19,7 +19,7 @@ use Rattle.grpc_base.specs.declared.code.Code.{Code}
 use Rattle.grpc_base.specs.declared.code.Code.TheVariants as code
 use Rattle.grpc_base.specs.Numbers.{number_of}
 use Rattle.channel_core.specs.Response.{is_ok}
-use Rattle.channel_core.specs.Slow.{first_message, flaw_at, flaw_behind, length_at, list_then, message_behind, said_block}
+use Rattle.slow_channel.specs.Parts.{first_message, flaw_at, flaw_behind, length_at, list_then, message_behind, said_block}
 
 -- no message, and what is wrong with these bytes
 abbrev pub stopped : List ℕ → Option Flaw → Messages

@@ -1,7 +1,7 @@
 // The messages at the front of some bytes, each of them copied.
 ghost use Rattle.std.specs.Prelude.{◌≡◌, [], IfOk, OnOk, ◌∷◌, ◌+◌, ◌*◌, ◌≤◌, length, take, drop, nat_le, option_map};
 ghost use Rattle.channel_core.specs.Messages.{BadFlag, TooLarge, before, messages_of, messages_within};
-ghost use Rattle.channel_core.specs.Slow.{first_message, flaw_at, length_at, parted};
+ghost use Rattle.slow_channel.specs.Parts.{first_message, flaw_at, length_at, parted};
 ghost use Rattle.slow_channel.specs.declared.messages.MessageFlaw.TheVariants as flaws;
 
 use grpc_base::{Items, NoMemory, Octets};

@@ -3,7 +3,7 @@ ghost use Rattle.std.specs.Prelude.{◌≡◌, List, ◌∷◌, [], ◌++◌, �
 ghost use Rattle.h2_frame.specs.Frames.{fields_size, has_flag, is_padded};
 ghost use Rattle.h2_hpack.specs.Blocks.{State, decoded};
 ghost use Rattle.channel_core.specs.Said.{Said, Headers, Other, block_with, content_of, padding_of, said_from, said_of};
-ghost use Rattle.channel_core.specs.Slow.{list_then, said_block};
+ghost use Rattle.slow_channel.specs.Parts.{list_then, said_block};
 ghost use Rattle.slow_channel.specs.declared.said.SaidPart.TheVariants as parts;
 
 use crate::frames::{FrameEnd, frames};
