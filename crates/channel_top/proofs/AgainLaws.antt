@@ -35,8 +35,7 @@ moved_of n (text ∷ texts) (s ∷ events) (e ∷ entries) last t within event w
     let same_moment : e.moment ≡ max s.moment last = (cc) in
     let events_rest : map (λ e. e.event) entries ≡ map (λ s. s.event) events = (cc) in
     let words_rest : map (λ e. e.word) entries ≡ map (λ s. s.word) events = (cc) in
-    let moments_rest : map (λ e. e.moment) entries ≡ highest_so_far (max s.moment last) (map (λ s. s.moment) events) = (cc) in
-    (
+    let moments_rest : map (λ e. e.moment) entries ≡ highest_so_far (max s.moment last) (map (λ s. s.moment) events) = (cc) in (
       (λ i. record { moment = e.moment; word = same_word i; event = same_event i }),
       omega (arith, same_moment, own, within),
       moved_of (n + 1) texts events entries (max s.moment last) t.1 (omega (arith, own, within)) events_rest words_rest moments_rest,

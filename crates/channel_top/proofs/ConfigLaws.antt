@@ -1,14 +1,12 @@
 -- A config that is longer than it may be has that fault, and what was read of an input decides its reading.
-use Rattle.std.proofs.Common.{◌≡◌, ◌<◌, ◌≤◌, ℕ, ◌+◌, Option, Some, None, List, ◌++◌, length, length-append, true, false, Bool, refl, ap, sym, subst, inl, inr, arith, ◌∙◌, Result, Ok, Err}
-use Rattle.std.specs.Prelude.{nat_lt, if◌then◌else◌}
+use Rattle.std.proofs.Common.{◌≡◌, ◌<◌, ◌≤◌, ℕ, ◌+◌, Option, List, ◌++◌, length, length-append, true, refl, ap, sym, inl, inr, arith, ◌∙◌, Result, Ok, Err}
+use Rattle.std.specs.Prelude.{nat_lt}
 use Rattle.std.proofs.lemmas.Bool.Decides.{nat_tests}
 use Rattle.gate_io.specs.Outside.{Appends, IsAtEnd, Takes}
 use Rattle.grpc_base.specs.Kinds.{KindsSeen}
 use Rattle.grpc_base.specs.declared.event.ConfigFault.{ConfigFault}
 use Rattle.grpc_base.specs.declared.event.ConfigFault.TheVariants as told
-use Rattle.grpc_base.specs.declared.event.JsonFault.{JsonFault}
 use Rattle.grpc_base.specs.declared.event.JsonFault.TheVariants as json
-use Rattle.json_text.specs.Tree.{Tree}
 use Rattle.json_text.specs.Reading.{reading}
 use Rattle.service_config.specs.Reading.{FailsBy, Tells, config_at, config_of}
 use Rattle.service_config.specs.Text.{config_text, fault_text}
@@ -16,7 +14,7 @@ use Rattle.service_config.specs.declared.config.Config.{Config}
 use Rattle.channel_top.specs.declared.input.Ending.{Ending}
 use Rattle.channel_top.specs.declared.input.Ending.TheVariants as ending
 use Rattle.channel_top.specs.Ending.{EndsSo}
-use Rattle.channel_top.specs.ConfigMode.{HasFault, IsConfigDone, IsTextFault, TellsConfigFault, all_kinds}
+use Rattle.channel_top.specs.ConfigMode.{HasFault, IsConfigDone, TellsConfigFault, all_kinds}
 
 long_reading : (bytes : List ℕ) → nat_lt 65536 (length bytes) ≡ true → reading bytes ≡ Err json.TooLong
 unfolding reading

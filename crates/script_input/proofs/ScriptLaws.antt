@@ -80,8 +80,7 @@ lines_again n (text ∷ texts) [] moved behind t is short = absurd t
 lines_again n (text ∷ texts) (s ∷ events) [] behind t is short = absurd is
 lines_again n (text ∷ texts) (s ∷ events) (m ∷ moved) behind t is short =
     let spelled : IsSpelled (at_moment s m.moment) = stamped_again (fields text) s m.moment is.1 t.0.1.1 in
-    let again : IsSpelled m = subst (λ (x : Stamped). IsSpelled x) (sym is.0) spelled in
-    (
+    let again : IsSpelled m = subst (λ (x : Stamped). IsSpelled x) (sym is.0) spelled in (
       ((t.0.0.0, short.0, again.0), ((λ e. omega (arith, behind, e)), again.1)),
       lines_again (n + 1) texts events moved (omega (arith, behind)) t.1 is.2 short.1,
     )
@@ -113,8 +112,7 @@ script_again input target addresses events moved t is short =
   where
     said_again : (texts : List (List ℕ)) → AreLines 1 texts (script_reads target addresses events) → AreLines 1 (channel_text target ∷ map stamped_text moved) (script_reads target addresses moved)
     said_again [] l = absurd l
-    said_again (text ∷ texts) l =
-        (
-          subst (λ (x : List ℕ). SaysAt 1 x (line.Channel target addresses)) (channel_is text target l.0.1.1.0) l.0,
-          lines_again 2 texts events moved (omega arith) l.1 is (recursion_from_All IsShort moved short),
-        )
+    said_again (text ∷ texts) l = (
+      subst (λ (x : List ℕ). SaysAt 1 x (line.Channel target addresses)) (channel_is text target l.0.1.1.0) l.0,
+      lines_again 2 texts events moved (omega arith) l.1 is (recursion_from_All IsShort moved short),
+    )

@@ -176,8 +176,7 @@ pub stamped_again : (texts : List (List ℕ)) (s : Stamped) (moment : ℕ) → m
 stamped_again (first ∷ (word ∷ others)) s moment within t =
     let ws : List (List ℕ) = decimal s.word ∷ event_words s.event in
     let visible : AreVisible (decimal moment ∷ ws) = (number_visible moment (omega (arith, within)), (number_visible s.word (omega (arith, t.1.0)), words_visible others s.event t.2)) in
-    let line : fields (stamped_text (at_moment s moment)) ≡ decimal moment ∷ ws = words_fields (decimal moment) ws visible in
-    (
+    let line : fields (stamped_text (at_moment s moment)) ≡ decimal moment ∷ ws = words_fields (decimal moment) ws visible in (
       (All-from_recursion IsPrintable (stamped_text (at_moment s moment)) (words_printable (decimal moment ∷ ws) visible), refl),
       subst (λ (ts : List (List ℕ)). IsStampedText ts (at_moment s moment)) (sym line) ((within, refl), (t.1.0, refl), event_again others s.event t.2),
     )

@@ -1,4 +1,4 @@
-use Rattle.std.proofs.Common.{◌≡◌, rules, refl}
+use Rattle.std.proofs.Common.{rules}
 use Rattle.channel_top.proofs.ConfigLaws.{config_done, config_told}
 use Rattle.channel_top.proofs.config_mode.run_config.Goals as goal
 

@@ -1,6 +1,6 @@
-use Rattle.std.proofs.Common.{◌≡◌, ap, ◌∙◌, subst, map, string_bytes}
+use Rattle.std.proofs.Common.{ap, ◌∙◌, subst, map, string_bytes}
 use Rattle.clap.specs.Words.{App, FailsBy, fault_of, is_simple_and_free}
-use Rattle.channel_top.specs.Words.{app_for, kinds_at}
+use Rattle.channel_top.specs.Words.{kinds_at}
 use Rattle.channel_top.proofs.WordFaults.{is_free}
 use Rattle.channel_top.proofs.words.parse.Goals as goal
 

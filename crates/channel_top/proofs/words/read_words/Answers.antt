@@ -1,4 +1,4 @@
-use Rattle.std.proofs.Common.{◌≡◌, ap, ◌∙◌, sym, subst, map, string_bytes, List, ℕ}
+use Rattle.std.proofs.Common.{map, string_bytes}
 use Rattle.channel_top.specs.Words.{mode_of}
 use Rattle.channel_top.proofs.WordFaults.{asks_help, asks_version, names_no_mode, refused_here, runs_no_mode, taken_here, wrong_of_refused, wrong_of_taken}
 use Rattle.channel_top.proofs.words.read_words.Goals as goal
