@@ -1,1 +1,1 @@
-pub mod NumberingLaws
+pub mod FaultLaws

@@ -1,4 +1,4 @@
 pub mod Faults
 pub mod Journals
-pub mod NextRow
 pub mod Numbering
+pub mod TransparentRows

@@ -1,8 +1,8 @@
 -- The numbering of one call's attempts: their kinds, numbers and count, and the order of what happened to each
 -- (gRFC A6, "Maximum Number of Retries", "Hedging Policy" and "Transparent Retries").
-use Rattle.std.specs.Prelude.{◌≡◌, ◌≤◌, ℕ, Bool, true, false, not, ◌==◌, if◌then◌else◌, Option, Some, None, IfSome, IfNone, OnSome, IsSome, List, [], ◌∷◌, ◌++◌, length, map}
-use Rattle.std.specs.Bool.{OnTrue}
-use Rattle.std.specs.List.{AllByRecursion, filter, list_any, range_with_len}
+use Rattle.std.specs.Prelude.{◌≡◌, ◌≤◌, ℕ, ◌+◌, Bool, true, false, not, ◌==◌, if◌then◌else◌, Option, Some, None, IfSome, IfNone, OnSome, IsSome, List}
+use Rattle.std.specs.Bool.{OnFalse}
+use Rattle.std.specs.List.{filter}
 use Rattle.grpc_base.specs.declared.code.Code.TheVariants as code
 use Rattle.grpc_base.specs.declared.plan.CallPlan.{CallPlan}
 use Rattle.grpc_base.specs.declared.plan.CallPlan.TheVariants as plan
@@ -36,15 +36,6 @@ is_transparent _ = false
 abbrev pub attempts_of : List Row → List Row
 attempts_of rows = filter (λ row. not (is_transparent row.kind)) rows
 
-abbrev pub has_attempt : ℕ → List Row → Bool
-has_attempt number rows = list_any (λ row. row.number == number) (attempts_of rows)
-
--- of some rows and those before them: each transparent one has the number of an attempt before it
-abbrev pub EachFollowsAnAttempt : List Row → List Row → Type 0
-EachFollowsAnAttempt before [] = Unit {0}
-EachFollowsAnAttempt before (row ∷ rows) =
-    OnTrue (is_transparent row.kind) (has_attempt row.number before ≡ true) × EachFollowsAnAttempt (before ++ row ∷ []) rows
-
 -- what happened to one row: it was due, was placed and ended in this order
 pub record IsInOrder (row : Row) : Type 0 where
   pub due : IfSome row.placed (λ placed. row.due ≤ placed.moment)
@@ -54,13 +45,13 @@ pub record IsInOrder (row : Row) : Type 0 where
   -- a row that ended without a placing is one whose pick failed
   pub unplaced : IfNone row.placed (IfSome row.ended (λ end. (end.code ≡ code.Unavailable) × (end.cause ≡ cause.Pick)))
 
--- the law of numbering, of all rows of one call in the order of their making
-pub record IsNumbered (plan : CallPlan) (rows : List Row) : Type 0 where
-  -- the rows that aren't transparent are numbered 1 to n in order
-  pub numbers : map (λ row. row.number) (attempts_of rows) ≡ range_with_len 1 (length (attempts_of rows))
-  -- n is at most the plan's maximum
-  pub most : length (attempts_of rows) ≤ most_attempts plan
-  -- number 1 is the First, the others are retries or hedges, by the plan
-  pub kinds : AllByRecursion (λ row. Some row.kind ≡ kind_by_number plan row.number) (attempts_of rows)
-  pub transparent : EachFollowsAnAttempt [] rows
-  pub each : AllByRecursion IsInOrder rows
+-- the attempt behind so many others: its number, how many there may be, and its kind
+pub record IsNextAttempt (plan : CallPlan) (count : ℕ) (row : Row) : Type 0 where
+  pub number : row.number ≡ count + 1
+  pub most : row.number ≤ most_attempts plan
+  pub kind : Some row.kind ≡ kind_by_number plan row.number
+
+-- the law of numbering, of one row with so many attempts before it
+pub record KeepsNumbering (plan : CallPlan) (count : ℕ) (row : Row) : Type 0 where
+  pub attempt : OnFalse (is_transparent row.kind) (IsNextAttempt plan count row)
+  pub order : IsInOrder row

@@ -8,8 +8,7 @@ mod ledger;
 mod news;
 mod numbering;
 mod row;
-#[cfg(test)]
-mod tests;
+mod transparent;
 
 pub use check::{RowFault, check_rows};
 pub use journal::Journal;

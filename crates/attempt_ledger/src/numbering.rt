@@ -1,13 +1,12 @@
 // The numbering of a call's attempts: their kinds, numbers and count, and the order of what happened to each.
-ghost use Rattle.std.specs.Prelude.{◌≡◌, ◌↔◌, IsTrue, IfSome, IfNone};
-ghost use Rattle.attempt_ledger.specs.Faults.{IsFirstFault};
-ghost use Rattle.attempt_ledger.specs.NextRow.{IsNext, IsNextAttempt, IsOfAnAttempt, count_with};
-ghost use Rattle.attempt_ledger.specs.Numbering.{IsInOrder, IsNumbered, is_transparent, kind_by_number, most_attempts};
+ghost use Rattle.std.specs.Prelude.{◌≡◌, ◌↔◌, IsTrue, Some};
+ghost use Rattle.attempt_ledger.specs.Numbering.{IsInOrder, IsNextAttempt, KeepsNumbering, is_transparent, kind_by_number, most_attempts};
 
 use crate::{Row, RowCause, RowKind};
 use grpc_base::{CallPlan, Code};
 
-fn is_transparent(kind: RowKind) -> bool
+/// Whether a row of this kind is no further attempt.
+pub fn is_transparent(kind: RowKind) -> bool
     ensures { result ≡ is_transparent kind }
 {
     matches!(kind, RowKind::Transparent)
@@ -65,12 +64,6 @@ fn has_kind(plan: &CallPlan, number: u32, kind: RowKind) -> bool
     }
 }
 
-fn is_of_an_attempt(count: u32, row: &Row) -> bool
-    ensures { IsTrue result ↔ IsOfAnAttempt count row.now }
-{
-    1 <= row.number && row.number <= count
-}
-
 fn is_next_attempt(plan: &CallPlan, count: u32, row: &Row) -> bool
     ensures { IsTrue result ↔ IsNextAttempt plan.now count row.now }
 {
@@ -80,37 +73,9 @@ fn is_next_attempt(plan: &CallPlan, count: u32, row: &Row) -> bool
         && has_kind(plan, row.number, row.kind)
 }
 
-/// How many attempts there are with this row; None where it may not follow so many.
-fn counted(plan: &CallPlan, count: u32, row: &Row) -> Option<u32>
-    ensures some { IfSome result (λ n. IsNext plan.now count row.now × (n ≡ count_with count row.now)) }
-    ensures none { IfNone result (IsNext plan.now count row.now → ⊥) }
+/// Whether the row keeps the law of numbering behind so many attempts.
+pub fn keeps_numbering(plan: &CallPlan, count: u32, row: &Row) -> bool
+    ensures { IsTrue result ↔ KeepsNumbering plan.now count row.now }
 {
-    if !is_in_order(row) {
-        None
-    } else if is_transparent(row.kind) {
-        if is_of_an_attempt(count, row) {
-            Some(count)
-        } else {
-            None
-        }
-    } else if is_next_attempt(plan, count, row) {
-        Some(row.number)
-    } else {
-        None
-    }
-}
-
-/// The place, from 1, of the first row at which they are not numbered. None where they are.
-pub fn first_misnumbered(plan: &CallPlan, rows: &[Row]) -> Option<u64>
-    ensures none { IfNone result (IsNumbered plan.now rows.now) }
-    ensures some { IfSome result (λ place. IsFirstFault (IsNumbered plan.now) rows.now place) }
-{
-    let mut count = 0;
-    for (place, row) in rows.iter().enumerate() {
-        match counted(plan, count, row) {
-            Some(more) => count = more,
-            None => return Some(place as u64 + 1),
-        }
-    }
-    None
+    is_in_order(row) && (is_transparent(row.kind) || is_next_attempt(plan, count, row))
 }

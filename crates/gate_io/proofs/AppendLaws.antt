@@ -1,9 +1,8 @@
 -- What a run of writes has taken is the pieces joined.
-use Rattle.std.proofs.Common.{◌≡◌, ◌≤◌, ℕ, ◌+◌, ◌-◌, Option, Some, None, List, [], ◌++◌, length, take, drop, sym, ap, ◌∙◌, append_assoc, arith, subst}
-use Rattle.std.proofs.lemmas.List.{take_all}
+use Rattle.std.proofs.Common.{◌≡◌, ◌≤◌, ℕ, ◌+◌, ◌-◌, Option, Some, None, List, ◌++◌, length, take, drop, sym, ap, ◌∙◌, append_assoc, arith, subst}
 use Rattle.std.proofs.Math.Seq.{take-add}
 use Rattle.std.proofs.lemmas.Grind.{common_steps}
-use Rattle.gate_io.specs.Outside.{Appends, AppendsFront}
+use Rattle.gate_io.specs.Outside.{Appends}
 
 -- one piece behind another
 pub Appends-append : (a b c : Option (List ℕ)) (xs ys zs : List ℕ) → Appends a b xs → Appends b c ys → xs ++ ys ≡ zs → Appends a c zs

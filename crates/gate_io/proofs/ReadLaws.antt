@@ -1,5 +1,5 @@
 -- A read leaves the rest of what it took the front of.
-use Rattle.std.proofs.Common.{◌≡◌, ◌≤◌, ℕ, ◌+◌, List, [], ◌∷◌, ◌++◌, length, take, drop, refl, ap, sym, ◌∙◌, arith}
+use Rattle.std.proofs.Common.{◌≡◌, ℕ, ◌+◌, List, [], ◌∷◌, ◌++◌, length, take, drop, refl, ap, sym, ◌∙◌, arith}
 use Rattle.std.proofs.lemmas.List.{take-append-drop, drop-drop}
 
 pub front_and_rest : (bytes buffer : List ℕ) (at n : ℕ) → take n buffer ≡ take n (drop at bytes) → drop at bytes ≡ take n buffer ++ drop (at + n) bytes

@@ -1,13 +1,17 @@
 -- What reads and writes do to the bytes that are left and taken, and when a count of faults rises.
-use Rattle.std.specs.Prelude.{◌≡◌, ◌≤◌, ◌<◌, ℕ, ◌+◌, ◌-◌, Option, Some, None, List, [], ◌++◌, length, take, drop, min, IfSome}
+use Rattle.std.specs.Prelude.{◌≡◌, ◌≤◌, ◌<◌, ℕ, ◌+◌, Option, Some, None, List, [], ◌++◌, length, take, min, IfSome}
 use Rattle.gate_io.specs.declared.world.ReadAnswer.{ReadAnswer}
 use Rattle.gate_io.specs.declared.world.ReadAnswer.TheVariants as read
 use Rattle.gate_io.specs.declared.world.WriteAnswer.{WriteAnswer}
 use Rattle.gate_io.specs.declared.world.WriteAnswer.TheVariants as write
 
+-- a count with one more; at the top of a u64 it stands still
+abbrev pub one_more : ℕ → ℕ
+one_more count = min (count + 1) 18446744073709551615
+
 -- a count rose; one that stands at the top of a u64 counts as one that rose
 abbrev pub Rises : ℕ → ℕ → Type 0
-Rises before after = min (before + 1) 18446744073709551615 ≤ after
+Rises before after = one_more before ≤ after
 
 -- these bytes were next, where what is left is told
 abbrev pub Takes : Option (List ℕ) → Option (List ℕ) → List ℕ → Type 0
@@ -26,11 +30,11 @@ Reads before after room buffer (read.Got n) = (0 < n) × (n ≤ room) × Takes b
 Reads before after room buffer read.End = IsAtEnd before × (after ≡ before)
 Reads before after room buffer read.Failed = after ≡ before
 
--- a failed read raises the count of faults, and no read lowers it
+-- a failed read raises the count of faults by one, and no other read changes it
 abbrev pub CountsRead : ℕ → ℕ → ReadAnswer → Type 0
-CountsRead before after (read.Got n) = before ≤ after
-CountsRead before after read.End = before ≤ after
-CountsRead before after read.Failed = (before ≤ after) × Rises before after
+CountsRead before after (read.Got n) = after ≡ before
+CountsRead before after read.End = after ≡ before
+CountsRead before after read.Failed = (before ≤ after) × (after ≡ one_more before)
 
 -- these bytes were taken behind what was taken before, where that is told
 abbrev pub Appends : Option (List ℕ) → Option (List ℕ) → List ℕ → Type 0
@@ -46,7 +50,7 @@ abbrev pub Writes : Option (List ℕ) → Option (List ℕ) → List ℕ → Wri
 Writes before after piece (write.Took n) = (0 < n) × (n ≤ length piece) × Appends before after (take n piece)
 Writes before after piece write.Failed = after ≡ before
 
--- a failed write raises the count of faults, and no write lowers it
+-- a failed write raises the count of faults by one, and no other write changes it
 abbrev pub CountsWrite : ℕ → ℕ → WriteAnswer → Type 0
-CountsWrite before after (write.Took n) = before ≤ after
-CountsWrite before after write.Failed = (before ≤ after) × Rises before after
+CountsWrite before after (write.Took n) = after ≡ before
+CountsWrite before after write.Failed = (before ≤ after) × (after ≡ one_more before)

@@ -13,6 +13,3 @@ pub use standard::{StdSink, StdSource};
 pub use steady::{SteadySink, SteadySource};
 pub use whole::write_whole;
 pub use world::{ReadAnswer, Sink, Source, WriteAnswer};
-
-#[cfg(test)]
-mod tests;

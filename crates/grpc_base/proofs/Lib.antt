@@ -1,3 +1,6 @@
 pub mod ListLaws
 pub mod MetaLaws
 pub mod NumberLaws
+pub mod PathLaws
+pub mod PieceLaws
+pub mod ScriptLaws

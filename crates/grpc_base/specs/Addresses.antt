@@ -1,11 +1,8 @@
 -- Lists of addresses: in order, none twice, at most 64.
-use Rattle.std.specs.Prelude.{◌≡◌, ◌≤◌, ℕ, ◌/◌, ◌%◌, ◌^◌, decimal, Bool, List, [], ◌∷◌, ◌++◌, length, ◌==◌, ◌&&◌, if◌then◌else◌}
+use Rattle.std.specs.Prelude.{◌≤◌, ℕ, ◌/◌, ◌%◌, ◌^◌, decimal, Bool, List, [], ◌∷◌, ◌++◌, length, ◌==◌, ◌&&◌, if◌then◌else◌}
 use Rattle.std.specs.List.{Contains, list_any}
 use Rattle.grpc_base.specs.declared.address.Address.{Address}
-
--- how many addresses a list may have
-abbrev pub address_limit : ℕ
-address_limit = 64
+pub use Rattle.grpc_base.specs.Limits.{address_limit}
 
 -- no address stands again behind itself
 abbrev pub IsWithoutRepeats : List Address → Type 0

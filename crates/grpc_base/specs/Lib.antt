@@ -2,8 +2,13 @@ pub mod Addresses
 pub mod Backoff
 pub mod Codes
 pub mod Conns
+pub mod ErrorCodes
 pub mod Kinds
 pub mod Limits
 pub mod Metadata
 pub mod Numbers
+pub mod Pieces
+pub mod Refusals
 pub mod Requests
+pub mod Scripts
+pub mod Waits

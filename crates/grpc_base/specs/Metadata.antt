@@ -1,7 +1,8 @@
 -- What the metadata of a request keeps (gRPC over HTTP/2, "Custom-Metadata" and "Header-Name").
-use Rattle.std.specs.Prelude.{◌≡◌, ◌≤◌, ◌⊎◌, ℕ, ◌+◌, ◌*◌, ◌/◌, Bool, List, [], ◌∷◌, length, codes, nat_eq, nat_le, ◌&&◌, ◌||◌, ◌==◌, IsTrue, if◌then◌else◌, MatchBool}
+use Rattle.std.specs.Prelude.{◌≡◌, ◌≤◌, ℕ, ◌+◌, ◌*◌, ◌/◌, Bool, List, length, codes, nat_eq, nat_le, ◌&&◌, ◌||◌, ◌==◌, IsTrue, if◌then◌else◌, MatchBool}
 use Rattle.std.specs.List.{All, AllPass, sum_by, starts_with, ends_with}
 use Rattle.grpc_base.specs.declared.fields.Field.{Field}
+pub use Rattle.grpc_base.specs.Limits.{meta_limit}
 
 -- a byte of a name: a lower-case letter, a digit, `-`, `_` or `.`
 abbrev pub is_meta_name_byte : ℕ → Bool
@@ -50,10 +51,6 @@ pair_size f = length f.name + sent_length f.name f.value + 32
 
 abbrev pub meta_size : List Field → ℕ
 meta_size pairs = sum_by pair_size pairs
-
--- the most that the pairs of one request may come to
-abbrev pub meta_limit : ℕ
-meta_limit = 14336
 
 -- one pair of a request
 pub record IsPair (f : Field) : Type 0 where

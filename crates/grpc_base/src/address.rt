@@ -1,8 +1,11 @@
 // Addresses of a service, and the list of them that a target or a resolver result gives.
-ghost use Rattle.std.specs.Prelude.{◌≡◌, ◌≤◌, ◌<◌, ◌↔◌, ◌++◌, ◌∷◌, [], length, IsTrue, OnErr, OnOk, IsOk, IsErr, Contains};
-ghost use Rattle.grpc_base.specs.Addresses.{address_limit, has_address, with_address};
+ghost use Rattle.std.specs.Prelude.{◌≡◌, ◌≤◌, ◌<◌, ◌↔◌, ◌++◌, ◌∷◌, [], length, IsTrue, IfOk, OnErr, OnOk, IsOk, IsErr, Contains};
+ghost use Rattle.grpc_base.specs.Addresses.{address_limit, address_text, has_address, with_address};
 
+use crate::limits::ADDRESSES;
+use crate::{NoMemory, append_decimal};
 use arrayvec::ArrayVec;
+use std::alloc::Global;
 use std::marker::Model;
 
 /// An IPv4 address and a port.
@@ -13,6 +16,24 @@ pub struct Address {
     pub port: u16,
 }
 
+impl Address {
+    /// Appends the address as `a.b.c.d:port`. On out of memory some of it may stand there.
+    pub fn append_to(&self, out: &mut Vec<u8>) -> Result<(), NoMemory>
+        ensures { OnOk result (out.new.items ≡ out.old.items ++ address_text self.now) }
+    {
+        let ip = self.ip as u64;
+        append_decimal(out, ip / 0x100_0000)?;
+        out.push(b'.')?;
+        append_decimal(out, ip / 0x1_0000 % 256)?;
+        out.push(b'.')?;
+        append_decimal(out, ip / 256 % 256)?;
+        out.push(b'.')?;
+        append_decimal(out, ip % 256)?;
+        out.push(b':')?;
+        append_decimal(out, self.port as u64)
+    }
+}
+
 /// The list has 64 other addresses.
 #[derive(Clone, Copy, Debug, PartialEq, Eq)]
 pub struct ListFull;
@@ -20,7 +41,7 @@ pub struct ListFull;
 /// At most 64 addresses in order, none of them twice.
 #[derive(Debug, Drop)]
 pub struct AddressList {
-    addresses: ArrayVec<Address, 64>,
+    addresses: ArrayVec<Address, ADDRESSES>,
 }
 
 impl Model for AddressList {
@@ -90,5 +111,44 @@ impl AddressList {
         ensures { IsTrue result ↔ (self.now ≡ []) }
     {
         self.addresses.as_slice().is_empty()
+    }
+}
+
+/// A list of addresses on the heap, for an event or an entry, which has little room. Contracts see the list alone.
+#[derive(Debug, Drop)]
+pub struct BoxedAddresses {
+    list: Box<AddressList>,
+}
+
+impl Model for BoxedAddresses {
+    ghost use Rattle.std.specs.Prelude.{List};
+    ghost use Rattle.grpc_base.specs.declared.address.Address.{Address};
+
+    ghost Value = { List Address };
+
+    ghost view = { λ b. b.list.value };
+}
+
+impl BoxedAddresses {
+    /// Moves a list to the heap.
+    pub fn new(alloc: Global, list: AddressList) -> Result<BoxedAddresses, NoMemory>
+        ensures { IfOk result (λ b. b ≡ list) }
+    {
+        let list = Box::new(alloc, list)?;
+        Ok(BoxedAddresses { list })
+    }
+
+    /// The list.
+    pub fn as_list(&self) -> &AddressList
+        ensures { result.now ≡ self.now }
+    {
+        &self.list
+    }
+
+    /// Takes the list from the heap.
+    pub fn into_list(self) -> AddressList
+        ensures { result ≡ self }
+    {
+        Box::into_inner(self.list)
     }
 }

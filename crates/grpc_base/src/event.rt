@@ -1,10 +1,11 @@
 // What the channel is told, what it replies, and how one step is kept.
-ghost use Rattle.std.specs.Prelude.{◌≡◌, IfOk};
+ghost use Rattle.std.specs.Prelude.{◌≡◌, ◌≤◌, IfOk};
+ghost use Rattle.grpc_base.specs.Refusals.{refusal_number};
 ghost use Rattle.grpc_base.specs.Conns.{conn_number};
 ghost use Rattle.grpc_base.specs.declared.event.Reply.TheVariants as reply;
 
-use crate::{Address, AddressList, Code, Metadata, Moment, NoMemory, Octets, Request, Text};
-use std::alloc::{AllocError, AllocFailed, Global};
+use crate::{Address, BoxedAddresses, Code, Metadata, Moment, NoMemory, Octets, Request, Text};
+use std::alloc::{AllocError, AllocFailed};
 
 /// A connectivity state ("gRPC Connectivity Semantics and API").
 #[derive(Clone, Copy, Debug, PartialEq, Eq)]
@@ -104,7 +105,7 @@ impl<T: Drop> From<AllocFailed<T>> for JsonFault {
 /// The first fault of a service config.
 #[derive(Debug, Drop, PartialEq, Eq)]
 pub enum ConfigFault {
-    /// The text is not JSON; the fault is never out of memory.
+    /// The text is not JSON.
     Json { fault: JsonFault },
     /// A value is of the wrong kind or out of range.
     Field { path: Text },
@@ -144,7 +145,7 @@ pub enum Event {
     },
     /// The resolver has addresses and maybe a service config.
     Resolved {
-        addresses: AddressList,
+        addresses: BoxedAddresses,
         config: Option<Octets>,
     },
     /// The resolver failed.
@@ -184,6 +185,49 @@ pub enum Event {
     Shutdown,
 }
 
+/// Why an event is refused.
+#[derive(Clone, Copy, Debug, PartialEq, Eq)]
+pub enum Refusal {
+    /// No call has that number.
+    NoSuchCall,
+    /// The call ended; of a Take, its end was taken.
+    CallEnded,
+    /// The application sends no further message for this call.
+    AfterFinish,
+    /// No subchannel has this number.
+    NoSuchSub,
+    /// No dial of this subchannel is under way.
+    NotDialing,
+    /// No link has this number.
+    NoSuchLink,
+    /// The link is gone.
+    LinkGone,
+    /// The room is below 16,393 bytes, which the largest frame takes.
+    RoomTooSmall,
+    /// The channel was shut down.
+    Shut,
+}
+
+impl Refusal {
+    /// Its number, from 1 to 9.
+    pub fn number(self) -> u8
+        ensures value { result ≡ refusal_number self }
+        ensures within { (1 ≤ result) × (result ≤ 9) }
+    {
+        match self {
+            Refusal::NoSuchCall => 1,
+            Refusal::CallEnded => 2,
+            Refusal::AfterFinish => 3,
+            Refusal::NoSuchSub => 4,
+            Refusal::NotDialing => 5,
+            Refusal::NoSuchLink => 6,
+            Refusal::LinkGone => 7,
+            Refusal::RoomTooSmall => 8,
+            Refusal::Shut => 9,
+        }
+    }
+}
+
 /// What the channel replies to an event.
 #[derive(Debug, Drop)]
 pub enum Reply {
@@ -213,7 +257,7 @@ pub enum Reply {
     },
     /// Nothing further has come.
     NotYet,
-    /// The service config is invalid; the fault is never out of memory.
+    /// The service config is invalid.
     BadConfig {
         fault: ConfigFault,
     },
@@ -231,11 +275,9 @@ pub enum Reply {
     Octets {
         octets: Octets,
     },
-    /// The event is refused, by a number from 1 to 9: 1 no such call, 2 the call ended, 3 the call was
-    /// finished, 4 no such subchannel, 5 not dialing, 6 no such link, 7 the link is gone, 8 the room is too
-    /// small, 9 the channel is shut down.
+    /// The event is refused, and changes nothing.
     Refused {
-        refusal: u8,
+        refusal: Refusal,
     },
 }
 
@@ -276,17 +318,11 @@ impl ConfigFault {
 }
 
 /// The reply that a call ended, with copies of its text and metadata.
-fn end_reply(
-    alloc: Global,
-    code: Code,
-    text: &Text,
-    meta: &Metadata,
-    cause: EndCause,
-) -> Result<Reply, NoMemory>
+fn end_reply(code: Code, text: &Text, meta: &Metadata, cause: EndCause) -> Result<Reply, NoMemory>
     ensures { IfOk result (λ r. r ≡ reply.End code text.now meta.now cause) }
 {
     let text = text.copy()?;
-    let meta = meta.copy(alloc)?;
+    let meta = meta.copy()?;
     Ok(Reply::End {
         code,
         text,
@@ -297,16 +333,14 @@ fn end_reply(
 
 impl Reply {
     /// The same reply; its bytes are shared.
-    pub fn copy(&self, alloc: Global) -> Result<Reply, NoMemory>
+    pub fn copy(&self) -> Result<Reply, NoMemory>
         ensures { IfOk result (λ r. r ≡ self.now) }
     {
         let reply = match self {
             Reply::Call { call } => Reply::Call { call: *call },
             Reply::Done => Reply::Done,
             Reply::Full { held } => Reply::Full { held: *held },
-            Reply::Head { meta } => Reply::Head {
-                meta: meta.copy(alloc)?,
-            },
+            Reply::Head { meta } => Reply::Head { meta: meta.copy()? },
             Reply::Message { octets } => Reply::Message {
                 octets: octets.share()?,
             },
@@ -315,7 +349,7 @@ impl Reply {
                 text,
                 meta,
                 cause,
-            } => end_reply(alloc, *code, text, meta, *cause)?,
+            } => end_reply(*code, text, meta, *cause)?,
             Reply::NotYet => Reply::NotYet,
             Reply::BadConfig { fault } => Reply::BadConfig {
                 fault: fault.copy()?,

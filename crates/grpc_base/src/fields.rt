@@ -3,7 +3,7 @@ ghost use Rattle.std.specs.Prelude.{◌≡◌, ◌<◌, ◌+◌, ◌++◌, ◌�
 ghost use Rattle.grpc_base.specs.Metadata.{IsMetaName, IsMetaValue, IsRequestMetadata, meta_limit, meta_size, pair_size};
 
 use crate::meta_rule::{has_room, is_meta_name, is_meta_value};
-use crate::{MetaFault, NoMemory, Octets};
+use crate::{Items, MetaFault, NoMemory, Octets};
 use std::alloc::Global;
 use std::marker::Model;
 
@@ -26,60 +26,7 @@ impl Field {
 }
 
 /// A header list: fields in their order, a name as often as it was sent (RFC 9113, section 8.2).
-#[derive(Debug, Drop)]
-pub struct Fields {
-    fields: Vec<Field>,
-}
-
-impl Model for Fields {
-    ghost use Rattle.std.specs.Prelude.{List};
-    ghost use Rattle.grpc_base.specs.declared.fields.Field.{Field};
-
-    ghost Value = { List Field };
-
-    ghost view = { λ f. f.fields.items };
-}
-
-impl Fields {
-    /// The empty list.
-    pub fn new(alloc: Global) -> Fields
-        ensures { result ≡ [] }
-    {
-        Fields {
-            fields: Vec::new(alloc),
-        }
-    }
-
-    /// Appends a field. On out of memory the list is as before.
-    pub fn push(&mut self, field: Field) -> Result<(), NoMemory>
-        ensures ok { OnOk result (self.new ≡ self.old ++ field ∷ []) }
-        ensures err { OnErr result (self.new ≡ self.old) }
-    {
-        self.fields.push(field)?;
-        Ok(())
-    }
-
-    /// The fields in their order.
-    pub fn as_slice(&self) -> &[Field]
-        ensures { result.now ≡ self.now }
-    {
-        self.fields.as_slice()
-    }
-
-    /// How many fields there are.
-    pub fn len(&self) -> usize
-        ensures { result ≡ length self.now }
-    {
-        self.fields.len()
-    }
-
-    /// Whether there are none.
-    pub fn is_empty(&self) -> bool
-        ensures { IsTrue result ↔ (self.now ≡ []) }
-    {
-        self.fields.is_empty()
-    }
-}
+pub type Fields = Items<Field>;
 
 /// Metadata of a call or of a response: pairs of a name and its bytes, in order.
 /// The value of a name that ends in `-bin` is its raw bytes.
@@ -140,10 +87,10 @@ impl Metadata {
     }
 
     /// The same pairs; their bytes are shared.
-    pub fn copy(&self, alloc: Global) -> Result<Metadata, NoMemory>
+    pub fn copy(&self) -> Result<Metadata, NoMemory>
         ensures { IfOk result (λ m. m ≡ self.now) }
     {
-        let mut pairs = Vec::with_capacity(alloc, self.pairs.len())?;
+        let mut pairs = Vec::with_capacity(*self.pairs.allocator(), self.pairs.len())?;
         for pair in &self.pairs {
             pairs.push(pair.share()?)?;
         }

@@ -1,6 +1,6 @@
 // Kinds of load balancing policy, sets of them, and what a policy answers to a pick request.
-ghost use Rattle.std.specs.Prelude.{◌≡◌, ◌≢◌, Bool, IfSome, IfNone};
-ghost use Rattle.grpc_base.specs.Kinds.{kind_name, no_kinds, with_kind, has_kind};
+ghost use Rattle.std.specs.Prelude.{◌≡◌, ◌≢◌, ◌<◌, Bool, IfSome, IfNone};
+ghost use Rattle.grpc_base.specs.Kinds.{kind_name, kind_number, kind_named, kind_named_in_any_case, no_kinds, all_kinds, with_kind, has_kind};
 
 use std::marker::Model;
 
@@ -11,7 +11,23 @@ pub enum Kind {
     RoundRobin,
 }
 
+/// How many kinds there are.
+const KINDS: usize = Kind::ALL.len();
+
 impl Kind {
+    /// All kinds, in the order of their numbers.
+    pub const ALL: [Kind; 2] = [Kind::PickFirst, Kind::RoundRobin];
+
+    /// Its number, from 0: its place among all kinds.
+    pub fn number(self) -> usize
+        ensures { result ≡ kind_number self }
+    {
+        match self {
+            Kind::PickFirst => 0,
+            Kind::RoundRobin => 1,
+        }
+    }
+
     /// Its name in a service config.
     pub fn name(&self) -> &'static str
         ensures { result.now ≡ kind_name self.now }
@@ -22,35 +38,41 @@ impl Kind {
         }
     }
 
-    /// The kind of this name, spelled exactly; None exactly where no kind has it.
+    /// The kind of this name, spelled exactly.
     pub fn of_name(text: &[u8]) -> Option<Kind>
-        ensures some { IfSome result (λ k. text.now ≡ kind_name k) }
-        ensures none { IfNone result ((k : Kind) → text.now ≢ kind_name k) }
+        ensures { result ≡ kind_named text.now }
     {
-        match text {
-            b"pick_first" => Some(Kind::PickFirst),
-            b"round_robin" => Some(Kind::RoundRobin),
-            _ => None,
-        }
+        Kind::ALL
+            .iter()
+            .copied()
+            .find(|kind| kind.name().as_bytes() == text)
+    }
+
+    /// The kind of this name, whatever the case of ASCII's letters.
+    pub fn of_name_in_any_case(text: &[u8]) -> Option<Kind>
+        ensures { result ≡ kind_named_in_any_case text.now }
+    {
+        Kind::ALL
+            .iter()
+            .copied()
+            .find(|kind| kind.name().as_bytes().eq_ignore_ascii_case(text))
     }
 }
 
 /// A set of kinds.
 #[derive(Clone, Copy, Debug, PartialEq, Eq)]
 pub struct KindSet {
-    pick_first: bool,
-    round_robin: bool,
+    members: [bool; KINDS],
 }
 
 impl Model for KindSet {
-    ghost use Rattle.std.specs.Prelude.{List, Bool, [], ◌∷◌, slice_index};
-    ghost use Rattle.grpc_base.specs.Kinds.{KindsSeen};
+    ghost use Rattle.std.specs.Prelude.{List, Bool};
 
-    ghost Value = { KindsSeen };
+    ghost Value = { List Bool };
 
-    ghost view = { λ s. record { pick_first = s.pick_first; round_robin = s.round_robin } };
+    ghost view = { λ s. s.members };
 
-    ghost inverse = { λ s. record { pick_first = s.pick_first; round_robin = s.round_robin } };
+    ghost inverse = { λ bs. record { members = bs } };
 }
 
 impl KindSet {
@@ -59,8 +81,16 @@ impl KindSet {
         ensures { result ≡ no_kinds }
     {
         KindSet {
-            pick_first: false,
-            round_robin: false,
+            members: [false; KINDS],
+        }
+    }
+
+    /// The set of all kinds.
+    pub fn all() -> KindSet
+        ensures { result ≡ all_kinds }
+    {
+        KindSet {
+            members: [true; KINDS],
         }
     }
 
@@ -68,20 +98,14 @@ impl KindSet {
     pub fn add(&mut self, kind: Kind)
         ensures { self.new ≡ with_kind self.old kind }
     {
-        match kind {
-            Kind::PickFirst => self.pick_first = true,
-            Kind::RoundRobin => self.round_robin = true,
-        }
+        self.members[kind.number()] = true;
     }
 
     /// Whether the set has this kind.
     pub fn has(&self, kind: Kind) -> bool
         ensures { result ≡ has_kind self.now kind }
     {
-        match kind {
-            Kind::PickFirst => self.pick_first,
-            Kind::RoundRobin => self.round_robin,
-        }
+        self.members[kind.number()]
     }
 }
 

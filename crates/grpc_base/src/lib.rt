@@ -1,31 +1,38 @@
-// The plain data that every layer of the channel speaks in, each range and rule kept by its type.
+// The plain data that every layer of the channel speaks in.
 #![tactic(auto)]
 
 mod address;
 mod code;
+pub mod error_code;
 mod event;
 mod fields;
+mod items;
 mod kind;
+pub mod limits;
+mod memory;
 mod meta_rule;
-#[cfg(test)]
-mod meta_rule_tests;
 mod moment;
 mod number;
+mod octets;
 mod plan;
 mod request;
 mod script;
-#[cfg(test)]
-mod tests;
+mod split;
+mod text;
 
-pub use address::{Address, AddressList, ListFull};
+pub use address::{Address, AddressList, BoxedAddresses, ListFull};
 pub use code::{Code, CodeSet};
-pub use event::{ConfigFault, Conn, EndCause, Entry, Event, JsonFault, Reply, Stamped};
+pub use event::{ConfigFault, Conn, EndCause, Entry, Event, JsonFault, Refusal, Reply, Stamped};
 pub use fields::{Field, Fields, Metadata};
-pub use grpc_bytes::{Items, NoMemory, Octets, Text};
+pub use items::Items;
 pub use kind::{Kind, KindSet, Pick};
+pub use memory::NoMemory;
 pub use meta_rule::MetaFault;
 pub use moment::{Duration, Moment};
-pub use number::read_number;
+pub use number::{append_decimal, is_number, read_number};
+pub use octets::Octets;
 pub use plan::{CallPlan, Chosen, HedgePolicy, MessageLimit, Pushback, RetryPolicy, Throttle};
-pub use request::{Request, RequestFault, is_path};
-pub use script::{AnswerLine, AnswerPart, CallLine, ServerScript};
+pub use request::{Request, RequestFault, is_path, names_of_path};
+pub use script::{AnswerLine, AnswerPart, CallLine, ServerScript, ends_stream};
+pub use split::{first_piece, split_at_byte};
+pub use text::Text;

@@ -3,6 +3,7 @@ ghost use Rattle.std.specs.Prelude.{◌≡◌, ◌≢◌, ◌<◌, ◌≤◌, �
 ghost use Rattle.grpc_base.specs.Metadata.{IsMetaName, IsMetaValue, IsTextValue, is_binary_name, meta_limit, meta_size, sent_length};
 ghost use Rattle.grpc_base.specs.declared.fields.Field.{Field};
 
+use crate::limits::METADATA_BYTES;
 use crate::{Field, NoMemory};
 use std::alloc::AllocFailed;
 use std::error::Error;
@@ -54,9 +55,6 @@ impl<T: Drop> From<AllocFailed<T>> for MetaFault {
         MetaFault::NoMemory
     }
 }
-
-/// The most that the pairs of one request may come to, as they are sent.
-const LIMIT: usize = 14_336;
 
 /// Whether an application may send this name.
 pub fn is_meta_name(name: &[u8]) -> bool
@@ -133,7 +131,7 @@ fn room_behind(room: usize, name: &[u8], value: &[u8]) -> Option<usize>
 fn room_behind_all(pairs: &[Field]) -> Option<usize>
     ensures { MatchOption result (meta_limit < meta_size pairs.now) (λ left. left + meta_size pairs.now ≡ meta_limit) }
 {
-    let mut room = LIMIT;
+    let mut room = METADATA_BYTES;
     for pair in pairs {
         room = room_behind(room, pair.name.as_slice(), pair.value.as_slice())?;
     }

@@ -1,8 +1,21 @@
-// Numbers that header values write in decimal digits.
-ghost use Rattle.std.specs.Prelude.{◌≡◌, ◌≤◌, ◌^◌, IfSome, IfNone, IsTrue};
+// Numbers in decimal digits.
+ghost use Rattle.std.specs.Prelude.{◌≡◌, ◌≤◌, ◌^◌, ◌++◌, IfSome, IfNone, IsTrue, OnOk, OnErr, decimal};
 ghost use Rattle.std.specs.List.{list_all};
 ghost use Rattle.std.specs.Char.{is_ascii_digit};
 ghost use Rattle.grpc_base.specs.Numbers.{is_number, number_of};
+
+use crate::NoMemory;
+use itoa::Buffer;
+
+/// Appends the digits of a number. On out of memory the bytes are as before.
+pub fn append_decimal(out: &mut Vec<u8>, number: u64) -> Result<(), NoMemory>
+    ensures ok { OnOk result (out.new.items ≡ out.old.items ++ decimal number) }
+    ensures err { OnErr result (out.new.items ≡ out.old.items) }
+{
+    let mut buffer = Buffer::new();
+    out.extend_from_slice(buffer.format(number).as_bytes())?;
+    Ok(())
+}
 
 /// The number that these digits write, leading zeros included. None exactly where there is no digit,
 /// where a byte is none, and from 2^64 on.
@@ -21,7 +34,7 @@ pub fn read_number(text: &[u8]) -> Option<u64>
 }
 
 /// Whether this is one digit or more.
-fn is_number(text: &[u8]) -> bool
+pub fn is_number(text: &[u8]) -> bool
     ensures { result ≡ is_number text.now }
 {
     !text.is_empty() && are_digits(text)

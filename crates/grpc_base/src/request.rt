@@ -1,10 +1,13 @@
 // What an application asks of the channel with one call.
-ghost use Rattle.std.specs.Prelude.{◌≡◌, ◌<◌, ◌≤◌, ◌↔◌, IfOk, IfSome, IsTrue, Option, Some, None, Err, IsSomeAnd, IfNone, All, List, ℕ, ◌∷◌, ◌++◌, ◌≢◌, length, take, slice_index};
+ghost use Rattle.std.specs.Prelude.{◌≡◌, ◌<◌, ◌≤◌, ◌↔◌, IfOk, IfSome, IfNone, IsSome, IsTrue, None, Err, IsSomeAnd, [], ◌∷◌, option_map};
+ghost use Rattle.std.specs.List.{list_all};
 ghost use Rattle.grpc_base.specs.Limits.{duration_limit};
-ghost use Rattle.grpc_base.specs.Requests.{IsName, IsPath, IsRequest, RequestSeen};
+ghost use Rattle.grpc_base.specs.Requests.{IsPath, IsRequest, is_name, is_name_byte, names_of_path, names_of_pieces};
 ghost use Rattle.grpc_base.specs.Metadata.{IsRequestMetadata};
+ghost use Rattle.grpc_base.specs.Pieces.{pieces};
 
-use crate::{Duration, Metadata, Text};
+use crate::limits::PATH_BYTES;
+use crate::{Duration, Metadata, NoMemory, Text, first_piece};
 use std::marker::Model;
 
 /// Why a request is refused, in the order of the tests.
@@ -67,6 +70,20 @@ impl Request {
         })
     }
 
+    /// The same request; the bytes of its metadata are shared.
+    pub fn copy(&self) -> Result<Request, NoMemory>
+        ensures { IfOk result (λ r. r ≡ self.now) }
+    {
+        let path = self.path.copy()?;
+        let meta = self.meta.copy()?;
+        Ok(Request {
+            path,
+            meta,
+            wait: self.wait,
+            timeout: self.timeout,
+        })
+    }
+
     /// The path, as `/service/method`.
     pub fn path(&self) -> &Text
         ensures path { result.now ≡ self.now.path }
@@ -102,50 +119,52 @@ impl Request {
 /// Whether this is the path of a method: `/`, a service, `/` and a method, both non-empty and of visible ASCII without `/`, in
 /// all at most 1,024 bytes.
 pub fn is_path(path: &[u8]) -> bool
-    ensures { IsTrue result ↔ IsPath path.now }
+    ensures path { IsTrue result ↔ IsPath path.now }
+    ensures names { IsTrue result ↔ IsSome (names_of_path path.now) }
 {
-    if path.len() > 1024 {
-        return false;
-    }
-    let Some((service, method)) = parts_of(path) else {
-        return false;
-    };
-    if !is_name(service) {
-        return false;
-    }
-    is_name(method)
+    names_of_path(path).is_some()
 }
 
-/// What stands before and behind the second slash, where the path begins with one.
-fn parts_of(path: &[u8]) -> Option<(&[u8], &[u8])>
-    ensures some { IfSome result (λ p. (path.now ≡ 47 ∷ p.0.now ++ 47 ∷ p.1.now) × All (λ b. b ≢ 47) p.0.now) }
-    ensures none { IfNone result ((service method : List ℕ) → path.now ≢ 47 ∷ service ++ 47 ∷ method) }
+/// The service and the method of a path; None exactly where the text is none.
+pub fn names_of_path(path: &[u8]) -> Option<(&[u8], &[u8])>
+    ensures { option_map (λ n. (n.0.now, n.1.now)) result ≡ names_of_path path.now }
 {
-    let [first, rest @ ..] = path else {
-        return None;
-    };
-    if *first != b'/' {
+    if path.len() > PATH_BYTES {
         return None;
     }
-    let Some(slash) = first_slash(rest) else {
-        return None;
-    };
-    Some((&rest[..slash], &rest[slash + 1..]))
+    let (front, service, method) = three_pieces(path)?;
+    if front.is_empty() && is_name(service) && is_name(method) {
+        Some((service, method))
+    } else {
+        None
+    }
 }
 
-/// The place of the first slash.
-fn first_slash(text: &[u8]) -> Option<usize>
-    ensures within { IfSome result (λ k. k < length text.now) }
-    ensures before { IfSome result (λ k. All (λ b. b ≢ 47) (take k text.now)) }
-    ensures at { IfSome result (λ k. slice_index text.now k ≡ 47) }
-    ensures none { IfNone result (All (λ b. b ≢ 47) text.now) }
+/// What stands before, between and behind the slashes of a text with two of them.
+#[tactic(auto, using(crate::proofs::PathLaws::more_pieces, crate::proofs::PathLaws::pieces_some))]
+fn three_pieces(text: &[u8]) -> Option<(&[u8], &[u8], &[u8])>
+    ensures some { IfSome result (λ p. pieces 47 text.now ≡ p.0.now ∷ p.1.now ∷ p.2.now ∷ []) }
+    ensures none { IfNone result (names_of_pieces (pieces 47 text.now) ≡ None) }
 {
-    text.iter().position(|b| *b == b'/')
+    let (first, rest) = first_piece(text, b'/');
+    let (second, rest) = first_piece(rest?, b'/');
+    let (third, rest) = first_piece(rest?, b'/');
+    match rest {
+        Some(_) => None,
+        None => Some((first, second, third)),
+    }
+}
+
+/// Whether each byte may stand in a service or a method.
+fn has_name_bytes_alone(name: &[u8]) -> bool
+    ensures { result ≡ list_all is_name_byte name.now }
+{
+    name.iter().all(|b| b.is_ascii_graphic() && *b != b'/')
 }
 
 /// Whether this is a service or a method.
 fn is_name(name: &[u8]) -> bool
-    ensures { IsTrue result ↔ IsName name.now }
+    ensures { result ≡ is_name name.now }
 {
-    !name.is_empty() && name.iter().all(|b| (0x21..=0x7e).contains(b) && *b != b'/')
+    !name.is_empty() && has_name_bytes_alone(name)
 }
