@@ -1,5 +1,5 @@
 -- The fields of a request, and how long they are.
-use Rattle.std.proofs.Common.{◌≡◌, ℕ, ◌+◌, ◌-◌, ◌*◌, ◌/◌, ◌%◌, ◌^◌, ◌<◌, ◌≤◌, Bool, true, false, cond, Option, Some, None, List, [], ◌∷◌, ◌++◌, codes, map, length, refl, ◌∙◌, arith, IfOk, Result, Ok, Err, nat_le, find, if◌then◌else◌, lit≤, length-append, append_assoc}
+use Rattle.std.proofs.Common.{◌≡◌, ℕ, ◌+◌, ◌-◌, ◌*◌, ◌/◌, ◌%◌, ◌^◌, ◌<◌, ◌≤◌, Bool, true, false, cond, Option, Some, None, List, [], ◌∷◌, ◌++◌, codes, map, length, refl, arith, nat_le, find, if◌then◌else◌, lit≤, length-append}
 use Rattle.std.proofs.lemmas.Bool.Decides.{nat_tests}
 use Rattle.std.specs.List.{AllByRecursion}
 use Rattle.std.specs.Int.{div_ceil}
@@ -9,14 +9,14 @@ use Rattle.std.proofs.lemmas.Bool.{leb-true}
 use Rattle.std.specs.Fmt.{decimal}
 use Rattle.std.proofs.lemmas.Fmt.{length-decimal-le}
 use Rattle.std.proofs.lemmas.List.Sums.{sum_by-append, sum_by-cons}
-use Rattle.base64.specs.GeneralPurpose.{encode_of}
-use Rattle.base64.specs.Engines.{standard_no_pad}
 use Rattle.grpc_base.specs.declared.address.Address.{Address}
+use Rattle.grpc_base.specs.Addresses.{address_text}
 use Rattle.grpc_base.specs.declared.fields.Field.{Field}
 use Rattle.grpc_base.specs.Limits.{path_limit}
 use Rattle.grpc_base.specs.Metadata.{is_binary_name, meta_limit, meta_size, pair_size}
 use Rattle.grpc_base.specs.Requests.{RequestSeen}
-use Rattle.grpc_meta.specs.RequestFields.{attempt_fields, authority_of, field, field_size, fields_of_request, list_limit, list_size, sent, timeout_fields}
+use Rattle.grpc_meta.specs.Base64.{base64_of, symbols}
+use Rattle.grpc_meta.specs.RequestFields.{attempt_fields, field, field_size, fields_of_request, list_limit, list_size, sent, timeout_fields}
 use Rattle.grpc_meta.specs.Timeouts.{text_in, timeout_of, units}
 
 -- from the second attempt on there is a field
@@ -39,8 +39,8 @@ ten : (n : ℕ) → n < 2 ^ 32 → length (decimal n) ≤ 10
 ten n small = length-decimal-le 10 n (omega arith) (omega arith) (omega arith)
 
 -- `255.255.255.255:65535` is the longest authority
-pub length-authority_of : (a : Address) → a.ip < 2 ^ 32 → a.port < 2 ^ 16 → length (authority_of a) ≤ 21
-length-authority_of a ip port =
+pub length-address_text : (a : Address) → a.ip < 2 ^ 32 → a.port < 2 ^ 16 → length (address_text a) ≤ 21
+length-address_text a ip port =
     let d1 = three (a.ip / 2 ^ 24) (omega arith) in
     let d2 = three (a.ip / 2 ^ 16 % 256) (omega arith) in
     let d3 = three (a.ip / 2 ^ 8 % 256) (omega arith) in
@@ -63,8 +63,8 @@ pub length-timeout_of : (t : ℕ) → length (timeout_of t) ≤ 9
 length-timeout_of t = text_short t units (lit≤ tt, (lit≤ tt, (lit≤ tt, (lit≤ tt, (lit≤ tt, (lit≤ tt, tt))))))
 
 -- a value of bytes is as long in base64 as the rules for metadata count it
-field_size-if : (f : Field) (b : Bool) → field_size (if b then field f.name (encode_of standard_no_pad f.value) else f) ≡ length f.name + (if b then (length f.value * 4 + 2) / 3 else length f.value) + 32
-field_size-if f true = let symbols = length-encode_symbols standard_no_pad.encode_table f.value in omega (arith, length-append (encode_symbols standard_no_pad.encode_table f.value) [], symbols)
+field_size-if : (f : Field) (b : Bool) → field_size (if b then field f.name (base64_of f.value) else f) ≡ length f.name + (if b then (length f.value * 4 + 2) / 3 else length f.value) + 32
+field_size-if f true = let count = length-encode_symbols symbols f.value in omega (arith, length-append (encode_symbols symbols f.value) [], count)
 field_size-if f false = refl
 
 field_size-sent : (f : Field) → field_size (sent f) ≡ pair_size f
@@ -87,12 +87,12 @@ attempt_size number small = attempt_if number (nat_le number 1) small
 
 -- the fields in front
 front : RequestSeen → Address → List Field
-front r a = field (codes ":method") (codes "POST") ∷ field (codes ":scheme") (codes "http") ∷ field (codes ":path") r.path ∷ field (codes ":authority") (authority_of a) ∷ []
+front r a = field (codes ":method") (codes "POST") ∷ field (codes ":scheme") (codes "http") ∷ field (codes ":path") r.path ∷ field (codes ":authority") (address_text a) ∷ []
 
 kind : List Field
 kind = field (codes "te") (codes "trailers") ∷ field (codes "content-type") (codes "application/grpc") ∷ []
 
-front_size : (r : RequestSeen) (a : Address) → length r.path ≤ path_limit → length (authority_of a) ≤ 21 → list_size (front r a) ≤ 1210
+front_size : (r : RequestSeen) (a : Address) → length r.path ≤ path_limit → length (address_text a) ≤ 21 → list_size (front r a) ≤ 1210
 unfolding front
 front_size r a path authority = omega arith
 
@@ -109,17 +109,8 @@ sum_fits : (f t k n m p q : ℕ) → f ≤ 1210 → t ≤ 53 → k ≤ 102 → n
 sum_fits f t k n m p q hf ht hk hn hm hp hq = omega arith
 
 -- a request that keeps its rules has a list that fits
-pub list_size-request : (r : RequestSeen) (a : Address) (left : Option ℕ) (number : ℕ) → length r.path ≤ path_limit → meta_size r.meta ≤ meta_limit → length (authority_of a) ≤ 21 → number < 2 ^ 32 → list_size (fields_of_request r a left number) ≤ list_limit
+pub list_size-request : (r : RequestSeen) (a : Address) (left : Option ℕ) (number : ℕ) → length r.path ≤ path_limit → meta_size r.meta ≤ meta_limit → length (address_text a) ≤ 21 → number < 2 ^ 32 → list_size (fields_of_request r a left number) ≤ list_limit
 unfolding front kind
 list_size-request r a left number path meta authority small =
     let whole : list_size (fields_of_request r a left number) ≡ list_size (front r a) + list_size (timeout_fields left) + list_size kind + list_size (attempt_fields number) + list_size (map sent r.meta) = joined_size (front r a) (timeout_fields left) kind (attempt_fields number) (map sent r.meta) in
     sum_fits _ _ _ _ _ _ _ (front_size r a path authority) (timeout_size left) kind_size (attempt_size number small) (list_size-sent r.meta) meta whole
-
--- how `format!` groups an address
-pub regrouped : (a b c d p : List ℕ) → a ++ (46 ∷ (b ++ (46 ∷ (c ++ (46 ∷ (d ++ (58 ∷ p))))))) ≡ a ++ codes "." ++ b ++ codes "." ++ c ++ codes "." ++ d ++ codes ":" ++ p
-regrouped a b c d p = simp append_assoc
-
--- what an `Ok` holds, by an equation further on
-pub if_ok_along : {T E : Type 0} (bytes : T → List ℕ) (r : Result T E) (xs ys : List ℕ) → IfOk r (λ s. bytes s ≡ xs) → xs ≡ ys → IfOk r (λ s. bytes s ≡ ys)
-if_ok_along bytes (Ok s) xs ys is e = is ∙ e
-if_ok_along bytes (Err e) xs ys is _ = tt

@@ -1,3 +1,4 @@
+pub mod Base64
 pub mod RequestFields
 pub mod ResponseFields
 pub mod Timeouts

@@ -1,24 +1,18 @@
 -- The header list of a request (gRPC over HTTP/2, "Requests": Request-Headers).
-use Rattle.std.specs.Prelude.{ℕ, ◌+◌, ◌-◌, ◌/◌, ◌%◌, ◌^◌, Option, Some, None, List, [], ◌∷◌, ◌++◌, codes, map, length, nat_le, if◌then◌else◌}
+use Rattle.std.specs.Prelude.{ℕ, ◌+◌, ◌-◌, Option, Some, None, List, [], ◌∷◌, ◌++◌, codes, map, length, nat_le, if◌then◌else◌}
 use Rattle.std.specs.List.{sum_by}
 use Rattle.std.specs.Fmt.{decimal}
-use Rattle.base64.specs.GeneralPurpose.{encode_of}
-use Rattle.base64.specs.Engines.{standard_no_pad}
 use Rattle.grpc_base.specs.declared.address.Address.{Address}
+use Rattle.grpc_base.specs.Addresses.{address_text}
 use Rattle.grpc_base.specs.declared.fields.Field.{Field}
 use Rattle.grpc_base.specs.Metadata.{is_binary_name}
 use Rattle.grpc_base.specs.Requests.{RequestSeen}
+use Rattle.grpc_meta.specs.Base64.{base64_of}
 use Rattle.grpc_meta.specs.Timeouts.{timeout_of}
 
 -- the field of a name and a value
 abbrev pub field : List ℕ → List ℕ → Field
 field name value = record { name = name; value = value }
-
--- an address as `a.b.c.d:port`
-abbrev pub authority_of : Address → List ℕ
-authority_of a =
-    decimal (a.ip / 2 ^ 24) ++ codes "." ++ decimal (a.ip / 2 ^ 16 % 256) ++ codes "." ++ decimal (a.ip / 2 ^ 8 % 256)
-    ++ codes "." ++ decimal (a.ip % 256) ++ codes ":" ++ decimal a.port
 
 -- the time left, where there is a deadline
 abbrev pub timeout_fields : Option ℕ → List Field
@@ -32,13 +26,13 @@ attempt_fields number =
 
 -- a pair as it is sent: a value of bytes is base64 without padding (gRPC over HTTP/2, "Binary-Header")
 abbrev pub sent : Field → Field
-sent f = if is_binary_name f.name then field f.name (encode_of standard_no_pad f.value) else f
+sent f = if is_binary_name f.name then field f.name (base64_of f.value) else f
 
 -- the header list of one attempt
 abbrev pub fields_of_request : RequestSeen → Address → Option ℕ → ℕ → List Field
 fields_of_request request authority left number =
     (field (codes ":method") (codes "POST") ∷ field (codes ":scheme") (codes "http") ∷ field (codes ":path") request.path
-    ∷ field (codes ":authority") (authority_of authority) ∷ [])
+    ∷ field (codes ":authority") (address_text authority) ∷ [])
     ++ timeout_fields left
     ++ (field (codes "te") (codes "trailers") ∷ field (codes "content-type") (codes "application/grpc") ∷ [])
     ++ attempt_fields number

@@ -1,15 +1,13 @@
 -- What the fields of a response say to the application and to the retry policy.
 use Rattle.std.specs.Prelude.{ℕ, Bool, Option, Some, None, List, [], ◌∷◌, ◌==◌, ◌&&◌, not, codes, map, filter, length, nat_eq, nat_lt, nat_le, bytes_eq, if◌then◌else◌}
 use Rattle.std.specs.List.{flat_map, list_all, list_any, slice_split, starts_with}
-use Rattle.std.specs.Option.{option_or}
 use Rattle.http_header.specs.Token.{is_token_byte, is_value_byte}
-use Rattle.base64.specs.GeneralPurpose.{decoded_of}
-use Rattle.base64.specs.Engines.{standard, standard_no_pad}
 use Rattle.grpc_base.specs.declared.fields.Field.{Field}
 use Rattle.grpc_base.specs.declared.plan.Pushback.{Pushback}
 use Rattle.grpc_base.specs.declared.plan.Pushback.TheVariants as pushback
 use Rattle.grpc_base.specs.Metadata.{is_binary_name}
 use Rattle.grpc_base.specs.Numbers.{is_number, number_of}
+use Rattle.grpc_meta.specs.Base64.{bytes_of_base64}
 use Rattle.grpc_meta.specs.RequestFields.{field}
 
 -- the names that the protocol reads itself
@@ -34,10 +32,6 @@ is_field_name name = nat_lt 0 (length name) && (nat_le (length name) 65535 && li
 -- whether a value may: no byte of it is a control but the tab (RFC 9110, section 5.5)
 abbrev pub is_field_value : List ℕ → Bool
 is_field_value value = list_all is_value_byte value
-
--- the bytes of a base64 text, with full padding or with none, where it is one
-unfoldable pub bytes_of_base64 : List ℕ → Option (List ℕ)
-bytes_of_base64 text = option_or (decoded_of standard_no_pad text) (decoded_of standard text)
 
 -- the pair of a name and of bytes that may be missing
 abbrev pub pair_if_read : List ℕ → Option (List ℕ) → List Field

@@ -4,7 +4,8 @@ ghost use Rattle.std.specs.Option.{option_map};
 ghost use Rattle.base64.specs.GeneralPurpose.{decoded_of};
 ghost use Rattle.grpc_base.specs.Metadata.{is_binary_name};
 ghost use Rattle.grpc_meta.specs.RequestFields.{sent};
-ghost use Rattle.grpc_meta.specs.ResponseFields.{between_commas, binary_pairs, bytes_of_base64, pair_if_read};
+ghost use Rattle.grpc_meta.specs.Base64.{bytes_of_base64};
+ghost use Rattle.grpc_meta.specs.ResponseFields.{between_commas, binary_pairs, pair_if_read};
 
 use base64::DecodeAllocError;
 use base64::engine::general_purpose::{GeneralPurpose, STANDARD, STANDARD_NO_PAD};
@@ -73,13 +74,15 @@ fn push_text(
     Ok(())
 }
 
-/// The bytes of a base64 text, with full padding or with none; its unused bits have to be 0.
+/// The bytes of a base64 text, with all of its padding or with none; its unused bits have to be 0.
 fn read_base64(alloc: Global, text: &[u8]) -> Result<Option<Vec<u8>>, NoMemory>
     ensures { IfOk result (λ o. option_map (λ v. v.items) o ≡ bytes_of_base64 text.now) }
 {
-    match decoded(alloc, &STANDARD_NO_PAD, text)? {
-        Some(bytes) => Ok(Some(bytes)),
-        None => decoded(alloc, &STANDARD, text),
+    // a text of whole groups has its padding or needs none, and any other has none
+    if text.len() % 4 == 0 {
+        decoded(alloc, &STANDARD, text)
+    } else {
+        decoded(alloc, &STANDARD_NO_PAD, text)
     }
 }
 

@@ -1,12 +1,11 @@
 // What holds of all values of bytes.
-ghost use Rattle.std.specs.Prelude.{◌≡◌, ◌⊎◌, List, ℕ, Some};
-ghost use Rattle.base64.specs.Engines.{standard, standard_no_pad};
-ghost use Rattle.base64.specs.GeneralPurpose.{IsBytes, encode_of};
-ghost use Rattle.grpc_meta.specs.ResponseFields.{bytes_of_base64};
+ghost use Rattle.std.specs.Prelude.{◌≡◌, List, ℕ, Some};
+ghost use Rattle.base64.specs.GeneralPurpose.{IsBytes};
+ghost use Rattle.grpc_meta.specs.Base64.{SpellsBytes, bytes_of_base64};
 
-/// A value that is sent is read back, and a text that is read is the base64 of what it gives, with its padding or
-/// without, and no other text.
+/// A law for proofs: a text is read as these bytes exactly where it is their base64, without padding or with all of it
+/// (RFC 4648, sections 3.2, 3.5 and 4). The call does nothing.
 pub fn base64_is_read_exactly()
-    ensures back { (bytes : List ℕ) → IsBytes bytes → bytes_of_base64 (encode_of standard_no_pad bytes) ≡ Some bytes }
-    ensures exact { (text bytes : List ℕ) → IsBytes text → bytes_of_base64 text ≡ Some bytes → (text ≡ encode_of standard_no_pad bytes) ⊎ (text ≡ encode_of standard bytes) }
+    ensures read { (text : List ℕ) → (bytes : List ℕ) → IsBytes bytes → SpellsBytes text bytes → bytes_of_base64 text ≡ Some bytes }
+    ensures only { (text : List ℕ) → (bytes : List ℕ) → IsBytes text → bytes_of_base64 text ≡ Some bytes → SpellsBytes text bytes }
 {}

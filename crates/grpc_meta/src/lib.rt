@@ -6,8 +6,6 @@ mod laws;
 mod request;
 mod response;
 mod retry;
-#[cfg(test)]
-mod tests;
 mod timeout;
 
 pub use laws::base64_is_read_exactly;

@@ -1,13 +1,14 @@
 // The header list of a request.
-ghost use Rattle.std.specs.Prelude.{◌≡◌, ◌≤◌, ◌++◌, ◌∷◌, [], codes, length, map, IfOk, IfSome, OnOk, string_bytes};
+ghost use Rattle.std.specs.Prelude.{◌≡◌, ◌≤◌, ◌++◌, ◌∷◌, [], codes, length, map, IfOk, IfSome, OnOk};
+ghost use Rattle.grpc_base.specs.Addresses.{address_text};
 ghost use Rattle.grpc_base.specs.Limits.{duration_limit};
-ghost use Rattle.grpc_meta.specs.RequestFields.{attempt_fields, authority_of, field, fields_of_request, list_limit, list_size, sent, timeout_fields};
+ghost use Rattle.grpc_meta.specs.RequestFields.{attempt_fields, field, fields_of_request, list_limit, list_size, sent, timeout_fields};
 
 use crate::binary::sent;
 use crate::timeout::timeout_text;
 use grpc_base::{Address, Field, Fields, Metadata, NoMemory, Octets, Request};
 use itoa::Buffer;
-use std::alloc::{AllocError, Global};
+use std::alloc::Global;
 
 /// The header list of an attempt's request (gRPC over HTTP/2, "Requests"). `left` is the time that the call has
 /// left in nanoseconds, and `number` counts its attempts from 1.
@@ -47,20 +48,21 @@ fn push(alloc: Global, fields: &mut Fields, name: &[u8], value: &[u8]) -> Result
 
 /// Appends the authority.
 fn push_authority(alloc: Global, fields: &mut Fields, authority: Address) -> Result<(), NoMemory>
-    ensures field { OnOk result (fields.new ≡ fields.old ++ field (codes ":authority") (authority_of authority) ∷ []) }
-    ensures short { length (authority_of authority) ≤ 21 }
+    ensures field { OnOk result (fields.new ≡ fields.old ++ field (codes ":authority") (address_text authority) ∷ []) }
+    ensures short { length (address_text authority) ≤ 21 }
 {
     let text = authority_text(alloc, authority.ip, authority.port)?;
-    push(alloc, fields, b":authority", text.as_bytes())
+    push(alloc, fields, b":authority", &text)
 }
 
 /// An address as `a.b.c.d:port`.
-fn authority_text(alloc: Global, ip: u32, port: u16) -> Result<String, AllocError>
-    ensures text { IfOk result (λ s. string_bytes s ≡ authority_of (record { ip = ip; port = port })) }
-    ensures short { length (authority_of (record { ip = ip; port = port })) ≤ 21 }
+fn authority_text(alloc: Global, ip: u32, port: u16) -> Result<Vec<u8>, NoMemory>
+    ensures text { IfOk result (λ v. v.items ≡ address_text (record { ip = ip; port = port })) }
+    ensures short { length (address_text (record { ip = ip; port = port })) ≤ 21 }
 {
-    let (a, b, c, d) = (ip / 16_777_216, ip / 65_536 % 256, ip / 256 % 256, ip % 256);
-    format!(in alloc; "{a}.{b}.{c}.{d}:{port}")
+    let mut text = Vec::new(alloc);
+    Address { ip, port }.append_to(&mut text)?;
+    Ok(text)
 }
 
 /// Appends the time left, where there is a deadline.

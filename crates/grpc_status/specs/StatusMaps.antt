@@ -1,9 +1,10 @@
 -- Which status an attempt ends with, by the tables of the gRPC documents.
-use Rattle.std.specs.Prelude.{ℕ, Bool, Option, List, [], ◌∷◌, ◌==◌, if◌then◌else◌, slice_get, unwrap_or}
+use Rattle.std.specs.Prelude.{ℕ, List, [], ◌∷◌, ◌==◌, if◌then◌else◌, slice_get, unwrap_or}
 use Rattle.std.specs.Str.Lossy.{utf8_lossy}
 use Rattle.percent_encoding.specs.Percent.{percent_decode}
 use Rattle.grpc_base.specs.declared.code.Code.{Code}
 use Rattle.grpc_base.specs.declared.code.Code.TheVariants as code
+use Rattle.grpc_base.specs.ErrorCodes.{no_error, protocol_error, internal_error, flow_control_error, settings_timeout, frame_size_error, refused_stream, cancel, compression_error, connect_error, enhance_your_calm, inadequate_security}
 use Rattle.grpc_base.specs.Numbers.{is_number, number_of}
 
 -- the code of a number in a table; what no row names is UNKNOWN
@@ -17,12 +18,14 @@ http_codes =
     (400, code.Internal) ∷ (401, code.Unauthenticated) ∷ (403, code.PermissionDenied) ∷ (404, code.Unimplemented)
     ∷ (429, code.Unavailable) ∷ (502, code.Unavailable) ∷ (503, code.Unavailable) ∷ (504, code.Unavailable) ∷ []
 
--- error codes of RST_STREAM (gRPC over HTTP/2, "HTTP2 Transport Mapping", "Errors"; the codes: RFC 9113, section 7)
+-- error codes of RST_STREAM (gRPC over HTTP/2, "HTTP2 Transport Mapping", "Errors")
 abbrev pub reset_codes : List (ℕ × Code)
 reset_codes =
-    (0, code.Internal) ∷ (1, code.Internal) ∷ (2, code.Internal) ∷ (3, code.Internal) ∷ (4, code.Internal)
-    ∷ (6, code.Internal) ∷ (7, code.Unavailable) ∷ (8, code.Cancelled) ∷ (9, code.Internal) ∷ (10, code.Internal)
-    ∷ (11, code.ResourceExhausted) ∷ (12, code.PermissionDenied) ∷ []
+    (no_error, code.Internal) ∷ (protocol_error, code.Internal) ∷ (internal_error, code.Internal)
+    ∷ (flow_control_error, code.Internal) ∷ (settings_timeout, code.Internal) ∷ (frame_size_error, code.Internal)
+    ∷ (refused_stream, code.Unavailable) ∷ (cancel, code.Cancelled) ∷ (compression_error, code.Internal)
+    ∷ (connect_error, code.Internal) ∷ (enhance_your_calm, code.ResourceExhausted)
+    ∷ (inadequate_security, code.PermissionDenied) ∷ []
 
 -- the codes in the order of their numbers, from 0 to 16 ("Status codes and their use in gRPC")
 abbrev pub codes_in_order : List Code

@@ -3,8 +3,6 @@
 
 mod maps;
 mod message;
-#[cfg(test)]
-mod tests;
 
 pub use maps::{of_http, of_reset, of_text};
 pub use message::message_text;

@@ -2,6 +2,11 @@
 ghost use Rattle.std.specs.Prelude.{◌≡◌};
 ghost use Rattle.grpc_status.specs.StatusMaps.{looked_up, http_codes, reset_codes, code_of_text};
 
+use grpc_base::error_code::{
+    CANCEL, COMPRESSION_ERROR, CONNECT_ERROR, ENHANCE_YOUR_CALM, FLOW_CONTROL_ERROR,
+    FRAME_SIZE_ERROR, INADEQUATE_SECURITY, INTERNAL_ERROR, NO_ERROR, PROTOCOL_ERROR,
+    REFUSED_STREAM, SETTINGS_TIMEOUT,
+};
 use grpc_base::{Code, read_number};
 
 /// The code of a response that has no `grpc-status`, by its HTTP status
@@ -25,11 +30,18 @@ pub fn of_reset(code: u32) -> Code
     ensures { result ≡ looked_up reset_codes code }
 {
     match code {
-        0..=4 | 6 | 9 | 10 => Code::Internal,
-        7 => Code::Unavailable,
-        8 => Code::Cancelled,
-        11 => Code::ResourceExhausted,
-        12 => Code::PermissionDenied,
+        NO_ERROR
+        | PROTOCOL_ERROR
+        | INTERNAL_ERROR
+        | FLOW_CONTROL_ERROR
+        | SETTINGS_TIMEOUT
+        | FRAME_SIZE_ERROR
+        | COMPRESSION_ERROR
+        | CONNECT_ERROR => Code::Internal,
+        REFUSED_STREAM => Code::Unavailable,
+        CANCEL => Code::Cancelled,
+        ENHANCE_YOUR_CALM => Code::ResourceExhausted,
+        INADEQUATE_SECURITY => Code::PermissionDenied,
         _ => Code::Unknown,
     }
 }

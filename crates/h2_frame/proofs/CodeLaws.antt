@@ -1,5 +1,5 @@
 -- The code of a fault is that of the first rule that the bytes break.
-use Rattle.std.proofs.Common.{◌≡◌, ℕ, zero, suc, ◌+◌, ◌*◌, ◌%◌, ◌<◌, ◌≤◌, Bool, true, false, cond, List, [], ◌∷◌, ◌++◌, length, take, refl, ap, sym, ◌∙◌, subst, arith, inl, inr, ◌⊎◌}
+use Rattle.std.proofs.Common.{◌≡◌, ℕ, zero, suc, ◌+◌, ◌*◌, ◌%◌, ◌<◌, ◌≤◌, lit<, Bool, true, false, cond, List, [], ◌∷◌, ◌++◌, length, take, refl, ap, sym, ◌∙◌, subst, arith, inl, inr, ◌⊎◌}
 use Rattle.std.proofs.lemmas.Bool.Decides.{nat_tests}
 use Rattle.std.proofs.lemmas.Bool.{false≢true}
 use Rattle.std.proofs.lemmas.List.{length-replicate}
@@ -8,7 +8,7 @@ use Rattle.h2_frame.specs.Frames.{FrameSeen, Spells, keeps_protocol, keeps_sizes
 use Rattle.h2_frame.specs.Readings.{Reading, Whole, Partial, Fault, Breaks, CanKeep, IsCode, reading_of_payload, reading_9, reading_8, reading_7, reading_6, reading_5, reading_4, reading_3, reading_2, reading_of}
 use Rattle.h2_frame.proofs.FaultLaws.{fault_stays}
 use Rattle.h2_frame.proofs.FrameLaws.{stream_so_far, fits_so_far}
-use Rattle.h2_frame.proofs.PrefixLaws.{last_of, last_suits, last_grows, not_yet, no_growth_there}
+use Rattle.h2_frame.proofs.PrefixLaws.{AreBytes, suited_bytes, last_of, last_suits, last_grows, not_yet, no_growth_there}
 
 -- a test whose fault has this code, before a rest with no other
 or_rest : (b : Bool) (code : ℕ) (y : Reading) (c : ℕ) → (y ≡ Fault c → c ≡ code) → cond b (Fault code) y ≡ Fault c → c ≡ code
@@ -129,12 +129,13 @@ zeros_keep a b c kind flags =
     (zeros_unpadded kind flags (length (replicate (number_24 a b c) 0)) (number_24 a b c))
     (no_growth_there kind (number_31 0 0 0 (last_of kind)) (last_grows kind 0 (number_31 0 0 0 (last_of kind)) (not_yet kind) (omega arith)) (replicate (number_24 a b c) 0))
 
-keep_by : (t more : List ℕ) (a b c kind flags : ℕ) → t ++ more ≡ a ∷ b ∷ c ∷ kind ∷ flags ∷ 0 ∷ 0 ∷ 0 ∷ last_of kind ∷ replicate (number_24 a b c) 0 → CanKeep keeps_protocol t
-keep_by t more a b c kind flags e =
+keep_by : (t more : List ℕ) (a b c kind flags : ℕ) → AreBytes more → t ++ more ≡ a ∷ b ∷ c ∷ kind ∷ flags ∷ 0 ∷ 0 ∷ 0 ∷ last_of kind ∷ replicate (number_24 a b c) 0 → CanKeep keeps_protocol t
+keep_by t more a b c kind flags bytes e =
     let said : FrameSeen = record { kind = kind; flags = flags; stream = number_31 0 0 0 (last_of kind); payload = replicate (number_24 a b c) 0 } in
     let Says : List ℕ → Type 0 = λ xs. Spells xs said in
     record {
       more = more;
+      are_bytes = bytes;
       frame = record { kind = kind; flags = flags; stream = number_31 0 0 0 (last_of kind); payload = replicate (number_24 a b c) 0 };
       spells = subst Says (sym e) (length-replicate (number_24 a b c) 0, refl);
       kept = zeros_keep a b c kind flags;
@@ -168,12 +169,12 @@ not_by_size a b c kind flags t quiet code h =
     five.1
 
 can_keep_early : (t : List ℕ) → reading_of t ≡ Fault 6 → ((n : ℕ) → n < length t → is_fault (reading_of (take n t)) ≡ false) → CanKeep keeps_protocol t
-can_keep_early [] h quiet = keep_by [] (0 ∷ 0 ∷ 0 ∷ 10 ∷ 0 ∷ 0 ∷ 0 ∷ 0 ∷ last_of 10 ∷ replicate (number_24 0 0 0) 0) 0 0 0 10 0 refl
-can_keep_early (a ∷ []) h quiet = keep_by (a ∷ []) (0 ∷ 0 ∷ 10 ∷ 0 ∷ 0 ∷ 0 ∷ 0 ∷ last_of 10 ∷ replicate (number_24 a 0 0) 0) a 0 0 10 0 refl
-can_keep_early (a ∷ b ∷ []) h quiet = keep_by (a ∷ b ∷ []) (0 ∷ 10 ∷ 0 ∷ 0 ∷ 0 ∷ 0 ∷ last_of 10 ∷ replicate (number_24 a b 0) 0) a b 0 10 0 refl
-can_keep_early (a ∷ b ∷ c ∷ []) h quiet = keep_by (a ∷ b ∷ c ∷ []) (10 ∷ 0 ∷ 0 ∷ 0 ∷ 0 ∷ last_of 10 ∷ replicate (number_24 a b c) 0) a b c 10 0 refl
-can_keep_early (a ∷ b ∷ c ∷ kind ∷ []) h quiet = keep_by (a ∷ b ∷ c ∷ kind ∷ []) (0 ∷ 0 ∷ 0 ∷ 0 ∷ last_of kind ∷ replicate (number_24 a b c) 0) a b c kind 0 refl
-can_keep_early (a ∷ b ∷ c ∷ kind ∷ flags ∷ []) h quiet = keep_by (a ∷ b ∷ c ∷ kind ∷ flags ∷ []) (0 ∷ 0 ∷ 0 ∷ last_of kind ∷ replicate (number_24 a b c) 0) a b c kind flags refl
+can_keep_early [] h quiet = keep_by [] (0 ∷ 0 ∷ 0 ∷ 10 ∷ 0 ∷ 0 ∷ 0 ∷ 0 ∷ last_of 10 ∷ replicate (number_24 0 0 0) 0) 0 0 0 10 0 (lit< tt, (lit< tt, (lit< tt, (lit< tt, (lit< tt, (lit< tt, (lit< tt, (lit< tt, suited_bytes 10 (number_24 0 0 0))))))))) refl
+can_keep_early (a ∷ []) h quiet = keep_by (a ∷ []) (0 ∷ 0 ∷ 10 ∷ 0 ∷ 0 ∷ 0 ∷ 0 ∷ last_of 10 ∷ replicate (number_24 a 0 0) 0) a 0 0 10 0 (lit< tt, (lit< tt, (lit< tt, (lit< tt, (lit< tt, (lit< tt, (lit< tt, suited_bytes 10 (number_24 a 0 0)))))))) refl
+can_keep_early (a ∷ b ∷ []) h quiet = keep_by (a ∷ b ∷ []) (0 ∷ 10 ∷ 0 ∷ 0 ∷ 0 ∷ 0 ∷ last_of 10 ∷ replicate (number_24 a b 0) 0) a b 0 10 0 (lit< tt, (lit< tt, (lit< tt, (lit< tt, (lit< tt, (lit< tt, suited_bytes 10 (number_24 a b 0))))))) refl
+can_keep_early (a ∷ b ∷ c ∷ []) h quiet = keep_by (a ∷ b ∷ c ∷ []) (10 ∷ 0 ∷ 0 ∷ 0 ∷ 0 ∷ last_of 10 ∷ replicate (number_24 a b c) 0) a b c 10 0 (lit< tt, (lit< tt, (lit< tt, (lit< tt, (lit< tt, suited_bytes 10 (number_24 a b c)))))) refl
+can_keep_early (a ∷ b ∷ c ∷ kind ∷ []) h quiet = keep_by (a ∷ b ∷ c ∷ kind ∷ []) (0 ∷ 0 ∷ 0 ∷ 0 ∷ last_of kind ∷ replicate (number_24 a b c) 0) a b c kind 0 (lit< tt, (lit< tt, (lit< tt, (lit< tt, suited_bytes kind (number_24 a b c))))) refl
+can_keep_early (a ∷ b ∷ c ∷ kind ∷ flags ∷ []) h quiet = keep_by (a ∷ b ∷ c ∷ kind ∷ flags ∷ []) (0 ∷ 0 ∷ 0 ∷ last_of kind ∷ replicate (number_24 a b c) 0) a b c kind flags (lit< tt, (lit< tt, (lit< tt, suited_bytes kind (number_24 a b c)))) refl
 can_keep_early (a ∷ b ∷ c ∷ kind ∷ flags ∷ p ∷ t) h quiet =
     let early : reading_6 (number_24 a b c) kind flags (p ∷ t) ≡ Fault 6 = not_by_size a b c kind flags (p ∷ t) (quiet 5 (omega arith)) 6 h in
     absurd (one_is_not_six 1 6 refl refl (sym (code_6 (number_24 a b c) kind flags (p ∷ t) 6 early)))

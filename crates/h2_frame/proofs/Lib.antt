@@ -1,4 +1,5 @@
 pub mod FaultLaws
+pub mod HeaderLaws
 pub mod FrameLaws
 pub mod PrefixLaws
 pub mod CodeLaws

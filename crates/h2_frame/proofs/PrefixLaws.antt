@@ -122,7 +122,7 @@ suited a b c kind flags p q r size by_kind by_flags test =
     (last_suits kind (p % 128 * 16777216 + q * 65536 + r * 256) (number_31 p q r (last_of kind)) test refl)
     (last_grows kind (p % 128 * 16777216 + q * 65536 + r * 256) (number_31 p q r (last_of kind)) test refl)
 
-suited_bytes : (kind n : ℕ) → AreBytes (last_of kind ∷ replicate n 0)
+pub suited_bytes : (kind n : ℕ) → AreBytes (last_of kind ∷ replicate n 0)
 suited_bytes kind n = (last_is_byte kind, zeros n)
 
 high_test : (kind m n : ℕ) → m ≡ n → (is_of_connection kind && nat_lt 0 m) ≡ false → (is_of_connection kind && nat_lt 0 n) ≡ false

@@ -1,7 +1,8 @@
 -- Frames: what nine bytes of header and a payload say, and the rules that one frame keeps by itself (RFC 9113, sections 4 and 6).
 use Rattle.std.specs.Prelude.{◌≡◌, ℕ, ◌+◌, ◌-◌, ◌*◌, ◌/◌, ◌%◌, Bool, true, false, List, [], ◌∷◌, ◌++◌, length, nat_lt, nat_le, ◌&&◌, ◌||◌, ◌==◌, not, IsTrue, if◌then◌else◌, bit_and}
-use Rattle.h2_frame.specs.declared.kinds.TheConstants.{DATA, HEADERS, PRIORITY, RST_STREAM, SETTINGS, PING, GOAWAY, WINDOW_UPDATE, CONTINUATION}
-use Rattle.h2_frame.specs.declared.flags.TheConstants.{ACK, PADDED, PRIORITY as WITH_PRIORITY}
+-- (a payload has at most the first value of SETTINGS_MAX_FRAME_SIZE, section 6.5.2)
+pub use Rattle.grpc_base.specs.Limits.{payload_limit}
+use Rattle.h2_frame.specs.Numbers.{data_type, headers_type, priority_type, rst_stream_type, settings_type, ping_type, goaway_type, window_update_type, continuation_type, ack_flag, padded_flag, priority_flag}
 
 -- what a frame says
 pub record FrameSeen : Type 0 where
@@ -9,10 +10,6 @@ pub record FrameSeen : Type 0 where
   pub flags : ℕ
   pub stream : ℕ
   pub payload : List ℕ
-
--- the most bytes that a payload may have: the first value of SETTINGS_MAX_FRAME_SIZE (section 6.5.2)
-abbrev pub payload_limit : ℕ
-payload_limit = 16384
 
 -- a number of 24 bits, the highest byte first
 abbrev pub number_24 : ℕ → ℕ → ℕ → ℕ
@@ -28,11 +25,11 @@ has_flag flags flag = not (bit_and flags flag == 0)
 
 -- whether the payload begins with a Pad Length field (sections 6.1 and 6.2)
 abbrev pub is_padded : ℕ → ℕ → Bool
-is_padded kind flags = ((kind == DATA) || (kind == HEADERS)) && has_flag flags PADDED
+is_padded kind flags = ((kind == data_type) || (kind == headers_type)) && has_flag flags padded_flag
 
 -- whether the payload has priority fields (section 6.2)
 abbrev pub has_priority : ℕ → ℕ → Bool
-has_priority kind flags = (kind == HEADERS) && has_flag flags WITH_PRIORITY
+has_priority kind flags = (kind == headers_type) && has_flag flags priority_flag
 
 -- how many bytes these fields take: one for Pad Length, five for the priority
 abbrev pub fields_size : ℕ → ℕ → ℕ
@@ -41,27 +38,27 @@ fields_size kind flags = (if is_padded kind flags then 1 else 0) + (if has_prior
 -- the lengths that a frame type allows (sections 6.3 to 6.5 and 6.7 to 6.9)
 abbrev pub kind_allows_length : ℕ → ℕ → Bool
 kind_allows_length kind len =
-    if kind == PRIORITY then len == 5
-    else if (kind == RST_STREAM) || (kind == WINDOW_UPDATE) then len == 4
-    else if kind == SETTINGS then len % 6 == 0
-    else if kind == PING then len == 8
-    else if kind == GOAWAY then nat_le 8 len
+    if kind == priority_type then len == 5
+    else if (kind == rst_stream_type) || (kind == window_update_type) then len == 4
+    else if kind == settings_type then len % 6 == 0
+    else if kind == ping_type then len == 8
+    else if kind == goaway_type then nat_le 8 len
     else true
 
 -- the lengths that the flags allow: an acknowledgement of settings is empty, and the fields have room (sections 6.1, 6.2 and 6.5)
 abbrev pub flags_allow_length : ℕ → ℕ → ℕ → Bool
 flags_allow_length kind flags len =
-    if kind == SETTINGS then not (has_flag flags ACK) || (len == 0)
+    if kind == settings_type then not (has_flag flags ack_flag) || (len == 0)
     else nat_le (fields_size kind flags) len
 
 -- the frame types that speak of the connection as a whole (sections 6.5, 6.7 and 6.8)
 abbrev pub is_of_connection : ℕ → Bool
-is_of_connection kind = (kind == SETTINGS) || (kind == PING) || (kind == GOAWAY)
+is_of_connection kind = (kind == settings_type) || (kind == ping_type) || (kind == goaway_type)
 
 -- the frame types that speak of one stream (sections 6.1 to 6.4 and 6.10)
 abbrev pub is_of_stream : ℕ → Bool
 is_of_stream kind =
-    (kind == DATA) || (kind == HEADERS) || (kind == PRIORITY) || (kind == RST_STREAM) || (kind == CONTINUATION)
+    (kind == data_type) || (kind == headers_type) || (kind == priority_type) || (kind == rst_stream_type) || (kind == continuation_type)
 
 -- the streams that a frame type allows
 abbrev pub kind_allows_stream : ℕ → ℕ → Bool
@@ -75,7 +72,7 @@ is_overpadded kind flags len (pad ∷ rest) = is_padded kind flags && nat_lt (le
 
 -- whether a window of the connection is to grow by nothing (section 6.9)
 abbrev pub is_zero_update : ℕ → ℕ → List ℕ → Bool
-is_zero_update kind stream (a ∷ b ∷ c ∷ d ∷ rest) = (kind == WINDOW_UPDATE) && (stream == 0) && (number_31 a b c d == 0)
+is_zero_update kind stream (a ∷ b ∷ c ∷ d ∷ rest) = (kind == window_update_type) && (stream == 0) && (number_31 a b c d == 0)
 is_zero_update kind stream _ = false
 
 -- the rules whose breach is a PROTOCOL_ERROR: streams, padding, increments

@@ -1,3 +1,4 @@
 pub mod Frames
+pub mod Numbers
 pub mod Readings
 pub mod Steps

@@ -1,7 +1,7 @@
 -- What some bytes are as frames: a frame in front, a proper prefix of one, or a fault, told at the earliest byte (RFC 9113, sections 4.1 and 4.2).
 use Rattle.std.specs.Prelude.{◌≡◌, ◌<◌, ◌≤◌, ◌⊎◌, ℕ, zero, suc, ◌+◌, ◌*◌, ◌%◌, Bool, Option, Some, None, List, [], ◌∷◌, ◌++◌, length, take, drop, nat_lt, nat_le, ◌&&◌, IsTrue, if◌then◌else◌, MatchOption}
 use Rattle.std.specs.List.{AllByRecursion}
-use Rattle.h2_frame.specs.declared.error_codes.TheConstants.{PROTOCOL_ERROR, FRAME_SIZE_ERROR}
+use Rattle.grpc_base.specs.ErrorCodes.{protocol_error, frame_size_error}
 use Rattle.h2_frame.specs.Frames.{FrameSeen, IsFrame, Spells, keeps_protocol, keeps_sizes, payload_limit, kind_allows_length, flags_allow_length, kind_allows_stream, is_of_connection, is_overpadded, is_zero_update}
 
 -- some bytes more make these bytes a frame
@@ -20,9 +20,10 @@ IsDead bytes = (more : List ℕ) (f : FrameSeen) → IsFrame (bytes ++ more) f �
 abbrev pub Breaks : (FrameSeen → Bool) → List ℕ → Type 0
 Breaks keeps bytes = (more : List ℕ) (f : FrameSeen) → Spells (bytes ++ more) f → IsTrue (keeps f) → ⊥
 
--- they can go on so that what they say keeps these rules
+-- some bytes more make them say what keeps these rules
 pub record CanKeep (keeps : FrameSeen → Bool) (bytes : List ℕ) : Type 0 where
   pub more : List ℕ
+  pub are_bytes : AllByRecursion (λ b. b < 256) more
   pub frame : FrameSeen
   pub spells : Spells (bytes ++ more) frame
   pub kept : IsTrue (keeps frame)
@@ -30,8 +31,8 @@ pub record CanKeep (keeps : FrameSeen → Bool) (bytes : List ℕ) : Type 0 wher
 -- the code of the first rule that they break: those of a PROTOCOL_ERROR stand before those of a FRAME_SIZE_ERROR
 abbrev pub IsCode : List ℕ → ℕ → Type 0
 IsCode bytes code =
-    ((code ≡ PROTOCOL_ERROR) × Breaks keeps_protocol bytes)
-    ⊎ ((code ≡ FRAME_SIZE_ERROR) × Breaks keeps_sizes bytes × CanKeep keeps_protocol bytes)
+    ((code ≡ protocol_error) × Breaks keeps_protocol bytes)
+    ⊎ ((code ≡ frame_size_error) × Breaks keeps_sizes bytes × CanKeep keeps_protocol bytes)
 
 -- the fault of some bytes: the first place at which they are no frame, however they go on, and its code
 pub record IsFault (bytes : List ℕ) (code : ℕ) : Type 0 where
@@ -50,8 +51,8 @@ pub data Reading : Type 0 where
 -- behind nine bytes of header: its payload, and what follows it
 abbrev pub reading_of_payload : ℕ → ℕ → ℕ → ℕ → List ℕ → Reading
 reading_of_payload len kind flags stream rest =
-    if is_overpadded kind flags len rest then Fault PROTOCOL_ERROR
-    else if is_zero_update kind stream rest then Fault PROTOCOL_ERROR
+    if is_overpadded kind flags len rest then Fault protocol_error
+    else if is_zero_update kind stream rest then Fault protocol_error
     else if nat_le len (length rest) then
     Whole (record { kind = kind; flags = flags; stream = stream; payload = take len rest }) (9 + len)
     else Partial
@@ -60,50 +61,50 @@ reading_of_payload len kind flags stream rest =
 abbrev pub reading_9 : ℕ → ℕ → ℕ → ℕ → List ℕ → Reading
 reading_9 len kind flags high [] = Partial
 reading_9 len kind flags high (s ∷ rest) =
-    if kind_allows_stream kind (high + s) then reading_of_payload len kind flags (high + s) rest else Fault PROTOCOL_ERROR
+    if kind_allows_stream kind (high + s) then reading_of_payload len kind flags (high + s) rest else Fault protocol_error
 
 abbrev pub reading_8 : ℕ → ℕ → ℕ → ℕ → List ℕ → Reading
 reading_8 len kind flags high [] = Partial
 reading_8 len kind flags high (r ∷ rest) =
-    if is_of_connection kind && nat_lt 0 (high + r * 256) then Fault PROTOCOL_ERROR
+    if is_of_connection kind && nat_lt 0 (high + r * 256) then Fault protocol_error
     else reading_9 len kind flags (high + r * 256) rest
 
 abbrev pub reading_7 : ℕ → ℕ → ℕ → ℕ → List ℕ → Reading
 reading_7 len kind flags high [] = Partial
 reading_7 len kind flags high (q ∷ rest) =
-    if is_of_connection kind && nat_lt 0 (high + q * 65536) then Fault PROTOCOL_ERROR
+    if is_of_connection kind && nat_lt 0 (high + q * 65536) then Fault protocol_error
     else reading_8 len kind flags (high + q * 65536) rest
 
 abbrev pub reading_6 : ℕ → ℕ → ℕ → List ℕ → Reading
 reading_6 len kind flags [] = Partial
 reading_6 len kind flags (p ∷ rest) =
-    if is_of_connection kind && nat_lt 0 (p % 128 * 16777216) then Fault PROTOCOL_ERROR
+    if is_of_connection kind && nat_lt 0 (p % 128 * 16777216) then Fault protocol_error
     else reading_7 len kind flags (p % 128 * 16777216) rest
 
 abbrev pub reading_5 : ℕ → ℕ → List ℕ → Reading
 reading_5 len kind [] = Partial
 reading_5 len kind (flags ∷ rest) =
-    if flags_allow_length kind flags len then reading_6 len kind flags rest else Fault FRAME_SIZE_ERROR
+    if flags_allow_length kind flags len then reading_6 len kind flags rest else Fault frame_size_error
 
 abbrev pub reading_4 : ℕ → List ℕ → Reading
 reading_4 len [] = Partial
-reading_4 len (kind ∷ rest) = if kind_allows_length kind len then reading_5 len kind rest else Fault FRAME_SIZE_ERROR
+reading_4 len (kind ∷ rest) = if kind_allows_length kind len then reading_5 len kind rest else Fault frame_size_error
 
 -- the third byte, the last of the length, whose higher ones make up `high`
 abbrev pub reading_3 : ℕ → List ℕ → Reading
 reading_3 high [] = Partial
-reading_3 high (c ∷ rest) = if nat_lt payload_limit (high + c) then Fault FRAME_SIZE_ERROR else reading_4 (high + c) rest
+reading_3 high (c ∷ rest) = if nat_lt payload_limit (high + c) then Fault frame_size_error else reading_4 (high + c) rest
 
 abbrev pub reading_2 : ℕ → List ℕ → Reading
 reading_2 high [] = Partial
 reading_2 high (b ∷ rest) =
-    if nat_lt payload_limit (high + b * 256) then Fault FRAME_SIZE_ERROR else reading_3 (high + b * 256) rest
+    if nat_lt payload_limit (high + b * 256) then Fault frame_size_error else reading_3 (high + b * 256) rest
 
 -- what the bytes are
 abbrev pub reading_of : List ℕ → Reading
 reading_of [] = Partial
 reading_of (a ∷ rest) =
-    if nat_lt payload_limit (a * 65536) then Fault FRAME_SIZE_ERROR else reading_2 (a * 65536) rest
+    if nat_lt payload_limit (a * 65536) then Fault frame_size_error else reading_2 (a * 65536) rest
 
 -- the bytes are these frames, one behind the other, and then the rest
 abbrev pub AreFrames : List ℕ → List FrameSeen → List ℕ → Type 0

@@ -24,6 +24,6 @@ pub enum FrameStep<'a> {
     Got { frame: Frame<'a>, len: usize },
     /// Less than a frame.
     More,
-    /// No frame, however the bytes go on; the code is one of `error_codes`.
+    /// No frame, however the bytes go on; the code is one of `error_code`.
     Bad { code: u32 },
 }

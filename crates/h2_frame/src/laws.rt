@@ -1,6 +1,10 @@
 // What holds of every text of frames; nothing runs.
 ghost use Rattle.std.specs.Prelude.{◌≡◌, ◌≤◌, ◌<◌, ◌^◌, ◌↔◌, ◌++◌, ℕ, List, Option, IsTrue, length, take};
-ghost use Rattle.h2_frame.specs.Frames.{FrameSeen, IsFrame, is_allowed, written};
+ghost use Rattle.h2_frame.specs.declared.kinds.TheConstants as kinds;
+ghost use Rattle.h2_frame.specs.declared.flags.TheConstants as flags;
+ghost use Rattle.h2_frame.specs.declared.rules.TheConstants.{PAYLOAD_LIMIT};
+ghost use Rattle.h2_frame.specs.Frames.{FrameSeen, IsFrame, is_allowed, payload_limit, written};
+ghost use Rattle.h2_frame.specs.Numbers.{data_type, headers_type, priority_type, rst_stream_type, settings_type, push_promise_type, ping_type, goaway_type, window_update_type, continuation_type, end_stream_flag, ack_flag, end_headers_flag, padded_flag, priority_flag};
 ghost use Rattle.h2_frame.specs.Readings.{Whole, Partial, Fault, IsProperPrefix, IsFault, IsReading, reading_of, frames_of, rest_of, fault_of};
 
 /// The table, byte by byte, says what the grammar says of whole frames.
@@ -33,4 +37,25 @@ pub fn pieces_join()
         IsReading (front ++ piece) (frames ++ others) end fault }
     ensures stay { (front piece : List ℕ) (frames : List FrameSeen) (rest : List ℕ) (code : ℕ) →
         IsReading front frames rest (Some code) → IsReading (front ++ piece) frames (rest ++ piece) (Some code) }
+{}
+
+/// The constants of `kinds` and `flags` are the numbers that RFC 9113 gives them (section 6), and the limit is that of
+/// section 6.5.2.
+pub fn numbers_are_the_standards()
+    ensures data { kinds.DATA ≡ data_type }
+    ensures headers { kinds.HEADERS ≡ headers_type }
+    ensures priority { kinds.PRIORITY ≡ priority_type }
+    ensures rst_stream { kinds.RST_STREAM ≡ rst_stream_type }
+    ensures settings { kinds.SETTINGS ≡ settings_type }
+    ensures push_promise { kinds.PUSH_PROMISE ≡ push_promise_type }
+    ensures ping { kinds.PING ≡ ping_type }
+    ensures goaway { kinds.GOAWAY ≡ goaway_type }
+    ensures window_update { kinds.WINDOW_UPDATE ≡ window_update_type }
+    ensures continuation { kinds.CONTINUATION ≡ continuation_type }
+    ensures end_stream { flags.END_STREAM ≡ end_stream_flag }
+    ensures ack { flags.ACK ≡ ack_flag }
+    ensures end_headers { flags.END_HEADERS ≡ end_headers_flag }
+    ensures padded { flags.PADDED ≡ padded_flag }
+    ensures with_priority { flags.PRIORITY ≡ priority_flag }
+    ensures limit { PAYLOAD_LIMIT ≡ payload_limit }
 {}

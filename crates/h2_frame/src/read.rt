@@ -1,15 +1,16 @@
-// The frame at the front of some bytes, read one byte of the header after the other, so that a fault is told at the first byte that shows it.
+// The frame at the front of some bytes.
 ghost use Rattle.std.specs.Prelude.{◌≡◌, ◌<◌, ◌≤◌, ◌^◌, ◌↔◌, ℕ, IsTrue, length, take};
 ghost use Rattle.h2_frame.specs.Frames.{IsFrame, kind_allows_length, flags_allow_length, kind_allows_stream};
-ghost use Rattle.h2_frame.specs.Readings.{IsProperPrefix, IsFault, reading_of, reading_4, reading_6, reading_of_payload};
-ghost use Rattle.h2_frame.specs.Steps.{IfGot, seen, told};
+ghost use Rattle.h2_frame.specs.Readings.{IsProperPrefix, IsFault, reading_of, reading_of_payload};
+ghost use Rattle.h2_frame.specs.Steps.{IfGot, seen, told, reading_of_header};
 
-use crate::error_codes::{FRAME_SIZE_ERROR, PROTOCOL_ERROR};
+use crate::part::read_part;
 use crate::rules::{
-    PAYLOAD_LIMIT, flags_allow_length, is_of_connection, is_overpadded, is_zero_update,
+    PAYLOAD_LIMIT, WITHOUT_RESERVED_BIT, flags_allow_length, is_overpadded, is_zero_update,
     kind_allows_length, kind_allows_stream,
 };
 use crate::{Frame, FrameStep};
+use grpc_base::error_code::{FRAME_SIZE_ERROR, PROTOCOL_ERROR};
 
 const HEADER_SIZE: usize = 9;
 
@@ -26,112 +27,42 @@ pub fn next_frame<'a>(bytes: &'a [u8]) -> FrameStep<'a>
     // All three at once, as a function of the bytes.
     ensures exact { told result ≡ reading_of bytes.now }
 {
-    read_length(bytes)
+    read_front(bytes)
 }
 
-// The three bytes of the length.
-fn read_length<'a>(bytes: &'a [u8]) -> FrameStep<'a>
+// The header at once where all of it is there, and else byte by byte.
+fn read_front<'a>(bytes: &'a [u8]) -> FrameStep<'a>
     ensures { told result ≡ reading_of bytes.now }
 {
-    let [a, rest @ ..] = bytes else {
-        return FrameStep::More;
-    };
-    let highest = u32::from(*a) * 65536;
-    if highest > PAYLOAD_LIMIT {
-        return FrameStep::Bad {
-            code: FRAME_SIZE_ERROR,
-        };
+    match bytes {
+        [a, b, c, kind, flags, p, q, r, s, payload @ ..] => {
+            let length = u32::from_be_bytes([0, *a, *b, *c]);
+            let stream = u32::from_be_bytes([*p, *q, *r, *s]) & WITHOUT_RESERVED_BIT;
+            read_header(length, *kind, *flags, stream, payload)
+        }
+        _ => read_part(bytes),
     }
-    let [b, rest @ ..] = rest else {
-        return FrameStep::More;
-    };
-    let higher = highest + u32::from(*b) * 256;
-    if higher > PAYLOAD_LIMIT {
-        return FrameStep::Bad {
-            code: FRAME_SIZE_ERROR,
-        };
-    }
-    let [c, rest @ ..] = rest else {
-        return FrameStep::More;
-    };
-    let length = higher + u32::from(*c);
-    if length > PAYLOAD_LIMIT {
-        return FrameStep::Bad {
-            code: FRAME_SIZE_ERROR,
-        };
-    }
-    read_type(length, rest)
 }
 
-// The frame type and the flags.
-fn read_type<'a>(length: u32, bytes: &'a [u8]) -> FrameStep<'a>
-    requires { length ≤ 16384 }
-    ensures { told result ≡ reading_4 length bytes.now }
+// What a whole header says, and then the payload.
+fn read_header<'a>(length: u32, kind: u8, flags: u8, stream: u32, bytes: &'a [u8]) -> FrameStep<'a>
+    requires in_range { stream < 2 ^ 31 }
+    ensures { told result ≡ reading_of_header length kind flags stream bytes.now }
 {
-    let [kind, rest @ ..] = bytes else {
-        return FrameStep::More;
-    };
-    if !kind_allows_length(*kind, length) {
+    if length > PAYLOAD_LIMIT
+        || !kind_allows_length(kind, length)
+        || !flags_allow_length(kind, flags, length)
+    {
         return FrameStep::Bad {
             code: FRAME_SIZE_ERROR,
         };
     }
-    let [flags, rest @ ..] = rest else {
-        return FrameStep::More;
-    };
-    if !flags_allow_length(*kind, *flags, length) {
-        return FrameStep::Bad {
-            code: FRAME_SIZE_ERROR,
-        };
-    }
-    read_stream(length, *kind, *flags, rest)
-}
-
-// The stream's number, whose reserved bit is ignored.
-fn read_stream<'a>(length: u32, kind: u8, flags: u8, bytes: &'a [u8]) -> FrameStep<'a>
-    requires within { length ≤ 16384 }
-    requires by_kind { IsTrue (kind_allows_length kind length) }
-    requires by_flags { IsTrue (flags_allow_length kind flags length) }
-    ensures { told result ≡ reading_6 length kind flags bytes.now }
-{
-    let of_connection = is_of_connection(kind);
-    let [p, rest @ ..] = bytes else {
-        return FrameStep::More;
-    };
-    let high = u32::from(*p % 128) * 16777216;
-    if of_connection && high > 0 {
-        return FrameStep::Bad {
-            code: PROTOCOL_ERROR,
-        };
-    }
-    let [q, rest @ ..] = rest else {
-        return FrameStep::More;
-    };
-    let high = high + u32::from(*q) * 65536;
-    if of_connection && high > 0 {
-        return FrameStep::Bad {
-            code: PROTOCOL_ERROR,
-        };
-    }
-    let [r, rest @ ..] = rest else {
-        return FrameStep::More;
-    };
-    let high = high + u32::from(*r) * 256;
-    if of_connection && high > 0 {
-        return FrameStep::Bad {
-            code: PROTOCOL_ERROR,
-        };
-    }
-    let [s, rest @ ..] = rest else {
-        return FrameStep::More;
-    };
-    let stream = high + u32::from(*s);
     if !kind_allows_stream(kind, stream) {
         return FrameStep::Bad {
             code: PROTOCOL_ERROR,
         };
     }
-    read_payload(length, kind, flags, stream, rest)
+    read_payload(length, kind, flags, stream, bytes)
 }
 
 // The payload, which is looked at as far as it has come.

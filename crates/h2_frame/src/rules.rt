@@ -6,9 +6,13 @@ use crate::flags;
 use crate::kinds::{
     CONTINUATION, DATA, GOAWAY, HEADERS, PING, PRIORITY, RST_STREAM, SETTINGS, WINDOW_UPDATE,
 };
+use grpc_base::limits::PAYLOAD_BYTES;
 
 /// The most bytes that a payload may have.
-pub const PAYLOAD_LIMIT: u32 = 16_384;
+pub const PAYLOAD_LIMIT: u32 = PAYLOAD_BYTES as u32;
+
+/// The bits of a stream's number or an increment, which follow a reserved bit.
+pub const WITHOUT_RESERVED_BIT: u32 = 0x7fff_ffff;
 
 fn has_flag(flags: u8, flag: u8) -> bool
     ensures { result ≡ has_flag flags flag }
@@ -94,7 +98,7 @@ pub fn is_zero_update(kind: u8, stream: u32, payload: &[u8]) -> bool
         [a, b, c, d, ..] => {
             kind == WINDOW_UPDATE
                 && stream == 0
-                && u32::from_be_bytes([*a, *b, *c, *d]) & 0x7fff_ffff == 0
+                && u32::from_be_bytes([*a, *b, *c, *d]) & WITHOUT_RESERVED_BIT == 0
         }
         _ => false,
     }

@@ -24,17 +24,7 @@ pub fn write_frame(out: &mut BytesMut, frame: &Frame) -> Result<(), NoMemory>
 fn header_of(frame: &Frame) -> [u8; 9]
     ensures { result ≡ bytes_24 (length frame.now.payload.now) ++ frame.now.kind ∷ frame.now.flags ∷ bytes_32 frame.now.stream }
 {
-    let length = frame.payload.len();
-    let stream = frame.stream;
-    [
-        (length / 65536) as u8,
-        (length / 256 % 256) as u8,
-        (length % 256) as u8,
-        frame.kind,
-        frame.flags,
-        (stream / 16777216) as u8,
-        (stream / 65536 % 256) as u8,
-        (stream / 256 % 256) as u8,
-        (stream % 256) as u8,
-    ]
+    let [_, a, b, c] = (frame.payload.len() as u32).to_be_bytes();
+    let [p, q, r, s] = frame.stream.to_be_bytes();
+    [a, b, c, frame.kind, frame.flags, p, q, r, s]
 }

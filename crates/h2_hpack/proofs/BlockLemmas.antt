@@ -1,11 +1,11 @@
--- One form less of a block.
+-- One representation less of a block.
 use Rattle.std.proofs.Common.{◌≡◌, ℕ, zero, suc, ◌-◌, ◌≤◌, List, [], ◌∷◌, ◌++◌, length, take, drop, refl, sym, ◌∙◌, ap, arith, Ok, Err, Result}
 use Rattle.std.specs.Prelude.{slice_index_or}
 use Rattle.std.proofs.lemmas.List.{take_all}
 use Rattle.grpc_base.specs.declared.fields.Field.{Field}
 use Rattle.h2_hpack.specs.declared.fault.HpackFault.{HpackFault}
 use Rattle.h2_hpack.specs.Blocks.{Reading, State, and_then, decoded, fields_from, fields_in, next_as, reading_from, state_after, table_in}
-use Rattle.h2_hpack.specs.Forms.{form_of}
+use Rattle.h2_hpack.specs.Kinds.{kind_of}
 
 -- what is read from some place on, with a bound that is high enough
 pub record ReadsTo (rest : List ℕ) (r : Reading) (whole : Result Reading HpackFault) : Type 0 where
@@ -13,12 +13,12 @@ pub record ReadsTo (rest : List ℕ) (r : Reading) (whole : Result Reading Hpack
   pub enough : length rest ≤ most
   pub same : reading_from rest most r ≡ whole
 
-pub after_one : (bytes rest : List ℕ) (most : ℕ) (r next : Reading) (whole : Result Reading HpackFault) → 1 ≤ length bytes → length bytes ≤ most → reading_from bytes most r ≡ whole → next_as (form_of (slice_index_or bytes 0 0)) r (slice_index_or bytes 0 0) (take (length bytes - 1) (drop 1 bytes)) ≡ Ok (next, rest) → length rest ≤ length (take (length bytes - 1) (drop 1 bytes)) → ReadsTo rest next whole
+pub after_one : (bytes rest : List ℕ) (most : ℕ) (r next : Reading) (whole : Result Reading HpackFault) → 1 ≤ length bytes → length bytes ≤ most → reading_from bytes most r ≡ whole → next_as (kind_of (slice_index_or bytes 0 0)) r (slice_index_or bytes 0 0) (take (length bytes - 1) (drop 1 bytes)) ≡ Ok (next, rest) → length rest ≤ length (take (length bytes - 1) (drop 1 bytes)) → ReadsTo rest next whole
 after_one [] rest most r next whole some enough same one shorter = absurd (omega (arith, some))
 after_one (b ∷ bytes) rest zero r next whole some enough same one shorter = absurd (omega (arith, enough))
 after_one (b ∷ bytes) rest (suc most) r next whole some enough same one shorter =
     let after : take (length (b ∷ bytes) - 1) bytes ≡ bytes = take_all (length (b ∷ bytes) - 1) bytes (omega arith) in
-    let read : next_as (form_of b) r b bytes ≡ Ok (next, rest) = rw after at one in
+    let read : next_as (kind_of b) r b bytes ≡ Ok (next, rest) = rw after at one in
     let less : length rest ≤ length bytes = rw after at shorter in
     record { most = most; enough = omega (arith, less, enough); same = sym (ap (λ x. and_then x (λ y. reading_from y.1 most y.0)) read) ∙ same }
 

@@ -1,9 +1,11 @@
 -- The bytes of the fields so far.
-use Rattle.std.proofs.Common.{◌≡◌, ℕ, ◌+◌, ◌<◌, ◌≤◌, List, [], ◌∷◌, ◌++◌, length, take, get_or, sym, ◌∙◌, ap}
+use Rattle.std.proofs.Common.{◌≡◌, ℕ, ◌+◌, ◌<◌, ◌≤◌, List, [], ◌∷◌, ◌++◌, length, take, get_or, refl, sym, ◌∙◌, ap, Option, Some, None}
 use Rattle.std.proofs.lemmas.List.{append-nil, take_more, take_all}
 use Rattle.std.proofs.lemmas.Grind.{flat_map-append}
 use Rattle.grpc_base.specs.declared.fields.Field.{Field}
-use Rattle.h2_hpack.specs.Encoding.{field_bytes, block_bytes}
+use Rattle.h2_hpack.specs.declared.lookup.StaticMatch.{StaticMatch}
+use Rattle.h2_hpack.specs.declared.lookup.StaticMatch.TheVariants as matches
+use Rattle.h2_hpack.specs.Encoding.{field_bytes, block_bytes, index_where, match_of, name_bytes, pair_bytes, same_name, same_pair, text_bytes}
 
 pub written : (fields : List Field) (i : ℕ) (f : Field) → f ≡ get_or fields i f → i < length fields → block_bytes (take (i + 1) fields) ≡ block_bytes (take i fields) ++ field_bytes f
 written fields i f is below =
@@ -12,3 +14,39 @@ written fields i f is below =
 
 pub all_written : (fields : List Field) (i : ℕ) → length fields ≤ i → block_bytes (take i fields) ≡ block_bytes fields
 all_written fields i all = ap block_bytes (take_all i fields all)
+
+-- what a match says of both searches
+pair_found : (p n : Option ℕ) (i : ℕ) → matches.Pair i ≡ match_of p n → p ≡ Some i
+pair_found (Some j) n i h = cc h
+pair_found None (Some j) i h = absurd (cc h)
+pair_found None None i h = absurd (cc h)
+
+name_found : (p n : Option ℕ) (i : ℕ) → matches.Name i ≡ match_of p n → (p ≡ None) × (n ≡ Some i)
+name_found (Some j) n i h = absurd (cc h)
+name_found None (Some j) i h = (refl, cc h)
+name_found None None i h = absurd (cc h)
+
+nothing_found : (p n : Option ℕ) → matches.Nothing ≡ match_of p n → (p ≡ None) × (n ≡ None)
+nothing_found (Some j) n h = absurd (cc h)
+nothing_found None (Some j) h = absurd (cc h)
+nothing_found None None h = (refl, refl)
+
+-- the match of a field
+abbrev pub Matches : Field → StaticMatch → Type 0
+Matches f m = m ≡ match_of (index_where (same_pair f.name f.value)) (index_where (same_name f.name))
+
+pub matched : (f : Field) (name value : List ℕ) (m : StaticMatch) → name ≡ f.name → value ≡ f.value → m ≡ match_of (index_where (same_pair name value)) (index_where (same_name name)) → Matches f m
+matched f name value m n v is = is ∙ ap (λ l. match_of (index_where (same_pair l value)) (index_where (same_name l))) n ∙ ap (λ l. match_of (index_where (same_pair f.name l)) (index_where (same_name f.name))) v
+
+pub pair_written : (f : Field) (i : ℕ) → Matches f (matches.Pair i) → pair_bytes f (Some i) ≡ field_bytes f
+pair_written f i h = sym (ap (pair_bytes f) (pair_found (index_where (same_pair f.name f.value)) (index_where (same_name f.name)) i h))
+
+pub name_written : (f : Field) (i : ℕ) (value : List ℕ) → value ≡ f.value → Matches f (matches.Name i) → name_bytes f.name (Some i) ++ text_bytes value ≡ field_bytes f
+name_written f i value v h =
+    let found = name_found (index_where (same_pair f.name f.value)) (index_where (same_name f.name)) i h in
+    ap (λ l. name_bytes f.name (Some i) ++ text_bytes l) v ∙ sym (ap (pair_bytes f) found.0 ∙ ap (λ o. name_bytes f.name o ++ text_bytes f.value) found.1)
+
+pub nothing_written : (f : Field) (name value : List ℕ) → name ≡ f.name → value ≡ f.value → Matches f matches.Nothing → name_bytes name None ++ text_bytes value ≡ field_bytes f
+nothing_written f name value n v h =
+    let found = nothing_found (index_where (same_pair f.name f.value)) (index_where (same_name f.name)) h in
+    ap (λ l. name_bytes l None ++ text_bytes value) n ∙ ap (λ l. name_bytes f.name None ++ text_bytes l) v ∙ sym (ap (pair_bytes f) found.0 ∙ ap (λ o. name_bytes f.name o ++ text_bytes f.value) found.1)

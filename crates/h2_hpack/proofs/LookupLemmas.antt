@@ -1,9 +1,10 @@
 -- An index past the static table is one of the dynamic table.
-use Rattle.std.proofs.Common.{◌≡◌, ℕ, zero, suc, ◌+◌, ◌-◌, ◌<◌, ◌≤◌, List, [], ◌∷◌, ◌++◌, length, refl, ap, sym, ◌∙◌, arith, Some, None, Bool, true, false, cond, drop}
-use Rattle.std.specs.Prelude.{slice_get, option_map, unwrap_or}
+use Rattle.std.proofs.Common.{◌≡◌, ℕ, zero, suc, ◌+◌, ◌-◌, ◌<◌, ◌≤◌, List, [], ◌∷◌, ◌++◌, length, refl, ap, sym, ◌∙◌, arith, Some, None, Bool, true, false, ◌&&◌, cond, drop, Option}
+use Rattle.std.specs.Prelude.{bytes_eq, is_some, slice_get, option_map, unwrap_or}
 use Rattle.std.specs.List.{position_from}
+use Rattle.std.proofs.lemmas.Bool.{false≢true}
 use Rattle.std.proofs.lemmas.List.{drop_all}
-use Rattle.h2_hpack.specs.Encoding.{index_where, is_at}
+use Rattle.h2_hpack.specs.Encoding.{index_where, is_at, same_name, same_pair}
 use Rattle.grpc_base.specs.declared.fields.Field.{Field}
 use Rattle.h2_hpack.specs.StaticTable.{static_table}
 use Rattle.h2_hpack.specs.Tables.{Table, field_at}
@@ -63,3 +64,32 @@ nothing_left place h = drop_all place static_table (omega (arith, static_length,
 
 pub sought_nowhere : (test : Field → Bool) (place : ℕ) → 61 ≤ place → IsSought test place → index_where test ≡ None
 sought_nowhere test place h so = so ∙ ap (position_from test (place + 1)) (nothing_left place h)
+
+-- the search for a name, or what it found
+abbrev pub IsNameSought : (Field → Bool) → ℕ → Option ℕ → Type 0
+IsNameSought test place None = IsSought test place
+IsNameSought test place (Some index) = index_where test ≡ Some index
+
+pub name_next : (test : Field → Bool) (place : ℕ) (named : Option ℕ) → place < 61 → IsNameSought test place named → is_at test place ≡ false → IsNameSought test (place + 1) named
+name_next test place None below so is = sought_next test place below so is
+name_next test place (Some index) below so is = so
+
+pub name_here : (test : Field → Bool) (place : ℕ) (named : Option ℕ) → is_some named ≡ false → place < 61 → IsNameSought test place named → is_at test place ≡ true → IsNameSought test (place + 1) (Some (place + 1))
+name_here test place None none below so is = sought_here test place below so is
+name_here test place (Some index) none below so is = absurd (false≢true (sym none))
+
+pub name_kept : (test : Field → Bool) (place : ℕ) (named : Option ℕ) → is_some named ≡ true → IsNameSought test place named → IsNameSought test (place + 1) named
+name_kept test place None some so = absurd (false≢true some)
+name_kept test place (Some index) some so = so
+
+pub name_nowhere : (test : Field → Bool) (place : ℕ) (named : Option ℕ) → 61 ≤ place → IsNameSought test place named → index_where test ≡ named
+name_nowhere test place None all so = sought_nowhere test place all so
+name_nowhere test place (Some index) all so = so
+
+-- another name is another pair
+other_name : (name value : List ℕ) (o : Option Field) → unwrap_or (option_map (same_name name) o) false ≡ false → unwrap_or (option_map (same_pair name value) o) false ≡ false
+other_name name value None h = refl
+other_name name value (Some entry) h = ap (λ b. b && bytes_eq entry.value value) h
+
+pub no_pair : (name value : List ℕ) (place : ℕ) → is_at (same_name name) place ≡ false → is_at (same_pair name value) place ≡ false
+no_pair name value place h = other_name name value (slice_get static_table place) h

@@ -1,5 +1,5 @@
 -- A decoder reads what the encoder writes, whatever its table.
-use Rattle.std.proofs.Common.{◌≡◌, ℕ, zero, suc, ◌+◌, ◌-◌, ◌*◌, ◌/◌, ◌%◌, ◌^◌, ◌<◌, ◌≤◌, Bool, true, false, nat_le, List, [], ◌∷◌, ◌++◌, length, take, drop, refl, sym, ◌∙◌, ap, arith, append_assoc, length-append, Option, Some, None, Ok, inl, inr, lit≤}
+use Rattle.std.proofs.Common.{◌≡◌, ℕ, zero, suc, ◌+◌, ◌-◌, ◌*◌, ◌/◌, ◌%◌, ◌^◌, ◌<◌, ◌≤◌, Bool, true, false, nat_le, List, [], ◌∷◌, ◌++◌, length, refl, sym, ◌∙◌, ap, arith, append_assoc, length-append, Option, Some, None, Ok, inl, inr, lit≤}
 use Rattle.std.specs.Prelude.{ok_or, bytes_eq, slice_get}
 use Rattle.std.specs.List.{position_from}
 use Rattle.std.proofs.Math.Nat.{pow-succ'}
@@ -7,13 +7,14 @@ use Rattle.std.proofs.lemmas.Bool.{and_parts, cases_Bool, cases_lt, lt-ltb, le-l
 use Rattle.std.proofs.lemmas.List.{append-nil}
 use Rattle.grpc_base.specs.declared.fields.Field.{Field}
 use Rattle.h2_hpack.specs.declared.fault.HpackFault.TheVariants.{BadInteger, BadHuffman}
-use Rattle.h2_hpack.specs.declared.form.Form.TheVariants.{Indexed, Plain}
-use Rattle.h2_hpack.specs.Blocks.{and_then, raw_text, raw_text_at, text_of, text_at, literal_at, indexed_at, with_field, next_as, reading_from, block_of}
+use Rattle.h2_hpack.specs.declared.kind.Kind.TheVariants.{Indexed, LiteralWithoutIndexing}
+use Rattle.h2_hpack.specs.Blocks.{and_then, raw_string_at, text_of, text_at, literal_at, indexed_at, with_field, next_as, reading_from, block_of}
 use Rattle.h2_hpack.specs.Encoding.{same_name, same_pair, index_where, text_bytes, name_bytes, pair_bytes, field_bytes, block_bytes}
-use Rattle.h2_hpack.specs.Forms.{form_of}
+use Rattle.h2_hpack.specs.Kinds.{kind_of}
 use Rattle.h2_hpack.specs.Integers.{tail_at, integer_at, tail_bytes, integer_bytes}
 use Rattle.h2_hpack.specs.StaticTable.{static_table}
 use Rattle.h2_hpack.specs.Tables.{Table, field_at, field_size, list_size, list_limit}
+use Rattle.h2_hpack.proofs.ExactStrings.{raw_reads}
 use Rattle.h2_hpack.proofs.LookupLemmas.{static_length}
 use Rattle.h2_hpack.proofs.TableLemmas.{list_size-append}
 use Rattle.h2_hpack.proofs.WalkLemmas.{list_eq}
@@ -79,25 +80,13 @@ seven_bits_marked k h = let below : k < 128 = h in omega (arith, below)
 four_bits : (k : ℕ) → k < 2 ^ 4 → (0 + k) % 2 ^ 4 ≡ k
 four_bits k h = let below : k < 16 = h in omega (arith, below)
 
-take-front : (xs ys : List ℕ) → take (length xs) (xs ++ ys) ≡ xs
-take-front [] ys = refl
-take-front (x ∷ xs) ys = ap (λ l. x ∷ l) (take-front xs ys)
-
-drop-front : (xs ys : List ℕ) → drop (length xs) (xs ++ ys) ≡ ys
-drop-front [] ys = refl
-drop-front (x ∷ xs) ys = drop-front xs ys
-
-raw_reads : (text rest : List ℕ) → raw_text false (length text, text ++ rest) ≡ Some (record { huffman = false; bytes = text; rest = rest })
-raw_reads text rest =
-    rw (le-leb (length text) (length (text ++ rest)) (omega (arith, length-append text rest)), take-front text rest, drop-front text rest) refl
-
 -- a text is read as it was written
 pub text_reads : (text rest : List ℕ) → length text ≤ 16384 → text_at (text_bytes text ++ rest) ≡ Ok (text, rest)
 text_reads text rest within =
     let r = integer_reads 7 0 (length text) (text ++ rest) (lit≤ tt) (lit≤ tt) seven_bits (omega (arith, within)) in
     let low : nat_le 128 r.first ≡ false = lt-leb 128 r.first r.most in
-    let raw : raw_text_at (r.first ∷ r.after) ≡ Some (record { huffman = false; bytes = text; rest = rest }) =
-    rw (low, r.read) (raw_reads text rest) in
+    let raw : raw_string_at (r.first ∷ r.after) ≡ Some (record { huffman = false; bytes = text; rest = rest }) =
+    rw (low, r.read) (raw_reads false text rest) in
     let all : text_bytes text ++ rest ≡ r.first ∷ r.after = append_assoc (integer_bytes 7 0 (length text)) text rest ∙ r.written in
     rw all (ap (λ o. and_then (ok_or o BadInteger) (λ x. and_then (ok_or (text_of x.huffman x.bytes) BadHuffman) (λ y. Ok (y, x.rest)))) raw)
 
@@ -154,7 +143,7 @@ pub record FieldReads (t : Table) (done : List Field) (f : Field) (rest : List �
   pub first : ℕ
   pub after : List ℕ
   pub written : field_bytes f ++ rest ≡ first ∷ after
-  pub read : next_as (form_of first) (record { fields = done; table = t }) first after ≡ and_then (with_field done f t) (λ next. Ok (next, rest))
+  pub read : next_as (kind_of first) (record { fields = done; table = t }) first after ≡ and_then (with_field done f t) (λ next. Ok (next, rest))
   pub shorter : length rest ≤ length after
 
 -- a field by its index
@@ -164,21 +153,21 @@ pair_reads t done f rest index found =
     let r = integer_reads 7 128 index rest (lit≤ tt) (lit≤ tt) seven_bits_marked (omega (arith, s.low)) in
     let parts = and_parts (bytes_eq s.entry.name f.name) (bytes_eq s.entry.value f.value) s.passed in
     let same : s.entry ≡ f = same_field s.entry f (list_eq s.entry.name f.name parts.0) (list_eq s.entry.value f.value parts.1) in
-    let form : form_of r.first ≡ Indexed = rw (le-leb 128 r.first r.least) refl in
+    let kind : kind_of r.first ≡ Indexed = rw (le-leb 128 r.first r.least) refl in
     let read : indexed_at t r.first r.after ≡ Ok (f, rest) = rw (r.read, s.index_is, s.there t, same) refl in
     record {
       first = r.first;
       after = r.after;
       written = ap (λ o. pair_bytes f o ++ rest) found ∙ r.written;
-      read = rw (form, read) refl;
+      read = rw (kind, read) refl;
       shorter = r.shorter;
     }
   where
     same_field : (e f : Field) → e.name ≡ f.name → e.value ≡ f.value → e ≡ f
     same_field e f n v = λ i. record { name = n i; value = v i }
 
-plain_form : (first : ℕ) → first < 32 → form_of first ≡ Plain
-plain_form first low = rw (lt-leb 128 first (omega (arith, low)), lt-leb 64 first (omega (arith, low)), lt-leb 32 first (omega (arith, low))) refl
+without_indexing : (first : ℕ) → first < 16 → kind_of first ≡ LiteralWithoutIndexing
+without_indexing first low = rw (lt-leb 128 first (omega (arith, low)), lt-leb 64 first (omega (arith, low)), lt-leb 32 first (omega (arith, low)), lt-leb 16 first (omega (arith, low))) refl
 
 -- a literal, whose name is read
 literal_reads : (t : Table) (done : List Field) (f : Field) (rest : List ℕ) → length f.name ≤ 16384 → length f.value ≤ 16384 → index_where (same_pair f.name f.value) ≡ None → (o : Option ℕ) → index_where (same_name f.name) ≡ o → FieldReads t done f rest
@@ -204,13 +193,13 @@ literal_reads t done f rest name_is value_is none (Some index) named =
     ap (λ o. pair_bytes f o ++ rest) none ∙ ap (λ o. name_bytes f.name o ++ text_bytes f.value ++ rest) named
     ∙ append_assoc (integer_bytes 4 0 index) (text_bytes f.value) rest ∙ r.written in
     let name : s.entry.name ≡ f.name = list_eq s.entry.name f.name s.passed in
-    let form : form_of r.first ≡ Plain = plain_form r.first (omega (arith, r.most)) in
+    let kind : kind_of r.first ≡ LiteralWithoutIndexing = without_indexing r.first (omega (arith, r.most)) in
     let read : literal_at t 4 r.first r.after ≡ Ok (f, rest) = rw (r.read, s.index_is, s.there t, name, text_reads f.value rest value_is) refl in
     record {
       first = r.first;
       after = r.after;
       written = all;
-      read = rw (form, read) refl;
+      read = rw (kind, read) refl;
       shorter = omega (arith, r.shorter, length-append (text_bytes f.value) rest);
     }
 
@@ -232,7 +221,7 @@ list_reads t done (f ∷ fields) most within enough =
     step r.first r.after most (omega (arith, enough, longer)) (r.read ∙ ap (λ x. and_then x (λ next. Ok (next, block_bytes fields))) one) r.written
     (λ k bound. list_reads t (done ++ f ∷ []) fields k rest_within (omega (arith, bound, r.shorter)) ∙ ap (λ x. Ok (record { fields = x; table = t })) regroup)
   where
-    step : (first : ℕ) (after : List ℕ) (most : ℕ) → suc (length after) ≤ most → next_as (form_of first) (record { fields = done; table = t }) first after ≡ Ok (record { fields = done ++ f ∷ []; table = t }, block_bytes fields) → block_bytes (f ∷ fields) ≡ first ∷ after → ((k : ℕ) → length after ≤ k → reading_from (block_bytes fields) k (record { fields = done ++ f ∷ []; table = t }) ≡ Ok (record { fields = done ++ f ∷ fields; table = t })) → reading_from (block_bytes (f ∷ fields)) most (record { fields = done; table = t }) ≡ Ok (record { fields = done ++ f ∷ fields; table = t })
+    step : (first : ℕ) (after : List ℕ) (most : ℕ) → suc (length after) ≤ most → next_as (kind_of first) (record { fields = done; table = t }) first after ≡ Ok (record { fields = done ++ f ∷ []; table = t }, block_bytes fields) → block_bytes (f ∷ fields) ≡ first ∷ after → ((k : ℕ) → length after ≤ k → reading_from (block_bytes fields) k (record { fields = done ++ f ∷ []; table = t }) ≡ Ok (record { fields = done ++ f ∷ fields; table = t })) → reading_from (block_bytes (f ∷ fields)) most (record { fields = done; table = t }) ≡ Ok (record { fields = done ++ f ∷ fields; table = t })
     step first after zero bound read written more = absurd (omega (arith, bound))
     step first after (suc k) bound read written more = rw (written, read) (more k (omega (arith, bound)))
 

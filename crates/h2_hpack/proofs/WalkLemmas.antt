@@ -1,13 +1,13 @@
--- The walk down the tree gives the symbols of Huffman text.
-use Rattle.std.proofs.Common.{◌≡◌, ℕ, zero, suc, ◌+◌, ◌-◌, ◌<◌, ◌≤◌, Bool, true, false, cond, ◌&&◌, ◌==◌, nat_le, nat_lt, List, [], ◌∷◌, ◌++◌, length, refl, sym, ◌∙◌, ap, arith, append_assoc, Option, Some, None, ◌/◌, ◌%◌, inl, inr, lit<, take, drop, get_or}
+-- The way down the tree gives the symbols of Huffman text.
+use Rattle.std.proofs.Common.{◌≡◌, ℕ, zero, suc, ◌+◌, ◌-◌, ◌<◌, ◌≤◌, Bool, true, false, cond, ◌&&◌, ◌==◌, nat_le, nat_lt, List, [], ◌∷◌, ◌++◌, refl, sym, ◌∙◌, ap, arith, append_assoc, Option, Some, None, ◌/◌, ◌%◌, inl, inr, lit<}
 use Rattle.std.specs.Prelude.{option_map, is_none, bytes_eq, find, flat_map, slice_index_or, not}
 use Rattle.std.specs.List.{AllByRecursion}
-use Rattle.std.proofs.lemmas.List.{append-nil, take_more, take_all, take-append-drop}
-use Rattle.std.proofs.lemmas.Grind.{flat_map-append}
+use Rattle.std.proofs.lemmas.List.{append-nil}
 use Rattle.std.proofs.lemmas.Bool.{agree_below, agree_below_at, and_parts, eqb-true, ltb-true, cases_Bool, false≢true, ne_eqb, eq-eqb, cases_lt, lt-ltb, le-ltb, leb-true}
 use Rattle.std.proofs.lemmas.Slice.Eq.{bytes_eq-Decides}
 use Rattle.h2_hpack.specs.Huffman.{SymbolCode, symbol_codes, code_lengths, is_padding, before_rest, symbols_from, symbols_of, byte_bits}
-use Rattle.h2_hpack.specs.Walk.{child_of, to_child, walk, at_end, Place}
+use Rattle.h2_hpack.specs.Walk.{at_end, Place}
+use Rattle.h2_hpack.proofs.Tree.{child_of, to_child, descend, nodes}
 use Rattle.h2_hpack.proofs.Paths.{paths}
 
 unfoldable pub path_of : ℕ → List ℕ
@@ -31,12 +31,12 @@ node_is_right table n =
     leads table (path_of n ++ 0 ∷ []) (child_of n 0) && (leads table (path_of n ++ 1 ∷ []) (child_of n 1) && cond (is_padding (path_of n)) (nat_le n 7) (not (nat_le n 7)))
 
 pub all_right : agree_below (node_is_right symbol_codes) (λ _. true) 256 ≡ true
-unfolding child_of path_of paths symbol_codes code_lengths
+unfolding nodes child_of path_of paths symbol_codes code_lengths
 all_right = refl
 
--- what follows a bit of the walk
-abbrev pub walk_on : List ℕ → Option Place → Option Place
-walk_on bits next = elim next [ None ↦ None | Some place ↦ walk bits place ]
+-- what follows a bit of the way
+abbrev pub descend_on : List ℕ → Option Place → Option Place
+descend_on bits next = elim next [ None ↦ None | Some place ↦ descend bits place ]
 
 -- what follows a bit of the text
 abbrev pub read_on : List ℕ → List ℕ → Option SymbolCode → Option (List ℕ)
@@ -44,7 +44,7 @@ read_on held bits code = elim code [ None ↦ symbols_from held bits | Some c �
 
 -- what the rest of the bits gives from any node is known
 abbrev pub RestGives : List ℕ → Type 0
-RestGives bits = (out : List ℕ) (node : ℕ) → node < 256 → at_end (walk bits (out, node)) ≡ option_map (λ ss. out ++ ss) (symbols_from (path_of node) bits)
+RestGives bits = (out : List ℕ) (node : ℕ) → node < 256 → at_end (descend bits (out, node)) ≡ option_map (λ ss. out ++ ss) (symbols_from (path_of node) bits)
 
 pub some_of_not_none : (o : Option SymbolCode) → is_none o ≡ true → o ≡ None
 some_of_not_none None h = refl
@@ -62,11 +62,11 @@ map_after out s None = refl
 map_after out s (Some ss) = ap Some (append_assoc out (s ∷ []) ss)
 
 -- a child that is a node
-pub to_node : (bits held out : List ℕ) (child : ℕ) → RestGives bits → child < 256 → code_in symbol_codes held ≡ None → path_of child ≡ held → at_end (walk_on bits (Some (out, child))) ≡ option_map (λ ss. out ++ ss) (read_on held bits (code_in symbol_codes held))
+pub to_node : (bits held out : List ℕ) (child : ℕ) → RestGives bits → child < 256 → code_in symbol_codes held ≡ None → path_of child ≡ held → at_end (descend_on bits (Some (out, child))) ≡ option_map (λ ss. out ++ ss) (read_on held bits (code_in symbol_codes held))
 to_node bits held out child rest below none is = rw none (rw (← is) (rest out child below))
 
 -- a child that is a symbol
-pub to_symbol : (bits out : List ℕ) (child s : ℕ) → RestGives bits → s + 256 ≡ child → s ≤ 256 → at_end (walk_on bits (cond (nat_lt child 512) (Some (out ++ (child - 256) ∷ [], 0)) None)) ≡ option_map (λ ss. out ++ ss) (before_rest s (symbols_from [] bits))
+pub to_symbol : (bits out : List ℕ) (child s : ℕ) → RestGives bits → s + 256 ≡ child → s ≤ 256 → at_end (descend_on bits (cond (nat_lt child 512) (Some (out ++ (child - 256) ∷ [], 0)) None)) ≡ option_map (λ ss. out ++ ss) (before_rest s (symbols_from [] bits))
 to_symbol bits out child s rest is within =
     elim (cases_lt s 256) [
       | inl small ↦
@@ -77,13 +77,13 @@ to_symbol bits out child s rest is within =
       | inr large ↦ rw (le-ltb child 512 (omega arith), eq-eqb s 256 (omega arith)) refl
     ]
 
-on_symbol : (bits held out : List ℕ) (child : ℕ) (code : Option SymbolCode) → RestGives bits → is_child_symbol child code ≡ true → at_end (walk_on bits (cond (nat_lt child 512) (Some (out ++ (child - 256) ∷ [], 0)) None)) ≡ option_map (λ ss. out ++ ss) (read_on held bits code)
+on_symbol : (bits held out : List ℕ) (child : ℕ) (code : Option SymbolCode) → RestGives bits → is_child_symbol child code ≡ true → at_end (descend_on bits (cond (nat_lt child 512) (Some (out ++ (child - 256) ∷ [], 0)) None)) ≡ option_map (λ ss. out ++ ss) (read_on held bits code)
 on_symbol bits held out child None rest right = absurd (false≢true right)
 on_symbol bits held out child (Some c) rest right =
     let parts = and_parts (c.symbol + 256 == child) (nat_le c.symbol 256) right in
     to_symbol bits out child c.symbol rest (eqb-true (c.symbol + 256) child parts.0) (leb-true c.symbol 256 parts.1)
 
-pub one_bit : (bits held out : List ℕ) (child : ℕ) → RestGives bits → leads symbol_codes held child ≡ true → at_end (walk_on bits (to_child out child)) ≡ option_map (λ ss. out ++ ss) (read_on held bits (code_in symbol_codes held))
+pub one_bit : (bits held out : List ℕ) (child : ℕ) → RestGives bits → leads symbol_codes held child ≡ true → at_end (descend_on bits (to_child out child)) ≡ option_map (λ ss. out ++ ss) (read_on held bits (code_in symbol_codes held))
 one_bit bits held out child rest right =
     elim (cases_Bool (nat_lt child 256)) [
       | inl node ↦
@@ -123,11 +123,11 @@ child_right node zero below bit = (right_at node below).left
 child_right node (suc zero) below bit = (right_at node below).right
 child_right node (suc (suc b)) below bit = absurd (omega arith)
 
-pub walk-symbols : (bits : List ℕ) → AllByRecursion (λ b. b < 2) bits → RestGives bits
-walk-symbols [] small out node below =
+pub descend-symbols : (bits : List ℕ) → AllByRecursion (λ b. b < 2) bits → RestGives bits
+descend-symbols [] small out node below =
     rw ((right_at node below).ends) (end_of_bits out (is_padding (path_of node)))
-walk-symbols (b ∷ bits) small out node below =
-    one_bit bits (path_of node ++ b ∷ []) out (child_of node b) (walk-symbols bits small.1) (child_right node b below small.0)
+descend-symbols (b ∷ bits) small out node below =
+    one_bit bits (path_of node ++ b ∷ []) out (child_of node b) (descend-symbols bits small.1) (child_right node b below small.0)
 
 all_small-append : (xs ys : List ℕ) → AllByRecursion (λ b. b < 2) xs → AllByRecursion (λ b. b < 2) ys → AllByRecursion (λ b. b < 2) (xs ++ ys)
 all_small-append [] ys p q = q
@@ -147,32 +147,7 @@ option_map_same : (o : Option (List ℕ)) → option_map (λ ss. [] ++ ss) o ≡
 option_map_same None = refl
 option_map_same (Some ss) = refl
 
--- the symbols of a text are those of the walk over all its bits
-pub symbols_of-walk : (bytes : List ℕ) → symbols_of bytes ≡ at_end (walk (flat_map byte_bits bytes) ([], 0))
-symbols_of-walk bytes =
-    sym ((rw path_of_root at (walk-symbols (flat_map byte_bits bytes) (bits_small bytes) [] 0 (lit< tt))) ∙ option_map_same (symbols_of bytes))
-
-walk_on-append : (xs ys : List ℕ) → ((p : Place) → walk (xs ++ ys) p ≡ walk_on ys (walk xs p)) → (next : Option Place) → walk_on (xs ++ ys) next ≡ walk_on ys (walk_on xs next)
-walk_on-append xs ys h None = refl
-walk_on-append xs ys h (Some p) = h p
-
-pub walk-append : (xs ys : List ℕ) (p : Place) → walk (xs ++ ys) p ≡ walk_on ys (walk xs p)
-walk-append [] ys p = refl
-walk-append (x ∷ xs) ys p = walk_on-append xs ys (walk-append xs ys) (to_child p.0 (child_of p.1 x))
-
--- one byte more
-pub walk-byte : (bytes : List ℕ) (i : ℕ) (p : Place) → i < length bytes → walk (flat_map byte_bits (take i bytes)) ([], 0) ≡ Some p → walk (flat_map byte_bits (take (i + 1) bytes)) ([], 0) ≡ walk (byte_bits (get_or bytes i 0)) p
-walk-byte bytes i p within before =
-    rw (take_more bytes i 0 within, flat_map-append byte_bits (take i bytes) (get_or bytes i 0 ∷ []), walk-append (flat_map byte_bits (take i bytes)) (flat_map byte_bits (get_or bytes i 0 ∷ [])) ([], 0), before, append-nil (byte_bits (get_or bytes i 0))) refl
-
--- a byte with which the walk ends
-pub walk-bad : (bytes : List ℕ) (i : ℕ) (p : Place) → i < length bytes → walk (flat_map byte_bits (take i bytes)) ([], 0) ≡ Some p → walk (byte_bits (get_or bytes i 0)) p ≡ None → symbols_of bytes ≡ None
-walk-bad bytes i p within before bad =
-    let ended : walk (flat_map byte_bits (take (i + 1) bytes)) ([], 0) ≡ None = walk-byte bytes i p within before ∙ bad in
-    let whole : walk (flat_map byte_bits (take (i + 1) bytes ++ drop (i + 1) bytes)) ([], 0) ≡ None =
-    rw (flat_map-append byte_bits (take (i + 1) bytes) (drop (i + 1) bytes), walk-append (flat_map byte_bits (take (i + 1) bytes)) (flat_map byte_bits (drop (i + 1) bytes)) ([], 0), ended) refl in
-    symbols_of-walk bytes ∙ ap at_end (rw (take-append-drop (i + 1) bytes) at whole)
-
--- the walk over all bytes
-pub walk-all : (bytes : List ℕ) (i : ℕ) (p : Place) → length bytes ≤ i → walk (flat_map byte_bits (take i bytes)) ([], 0) ≡ Some p → symbols_of bytes ≡ at_end (Some p)
-walk-all bytes i p all before = symbols_of-walk bytes ∙ ap at_end (rw (take_all i bytes all) at before)
+-- the symbols of a text are those of the way of all its bits
+pub symbols_of-descend : (bytes : List ℕ) → symbols_of bytes ≡ at_end (descend (flat_map byte_bits bytes) ([], 0))
+symbols_of-descend bytes =
+    sym ((rw path_of_root at (descend-symbols (flat_map byte_bits bytes) (bits_small bytes) [] 0 (lit< tt))) ∙ option_map_same (symbols_of bytes))

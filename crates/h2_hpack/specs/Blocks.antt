@@ -3,9 +3,9 @@ use Rattle.std.specs.Prelude.{ℕ, zero, suc, Bool, true, false, nat_le, if◌th
 use Rattle.grpc_base.specs.declared.fields.Field.{Field}
 use Rattle.h2_hpack.specs.declared.fault.HpackFault.{HpackFault}
 use Rattle.h2_hpack.specs.declared.fault.HpackFault.TheVariants.{BadIndex, BadInteger, BadHuffman, BadSize, TooLong}
-use Rattle.h2_hpack.specs.declared.form.Form.{Form}
-use Rattle.h2_hpack.specs.declared.form.Form.TheVariants.{Indexed, Added, Resize, Plain}
-use Rattle.h2_hpack.specs.Forms.{form_of}
+use Rattle.h2_hpack.specs.declared.kind.Kind.{Kind}
+use Rattle.h2_hpack.specs.declared.kind.Kind.TheVariants.{Indexed, LiteralWithIncrementalIndexing, DynamicTableSizeUpdate, LiteralWithoutIndexing, LiteralNeverIndexed}
+use Rattle.h2_hpack.specs.Kinds.{kind_of}
 use Rattle.h2_hpack.specs.Huffman.{symbols_of}
 use Rattle.h2_hpack.specs.Integers.{integer_at}
 use Rattle.h2_hpack.specs.Tables.{Table, new_table, list_size, list_limit, table_limit, field_at, table_with, table_resized}
@@ -16,20 +16,20 @@ and_then (Ok x) f = f x
 and_then (Err e) f = Err e
 
 -- a string as it stands in a block (section 5.2), and what follows it
-pub record RawText : Type 0 where
+pub record RawString : Type 0 where
   pub huffman : Bool
   pub bytes : List ℕ
   pub rest : List ℕ
 
-abbrev pub raw_text : Bool → ℕ × List ℕ → Option RawText
-raw_text huffman x =
+abbrev pub raw_string : Bool → ℕ × List ℕ → Option RawString
+raw_string huffman x =
     if nat_le x.0 (length x.1) then Some (record { huffman = huffman; bytes = take x.0 x.1; rest = drop x.0 x.1 })
     else None
 
 -- the string at the front: a flag, a length and so many bytes; none where it is cut off
-abbrev pub raw_text_at : List ℕ → Option RawText
-raw_text_at [] = None
-raw_text_at (first ∷ bytes) = option_and_then (raw_text (nat_le 128 first)) (integer_at 7 first bytes)
+abbrev pub raw_string_at : List ℕ → Option RawString
+raw_string_at [] = None
+raw_string_at (first ∷ bytes) = option_and_then (raw_string (nat_le 128 first)) (integer_at 7 first bytes)
 
 abbrev pub text_of : Bool → List ℕ → Option (List ℕ)
 text_of true bytes = symbols_of bytes
@@ -38,8 +38,12 @@ text_of false bytes = Some bytes
 -- the text at the front, and what follows it
 abbrev pub text_at : List ℕ → Result (List ℕ × List ℕ) HpackFault
 text_at bytes =
-    and_then (ok_or (raw_text_at bytes) BadInteger) λ raw.
+    and_then (ok_or (raw_string_at bytes) BadInteger) λ raw.
     and_then (ok_or (text_of raw.huffman raw.bytes) BadHuffman) λ text. Ok (text, raw.rest)
+
+-- the same, behind what was read before it
+abbrev pub text_behind : List ℕ → List ℕ → Result (List ℕ × List ℕ) HpackFault
+text_behind before bytes = and_then (text_at bytes) λ text. Ok (before ++ text.0, text.1)
 
 -- the integer after a first byte
 abbrev pub index_at : ℕ → ℕ → List ℕ → Result (ℕ × List ℕ) HpackFault
@@ -55,6 +59,12 @@ abbrev pub literal_at : Table → ℕ → ℕ → List ℕ → Result (Field × 
 literal_at t bits first bytes =
     and_then (index_at bits first bytes) λ index.
     and_then (name_by t index.0 index.1) λ name.
+    and_then (text_at name.1) λ value. Ok (record { name = name.0; value = value.0 }, value.1)
+
+-- a name and a value that both follow as strings
+abbrev pub spelled_at : List ℕ → Result (Field × List ℕ) HpackFault
+spelled_at bytes =
+    and_then (text_at bytes) λ name.
     and_then (text_at name.1) λ value. Ok (record { name = name.0; value = value.0 }, value.1)
 
 -- an indexed field (section 6.1)
@@ -81,7 +91,7 @@ with_field fields f t =
     if nat_le (list_size (fields ++ f ∷ [])) list_limit then Ok (record { fields = fields ++ f ∷ []; table = t })
     else Err TooLong
 
--- a size update, which no field may stand before
+-- a dynamic table size update, before which no field may stand
 abbrev pub resized : Reading → ℕ → List ℕ → Result (Reading × List ℕ) HpackFault
 resized r first bytes =
     elim r.fields [
@@ -89,22 +99,27 @@ resized r first bytes =
       | f ∷ fields ↦ Err BadSize
     ]
 
--- what was read with one form more, and what follows it
-abbrev pub next_as : Form → Reading → ℕ → List ℕ → Result (Reading × List ℕ) HpackFault
-next_as Indexed r first bytes =
-    and_then (indexed_at r.table first bytes) λ x. and_then (with_field r.fields x.0 r.table) λ next. Ok (next, x.1)
-next_as Added r first bytes =
-    and_then (literal_at r.table 6 first bytes) λ x. and_then (with_field r.fields x.0 (table_with r.table x.0)) λ next. Ok (next, x.1)
-next_as Resize r first bytes = resized r first bytes
-next_as Plain r first bytes =
+-- a literal that the dynamic table does not get
+abbrev pub without_indexing : Reading → ℕ → List ℕ → Result (Reading × List ℕ) HpackFault
+without_indexing r first bytes =
     and_then (literal_at r.table 4 first bytes) λ x. and_then (with_field r.fields x.0 r.table) λ next. Ok (next, x.1)
 
--- what is read with the rest of a block; each form takes at least one byte
+-- what was read with one representation more, and what follows it
+abbrev pub next_as : Kind → Reading → ℕ → List ℕ → Result (Reading × List ℕ) HpackFault
+next_as Indexed r first bytes =
+    and_then (indexed_at r.table first bytes) λ x. and_then (with_field r.fields x.0 r.table) λ next. Ok (next, x.1)
+next_as LiteralWithIncrementalIndexing r first bytes =
+    and_then (literal_at r.table 6 first bytes) λ x. and_then (with_field r.fields x.0 (table_with r.table x.0)) λ next. Ok (next, x.1)
+next_as DynamicTableSizeUpdate r first bytes = resized r first bytes
+next_as LiteralWithoutIndexing r first bytes = without_indexing r first bytes
+next_as LiteralNeverIndexed r first bytes = without_indexing r first bytes
+
+-- what is read with the rest of a block; each representation takes at least one byte
 abbrev pub reading_from : List ℕ → ℕ → Reading → Result Reading HpackFault
 reading_from [] most r = Ok r
 reading_from (first ∷ bytes) zero r = Ok r
 reading_from (first ∷ bytes) (suc most) r =
-    and_then (next_as (form_of first) r first bytes) λ x. reading_from x.1 most x.0
+    and_then (next_as (kind_of first) r first bytes) λ x. reading_from x.1 most x.0
 
 -- the fields of a block and the table after it
 abbrev pub block_of : Table → List ℕ → Result Reading HpackFault

@@ -3,6 +3,8 @@
 use Rattle.std.specs.Prelude.{ℕ, ◌&&◌, Bool, false, List, ◌∷◌, ◌++◌, length, flat_map, bytes_eq, Option, Some, None, option_map, unwrap_or, slice_get}
 use Rattle.std.specs.List.{position_from}
 use Rattle.grpc_base.specs.declared.fields.Field.{Field}
+use Rattle.h2_hpack.specs.declared.lookup.StaticMatch.{StaticMatch}
+use Rattle.h2_hpack.specs.declared.lookup.StaticMatch.TheVariants.{Pair, Name, Nothing}
 use Rattle.h2_hpack.specs.Integers.{integer_bytes}
 use Rattle.h2_hpack.specs.StaticTable.{static_table}
 
@@ -15,6 +17,12 @@ same_pair name value entry = bytes_eq entry.name name && bytes_eq entry.value va
 -- the lowest static index of an entry that passes a test
 abbrev pub index_where : (Field → Bool) → Option ℕ
 index_where test = position_from test 1 static_table
+
+-- what the static table has of a field: the pair, or else the name
+abbrev pub match_of : Option ℕ → Option ℕ → StaticMatch
+match_of (Some index) name = Pair index
+match_of None (Some index) = Name index
+match_of None None = Nothing
 
 -- whether the static entry at a place, which counts from 0, passes a test
 abbrev pub is_at : (Field → Bool) → ℕ → Bool

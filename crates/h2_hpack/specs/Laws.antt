@@ -1,10 +1,12 @@
 -- What the definitions of this crate promise of each other.
-use Rattle.std.specs.Prelude.{◌≡◌, ◌≤◌, ◌↔◌, ℕ, ◌-◌, ◌^◌, ◌+◌, true, List, [], ◌∷◌, ◌++◌, length, map, replicate, Some, Ok}
-use Rattle.std.specs.List.{range_with_len}
+use Rattle.std.specs.Prelude.{◌≡◌, ◌≤◌, ◌<◌, ◌↔◌, ℕ, ◌-◌, ◌^◌, ◌+◌, true, List, [], ◌∷◌, ◌++◌, length, map, replicate, Some, Ok, Err}
+use Rattle.std.specs.List.{AllByRecursion, range_with_len}
 use Rattle.grpc_base.specs.declared.fields.Field.{Field}
-use Rattle.h2_hpack.specs.Blocks.{block_of, and_then, decoded, fields_in, fields_of_blocks, state_after}
+use Rattle.h2_hpack.specs.declared.fault.HpackFault.{HpackFault}
+use Rattle.h2_hpack.specs.Blocks.{Reading, block_of, and_then, decoded, fields_in, fields_of_blocks, state_after}
 use Rattle.h2_hpack.specs.Encoding.{block_bytes}
 use Rattle.h2_hpack.specs.Huffman.{SymbolCode, symbol_codes, is_free, of_length, code_of, end_of_string, symbols_of, IsHuffman}
+use Rattle.h2_hpack.specs.Representations.{IsBlock, IsFaulty}
 use Rattle.h2_hpack.specs.Tables.{Table, new_table, list_size, list_limit}
 
 -- the plain program reads a text exactly where it is Huffman text, and reads its symbols
@@ -26,6 +28,10 @@ pub record CodeIsWhole : Type 0 where
   pub last : code_of end_of_string ≡ replicate 30 1
   pub free : is_free symbol_codes ≡ true
   pub complete : share symbol_codes ≡ 2 ^ 30
+
+-- a block says what its representations say, and its fault is that of the first one that cannot be read
+abbrev pub BlocksAreRepresentations : Type 0
+BlocksAreRepresentations = (t : Table) (block : List ℕ) → AllByRecursion (λ b. b < 256) block → ((after : Reading) → (block_of t block ≡ Ok after) ↔ IsBlock t block after) × ((e : HpackFault) → (block_of t block ≡ Err e) ↔ IsFaulty t block e)
 
 -- a decoder reads what the encoder writes, whatever its table, which stays as it was
 abbrev pub EncodingIsRead : Type 0

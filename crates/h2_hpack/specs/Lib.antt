@@ -1,9 +1,10 @@
 pub mod Blocks
 pub mod Encoding
-pub mod Forms
+pub mod Kinds
 pub mod Huffman
 pub mod Integers
 pub mod Laws
+pub mod Representations
 pub mod StaticTable
 pub mod Tables
 pub mod Walk

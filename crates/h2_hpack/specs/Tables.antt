@@ -42,7 +42,7 @@ fitting room (f ∷ fields) = if nat_lt room (field_size f) then [] else f ∷ f
 abbrev pub table_with : Table → Field → Table
 table_with t f = record { entries = fitting t.limit (f ∷ t.entries); limit = t.limit }
 
--- the table after a size update (section 4.3)
+-- the table after a dynamic table size update (section 4.3)
 abbrev pub table_resized : Table → ℕ → Table
 table_resized t limit = record { entries = fitting limit t.entries; limit = limit }
 

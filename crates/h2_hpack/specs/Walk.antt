@@ -1,29 +1,39 @@
--- What the decoder of Huffman text computes: a walk down the tree of the code, a bit at a time. No meaning rests on
--- it; that it gives the symbols of the text is proved.
-use Rattle.std.specs.Prelude.{ℕ, ◌+◌, ◌-◌, ◌*◌, nat_lt, nat_le, if◌then◌else◌, List, [], ◌∷◌, ◌++◌, slice_index, Option, Some, None}
-use Rattle.h2_hpack.specs.declared.nodes.TheConstants.{NODES}
+-- What the decoder of Huffman text computes: a walk over the states of the code, four bits at a time. No meaning rests
+-- on it; that it gives the symbols of the text is proved.
+use Rattle.std.specs.Prelude.{ℕ, ◌+◌, ◌*◌, ◌/◌, ◌%◌, nat_lt, nat_le, if◌then◌else◌, List, [], ◌∷◌, ◌++◌, slice_index, Option, Some, None}
+use Rattle.h2_hpack.specs.declared.states.TheConstants.{NEXT_STATE, SYMBOL}
 
--- the symbols so far, and the node where the walk stands
+-- the symbols so far, and the state
 abbrev pub Place : Type 0
 Place = List ℕ × ℕ
 
-unfoldable pub child_of : ℕ → ℕ → ℕ
-child_of node bit = slice_index NODES (node * 2 + bit)
+unfoldable pub next_state : ℕ → ℕ → ℕ
+next_state state four = slice_index NEXT_STATE (state * 16 + four)
 
--- the next place by the child that a bit leads to
-abbrev pub to_child : List ℕ → ℕ → Option Place
-to_child symbols child =
-    if nat_lt child 256 then Some (symbols, child)
-    else if nat_lt child 512 then Some (symbols ++ (child - 256) ∷ [], 0)
+unfoldable pub symbol_at : ℕ → ℕ → ℕ
+symbol_at state four = slice_index SYMBOL (state * 16 + four)
+
+-- the next place, by the symbol that ended and the next state
+abbrev pub to_state : List ℕ → ℕ → ℕ → Option Place
+to_state symbols symbol state =
+    if nat_lt symbol 256 then Some (symbols ++ symbol ∷ [], state)
+    else if nat_lt symbol 257 then Some (symbols, state)
     else None
+
+abbrev pub step : ℕ → Place → Option Place
+step four place = to_state place.0 (symbol_at place.1 four) (next_state place.1 four)
 
 abbrev pub walk : List ℕ → Place → Option Place
 walk [] place = Some place
-walk (b ∷ bits) place =
-    elim (to_child place.0 (child_of place.1 b)) [
+walk (four ∷ more) place =
+    elim (step four place) [
       | None ↦ None
-      | Some next ↦ walk bits next
+      | Some next ↦ walk more next
     ]
+
+-- a byte, four bits at a time
+abbrev pub halves : ℕ → List ℕ
+halves byte = byte / 16 % 16 ∷ byte % 16 ∷ []
 
 -- the symbols at the end, where the bits since the last one are padding
 abbrev pub at_end : Option Place → Option (List ℕ)

@@ -2,12 +2,12 @@
 ghost use Rattle.std.specs.Prelude.{◌≡◌, ◌≢◌, ◌≤◌, ◌<◌, length, Ok, Err, IfOk, IfErr};
 ghost use Rattle.h2_hpack.specs.Blocks.{block_of, next_as, resized, decoded, fields_in, table_in};
 ghost use Rattle.h2_hpack.specs.Tables.{new_table};
-ghost use Rattle.h2_hpack.specs.Forms.{form_of};
+ghost use Rattle.h2_hpack.specs.Kinds.{kind_of};
 
 use crate::fault::HpackFault;
-use crate::form::{Form, form_of};
-use crate::line::{indexed, literal, table_size};
+use crate::kind::{Kind, kind_of};
 use crate::list::HeaderList;
+use crate::representation::{indexed, literal, table_size};
 use crate::table::DynamicTable;
 use grpc_base::Fields;
 use std::alloc::Global;
@@ -30,7 +30,7 @@ impl Model for Decoder {
 }
 
 impl Decoder {
-    /// A decoder with an empty table of at most 4,096.
+    /// A decoder with an empty dynamic table of at most 4,096.
     pub fn new(alloc: Global) -> Decoder
         ensures { result ≡ Ok new_table }
     {
@@ -42,7 +42,7 @@ impl Decoder {
     }
 
     /// The header list of the next block, or the first fault in reading order (RFC 7541, section 3).
-    /// After any fault, out of memory among them, each later block gets the same answer: the table is then no
+    /// After any fault, out of memory among them, each later block gets the same answer: its dynamic table is then no
     /// longer that of the peer.
     pub fn block(&mut self, block: &[u8]) -> Result<Fields, HpackFault>
         ensures list { IfOk result (λ fields. fields_in (decoded self.old block.now) ≡ Ok fields) }
@@ -64,7 +64,7 @@ impl Decoder {
     }
 }
 
-/// The header list of a block over a table, which becomes the table after it.
+/// The header list of a block over a dynamic table, which becomes the table after it.
 fn read_block(alloc: Global, table: &mut DynamicTable, block: &[u8]) -> Result<Fields, HpackFault>
     ensures ok { IfOk result (λ fields. block_of table.old block.now ≡ Ok (record { fields = fields; table = table.new })) }
     ensures fault { IfErr result (λ e. e ≢ HpackFault.NoMemory → block_of table.old block.now ≡ Err e) }
@@ -72,84 +72,88 @@ fn read_block(alloc: Global, table: &mut DynamicTable, block: &[u8]) -> Result<F
     let mut list = HeaderList::new(alloc);
     let mut rest = block;
     while let [first, after @ ..] = rest {
-        rest = read_form(alloc, table, &mut list, *first, after)?;
+        rest = read_representation(alloc, table, &mut list, *first, after)?;
     }
     Ok(list.into_fields())
 }
 
-/// Reads one form, and gives what follows it.
-fn read_form<'a>(
+/// Reads one representation, and gives what follows it.
+fn read_representation<'a>(
     alloc: Global,
     table: &mut DynamicTable,
     list: &mut HeaderList,
     first: u8,
     bytes: &'a [u8],
 ) -> Result<&'a [u8], HpackFault>
-    ensures ok { IfOk result (λ rest. next_as (form_of first) (record { fields = list.old; table = table.old }) first bytes.now ≡ Ok (record { fields = list.new; table = table.new }, rest.now)) }
+    ensures ok { IfOk result (λ rest. next_as (kind_of first) (record { fields = list.old; table = table.old }) first bytes.now ≡ Ok (record { fields = list.new; table = table.new }, rest.now)) }
     ensures shorter { IfOk result (λ rest. length rest.now ≤ length bytes.now) }
-    ensures fault { IfErr result (λ e. e ≢ HpackFault.NoMemory → next_as (form_of first) (record { fields = list.old; table = table.old }) first bytes.now ≡ Err e) }
+    ensures fault { IfErr result (λ e. e ≢ HpackFault.NoMemory → next_as (kind_of first) (record { fields = list.old; table = table.old }) first bytes.now ≡ Err e) }
 {
-    match form_of(first) {
-        Form::Indexed => read_indexed(table, list, first, bytes),
-        Form::Added => read_added(alloc, table, list, first, bytes),
-        Form::Resize => read_size(table, list, first, bytes),
-        Form::Plain => read_plain(alloc, table, list, first, bytes),
+    match kind_of(first) {
+        Kind::Indexed => read_indexed(table, list, first, bytes),
+        Kind::LiteralWithIncrementalIndexing => read_literal_with_indexing(
+            alloc, table, list, first, bytes,
+        ),
+        Kind::DynamicTableSizeUpdate => read_size_update(table, list, first, bytes),
+        Kind::LiteralWithoutIndexing | Kind::LiteralNeverIndexed => {
+            read_literal(alloc, table, list, first, bytes)
+        }
     }
 }
 
-/// Reads a field by its index.
+/// Reads an indexed field.
 fn read_indexed<'a>(
     table: &DynamicTable,
     list: &mut HeaderList,
     first: u8,
     bytes: &'a [u8],
 ) -> Result<&'a [u8], HpackFault>
-    ensures ok { IfOk result (λ rest. next_as Form.Indexed (record { fields = list.old; table = table.now }) first bytes.now ≡ Ok (record { fields = list.new; table = table.now }, rest.now)) }
+    ensures ok { IfOk result (λ rest. next_as Kind.Indexed (record { fields = list.old; table = table.now }) first bytes.now ≡ Ok (record { fields = list.new; table = table.now }, rest.now)) }
     ensures shorter { IfOk result (λ rest. length rest.now ≤ length bytes.now) }
-    ensures fault { IfErr result (λ e. e ≢ HpackFault.NoMemory → next_as Form.Indexed (record { fields = list.old; table = table.now }) first bytes.now ≡ Err e) }
+    ensures fault { IfErr result (λ e. e ≢ HpackFault.NoMemory → next_as Kind.Indexed (record { fields = list.old; table = table.now }) first bytes.now ≡ Err e) }
 {
     let (field, rest) = indexed(table, first, bytes)?;
     list.push(field)?;
     Ok(rest)
 }
 
-/// Reads a literal field, and adds it to the table.
-fn read_added<'a>(
+/// Reads a literal with incremental indexing, and adds it to the dynamic table.
+fn read_literal_with_indexing<'a>(
     alloc: Global,
     table: &mut DynamicTable,
     list: &mut HeaderList,
     first: u8,
     bytes: &'a [u8],
 ) -> Result<&'a [u8], HpackFault>
-    ensures ok { IfOk result (λ rest. next_as Form.Added (record { fields = list.old; table = table.old }) first bytes.now ≡ Ok (record { fields = list.new; table = table.new }, rest.now)) }
+    ensures ok { IfOk result (λ rest. next_as Kind.LiteralWithIncrementalIndexing (record { fields = list.old; table = table.old }) first bytes.now ≡ Ok (record { fields = list.new; table = table.new }, rest.now)) }
     ensures shorter { IfOk result (λ rest. length rest.now ≤ length bytes.now) }
-    ensures fault { IfErr result (λ e. e ≢ HpackFault.NoMemory → next_as Form.Added (record { fields = list.old; table = table.old }) first bytes.now ≡ Err e) }
+    ensures fault { IfErr result (λ e. e ≢ HpackFault.NoMemory → next_as Kind.LiteralWithIncrementalIndexing (record { fields = list.old; table = table.old }) first bytes.now ≡ Err e) }
 {
     let (field, rest) = literal(alloc, table, 6, first, bytes)?;
-    list.push(field.share()?)?;
-    table.add(field)?;
+    table.add(&field)?;
+    list.push(field)?;
     Ok(rest)
 }
 
-/// Reads a literal field that the table does not get.
-fn read_plain<'a>(
+/// Reads a literal that the dynamic table does not get.
+fn read_literal<'a>(
     alloc: Global,
     table: &DynamicTable,
     list: &mut HeaderList,
     first: u8,
     bytes: &'a [u8],
 ) -> Result<&'a [u8], HpackFault>
-    ensures ok { IfOk result (λ rest. next_as Form.Plain (record { fields = list.old; table = table.now }) first bytes.now ≡ Ok (record { fields = list.new; table = table.now }, rest.now)) }
+    ensures ok { IfOk result (λ rest. next_as Kind.LiteralWithoutIndexing (record { fields = list.old; table = table.now }) first bytes.now ≡ Ok (record { fields = list.new; table = table.now }, rest.now)) }
     ensures shorter { IfOk result (λ rest. length rest.now ≤ length bytes.now) }
-    ensures fault { IfErr result (λ e. e ≢ HpackFault.NoMemory → next_as Form.Plain (record { fields = list.old; table = table.now }) first bytes.now ≡ Err e) }
+    ensures fault { IfErr result (λ e. e ≢ HpackFault.NoMemory → next_as Kind.LiteralWithoutIndexing (record { fields = list.old; table = table.now }) first bytes.now ≡ Err e) }
 {
     let (field, rest) = literal(alloc, table, 4, first, bytes)?;
     list.push(field)?;
     Ok(rest)
 }
 
-/// Reads a size update, before which no field may stand.
-fn read_size<'a>(
+/// Reads a dynamic table size update, before which no field may stand.
+fn read_size_update<'a>(
     table: &mut DynamicTable,
     list: &HeaderList,
     first: u8,
@@ -165,12 +169,4 @@ fn read_size<'a>(
     let (limit, rest) = table_size(first, bytes)?;
     table.resize(limit);
     Ok(rest)
-}
-
-#[cfg(test)]
-impl Decoder {
-    /// How many entries the table has, and their size.
-    pub(crate) fn shape(&self) -> (usize, usize) {
-        self.table.shape()
-    }
 }

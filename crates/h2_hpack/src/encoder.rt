@@ -1,9 +1,10 @@
 // Header blocks of the client.
-ghost use Rattle.std.specs.Prelude.{◌≡◌, ◌<◌, ◌≤◌, ◌^◌, ◌+◌, ◌++◌, ◌∷◌, [], length, take, IfOk, OnOk};
+ghost use Rattle.std.specs.Prelude.{◌≡◌, ◌<◌, ◌≤◌, ◌^◌, ◌+◌, ◌++◌, ◌∷◌, [], length, take, None, IfOk, OnOk};
+ghost use Rattle.h2_hpack.specs.Integers.{integer_bytes};
 ghost use Rattle.h2_hpack.specs.Encoding.{block_bytes, field_bytes, name_bytes, text_bytes, index_where, same_name, same_pair};
 
 use crate::integer::put_integer;
-use crate::lookup::{static_name, static_pair};
+use crate::lookup::{StaticMatch, static_match};
 use bytes::BytesMut;
 use grpc_base::{Field, Fields, NoMemory};
 use std::alloc::Global;
@@ -28,24 +29,28 @@ fn put_field(block: &mut BytesMut, field: &Field) -> Result<(), NoMemory>
 {
     let name = field.name.as_slice();
     let value = field.value.as_slice();
-    if let Some(index) = static_pair(name, value) {
-        return put_integer(block, 7, 128, index);
+    match static_match(name, value) {
+        StaticMatch::Pair(index) => put_integer(block, 7, 128, index),
+        StaticMatch::Name(index) => put_named(block, index, value),
+        StaticMatch::Nothing => put_spelled(block, name, value),
     }
-    put_name(block, name)?;
+}
+
+/// Appends a literal without indexing by the index of its name (RFC 7541, section 6.2.2).
+fn put_named(block: &mut BytesMut, index: u64, value: &[u8]) -> Result<(), NoMemory>
+    ensures { OnOk result (block.new.items ≡ block.old.items ++ (integer_bytes 4 0 index ++ text_bytes value.now)) }
+{
+    put_integer(block, 4, 0, index)?;
     put_text(block, value)
 }
 
-/// Appends the begin of a literal: the index of its name, or the name.
-fn put_name(block: &mut BytesMut, name: &[u8]) -> Result<(), NoMemory>
-    ensures { OnOk result (block.new.items ≡ block.old.items ++ name_bytes name.now (index_where (same_name name.now))) }
+/// Appends a literal without indexing whose name is written out.
+fn put_spelled(block: &mut BytesMut, name: &[u8], value: &[u8]) -> Result<(), NoMemory>
+    ensures { OnOk result (block.new.items ≡ block.old.items ++ (name_bytes name.now None ++ text_bytes value.now)) }
 {
-    match static_name(name) {
-        Some(index) => put_integer(block, 4, 0, index),
-        None => {
-            put_integer(block, 4, 0, 0)?;
-            put_text(block, name)
-        }
-    }
+    put_integer(block, 4, 0, 0)?;
+    put_text(block, name)?;
+    put_text(block, value)
 }
 
 /// Appends a string as it is (RFC 7541, section 5.2).

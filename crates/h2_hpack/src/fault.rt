@@ -15,7 +15,7 @@ pub enum HpackFault {
     /// Huffman text with the end of string, or with padding of more than seven bits or of other bits than the
     /// first ones of that symbol's code (section 5.2).
     BadHuffman,
-    /// A table size update above 4,096, or one after the first field of its block (sections 4.2 and 6.3).
+    /// A dynamic table size update above 4,096, or one after the first field of its block (sections 4.2 and 6.3).
     BadSize,
     /// The sizes of the block's fields come to more than 16,384.
     TooLong,

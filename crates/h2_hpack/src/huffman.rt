@@ -1,79 +1,73 @@
-// Huffman text, read a bit at a time.
-ghost use Rattle.std.specs.Prelude.{◌≡◌, ◌<◌, ◌*◌, ◌+◌, None, Some, IfOk, IfErr, ◌⊎◌, ◌≤◌, ◌-◌, option_map};
-ghost use Rattle.h2_hpack.specs.Huffman.{byte_bits, symbols_of};
-ghost use Rattle.h2_hpack.specs.Walk.{child_of, to_child, walk};
+// Huffman text, read four bits at a time.
+ghost use Rattle.std.specs.Prelude.{◌≡◌, ◌<◌, ◌*◌, ◌+◌, ◌++◌, None, Some, Err, IfOk, option_map, if◌then◌else◌};
+ghost use Rattle.h2_hpack.specs.Huffman.{symbols_of};
+ghost use Rattle.h2_hpack.specs.Walk.{halves, next_state, step, symbol_at, walk};
 
 use crate::fault::HpackFault;
-use crate::nodes::NODES;
+use crate::states::{NEXT_STATE, SYMBOL};
 use grpc_base::NoMemory;
-use std::alloc::Global;
 
-/// The last node that only padding leads to: the nodes up to it are reached by as many one bits.
-const MOST_PADDING: u16 = 7;
+/// The last state that only padding leads to: the states up to it are reached by as many one bits.
+const MOST_PADDING: u8 = 7;
 
-/// The symbols of Huffman text; None exactly where the bytes are none.
-pub(crate) fn decode(alloc: Global, bytes: &[u8]) -> Result<Option<Vec<u8>>, NoMemory>
-    ensures { IfOk result (λ r. option_map (λ v. v.items) r ≡ symbols_of bytes.now) }
+/// In place of a symbol: none ends within the four bits.
+const NO_SYMBOL: u16 = 256;
+
+/// Appends the symbols of Huffman text; false exactly where the bytes are none.
+pub(crate) fn decode(symbols: &mut Vec<u8>, bytes: &[u8]) -> Result<bool, NoMemory>
+    ensures { IfOk result (λ is. (if is then Some symbols.new.items else None) ≡ option_map (λ text. symbols.old.items ++ text) (symbols_of bytes.now)) }
 {
-    let mut symbols = Vec::new(alloc);
-    let mut node = 0;
+    symbols.reserve(bytes.len().saturating_mul(8) / 5)?;
+    let mut state = 0;
     for byte in bytes {
-        match feed(&mut symbols, node, *byte) {
-            Ok(next) => node = next,
-            Err(HpackFault::BadHuffman) => return Ok(None),
+        match feed(symbols, state, *byte) {
+            Ok(next) => state = next,
+            Err(HpackFault::BadHuffman) => return Ok(false),
             Err(_) => return Err(NoMemory),
         }
     }
     let most = MOST_PADDING;
-    if node <= most {
-        Ok(Some(symbols))
-    } else {
-        Ok(None)
-    }
+    Ok(state <= most)
 }
 
 /// Walks on by the eight bits of a byte.
-fn feed(symbols: &mut Vec<u8>, node: u16, byte: u8) -> Result<u16, HpackFault>
-    requires { node < 256 }
-    ensures on { IfOk result (λ n. walk (byte_bits byte) (symbols.old.items, node) ≡ Some (symbols.new.items, n)) }
-    ensures node_is { IfOk result (λ n. n < 256) }
-    ensures bad { result ≡ Err HpackFault.BadHuffman → walk (byte_bits byte) (symbols.old.items, node) ≡ None }
+fn feed(symbols: &mut Vec<u8>, state: u8, byte: u8) -> Result<u8, HpackFault>
+    ensures on { IfOk result (λ n. walk (halves byte) (symbols.old.items, state) ≡ Some (symbols.new.items, n)) }
+    ensures bad { result ≡ Err HpackFault.BadHuffman → walk (halves byte) (symbols.old.items, state) ≡ None }
 {
-    let node = feed_bit(symbols, node, byte / 128 % 2)?;
-    let node = feed_bit(symbols, node, byte / 64 % 2)?;
-    let node = feed_bit(symbols, node, byte / 32 % 2)?;
-    let node = feed_bit(symbols, node, byte / 16 % 2)?;
-    let node = feed_bit(symbols, node, byte / 8 % 2)?;
-    let node = feed_bit(symbols, node, byte / 4 % 2)?;
-    let node = feed_bit(symbols, node, byte / 2 % 2)?;
-    feed_bit(symbols, node, byte % 2)
+    let state = feed_half(symbols, state, byte / 16 % 16)?;
+    feed_half(symbols, state, byte % 16)
 }
 
-/// Walks on by one bit.
-fn feed_bit(symbols: &mut Vec<u8>, node: u16, bit: u8) -> Result<u16, HpackFault>
-    requires node_is { node < 256 }
-    requires bit_is { bit < 2 }
-    ensures on { IfOk result (λ n. to_child symbols.old.items (child_of node bit) ≡ Some (symbols.new.items, n)) }
-    ensures node_is { IfOk result (λ n. n < 256) }
-    ensures bad { result ≡ Err HpackFault.BadHuffman → to_child symbols.old.items (child_of node bit) ≡ None }
+/// Walks on by four bits.
+fn feed_half(symbols: &mut Vec<u8>, state: u8, four: u8) -> Result<u8, HpackFault>
+    requires { four < 16 }
+    ensures on { IfOk result (λ n. step four (symbols.old.items, state) ≡ Some (symbols.new.items, n)) }
+    ensures bad { result ≡ Err HpackFault.BadHuffman → step four (symbols.old.items, state) ≡ None }
 {
-    let child = child(node, bit);
-    if child < 256 {
-        return Ok(child);
-    }
-    if child >= 512 {
+    let symbol = symbol_at(state, four);
+    if symbol < NO_SYMBOL {
+        symbols.push(symbol as u8)?;
+    } else if symbol > NO_SYMBOL {
         return Err(HpackFault::BadHuffman);
     }
-    symbols.push((child - 256) as u8)?;
-    Ok(0)
+    Ok(next_state(state, four))
 }
 
-/// The child of a node: another one, or 256 more than a symbol.
-#[tactic(auto, unfolding(crate::specs::Walk::child_of))]
-fn child(node: u16, bit: u8) -> u16
-    requires node_is { node < 256 }
-    requires bit_is { bit < 2 }
-    ensures { result ≡ child_of node bit }
+/// The symbol that ends within four bits, 256 for none, or above where they are no Huffman text.
+#[tactic(auto, unfolding(crate::specs::Walk::symbol_at))]
+fn symbol_at(state: u8, four: u8) -> u16
+    requires { four < 16 }
+    ensures { result ≡ symbol_at state four }
 {
-    NODES[node as usize * 2 + bit as usize]
+    SYMBOL[state as usize * 16 + four as usize]
+}
+
+/// The state behind four bits.
+#[tactic(auto, unfolding(crate::specs::Walk::next_state))]
+fn next_state(state: u8, four: u8) -> u8
+    requires { four < 16 }
+    ensures { result ≡ next_state state four }
+{
+    NEXT_STATE[state as usize * 16 + four as usize]
 }

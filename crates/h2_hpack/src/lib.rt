@@ -4,24 +4,23 @@
 mod decoder;
 mod encoder;
 mod fault;
-mod form;
 mod huffman;
 mod integer;
+mod kind;
 mod laws;
-mod line;
 mod list;
 mod lookup;
-mod nodes;
+mod representation;
 mod size;
+mod states;
 mod static_table;
 mod table;
-#[cfg(test)]
-mod tests;
 mod text;
 
 pub use decoder::Decoder;
 pub use encoder::encode_fields;
 pub use fault::HpackFault;
 pub use laws::{
-    blocks_are_read_in_turn, encoding_is_read, huffman_code_is_whole, huffman_text_is_exact,
+    blocks_are_read_in_turn, blocks_are_representations, encoding_is_read, huffman_code_is_whole,
+    huffman_text_is_exact,
 };

@@ -1,9 +1,10 @@
 // The dynamic table.
-ghost use Rattle.std.specs.Prelude.{◌≡◌, ◌≤◌, ◌<◌, ◌^◌, List, OnOk, slice_get, option_copied};
+ghost use Rattle.std.specs.Prelude.{◌≡◌, ◌≤◌, ◌<◌, ◌^◌, List, IfOk, OnOk, slice_get, option_copied};
 ghost use Rattle.h2_hpack.specs.Tables.{new_table, table_with, table_resized, table_limit, list_size, field_size, fitting};
 
 use crate::size::{room_after, size_of_field};
-use grpc_base::{Field, NoMemory};
+use bytes::BytesMut;
+use grpc_base::{Field, NoMemory, Octets};
 use std::alloc::Global;
 use std::collections::VecDeque;
 use std::marker::Model;
@@ -11,6 +12,7 @@ use std::marker::Model;
 /// The dynamic table, in a ring with its newest entry at the front.
 #[derive(Debug, Drop)]
 pub(crate) struct DynamicTable {
+    alloc: Global,
     entries: VecDeque<Field>,
     size: usize,
     limit: usize,
@@ -32,6 +34,7 @@ impl DynamicTable {
         ensures { result ≡ new_table }
     {
         DynamicTable {
+            alloc,
             entries: VecDeque::new(alloc),
             size: 0,
             limit: 4096,
@@ -45,15 +48,17 @@ impl DynamicTable {
         self.entries.get(place)
     }
 
-    /// Adds a field, once the oldest entries have made room for it (RFC 7541, section 4.4).
-    pub(crate) fn add(&mut self, field: Field) -> Result<(), NoMemory>
-        ensures { OnOk result (self.new ≡ table_with self.old field) }
+    /// Adds a copy of a field, once the oldest entries have made room for it (RFC 7541, section 4.4). An entry has
+    /// memory of its own, so that the table keeps no block alive.
+    pub(crate) fn add(&mut self, field: &Field) -> Result<(), NoMemory>
+        ensures { OnOk result (self.new ≡ table_with self.old field.now) }
     {
-        match room_after(&field, self.limit) {
+        match room_after(field, self.limit) {
             Some(room) => {
+                let entry = copy_of(self.alloc, field)?;
                 let size = self.limit - room;
                 self.size = evict(&mut self.entries, self.size, room);
-                self.entries.push_front(field)?;
+                self.entries.push_front(entry)?;
                 self.size += size;
             }
             None => {
@@ -72,6 +77,19 @@ impl DynamicTable {
         self.size = evict(&mut self.entries, self.size, limit);
         self.limit = limit;
     }
+}
+
+/// A copy of a field, its name and its value in one run of memory.
+fn copy_of(alloc: Global, field: &Field) -> Result<Field, NoMemory>
+    ensures { IfOk result (λ f. f ≡ field.now) }
+{
+    let room = field.name.len().saturating_add(field.value.len());
+    let mut bytes = BytesMut::with_capacity(alloc, room)?;
+    bytes.extend_from_slice(field.name.as_slice())?;
+    let name = Octets::of_buffer(bytes.split()?)?;
+    bytes.extend_from_slice(field.value.as_slice())?;
+    let value = Octets::of_buffer(bytes)?;
+    Ok(Field { name, value })
 }
 
 /// Takes the oldest entries off until the rest fits into the room; gives the size of the rest.
@@ -97,12 +115,4 @@ fn size_taken(entry: Field) -> usize
     ensures { result ≡ field_size entry }
 {
     size_of_field(&entry)
-}
-
-#[cfg(test)]
-impl DynamicTable {
-    /// How many entries there are, and their size.
-    pub(crate) fn shape(&self) -> (usize, usize) {
-        (self.entries.len(), self.size)
-    }
 }

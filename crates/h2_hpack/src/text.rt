@@ -1,6 +1,6 @@
 // Strings of a header block.
-ghost use Rattle.std.specs.Prelude.{◌≡◌, ◌≢◌, ◌≤◌, ◌<◌, length, nat_le, Ok, Err, IfOk, IfErr, IfSome, ok_or, option_map};
-ghost use Rattle.h2_hpack.specs.Blocks.{raw_text_at, text_of, text_at};
+ghost use Rattle.std.specs.Prelude.{◌≡◌, ◌≢◌, ◌≤◌, ◌<◌, ◌++◌, length, nat_le, Ok, Err, None, Some, IfOk, IfErr, IfSome, OnOk, option_map};
+ghost use Rattle.h2_hpack.specs.Blocks.{raw_string_at, text_at, text_behind, text_of};
 
 use crate::fault::HpackFault;
 use crate::huffman::decode;
@@ -10,28 +10,40 @@ use std::alloc::Global;
 
 /// A string as it stands in a block, and what follows it (RFC 7541, section 5.2).
 #[derive(Clone, Copy)]
-struct RawText<'a> {
+struct RawString<'a> {
     huffman: bool,
     bytes: &'a [u8],
     rest: &'a [u8],
 }
 
 /// The text at the front of some bytes, and what follows it.
+#[tactic(auto, using(crate::proofs::TextLemmas::alone))]
 pub(crate) fn text(alloc: Global, bytes: &[u8]) -> Result<(Octets, &[u8]), HpackFault>
     ensures ok { IfOk result (λ x. text_at bytes.now ≡ Ok (x.0, x.1.now)) }
     ensures shorter { IfOk result (λ x. length x.1.now ≤ length bytes.now) }
     ensures fault { IfErr result (λ e. e ≢ HpackFault.NoMemory → text_at bytes.now ≡ Err e) }
 {
-    let Some(raw) = raw_text(bytes) else {
+    let mut text = Vec::new(alloc);
+    let rest = append_text(&mut text, bytes)?;
+    Ok((Octets::of_vec(text)?, rest))
+}
+
+/// Appends the text at the front of some bytes, and gives what follows it.
+pub(crate) fn append_text<'a>(out: &mut Vec<u8>, bytes: &'a [u8]) -> Result<&'a [u8], HpackFault>
+    ensures ok { IfOk result (λ rest. text_behind out.old.items bytes.now ≡ Ok (out.new.items, rest.now)) }
+    ensures shorter { IfOk result (λ rest. length rest.now ≤ length bytes.now) }
+    ensures fault { IfErr result (λ e. e ≢ HpackFault.NoMemory → text_at bytes.now ≡ Err e) }
+{
+    let Some(raw) = raw_string(bytes) else {
         return Err(HpackFault::BadInteger);
     };
-    let text = text_of(alloc, raw.huffman, raw.bytes)?;
-    Ok((text, raw.rest))
+    append_text_of(out, raw.huffman, raw.bytes)?;
+    Ok(raw.rest)
 }
 
 /// The string at the front of some bytes; None where they cut it off.
-fn raw_text(bytes: &[u8]) -> Option<RawText<'_>>
-    ensures value { option_map (λ x. record { huffman = x.huffman; bytes = x.bytes.now; rest = x.rest.now }) result ≡ raw_text_at bytes.now }
+fn raw_string(bytes: &[u8]) -> Option<RawString<'_>>
+    ensures value { option_map (λ x. record { huffman = x.huffman; bytes = x.bytes.now; rest = x.rest.now }) result ≡ raw_string_at bytes.now }
     ensures shorter { IfSome result (λ x. length x.rest.now ≤ length bytes.now) }
 {
     let [first, after @ ..] = bytes else {
@@ -40,7 +52,7 @@ fn raw_text(bytes: &[u8]) -> Option<RawText<'_>>
     let (len, text) = integer(7, *first, after)?;
     if len <= text.len() as u64 {
         let (bytes, rest) = text.split_at(len as usize);
-        Some(RawText {
+        Some(RawString {
             huffman: *first >= 128,
             bytes,
             rest,
@@ -50,16 +62,18 @@ fn raw_text(bytes: &[u8]) -> Option<RawText<'_>>
     }
 }
 
-/// The text of a string.
-fn text_of(alloc: Global, huffman: bool, bytes: &[u8]) -> Result<Octets, HpackFault>
-    ensures ok { IfOk result (λ x. ok_or (text_of huffman bytes.now) HpackFault.BadHuffman ≡ Ok x) }
-    ensures fault { IfErr result (λ e. e ≢ HpackFault.NoMemory → ok_or (text_of huffman bytes.now) HpackFault.BadHuffman ≡ Err e) }
+/// Appends the text of a string.
+fn append_text_of(out: &mut Vec<u8>, huffman: bool, bytes: &[u8]) -> Result<(), HpackFault>
+    ensures ok { OnOk result (option_map (λ text. out.old.items ++ text) (text_of huffman bytes.now) ≡ Some out.new.items) }
+    ensures fault { IfErr result (λ e. e ≢ HpackFault.NoMemory → (e ≡ HpackFault.BadHuffman) × (text_of huffman bytes.now ≡ None)) }
 {
     if !huffman {
-        return Ok(Octets::of_slice(alloc, bytes)?);
+        out.extend_from_slice(bytes)?;
+        return Ok(());
     }
-    match decode(alloc, bytes)? {
-        Some(symbols) => Ok(Octets::of_vec(symbols)?),
-        None => Err(HpackFault::BadHuffman),
+    if decode(out, bytes)? {
+        Ok(())
+    } else {
+        Err(HpackFault::BadHuffman)
     }
 }

@@ -1,17 +1,11 @@
 -- What each call does to a stream: the stream after it, or the first row of the table of errors that it meets.
 use Rattle.std.specs.Prelude.{ℕ, nat_eq, ℤ, pos, ◌+ℤ◌, ◌-ℤ◌, int_lt, Bool, true, not, ◌&&◌, if◌then◌else◌, Result, Ok, Err}
+use Rattle.grpc_base.specs.ErrorCodes.{protocol_error, flow_control_error}
 use Rattle.h2_stream.specs.declared.state.StreamState.{StreamState}
 use Rattle.h2_stream.specs.declared.fault.StreamFault.{StreamFault}
 use Rattle.h2_stream.specs.declared.fault.StreamFault.TheVariants as fault
 use Rattle.h2_stream.specs.State.{after_local_end, after_remote_end, is_closed, is_closed_remotely}
 use Rattle.h2_stream.specs.Stream.{StreamView, largest_window}
-
--- error codes of RFC 9113, section 7
-abbrev pub protocol_error : ℕ
-protocol_error = 1
-
-abbrev pub flow_control_error : ℕ
-flow_control_error = 3
 
 -- the state after a frame that has END_STREAM or not, of the peer's and of this side's
 abbrev pub after_received : Bool → StreamState → StreamState

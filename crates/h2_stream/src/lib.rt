@@ -2,14 +2,12 @@
 //! and 6.9).
 #![tactic(auto)]
 
-pub mod error_code;
 mod fault;
 pub mod laws;
 mod state;
 mod stream;
-#[cfg(test)]
-mod tests;
 
 pub use fault::StreamFault;
+pub use grpc_base::error_code;
 pub use state::StreamState;
 pub use stream::Stream;

@@ -2,9 +2,9 @@ ghost use Rattle.std.specs.Prelude.{◌≡◌, ◌≤◌, pos, neg_ℤ, ◌+ℤ�
 ghost use Rattle.h2_stream.specs.Stream.{largest_window, opened, sendable, IsWindow, IsWithinBounds};
 ghost use Rattle.h2_stream.specs.Steps.{headers_step, data_step, window_step, shift_step, sent_step, granted_step};
 
-use crate::error_code::{FLOW_CONTROL_ERROR, PROTOCOL_ERROR};
 use crate::fault::StreamFault;
 use crate::state::StreamState;
+use grpc_base::error_code::{FLOW_CONTROL_ERROR, PROTOCOL_ERROR};
 use std::marker::Model;
 
 /// The largest size of a window (RFC 9113, section 6.9.1).

@@ -2,7 +2,8 @@ use Rattle.std.proofs.Common.{◌≡◌, ◌++◌, ◌∙◌, ap, List, take, ar
 use Rattle.std.specs.List.{flat_map}
 use Rattle.std.proofs.lemmas.List.{take_all}
 use Rattle.grpc_base.specs.declared.fields.Field.{Field}
-use Rattle.grpc_meta.specs.ResponseFields.{between_commas, bytes_of_base64, pair_if_read}
+use Rattle.grpc_meta.specs.Base64.{bytes_of_base64}
+use Rattle.grpc_meta.specs.ResponseFields.{between_commas, pair_if_read}
 use Rattle.grpc_meta.proofs.BinaryLaws.{pairs_of_texts}
 use Rattle.grpc_meta.proofs.binary.push_binary.Goals as goal
 

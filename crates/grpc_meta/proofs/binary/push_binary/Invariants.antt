@@ -1,6 +1,7 @@
 use Rattle.std.proofs.Common.{◌≡◌, ◌++◌, take}
 use Rattle.std.specs.List.{flat_map}
-use Rattle.grpc_meta.specs.ResponseFields.{bytes_of_base64, pair_if_read}
+use Rattle.grpc_meta.specs.Base64.{bytes_of_base64}
+use Rattle.grpc_meta.specs.ResponseFields.{pair_if_read}
 use Rattle.grpc_meta.proofs.binary.push_binary.Given as goal
 
 -- the pairs of the texts so far are appended

@@ -1,8 +1,8 @@
-use Rattle.grpc_meta.proofs.BinaryLaws.{read_back, read_exactly}
+use Rattle.grpc_meta.proofs.BinaryLaws.{read_is_spelled, spelled_is_read}
 use Rattle.grpc_meta.proofs.laws.base64_is_read_exactly.Goals as goal
 
-pub returns-clause-back : goal.returns-clause-back
-returns-clause-back c = read_back
+pub returns-clause-read : goal.returns-clause-read
+returns-clause-read c = spelled_is_read
 
-pub returns-clause-exact : goal.returns-clause-exact
-returns-clause-exact c = read_exactly
+pub returns-clause-only : goal.returns-clause-only
+returns-clause-only c = read_is_spelled
