@@ -1,7 +1,7 @@
 -- Status codes in a config: numbers, or names in any case (gRFC A6; gRPC, "Status codes and their use in gRPC").
-use Rattle.std.specs.Prelude.{ℕ, Bool, ◌==◌, if◌then◌else◌, List, [], ◌∷◌, Option, Some, None, option_and_then, map, codes}
-use Rattle.std.specs.Str.{bytes_eq}
-use Rattle.std.specs.Char.{to_ascii_lowercase}
+use Rattle.std.specs.Prelude.{ℕ, ◌==◌, List, [], ◌∷◌, Option, None, option_and_then, codes}
+use Rattle.std.specs.List.{find}
+use Rattle.std.specs.Str.{str_eq_ignore_ascii_case}
 use Rattle.json_text.specs.Tree.{Tree, number, string}
 use Rattle.grpc_base.specs.Codes.{code_number}
 use Rattle.grpc_base.specs.declared.code.Code.{Code}
@@ -35,19 +35,13 @@ failures =
     ∷ code.PermissionDenied ∷ code.ResourceExhausted ∷ code.FailedPrecondition ∷ code.Aborted ∷ code.OutOfRange
     ∷ code.Unimplemented ∷ code.Internal ∷ code.Unavailable ∷ code.DataLoss ∷ code.Unauthenticated ∷ []
 
--- whether two texts are the same but for the case of ASCII's letters
-abbrev pub same_letters : List ℕ → List ℕ → Bool
-same_letters xs ys = bytes_eq (map to_ascii_lowercase xs) (map to_ascii_lowercase ys)
-
--- the first of these codes with this name, in any case
+-- the first of these codes with this name, whatever the case of ASCII's letters
 abbrev pub code_named : List ℕ → List Code → Option Code
-code_named name [] = None
-code_named name (c ∷ cs) = if same_letters (code_name c) name then Some c else code_named name cs
+code_named name cs = find (λ c. str_eq_ignore_ascii_case (code_name c) name) cs
 
 -- the first of these codes with this number
 abbrev pub code_numbered : ℕ → List Code → Option Code
-code_numbered n [] = None
-code_numbered n (c ∷ cs) = if code_number c == n then Some c else code_numbered n cs
+code_numbered n cs = find (λ c. code_number c == n) cs
 
 -- the failure of this number, and of this name
 unfoldable pub failure_numbered : ℕ → Option Code

@@ -1,4 +1,3 @@
-pub mod Trees
 pub mod Values
 pub mod Codes
 pub mod Places

@@ -9,7 +9,7 @@ use Rattle.grpc_base.specs.declared.plan.RetryPolicy.{RetryPolicy}
 use Rattle.grpc_base.specs.declared.plan.HedgePolicy.{HedgePolicy}
 use Rattle.grpc_base.specs.declared.plan.Throttle.{Throttle}
 use Rattle.json_text.specs.Tree.{Tree}
-use Rattle.config_values.specs.Trees.{values_in, members_in, member_of}
+use Rattle.json_text.specs.Parts.{values_in, members_in, member_of}
 use Rattle.config_values.specs.Values.{duration, backoff, attempts, multiplier, tokens, ratio}
 use Rattle.config_values.specs.Codes.{failure_in}
 use Rattle.config_values.specs.Places.{field_name}

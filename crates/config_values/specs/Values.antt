@@ -3,8 +3,9 @@
 use Rattle.std.specs.Prelude.{ℕ, ◌*◌, Bool, ◌&&◌, ◌||◌, ◌==◌, nat_le, nat_lt, if◌then◌else◌, List, Option, Some, None, option_and_then, min}
 use Rattle.std.specs.List.{list_all}
 use Rattle.json_text.specs.Tree.{Tree, number, string}
-use Rattle.json_text.specs.Decimals.{are_digits, value_of, parts_of, milli_of, nanos_of}
-use Rattle.config_values.specs.Trees.{text_in, number_in}
+use Rattle.grpc_base.specs.Numbers.{is_number, number_of}
+use Rattle.json_text.specs.Decimals.{parts_of, milli_of, nanos_of}
+use Rattle.json_text.specs.Parts.{text_in, number_in}
 
 -- a duration in nanoseconds: a string of seconds
 abbrev pub duration : Tree → Option ℕ
@@ -19,7 +20,7 @@ backoff v = option_and_then above_zero (duration v)
 
 -- a whole number: digits alone
 abbrev pub whole : List ℕ → Option ℕ
-whole text = if are_digits text then Some (value_of text) else None
+whole text = if is_number text then Some (number_of text) else None
 
 abbrev pub up_to : ℕ → ℕ → Option ℕ
 up_to most n = if nat_le n most then Some n else None
@@ -53,8 +54,8 @@ tokens v = option_and_then tokens_of (option_and_then whole (number_in v))
 
 -- what one success adds: as a multiplier, and as written at most 1,000
 abbrev pub within_thousand : List ℕ → Option (List ℕ) → Bool
-within_thousand digits None = nat_le (value_of digits) 1000
-within_thousand digits (Some fraction) = nat_lt (value_of digits) 1000 || ((value_of digits == 1000) && list_all (λ d. d == 48) fraction)
+within_thousand digits None = nat_le (number_of digits) 1000
+within_thousand digits (Some fraction) = nat_lt (number_of digits) 1000 || ((number_of digits == 1000) && list_all (λ d. d == 48) fraction)
 
 abbrev pub ratio_of : List ℕ → Option ℕ
 ratio_of text = if within_thousand (parts_of text).0 (parts_of text).1 then milli_of text else None

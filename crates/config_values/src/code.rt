@@ -1,7 +1,8 @@
 // Status codes in a config.
 ghost use Rattle.std.specs.Prelude.{◌≡◌, option_and_then};
+ghost use Rattle.std.specs.Str.{str_eq_ignore_ascii_case};
 ghost use Rattle.json_text.specs.Views.{tree_of};
-ghost use Rattle.config_values.specs.Codes.{code_name, failures, code_named, code_numbered, failure_numbered, failure_named, failure_in, same_letters};
+ghost use Rattle.config_values.specs.Codes.{code_name, code_named, code_numbered, failure_numbered, failure_named, failure_in};
 ghost use Rattle.config_values.specs.Values.{up_to, whole};
 
 use crate::value::whole_up_to;
@@ -53,38 +54,32 @@ const FAILURES: [Code; 16] = [
     Code::Unauthenticated,
 ];
 
-/// The first of these codes with this name, in any case.
+/// Whether two texts are the same but for the case of ASCII's letters.
+#[tactic(auto, using(crate::proofs::Letters::same_test))]
+fn same_letters(text: &[u8], other: &[u8]) -> bool
+    ensures { result ≡ str_eq_ignore_ascii_case text.now other.now }
+{
+    text.eq_ignore_ascii_case(other)
+}
+
+/// The first of these codes with this name, whatever the case of ASCII's letters.
 fn code_named(name: &[u8], codes: &[Code]) -> Option<Code>
     ensures { result ≡ code_named name.now codes.now }
 {
-    let [first, rest @ ..] = codes else {
-        return None;
-    };
-    if same_letters(code_name(*first), name) {
-        return Some(*first);
-    }
-    code_named(name, rest)
-}
-
-/// Whether two texts are the same but for the case of ASCII's letters.
-#[tactic(auto, using(crate::proofs::Letters::same_test))]
-pub fn same_letters(text: &[u8], other: &[u8]) -> bool
-    ensures { result ≡ same_letters text.now other.now }
-{
-    text.eq_ignore_ascii_case(other)
+    codes
+        .iter()
+        .copied()
+        .find(|code| same_letters(code_name(*code), name))
 }
 
 /// The first of these codes with this number.
 fn code_numbered(number: u64, codes: &[Code]) -> Option<Code>
     ensures { result ≡ code_numbered number codes.now }
 {
-    let [first, rest @ ..] = codes else {
-        return None;
-    };
-    if first.number() as u64 == number {
-        return Some(*first);
-    }
-    code_numbered(number, rest)
+    codes
+        .iter()
+        .copied()
+        .find(|code| code.number() as u64 == number)
 }
 
 #[tactic(auto, unfolding(crate::specs::Codes::failure_numbered))]

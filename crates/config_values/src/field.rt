@@ -1,21 +1,20 @@
 // The fields of an object, and those that may be absent.
 ghost use Rattle.std.specs.Prelude.{◌≡◌, map, option_map};
 ghost use Rattle.json_text.specs.Views.{tree_of};
-ghost use Rattle.config_values.specs.Trees.{member_seen, text_in, flag_in};
+ghost use Rattle.json_text.specs.Parts.{member_seen, text_in, flag_in};
 ghost use Rattle.config_values.specs.Values.{duration, size};
 ghost use Rattle.config_values.specs.Policies.{value_of, optional, seen_by, fields_at};
 
 use crate::place::{Fault, Field, Object, Place};
-use crate::tree::{flag_in, member_of, members_in, text_in};
 use crate::value;
 use grpc_base::{Duration, Text};
-use json_text::Json;
+use json_text::{Json, member_of};
 
 /// The fields of an object.
 pub fn fields_at(object: Object, value: &Json) -> Result<&[(Text, Json)], Fault>
     ensures { seen_by (λ ms. map member_seen ms.now) result ≡ fields_at object (tree_of value.now) }
 {
-    members_in(value).ok_or(Fault::Wrong(Place::Whole(object)))
+    value.as_object().ok_or(Fault::Wrong(Place::Whole(object)))
 }
 
 /// The value of a field, where it is there.
@@ -36,7 +35,7 @@ pub fn text<'a>(
     let Some(value) = value_of(fields, field) else {
         return Ok(None);
     };
-    match text_in(value) {
+    match value.as_str() {
         Some(text) => Ok(Some(text)),
         None => Err(Fault::Wrong(Place::Field(object, field))),
     }
@@ -49,7 +48,7 @@ pub fn flag(object: Object, field: Field, fields: &[(Text, Json)]) -> Result<Opt
     let Some(value) = value_of(fields, field) else {
         return Ok(None);
     };
-    match flag_in(value) {
+    match value.as_bool() {
         Some(flag) => Ok(Some(flag)),
         None => Err(Fault::Wrong(Place::Field(object, field))),
     }

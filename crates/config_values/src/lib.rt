@@ -6,15 +6,9 @@ mod field;
 mod path;
 mod place;
 mod plan;
-mod tree;
 mod value;
 
-pub use code::same_letters;
 pub use field::{duration, fields_at, flag, size, text, value_of};
 pub use path::told;
 pub use place::{Fault, Field, Object, Place};
 pub use plan::{plan_in, throttle_in};
-pub use tree::{members_in, values_in};
-
-#[cfg(test)]
-mod tests;

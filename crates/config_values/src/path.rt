@@ -4,43 +4,41 @@ ghost use Rattle.config_values.specs.Places.{member_step, element_step, entry_pa
 ghost use Rattle.grpc_base.specs.declared.event.ConfigFault.TheVariants as told;
 
 use crate::place::{Fault, Field, Object, Place};
-use grpc_base::{ConfigFault, NoMemory, Text};
-use itoa::Buffer;
+use grpc_base::{ConfigFault, NoMemory, Text, append_decimal};
 use std::alloc::Global;
 
 /// Appends the step to a member.
-fn append_member(out: &mut Text, field: Field) -> Result<(), NoMemory>
-    ensures { OnOk result (out.new ≡ out.old ++ member_step field) }
+fn append_member(out: &mut Vec<u8>, field: Field) -> Result<(), NoMemory>
+    ensures { OnOk result (out.new.items ≡ out.old.items ++ member_step field) }
 {
     out.push(b'.')?;
-    out.append(field.name())?;
+    out.extend_from_slice(field.name())?;
     Ok(())
 }
 
 /// Appends the step to an element, which counts from 0.
-fn append_element(out: &mut Text, at: usize) -> Result<(), NoMemory>
-    ensures { OnOk result (out.new ≡ out.old ++ element_step at) }
+fn append_element(out: &mut Vec<u8>, at: usize) -> Result<(), NoMemory>
+    ensures { OnOk result (out.new.items ≡ out.old.items ++ element_step at) }
 {
-    let mut buffer = Buffer::new();
     out.push(b'[')?;
-    out.append(buffer.format(at as u64).as_bytes())?;
+    append_decimal(out, at as u64)?;
     out.push(b']')?;
     Ok(())
 }
 
 #[tactic(auto, unfolding(crate::specs::Places::entry_path))]
-fn append_entry(out: &mut Text, entry: usize) -> Result<(), NoMemory>
-    ensures { OnOk result (out.new ≡ out.old ++ entry_path entry) }
+fn append_entry(out: &mut Vec<u8>, entry: usize) -> Result<(), NoMemory>
+    ensures { OnOk result (out.new.items ≡ out.old.items ++ entry_path entry) }
 {
-    out.append(Field::MethodConfig.name())?;
+    out.extend_from_slice(Field::MethodConfig.name())?;
     append_element(out, entry)?;
     Ok(())
 }
 
 /// Appends the path of an object.
 #[tactic(auto, unfolding(crate::specs::Places::object_path))]
-fn append_object(out: &mut Text, object: Object) -> Result<(), NoMemory>
-    ensures { OnOk result (out.new ≡ out.old ++ object_path object) }
+fn append_object(out: &mut Vec<u8>, object: Object) -> Result<(), NoMemory>
+    ensures { OnOk result (out.new.items ≡ out.old.items ++ object_path object) }
 {
     match object {
         Object::Config => {}
@@ -58,18 +56,18 @@ fn append_object(out: &mut Text, object: Object) -> Result<(), NoMemory>
             append_entry(out, entry)?;
             append_member(out, Field::HedgingPolicy)?;
         }
-        Object::Throttling => out.append(Field::RetryThrottling.name())?,
+        Object::Throttling => out.extend_from_slice(Field::RetryThrottling.name())?,
     }
     Ok(())
 }
 
 /// Appends the path of a member of an object.
 #[tactic(auto, unfolding(crate::specs::Places::member_path))]
-fn append_field(out: &mut Text, object: Object, field: Field) -> Result<(), NoMemory>
-    ensures { OnOk result (out.new ≡ out.old ++ member_path object field) }
+fn append_field(out: &mut Vec<u8>, object: Object, field: Field) -> Result<(), NoMemory>
+    ensures { OnOk result (out.new.items ≡ out.old.items ++ member_path object field) }
 {
     if let Object::Config = object {
-        out.append(field.name())?;
+        out.extend_from_slice(field.name())?;
         return Ok(());
     }
     append_object(out, object)?;
@@ -82,7 +80,7 @@ fn append_field(out: &mut Text, object: Object, field: Field) -> Result<(), NoMe
 fn path_of(alloc: Global, place: Place) -> Result<Text, NoMemory>
     ensures { IfOk result (λ t. t ≡ path_of place) }
 {
-    let mut out = Text::new(alloc);
+    let mut out = Vec::new(alloc);
     match place {
         Place::Whole(object) => append_object(&mut out, object)?,
         Place::Field(object, field) => append_field(&mut out, object, field)?,
@@ -91,7 +89,7 @@ fn path_of(alloc: Global, place: Place) -> Result<Text, NoMemory>
             append_element(&mut out, at)?;
         }
     }
-    Ok(out)
+    Ok(Text::of_vec(out))
 }
 
 /// A fault with its path.

@@ -2,7 +2,7 @@
 ghost use Rattle.std.specs.Prelude.{◌≡◌, map, option_map};
 ghost use Rattle.grpc_base.specs.Codes.{no_codes};
 ghost use Rattle.json_text.specs.Views.{tree_of};
-ghost use Rattle.config_values.specs.Trees.{member_seen};
+ghost use Rattle.json_text.specs.Parts.{member_seen};
 ghost use Rattle.config_values.specs.Values.{backoff, attempts, multiplier, tokens, ratio};
 ghost use Rattle.config_values.specs.Policies.{value_of, required, codes_from, retryable, non_fatal, some_values, delay_of, retry_in, hedge_in, retry_if, hedge_if, plan_of, plan_in, throttle_of, throttle_in};
 ghost use Rattle.config_values.specs.declared.place.Field.TheVariants as field;
@@ -11,7 +11,6 @@ ghost use Rattle.config_values.specs.declared.place.Object.TheVariants as object
 use crate::code::failure_in;
 use crate::field::{duration, fields_at, value_of};
 use crate::place::{Fault, Field, Object, Place};
-use crate::tree::values_in;
 use crate::value;
 use grpc_base::{CallPlan, CodeSet, Duration, HedgePolicy, RetryPolicy, Text, Throttle};
 use json_text::Json;
@@ -74,7 +73,7 @@ fn retryable(object: Object, fields: &[(Text, Json)]) -> Result<CodeSet, Fault>
 fn some_values(value: &Json) -> Option<&[Json]>
     ensures { option_map (λ vs. map tree_of vs.now) result ≡ some_values (tree_of value.now) }
 {
-    let values = values_in(value)?;
+    let values = value.as_list()?;
     match values {
         [] => None,
         [_, ..] => Some(values),
@@ -90,7 +89,7 @@ fn non_fatal(object: Object, fields: &[(Text, Json)]) -> Result<CodeSet, Fault>
         return Ok(CodeSet::new());
     };
     let wrong = Fault::Wrong(Place::Field(object, Field::NonFatalStatusCodes));
-    let values = values_in(value).ok_or(wrong)?;
+    let values = value.as_list().ok_or(wrong)?;
     codes_in(object, Field::NonFatalStatusCodes, values)
 }
 

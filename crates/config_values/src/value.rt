@@ -1,26 +1,13 @@
 // The value of a field.
-ghost use Rattle.std.specs.Prelude.{◌≡◌, ◌<◌, ◌≤◌, ◌^◌, ◌==◌, min, length, option_map, position, IfSome};
+ghost use Rattle.std.specs.Prelude.{◌≡◌, ◌<◌, ◌≤◌, ◌^◌, ◌==◌, min, length, option_map, position, IfSome, IsTrue};
 ghost use Rattle.std.specs.List.{list_all};
-ghost use Rattle.json_text.specs.Numbers.{is_digit};
-ghost use Rattle.json_text.specs.Decimals.{are_digits, value_of, parts_of};
+ghost use Rattle.grpc_base.specs.Numbers.{is_number, number_of};
+ghost use Rattle.json_text.specs.Decimals.{parts_of};
 ghost use Rattle.json_text.specs.Views.{tree_of};
 ghost use Rattle.config_values.specs.Values.{duration, backoff, whole, up_to, size_of, size, attempts, multiplier, tokens, within_thousand, ratio_of, ratio};
 
-use crate::tree::{number_in, text_in};
-use grpc_base::Duration;
+use grpc_base::{Duration, is_number, read_number};
 use json_text::{Json, milli, nanos};
-
-fn has_digits_alone(text: &[u8]) -> bool
-    ensures { result ≡ list_all is_digit text.now }
-{
-    text.iter().all(|b| matches!(*b, b'0'..=b'9'))
-}
-
-fn are_digits(text: &[u8]) -> bool
-    ensures { result ≡ are_digits text.now }
-{
-    text.len() > 0 && has_digits_alone(text)
-}
 
 fn has_zeros_alone(text: &[u8]) -> bool
     ensures { result ≡ list_all (λ b. b == 48) text.now }
@@ -28,16 +15,16 @@ fn has_zeros_alone(text: &[u8]) -> bool
     text.iter().all(|b| *b == b'0')
 }
 
-/// The number that decimal digits spell, or `limit` if it is larger.
+/// The number that digits write, or `limit` if it is larger.
 fn value_up_to(limit: u64, digits: &[u8]) -> u64
-    requires { limit ≤ 10 ^ 10 }
-    ensures { result ≡ min (value_of digits.now) limit }
+    requires few { limit ≤ 10 ^ 10 }
+    requires number { IsTrue (is_number digits.now) }
+    ensures { result ≡ min (number_of digits.now) limit }
 {
-    let mut value = 0;
-    for digit in digits {
-        value = (value * 10 + digit.saturating_sub(b'0') as u64).min(limit);
+    match read_number(digits) {
+        Some(value) => value.min(limit),
+        None => limit,
     }
-    value
 }
 
 /// A whole number, or `limit` if it is larger.
@@ -45,7 +32,7 @@ pub fn whole_up_to(limit: u64, text: &[u8]) -> Option<u64>
     requires { limit ≤ 10 ^ 10 }
     ensures { result ≡ option_map (λ n. min n limit) (whole text.now) }
 {
-    if are_digits(text) {
+    if is_number(text) {
         Some(value_up_to(limit, text))
     } else {
         None
@@ -57,7 +44,7 @@ pub fn whole_up_to(limit: u64, text: &[u8]) -> Option<u64>
 pub fn duration(value: &Json) -> Option<Duration>
     ensures { result ≡ duration (tree_of value.now) }
 {
-    Duration::new(nanos(text_in(value)?)?)
+    Duration::new(nanos(value.as_str()?)?)
 }
 
 /// A wait before a retry, which is above 0.
@@ -94,7 +81,7 @@ pub fn size(value: &Json) -> Option<u32>
 pub fn attempts(value: &Json) -> Option<u32>
     ensures { result ≡ attempts (tree_of value.now) }
 {
-    let number = whole_up_to(5, number_in(value)?)?;
+    let number = whole_up_to(5, value.as_number()?)?;
     if number >= 2 {
         Some(number as u32)
     } else {
@@ -106,14 +93,14 @@ pub fn attempts(value: &Json) -> Option<u32>
 pub fn multiplier(value: &Json) -> Option<u64>
     ensures { result ≡ multiplier (tree_of value.now) }
 {
-    milli(number_in(value)?)
+    milli(value.as_number()?)
 }
 
 /// The tokens of a full bucket in thousandths, from 1 to 1,000 tokens.
 pub fn tokens(value: &Json) -> Option<u32>
     ensures { result ≡ tokens (tree_of value.now) }
 {
-    let number = whole_up_to(1001, number_in(value)?)?;
+    let number = whole_up_to(1001, value.as_number()?)?;
     if number < 1 || number > 1000 {
         return None;
     }
@@ -128,6 +115,7 @@ fn point_of(text: &[u8]) -> Option<usize>
 }
 
 fn within_thousand(text: &[u8]) -> bool
+    requires { IsTrue (is_number (parts_of text.now).0) }
     ensures { result ≡ within_thousand (parts_of text.now).0 (parts_of text.now).1 }
 {
     match point_of(text) {
@@ -139,14 +127,16 @@ fn within_thousand(text: &[u8]) -> bool
     }
 }
 
-#[tactic(auto, using(crate::proofs::Durations::ratio_within))]
+#[tactic(auto, using(crate::proofs::Durations::ratio_within, crate::proofs::Durations::multiplier_number))]
 fn ratio_of(text: &[u8]) -> Option<u32>
     ensures { result ≡ ratio_of text.now }
 {
+    let Some(ratio) = milli(text) else {
+        return None;
+    };
     if !within_thousand(text) {
         return None;
     }
-    let ratio = milli(text)?;
     Some(ratio as u32)
 }
 
@@ -154,5 +144,5 @@ fn ratio_of(text: &[u8]) -> Option<u32>
 pub fn ratio(value: &Json) -> Option<u32>
     ensures { result ≡ ratio (tree_of value.now) }
 {
-    ratio_of(number_in(value)?)
+    ratio_of(value.as_number()?)
 }

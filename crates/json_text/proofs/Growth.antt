@@ -2,9 +2,8 @@
 use Rattle.std.proofs.Common.{◌≡◌, ℕ, ◌+◌, List, [], ◌∷◌, ◌++◌, length, refl, ◌∙◌, arith, Bool, true, false, map}
 use Rattle.std.specs.Prelude.{◌||◌}
 use Rattle.std.specs.Str.{bytes_eq}
-use Rattle.json_text.specs.Tree.{Tree, Items, no_items, item_after, Members, no_members, member_after}
+use Rattle.json_text.specs.Tree.{Tree, Items, no_items, item_after, Members, no_members, member_after, is_named}
 use Rattle.json_text.specs.Reading as read
-use Rattle.json_text.specs.Reading.{is_named}
 use Rattle.json_text.specs.Order.{any_named}
 use Rattle.json_text.specs.Views.{tree_of, items_from, items_of, members_from, members_of, parent_of, parents_from, parents_of}
 use Rattle.json_text.specs.declared.json.Json.{Json}

@@ -1,4 +1,5 @@
 pub mod Growth
+pub mod Parts
 pub mod Order
 pub mod Tools
 pub mod Digits
@@ -11,3 +12,6 @@ pub mod ReachDigits
 pub mod ReachQuotes
 pub mod ReachValues
 pub mod ReachTexts
+pub mod Exponents
+pub mod Readables
+pub mod Fractions

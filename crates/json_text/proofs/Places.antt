@@ -4,12 +4,12 @@ use Rattle.std.specs.Prelude.{◌==◌, ◌⊎◌, nat_lt}
 use Rattle.std.proofs.lemmas.Bool.Decides.{nat_tests}
 use Rattle.grpc_base.specs.declared.event.JsonFault.{JsonFault}
 use Rattle.grpc_base.specs.declared.event.JsonFault.TheVariants as fault
-use Rattle.json_text.specs.Tree.{Tree, null, boolean, number, string, list, object, Items, no_items, item_after, Members, no_members, member_after}
+use Rattle.json_text.specs.Tree.{Tree, null, boolean, number, string, list, object, Items, no_items, item_after, Members, no_members, member_after, is_named}
 use Rattle.json_text.specs.Numbers.{is_digit, number_byte}
 use Rattle.json_text.specs.Strings.{quoted_next}
-use Rattle.json_text.specs.Reading.{Parent, in_list, in_object, Stage, at_top, at_first_value, at_value, at_first_name, at_name, at_colon, after_item, after_member, in_word, in_number, in_string, in_name, at_end, State, is_blank, is_named, most_levels, put, opened, go, value_byte, top_byte, first_value_byte, next_value_byte, first_name_byte, next_name_byte, colon_byte, item_byte, member_byte, end_byte, behind_number, letters_left, word_byte, digit_byte, string_goes, named, name_goes, step_at, ended}
+use Rattle.json_text.specs.Reading.{Parent, in_list, in_object, Stage, at_top, at_first_value, at_value, at_first_name, at_name, at_colon, after_item, after_member, in_word, in_number, in_string, in_name, at_end, State, most_levels, put, opened, go, value_byte, top_byte, first_value_byte, next_value_byte, first_name_byte, next_name_byte, colon_byte, item_byte, member_byte, end_byte, behind_number, letters_left, word_byte, digit_byte, string_goes, named, name_goes, step_at, ended}
 use Rattle.json_text.specs.Faults.{Awaits, RepeatsName, OpensTooDeep, ExponentAt}
-use Rattle.json_text.specs.Grammar.{IsBlank, IsString, Named, IsValue, InList, BeforeItem, InObject, BeforeName, IsObject, IsText}
+use Rattle.json_text.specs.Grammar.{IsBlank, IsString, Named, IsValue, InList, BeforeItem, InObject, BeforeName, IsObject, IsText, is_blank}
 use Rattle.json_text.specs.declared.number.Part.{Part}
 use Rattle.json_text.specs.declared.number.NumberByte.{NumberByte}
 use Rattle.json_text.specs.declared.number.NumberByte.TheVariants as digit

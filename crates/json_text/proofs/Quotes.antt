@@ -2,7 +2,7 @@
 use Rattle.std.proofs.Common.{◌≡◌, ℕ, zero, suc, ◌+◌, ◌-◌, ◌*◌, ◌%◌, ◌<◌, List, [], ◌∷◌, ◌++◌, Bool, true, false, Option, Some, None, refl, ap, sym, subst, ◌∙◌, inl, inr, append_assoc, arith}
 use Rattle.std.specs.Prelude.{◌==◌, ◌||◌, if◌then◌else◌, nat_lt}
 use Rattle.std.proofs.lemmas.Bool.Decides.{nat_tests}
-use Rattle.json_text.specs.Numbers.{is_digit}
+use Rattle.std.specs.Char.{digit_value}
 use Rattle.json_text.specs.Strings.{is_between, hex_digit, string_byte, lead_byte, tail_byte, escaped_byte, hex_byte, settled, with_byte, with_unit, next_by, opened_quote}
 use Rattle.json_text.specs.Grammar.{standing, escape, unicode, escape_value, IsStanding, hex_value, spelling, Chars, no_chars, char_after, IsString}
 use Rattle.json_text.specs.declared.string.Spot.{Spot}
@@ -66,9 +66,10 @@ visible b n y = grind (arith, nat_tests)
 -- the four digits of an escape
 pub hex_below : (b d : ℕ) → hex_digit b ≡ Some d → d < 16
 hex_below b d h =
-    by_if (λ (o : Option ℕ). o ≡ Some d → d < 16) (is_digit b) _ _ (λ y e. let f : b - 48 ≡ d = cc in grind (arith, nat_tests)) (λ n₁.
-    by_if (λ (o : Option ℕ). o ≡ Some d → d < 16) (is_between 65 70 b) _ _ (λ y e. let f : b - 55 ≡ d = cc in grind (arith, nat_tests)) (λ n₂.
-    by_if (λ (o : Option ℕ). o ≡ Some d → d < 16) (is_between 97 102 b) _ _ (λ y e. let f : b - 87 ≡ d = cc in grind (arith, nat_tests)) (λ n₃ e. cc))) h
+    by_if (λ (o : Option ℕ). o ≡ Some d → d < 16) (nat_lt (digit_value b) 16) _ _ (λ y e. let f : digit_value b ≡ d = cc in subst (λ (x : ℕ). x < 16) f (below_as (digit_value b) y)) (λ n e. cc) h
+  where
+    below_as : (v : ℕ) → nat_lt v 16 ≡ true → v < 16
+    below_as v y = grind (arith, nat_tests)
 
 pub four : (b₁ d₁ : ℕ) → hex_digit b₁ ≡ Some d₁ → (b₂ d₂ : ℕ) → hex_digit b₂ ≡ Some d₂ → (b₃ d₃ : ℕ) → hex_digit b₃ ≡ Some d₃ → (b₄ d₄ : ℕ) → hex_digit b₄ ≡ Some d₄
     → hex_value b₁ b₂ b₃ b₄ ≡ Some (((((((0 * 16 + d₁) % 65536) * 16 + d₂) % 65536) * 16 + d₃) % 65536 * 16 + d₄) % 65536)

@@ -6,8 +6,8 @@ use Rattle.grpc_base.specs.declared.event.JsonFault.{JsonFault}
 use Rattle.grpc_base.specs.declared.event.JsonFault.TheVariants as fault
 use Rattle.json_text.specs.Tree.{Tree, number}
 use Rattle.json_text.specs.Numbers.{is_digit, is_e, is_sign, number_byte}
-use Rattle.json_text.specs.Reading.{Parent, in_list, in_object, at_value, in_number, State, is_blank, put, step_at, step, run, ◌>>=◌, next_value_byte, value_byte, digit_byte, behind_number}
-use Rattle.json_text.specs.Grammar.{AreDigits, IsDigits, IsMinus, IsWhole, IsInteger, IsPlain, IsPlusMinus, IsNumber}
+use Rattle.json_text.specs.Reading.{Parent, in_list, in_object, at_value, in_number, State, put, step_at, step, run, ◌>>=◌, next_value_byte, value_byte, digit_byte, behind_number}
+use Rattle.json_text.specs.Grammar.{AreDigits, IsDigits, IsMinus, IsWhole, IsInteger, IsPlain, IsPlusMinus, HasExponent, IsNumber, is_blank}
 use Rattle.json_text.specs.declared.number.Part.{Part}
 use Rattle.json_text.specs.declared.number.Part.TheVariants as part
 use Rattle.json_text.specs.declared.number.NumberByte.{NumberByte}
@@ -27,17 +27,17 @@ IsBehind (b ∷ bs) = is_delim b ≡ true
 abbrev pub digits_at : Part → ℕ → List ℕ → List Parent → State
 digits_at q start t ps = at_stage (in_number q start t) ps
 
-inside : (at : ℕ) (q r : Part) (start : ℕ) (t : List ℕ) (ps : List Parent) (b : ℕ) (bs : List ℕ) → number_byte q b ≡ byte.Inside r
-    → Reaches at (digits_at q start t ps) (b ∷ bs) (digits_at r start (t ++ b ∷ []) ps) bs
+inside : (Q : Type 0) → (at : ℕ) (q r : Part) (start : ℕ) (t : List ℕ) (ps : List Parent) (b : ℕ) (bs : List ℕ) → number_byte q b ≡ byte.Inside r
+    → Reaches Q at (digits_at q start t ps) (b ∷ bs) (digits_at r start (t ++ b ∷ []) ps) bs
 unfolding digit_byte
-inside at q r start t ps b bs e =
-    one at (digits_at q start t ps) (digits_at r start (t ++ b ∷ []) ps) b bs (ap (λ (n : NumberByte). digit_byte at n start t ps b) e)
+inside Q at q r start t ps b bs e =
+    one Q at (digits_at q start t ps) (digits_at r start (t ++ b ∷ []) ps) b bs (ap (λ (n : NumberByte). digit_byte at n start t ps b) e)
 
-exponent : (at : ℕ) (q : Part) (start : ℕ) (t : List ℕ) (ps : List Parent) (b : ℕ) (bs cs : List ℕ) (s : State) → number_byte q b ≡ byte.Exponent
-    → Reaches at (digits_at q start t ps) (b ∷ bs) s cs
+exponent : (Q : Type 0) → (at : ℕ) (q : Part) (start : ℕ) (t : List ℕ) (ps : List Parent) (b : ℕ) (bs cs : List ℕ) (s : State) → number_byte q b ≡ byte.Exponent → Q
+    → Reaches Q at (digits_at q start t ps) (b ∷ bs) s cs
 unfolding digit_byte
-exponent at q start t ps b bs cs s e =
-    other at (digits_at q start t ps) s b bs cs (fault.Number start) (ap (λ (n : NumberByte). digit_byte at n start t ps b) e) tt
+exponent Q at q start t ps b bs cs s e told =
+    other Q at (digits_at q start t ps) s b bs cs (fault.Number start) (ap (λ (n : NumberByte). digit_byte at n start t ps b) e) told
 
 put_step : (at : ℕ) (v : Tree) (ps : List Parent) (b : ℕ) → IsInside ps → behind_number at v ps b ≡ step at (put v ps) b
 unfolding behind_number
@@ -45,24 +45,24 @@ put_step at v [] b i = absurd i
 put_step at v (in_list items ∷ ps) b i = refl
 put_step at v (in_object ms name ∷ ps) b i = refl
 
-behind : (at : ℕ) (q : Part) (start : ℕ) (t : List ℕ) (ps : List Parent) (b : ℕ) (bs : List ℕ) → IsInside ps → number_byte q b ≡ byte.Behind
-    → Reaches at (digits_at q start t ps) (b ∷ bs) (put (number t) ps) (b ∷ bs)
+behind : (Q : Type 0) → (at : ℕ) (q : Part) (start : ℕ) (t : List ℕ) (ps : List Parent) (b : ℕ) (bs : List ℕ) → IsInside ps → number_byte q b ≡ byte.Behind
+    → Reaches Q at (digits_at q start t ps) (b ∷ bs) (put (number t) ps) (b ∷ bs)
 unfolding digit_byte
-behind at q start t ps b bs i e =
+behind Q at q start t ps b bs i e =
     inl (at, ap (λ (r : Result State JsonFault). r >>= λ u. run (at + 1) u bs) (ap (λ (n : NumberByte). digit_byte at n start t ps b) e ∙ put_step at (number t) ps b i))
 
-landing : (at : ℕ) (s : State) (bs : List ℕ) (q : Part) (start : ℕ) (t u : List ℕ) (ps : List Parent) (cs : List ℕ) → t ≡ u
-    → Reaches at s bs (digits_at q start t ps) cs → Reaches at s bs (digits_at q start u ps) cs
-landing at s bs q start t u ps cs e h = subst (λ (x : List ℕ). Reaches at s bs (digits_at q start x ps) cs) e h
+landing : (Q : Type 0) → (at : ℕ) (s : State) (bs : List ℕ) (q : Part) (start : ℕ) (t u : List ℕ) (ps : List Parent) (cs : List ℕ) → t ≡ u
+    → Reaches Q at s bs (digits_at q start t ps) cs → Reaches Q at s bs (digits_at q start u ps) cs
+landing Q at s bs q start t u ps cs e h = subst (λ (x : List ℕ). Reaches Q at s bs (digits_at q start x ps) cs) e h
 
-digits_reach : (q : Part) → ((b : ℕ) → is_digit b ≡ true → number_byte q b ≡ byte.Inside q) → (ds : List ℕ) → AreDigits ds
-    → (at start : ℕ) (t : List ℕ) (ps : List Parent) (bs : List ℕ) → Reaches at (digits_at q start t ps) (ds ++ bs) (digits_at q start (t ++ ds) ps) bs
-digits_reach q goes [] h at start t ps bs = landing at _ bs q start t (t ++ []) ps bs (append_nil t) (here at (digits_at q start t ps) bs)
-digits_reach q goes (d ∷ ds) h at start t ps bs =
-    join at (digits_at q start t ps) (digits_at q start (t ++ d ∷ []) ps) (digits_at q start (t ++ d ∷ ds) ps) (d ∷ (ds ++ bs)) (ds ++ bs) bs
-    (inside at q q start t ps d (ds ++ bs) (goes d h.0))
-    (λ later. landing later _ (ds ++ bs) q start ((t ++ d ∷ []) ++ ds) (t ++ d ∷ ds) ps bs (append_assoc t (d ∷ []) ds)
-    (digits_reach q goes ds h.1 later start (t ++ d ∷ []) ps bs))
+digits_reach : (Q : Type 0) → (q : Part) → ((b : ℕ) → is_digit b ≡ true → number_byte q b ≡ byte.Inside q) → (ds : List ℕ) → AreDigits ds
+    → (at start : ℕ) (t : List ℕ) (ps : List Parent) (bs : List ℕ) → Reaches Q at (digits_at q start t ps) (ds ++ bs) (digits_at q start (t ++ ds) ps) bs
+digits_reach Q q goes [] h at start t ps bs = landing Q at _ bs q start t (t ++ []) ps bs (append_nil t) (here Q at (digits_at q start t ps) bs)
+digits_reach Q q goes (d ∷ ds) h at start t ps bs =
+    join Q at (digits_at q start t ps) (digits_at q start (t ++ d ∷ []) ps) (digits_at q start (t ++ d ∷ ds) ps) (d ∷ (ds ++ bs)) (ds ++ bs) bs
+    (inside Q at q q start t ps d (ds ++ bs) (goes d h.0))
+    (λ later. landing Q later _ (ds ++ bs) q start ((t ++ d ∷ []) ++ ds) (t ++ d ∷ ds) ps bs (append_assoc t (d ∷ []) ds)
+    (digits_reach Q q goes ds h.1 later start (t ++ d ∷ []) ps bs))
 
 whole_digit : (b : ℕ) → is_digit b ≡ true → number_byte part.Whole b ≡ byte.Inside part.Whole
 whole_digit b h = then_is (is_digit b) _ _ h
@@ -119,109 +119,109 @@ minus_digit : (d : ℕ) → (d == 48) ≡ false → is_digit d ≡ true → numb
 minus_digit d n y = else_is (d == 48) _ _ n ∙ then_is (is_digit d) _ _ y
 
 -- what follows at a place inside a number
-abbrev Goes : List ℕ → List Parent → List ℕ → State → List ℕ → Type 0
-Goes t ps bs s cs = (later start : ℕ) (q : Part) → CanStop q → Reaches later (digits_at q start t ps) bs s cs
+abbrev Goes : (Q : Type 0) → List ℕ → List Parent → List ℕ → State → List ℕ → Type 0
+Goes Q t ps bs s cs = (later start : ℕ) (q : Part) → CanStop q → Reaches Q later (digits_at q start t ps) bs s cs
 
-abbrev GoesWhole : List ℕ → List Parent → List ℕ → State → List ℕ → Type 0
-GoesWhole t ps bs s cs =
-    (later start : ℕ) (q : Part) → CanStop q → number_byte q 46 ≡ byte.Inside part.Point → Reaches later (digits_at q start t ps) bs s cs
+abbrev GoesWhole : (Q : Type 0) → List ℕ → List Parent → List ℕ → State → List ℕ → Type 0
+GoesWhole Q t ps bs s cs =
+    (later start : ℕ) (q : Part) → CanStop q → number_byte q 46 ≡ byte.Inside part.Point → Reaches Q later (digits_at q start t ps) bs s cs
 
-whole_reach : (d : ℕ) (ds : List ℕ) → IsWhole (d ∷ ds) → (at : ℕ) (ps : List Parent) (bs : List ℕ) (s : State) (cs : List ℕ) → GoesWhole (d ∷ ds) ps bs s cs
-    → Reaches at (at_stage at_value ps) (d ∷ (ds ++ bs)) s cs
-whole_reach d ds (inl h) at ps bs s cs k =
+whole_reach : (Q : Type 0) → (d : ℕ) (ds : List ℕ) → IsWhole (d ∷ ds) → (at : ℕ) (ps : List Parent) (bs : List ℕ) (s : State) (cs : List ℕ) → GoesWhole Q (d ∷ ds) ps bs s cs
+    → Reaches Q at (at_stage at_value ps) (d ∷ (ds ++ bs)) s cs
+whole_reach Q d ds (inl h) at ps bs s cs k =
     let text : d ∷ (ds ++ bs) ≡ 48 ∷ bs = (let a = h.0 in let b = h.1 in cc) in
     let seen : 48 ∷ [] ≡ d ∷ ds = (let a = h.0 in let b = h.1 in cc) in
-    along at (at_stage at_value ps) s _ (48 ∷ bs) cs text
-    (join at (at_stage at_value ps) (digits_at part.Zero at (48 ∷ []) ps) s (48 ∷ bs) bs cs
-    (one at (at_stage at_value ps) (digits_at part.Zero at (48 ∷ []) ps) 48 bs (zero_first at ps))
-    (λ later. subst (λ (x : List ℕ). Reaches later (digits_at part.Zero at x ps) bs s cs) (sym seen) (k later at part.Zero zero_stops refl)))
-whole_reach d ds (inr h) at ps bs s cs k =
-    join at (at_stage at_value ps) (digits_at part.Whole at (d ∷ []) ps) s (d ∷ (ds ++ bs)) (ds ++ bs) cs
-    (one at (at_stage at_value ps) (digits_at part.Whole at (d ∷ []) ps) d (ds ++ bs) (digit_first at ps d h.0 h.1))
-    (λ later. join later (digits_at part.Whole at (d ∷ []) ps) (digits_at part.Whole at (d ∷ ds) ps) s (ds ++ bs) bs cs
-    (digits_reach part.Whole whole_digit ds h.2 later at (d ∷ []) ps bs)
+    along Q at (at_stage at_value ps) s _ (48 ∷ bs) cs text
+    (join Q at (at_stage at_value ps) (digits_at part.Zero at (48 ∷ []) ps) s (48 ∷ bs) bs cs
+    (one Q at (at_stage at_value ps) (digits_at part.Zero at (48 ∷ []) ps) 48 bs (zero_first at ps))
+    (λ later. subst (λ (x : List ℕ). Reaches Q later (digits_at part.Zero at x ps) bs s cs) (sym seen) (k later at part.Zero zero_stops refl)))
+whole_reach Q d ds (inr h) at ps bs s cs k =
+    join Q at (at_stage at_value ps) (digits_at part.Whole at (d ∷ []) ps) s (d ∷ (ds ++ bs)) (ds ++ bs) cs
+    (one Q at (at_stage at_value ps) (digits_at part.Whole at (d ∷ []) ps) d (ds ++ bs) (digit_first at ps d h.0 h.1))
+    (λ later. join Q later (digits_at part.Whole at (d ∷ []) ps) (digits_at part.Whole at (d ∷ ds) ps) s (ds ++ bs) bs cs
+    (digits_reach Q part.Whole whole_digit ds h.2 later at (d ∷ []) ps bs)
     (λ end. k end at part.Whole whole_stops refl))
 
-minus_reach : (d : ℕ) (ds : List ℕ) → IsWhole (d ∷ ds) → (at : ℕ) (ps : List Parent) (bs : List ℕ) (s : State) (cs : List ℕ) → GoesWhole (45 ∷ d ∷ ds) ps bs s cs
-    → Reaches at (at_stage at_value ps) (45 ∷ d ∷ (ds ++ bs)) s cs
-minus_reach d ds w at ps bs s cs k =
-    join at (at_stage at_value ps) (digits_at part.Minus at (45 ∷ []) ps) s (45 ∷ d ∷ (ds ++ bs)) (d ∷ (ds ++ bs)) cs
-    (one at (at_stage at_value ps) (digits_at part.Minus at (45 ∷ []) ps) 45 (d ∷ (ds ++ bs)) (minus_first at ps))
+minus_reach : (Q : Type 0) → (d : ℕ) (ds : List ℕ) → IsWhole (d ∷ ds) → (at : ℕ) (ps : List Parent) (bs : List ℕ) (s : State) (cs : List ℕ) → GoesWhole Q (45 ∷ d ∷ ds) ps bs s cs
+    → Reaches Q at (at_stage at_value ps) (45 ∷ d ∷ (ds ++ bs)) s cs
+minus_reach Q d ds w at ps bs s cs k =
+    join Q at (at_stage at_value ps) (digits_at part.Minus at (45 ∷ []) ps) s (45 ∷ d ∷ (ds ++ bs)) (d ∷ (ds ++ bs)) cs
+    (one Q at (at_stage at_value ps) (digits_at part.Minus at (45 ∷ []) ps) 45 (d ∷ (ds ++ bs)) (minus_first at ps))
     (λ later. behind_minus w later)
   where
-    behind_minus : IsWhole (d ∷ ds) → (later : ℕ) → Reaches later (digits_at part.Minus at (45 ∷ []) ps) (d ∷ (ds ++ bs)) s cs
+    behind_minus : IsWhole (d ∷ ds) → (later : ℕ) → Reaches Q later (digits_at part.Minus at (45 ∷ []) ps) (d ∷ (ds ++ bs)) s cs
     behind_minus (inl h) later =
         let text : d ∷ (ds ++ bs) ≡ 48 ∷ bs = (let a = h.0 in let b = h.1 in cc) in
         let seen : 45 ∷ 48 ∷ [] ≡ 45 ∷ d ∷ ds = (let a = h.0 in let b = h.1 in cc) in
-        along later (digits_at part.Minus at (45 ∷ []) ps) s _ (48 ∷ bs) cs text
-        (join later (digits_at part.Minus at (45 ∷ []) ps) (digits_at part.Zero at (45 ∷ 48 ∷ []) ps) s (48 ∷ bs) bs cs
-        (inside later part.Minus part.Zero at (45 ∷ []) ps 48 bs refl)
-        (λ end. subst (λ (x : List ℕ). Reaches end (digits_at part.Zero at x ps) bs s cs) (sym seen) (k end at part.Zero zero_stops refl)))
+        along Q later (digits_at part.Minus at (45 ∷ []) ps) s _ (48 ∷ bs) cs text
+        (join Q later (digits_at part.Minus at (45 ∷ []) ps) (digits_at part.Zero at (45 ∷ 48 ∷ []) ps) s (48 ∷ bs) bs cs
+        (inside Q later part.Minus part.Zero at (45 ∷ []) ps 48 bs refl)
+        (λ end. subst (λ (x : List ℕ). Reaches Q end (digits_at part.Zero at x ps) bs s cs) (sym seen) (k end at part.Zero zero_stops refl)))
     behind_minus (inr h) later =
-        join later (digits_at part.Minus at (45 ∷ []) ps) (digits_at part.Whole at (45 ∷ d ∷ []) ps) s (d ∷ (ds ++ bs)) (ds ++ bs) cs
-        (inside later part.Minus part.Whole at (45 ∷ []) ps d (ds ++ bs) (minus_digit d h.0 h.1))
-        (λ end. join end (digits_at part.Whole at (45 ∷ d ∷ []) ps) (digits_at part.Whole at (45 ∷ d ∷ ds) ps) s (ds ++ bs) bs cs
-        (digits_reach part.Whole whole_digit ds h.2 end at (45 ∷ d ∷ []) ps bs)
+        join Q later (digits_at part.Minus at (45 ∷ []) ps) (digits_at part.Whole at (45 ∷ d ∷ []) ps) s (d ∷ (ds ++ bs)) (ds ++ bs) cs
+        (inside Q later part.Minus part.Whole at (45 ∷ []) ps d (ds ++ bs) (minus_digit d h.0 h.1))
+        (λ end. join Q end (digits_at part.Whole at (45 ∷ d ∷ []) ps) (digits_at part.Whole at (45 ∷ d ∷ ds) ps) s (ds ++ bs) bs cs
+        (digits_reach Q part.Whole whole_digit ds h.2 end at (45 ∷ d ∷ []) ps bs)
         (λ last. k last at part.Whole whole_stops refl))
 
-integer_parts : (minus whole : List ℕ) → IsMinus minus → IsWhole whole → (at : ℕ) (ps : List Parent) (bs : List ℕ) (s : State) (cs : List ℕ) → GoesWhole (minus ++ whole) ps bs s cs
-    → Reaches at (at_stage at_value ps) ((minus ++ whole) ++ bs) s cs
-integer_parts minus [] m w at ps bs s cs k = absurd w
-integer_parts [] (d ∷ ds) m w at ps bs s cs k = whole_reach d ds w at ps bs s cs k
-integer_parts (c ∷ []) (d ∷ ds) m w at ps bs s cs k =
-    along at (at_stage at_value ps) s _ (45 ∷ d ∷ (ds ++ bs)) cs (ap (λ (x : ℕ). x ∷ d ∷ (ds ++ bs)) m)
-    (minus_reach d ds w at ps bs s cs (λ later start q a b. subst (λ (x : ℕ). Reaches later (digits_at q start (x ∷ d ∷ ds) ps) bs s cs) m (k later start q a b)))
-integer_parts (c ∷ e ∷ minus) (d ∷ ds) m w at ps bs s cs k = absurd m
+integer_parts : (Q : Type 0) → (minus whole : List ℕ) → IsMinus minus → IsWhole whole → (at : ℕ) (ps : List Parent) (bs : List ℕ) (s : State) (cs : List ℕ) → GoesWhole Q (minus ++ whole) ps bs s cs
+    → Reaches Q at (at_stage at_value ps) ((minus ++ whole) ++ bs) s cs
+integer_parts Q minus [] m w at ps bs s cs k = absurd w
+integer_parts Q [] (d ∷ ds) m w at ps bs s cs k = whole_reach Q d ds w at ps bs s cs k
+integer_parts Q (c ∷ []) (d ∷ ds) m w at ps bs s cs k =
+    along Q at (at_stage at_value ps) s _ (45 ∷ d ∷ (ds ++ bs)) cs (ap (λ (x : ℕ). x ∷ d ∷ (ds ++ bs)) m)
+    (minus_reach Q d ds w at ps bs s cs (λ later start q a b. subst (λ (x : ℕ). Reaches Q later (digits_at q start (x ∷ d ∷ ds) ps) bs s cs) m (k later start q a b)))
+integer_parts Q (c ∷ e ∷ minus) (d ∷ ds) m w at ps bs s cs k = absurd m
 
-integer_reach : (t : List ℕ) → IsInteger t → (at : ℕ) (ps : List Parent) (bs : List ℕ) (s : State) (cs : List ℕ) → GoesWhole t ps bs s cs
-    → Reaches at (at_stage at_value ps) (t ++ bs) s cs
-integer_reach t h at ps bs s cs k =
-    along at (at_stage at_value ps) s (t ++ bs) ((h.0 ++ h.1) ++ bs) cs (ap (λ (x : List ℕ). x ++ bs) h.2)
-    (integer_parts h.0 h.1 h.3 h.4 at ps bs s cs (λ later start q a b. subst (λ (x : List ℕ). Reaches later (digits_at q start x ps) bs s cs) h.2 (k later start q a b)))
+integer_reach : (Q : Type 0) → (t : List ℕ) → IsInteger t → (at : ℕ) (ps : List Parent) (bs : List ℕ) (s : State) (cs : List ℕ) → GoesWhole Q t ps bs s cs
+    → Reaches Q at (at_stage at_value ps) (t ++ bs) s cs
+integer_reach Q t h at ps bs s cs k =
+    along Q at (at_stage at_value ps) s (t ++ bs) ((h.0 ++ h.1) ++ bs) cs (ap (λ (x : List ℕ). x ++ bs) h.2)
+    (integer_parts Q h.0 h.1 h.3 h.4 at ps bs s cs (λ later start q a b. subst (λ (x : List ℕ). Reaches Q later (digits_at q start x ps) bs s cs) h.2 (k later start q a b)))
 
-plain_reach : (t : List ℕ) → IsPlain t → (at : ℕ) (ps : List Parent) (bs : List ℕ) (s : State) (cs : List ℕ) → Goes t ps bs s cs
-    → Reaches at (at_stage at_value ps) (t ++ bs) s cs
-plain_reach t (inl h) at ps bs s cs k = integer_reach t h at ps bs s cs (λ later start q a b. k later start q a)
-plain_reach t (inr (front, [], e, int, ds)) at ps bs s cs k = absurd ds
-plain_reach t (inr (front, (d ∷ digits), e, int, ds)) at ps bs s cs k =
-    along at (at_stage at_value ps) s (t ++ bs) (front ++ (46 ∷ d ∷ (digits ++ bs))) cs
+plain_reach : (Q : Type 0) → (t : List ℕ) → IsPlain t → (at : ℕ) (ps : List Parent) (bs : List ℕ) (s : State) (cs : List ℕ) → Goes Q t ps bs s cs
+    → Reaches Q at (at_stage at_value ps) (t ++ bs) s cs
+plain_reach Q t (inl h) at ps bs s cs k = integer_reach Q t h at ps bs s cs (λ later start q a b. k later start q a)
+plain_reach Q t (inr (front, [], e, int, ds)) at ps bs s cs k = absurd ds
+plain_reach Q t (inr (front, (d ∷ digits), e, int, ds)) at ps bs s cs k =
+    along Q at (at_stage at_value ps) s (t ++ bs) (front ++ (46 ∷ d ∷ (digits ++ bs))) cs
     (ap (λ (x : List ℕ). x ++ bs) e ∙ append_assoc front (46 ∷ d ∷ digits) bs)
-    (integer_reach front int at ps (46 ∷ d ∷ (digits ++ bs)) s cs (λ later start q a b.
-    join later (digits_at q start front ps) (digits_at part.Point start (front ++ 46 ∷ []) ps) s (46 ∷ d ∷ (digits ++ bs)) (d ∷ (digits ++ bs)) cs
-    (inside later q part.Point start front ps 46 (d ∷ (digits ++ bs)) b)
-    (λ at₂. join at₂ (digits_at part.Point start (front ++ 46 ∷ []) ps) (digits_at part.Fraction start ((front ++ 46 ∷ []) ++ d ∷ []) ps) s (d ∷ (digits ++ bs)) (digits ++ bs) cs
-    (inside at₂ part.Point part.Fraction start (front ++ 46 ∷ []) ps d (digits ++ bs) (then_is (is_digit d) _ _ ds.0))
-    (λ at₃. join at₃ (digits_at part.Fraction start ((front ++ 46 ∷ []) ++ d ∷ []) ps) (digits_at part.Fraction start (((front ++ 46 ∷ []) ++ d ∷ []) ++ digits) ps) s (digits ++ bs) bs cs
-    (digits_reach part.Fraction fraction_digit digits ds.1 at₃ start ((front ++ 46 ∷ []) ++ d ∷ []) ps bs)
-    (λ at₄. subst (λ (x : List ℕ). Reaches at₄ (digits_at part.Fraction start x ps) bs s cs)
+    (integer_reach Q front int at ps (46 ∷ d ∷ (digits ++ bs)) s cs (λ later start q a b.
+    join Q later (digits_at q start front ps) (digits_at part.Point start (front ++ 46 ∷ []) ps) s (46 ∷ d ∷ (digits ++ bs)) (d ∷ (digits ++ bs)) cs
+    (inside Q later q part.Point start front ps 46 (d ∷ (digits ++ bs)) b)
+    (λ at₂. join Q at₂ (digits_at part.Point start (front ++ 46 ∷ []) ps) (digits_at part.Fraction start ((front ++ 46 ∷ []) ++ d ∷ []) ps) s (d ∷ (digits ++ bs)) (digits ++ bs) cs
+    (inside Q at₂ part.Point part.Fraction start (front ++ 46 ∷ []) ps d (digits ++ bs) (then_is (is_digit d) _ _ ds.0))
+    (λ at₃. join Q at₃ (digits_at part.Fraction start ((front ++ 46 ∷ []) ++ d ∷ []) ps) (digits_at part.Fraction start (((front ++ 46 ∷ []) ++ d ∷ []) ++ digits) ps) s (digits ++ bs) bs cs
+    (digits_reach Q part.Fraction fraction_digit digits ds.1 at₃ start ((front ++ 46 ∷ []) ++ d ∷ []) ps bs)
+    (λ at₄. subst (λ (x : List ℕ). Reaches Q at₄ (digits_at part.Fraction start x ps) bs s cs)
     (e ∙ sym (append_assoc (front ++ 46 ∷ []) (d ∷ []) digits ∙ append_assoc front (46 ∷ []) (d ∷ digits)))
     (k at₄ start part.Fraction fraction_stops))))))
 
 sign_digit : (d : ℕ) → is_digit d ≡ true → is_sign d ≡ false
 sign_digit d h = grind (arith, nat_tests)
 
-mark_reach : (sign digits : List ℕ) → IsPlusMinus sign → IsDigits digits → (at start : ℕ) (t : List ℕ) (ps : List Parent) (bs : List ℕ) (s : State) (cs : List ℕ)
-    → Reaches at (digits_at part.Mark start t ps) ((sign ++ digits) ++ bs) s cs
-mark_reach sign [] m w at start t ps bs s cs = absurd w
-mark_reach [] (d ∷ ds) m w at start t ps bs s cs =
-    exponent at part.Mark start t ps d (ds ++ bs) cs s (else_is (is_sign d) _ _ (sign_digit d w.0) ∙ then_is (is_digit d) _ _ w.0)
-mark_reach (c ∷ []) (d ∷ ds) m w at start t ps bs s cs =
-    join at (digits_at part.Mark start t ps) (digits_at part.Sign start (t ++ c ∷ []) ps) s (c ∷ d ∷ (ds ++ bs)) (d ∷ (ds ++ bs)) cs
-    (inside at part.Mark part.Sign start t ps c (d ∷ (ds ++ bs)) (then_is (is_sign c) _ _ m))
-    (λ later. exponent later part.Sign start (t ++ c ∷ []) ps d (ds ++ bs) cs s (then_is (is_digit d) _ _ w.0))
-mark_reach (c ∷ e ∷ sign) (d ∷ ds) m w at start t ps bs s cs = absurd m
+mark_reach : (Q : Type 0) → (sign digits : List ℕ) → IsPlusMinus sign → IsDigits digits → Q → (at start : ℕ) (t : List ℕ) (ps : List Parent) (bs : List ℕ) (s : State) (cs : List ℕ)
+    → Reaches Q at (digits_at part.Mark start t ps) ((sign ++ digits) ++ bs) s cs
+mark_reach Q sign [] m w told at start t ps bs s cs = absurd w
+mark_reach Q [] (d ∷ ds) m w told at start t ps bs s cs =
+    exponent Q at part.Mark start t ps d (ds ++ bs) cs s (else_is (is_sign d) _ _ (sign_digit d w.0) ∙ then_is (is_digit d) _ _ w.0) told
+mark_reach Q (c ∷ []) (d ∷ ds) m w told at start t ps bs s cs =
+    join Q at (digits_at part.Mark start t ps) (digits_at part.Sign start (t ++ c ∷ []) ps) s (c ∷ d ∷ (ds ++ bs)) (d ∷ (ds ++ bs)) cs
+    (inside Q at part.Mark part.Sign start t ps c (d ∷ (ds ++ bs)) (then_is (is_sign c) _ _ m))
+    (λ later. exponent Q later part.Sign start (t ++ c ∷ []) ps d (ds ++ bs) cs s (then_is (is_digit d) _ _ w.0) told)
+mark_reach Q (c ∷ e ∷ sign) (d ∷ ds) m w told at start t ps bs s cs = absurd m
 
-number_stops : (t : List ℕ) (ps : List Parent) (bs : List ℕ) → IsInside ps → IsBehind bs → Goes t ps bs (put (number t) ps) bs
-number_stops t ps [] i h later start q stops = absurd h
-number_stops t ps (b ∷ bs) i h later start q stops = behind later q start t ps b bs i (stops.0 b h)
+number_stops : (Q : Type 0) → (t : List ℕ) (ps : List Parent) (bs : List ℕ) → IsInside ps → IsBehind bs → Goes Q t ps bs (put (number t) ps) bs
+number_stops Q t ps [] i h later start q stops = absurd h
+number_stops Q t ps (b ∷ bs) i h later start q stops = behind Q later q start t ps b bs i (stops.0 b h)
 
-pub number_reach : (t : List ℕ) → IsNumber t → (at : ℕ) (ps : List Parent) (bs : List ℕ) → IsInside ps → IsBehind bs
-    → Reaches at (at_stage at_value ps) (t ++ bs) (put (number t) ps) bs
-number_reach t (inl h) at ps bs i b = plain_reach t h at ps bs (put (number t) ps) bs (number_stops t ps bs i b)
-number_reach t (inr h) at ps bs i b =
-    along at (at_stage at_value ps) (put (number t) ps) (t ++ bs) (h.0 ++ (h.1 ∷ ((h.2 ++ h.3) ++ bs))) bs
+pub number_reach : (Q : Type 0) → (t : List ℕ) → IsNumber t → (HasExponent t → Q) → (at : ℕ) (ps : List Parent) (bs : List ℕ) → IsInside ps → IsBehind bs
+    → Reaches Q at (at_stage at_value ps) (t ++ bs) (put (number t) ps) bs
+number_reach Q t (inl h) told at ps bs i b = plain_reach Q t h at ps bs (put (number t) ps) bs (number_stops Q t ps bs i b)
+number_reach Q t (inr h) told at ps bs i b =
+    along Q at (at_stage at_value ps) (put (number t) ps) (t ++ bs) (h.0 ++ (h.1 ∷ ((h.2 ++ h.3) ++ bs))) bs
     (ap (λ (x : List ℕ). x ++ bs) h.4 ∙ append_assoc h.0 (h.1 ∷ (h.2 ++ h.3)) bs)
-    (plain_reach h.0 h.5 at ps (h.1 ∷ ((h.2 ++ h.3) ++ bs)) (put (number t) ps) bs (λ later start q stops.
-    join later (digits_at q start h.0 ps) (digits_at part.Mark start (h.0 ++ h.1 ∷ []) ps) (put (number t) ps) (h.1 ∷ ((h.2 ++ h.3) ++ bs)) ((h.2 ++ h.3) ++ bs) bs
-    (inside later q part.Mark start h.0 ps h.1 ((h.2 ++ h.3) ++ bs) (stops.1 h.1 h.6))
-    (λ end. mark_reach h.2 h.3 h.7 h.8 end start (h.0 ++ h.1 ∷ []) ps bs (put (number t) ps) bs)))
+    (plain_reach Q h.0 h.5 at ps (h.1 ∷ ((h.2 ++ h.3) ++ bs)) (put (number t) ps) bs (λ later start q stops.
+    join Q later (digits_at q start h.0 ps) (digits_at part.Mark start (h.0 ++ h.1 ∷ []) ps) (put (number t) ps) (h.1 ∷ ((h.2 ++ h.3) ++ bs)) ((h.2 ++ h.3) ++ bs) bs
+    (inside Q later q part.Mark start h.0 ps h.1 ((h.2 ++ h.3) ++ bs) (stops.1 h.1 h.6))
+    (λ end. mark_reach Q h.2 h.3 h.7 h.8 (told h) end start (h.0 ++ h.1 ∷ []) ps bs (put (number t) ps) bs)))

@@ -22,59 +22,59 @@ GoesOn W ps = (at b : ℕ) (q r : Quoted) → quoted_next q b ≡ next.Goes r �
 abbrev pub quoted : Spot → Read → Quoted
 quoted s r = record { spot = s; read = r }
 
-module _ (W : Quoted → Stage) (ps : List Parent) (goes : GoesOn W ps) where
+module _ (Q : Type 0) (W : Quoted → Stage) (ps : List Parent) (goes : GoesOn W ps) where
   abbrev at_quoted : Spot → Read → State
   at_quoted s r = at_stage (W (quoted s r)) ps
 
   by_byte : (at : ℕ) (s u : Spot) (r v : Read) (b : ℕ) (bs : List ℕ) → next_by r b (string_byte s b) ≡ next.Goes (quoted u v)
-      → Reaches at (at_quoted s r) (b ∷ bs) (at_quoted u v) bs
-  by_byte at s u r v b bs e = one at (at_quoted s r) (at_quoted u v) b bs (goes at b (quoted s r) (quoted u v) e)
+      → Reaches Q at (at_quoted s r) (b ∷ bs) (at_quoted u v) bs
+  by_byte at s u r v b bs e = one Q at (at_quoted s r) (at_quoted u v) b bs (goes at b (quoted s r) (quoted u v) e)
 
   plain : (at : ℕ) (s u : Spot) (r : Read) (b : ℕ) (bs : List ℕ) → string_byte s b ≡ byte.Plain u
-      → Reaches at (at_quoted s r) (b ∷ bs) (at_quoted u (with_byte r b)) bs
+      → Reaches Q at (at_quoted s r) (b ∷ bs) (at_quoted u (with_byte r b)) bs
   plain at s u r b bs e = by_byte at s u r (with_byte r b) b bs (ap (λ (x : StringByte). next_by r b x) e)
 
   silent : (at : ℕ) (s u : Spot) (r : Read) (b : ℕ) (bs : List ℕ) → string_byte s b ≡ byte.Inside u
-      → Reaches at (at_quoted s r) (b ∷ bs) (at_quoted u r) bs
+      → Reaches Q at (at_quoted s r) (b ∷ bs) (at_quoted u r) bs
   silent at s u r b bs e = by_byte at s u r r b bs (ap (λ (x : StringByte). next_by r b x) e)
 
   unit_read : (at : ℕ) (s : Spot) (r : Read) (b unit : ℕ) (bs : List ℕ) → string_byte s b ≡ byte.Escaped unit
-      → Reaches at (at_quoted s r) (b ∷ bs) (at_quoted spot.Between (with_unit r unit)) bs
+      → Reaches Q at (at_quoted s r) (b ∷ bs) (at_quoted spot.Between (with_unit r unit)) bs
   unit_read at s r b unit bs e = by_byte at s spot.Between r (with_unit r unit) b bs (ap (λ (x : StringByte). next_by r b x) e)
 
-  read_as : (at : ℕ) (s : State) (bs cs : List ℕ) (r v : Read) → r ≡ v → Reaches at s bs (at_quoted spot.Between r) cs → Reaches at s bs (at_quoted spot.Between v) cs
-  read_as at s bs cs r v e h = subst (λ (x : Read). Reaches at s bs (at_quoted spot.Between x) cs) e h
+  read_as : (at : ℕ) (s : State) (bs cs : List ℕ) (r v : Read) → r ≡ v → Reaches Q at s bs (at_quoted spot.Between r) cs → Reaches Q at s bs (at_quoted spot.Between v) cs
+  read_as at s bs cs r v e h = subst (λ (x : Read). Reaches Q at s bs (at_quoted spot.Between x) cs) e h
 
   -- the last byte of a character, and the two before it
   last_tail : (at low high : ℕ) (r : Read) (b : ℕ) (bs : List ℕ) → is_between low high b ≡ true
-      → Reaches at (at_quoted (spot.Tail low high 0) r) (b ∷ bs) (at_quoted spot.Between (with_byte r b)) bs
+      → Reaches Q at (at_quoted (spot.Tail low high 0) r) (b ∷ bs) (at_quoted spot.Between (with_byte r b)) bs
   last_tail at low high r b bs h = plain at (spot.Tail low high 0) spot.Between r b bs (then_is (is_between low high b) _ _ h)
 
   two_tails : (at low high : ℕ) (r : Read) (b c : ℕ) (bs : List ℕ) → is_between low high b ≡ true → IsTail c
-      → Reaches at (at_quoted (spot.Tail low high 1) r) (b ∷ c ∷ bs) (at_quoted spot.Between (with_byte (with_byte r b) c)) bs
+      → Reaches Q at (at_quoted (spot.Tail low high 1) r) (b ∷ c ∷ bs) (at_quoted spot.Between (with_byte (with_byte r b) c)) bs
   two_tails at low high r b c bs h k =
-      join at (at_quoted (spot.Tail low high 1) r) (at_quoted (spot.Tail 128 191 0) (with_byte r b)) (at_quoted spot.Between (with_byte (with_byte r b) c)) (b ∷ c ∷ bs) (c ∷ bs) bs
+      join Q at (at_quoted (spot.Tail low high 1) r) (at_quoted (spot.Tail 128 191 0) (with_byte r b)) (at_quoted spot.Between (with_byte (with_byte r b) c)) (b ∷ c ∷ bs) (c ∷ bs) bs
       (plain at (spot.Tail low high 1) (spot.Tail 128 191 0) r b (c ∷ bs) (then_is (is_between low high b) _ _ h))
       (λ later. last_tail later 128 191 (with_byte r b) c bs k)
 
   three_tails : (at low high : ℕ) (r : Read) (b c d : ℕ) (bs : List ℕ) → is_between low high b ≡ true → IsTail c → IsTail d
-      → Reaches at (at_quoted (spot.Tail low high 2) r) (b ∷ c ∷ d ∷ bs) (at_quoted spot.Between (with_byte (with_byte (with_byte r b) c) d)) bs
+      → Reaches Q at (at_quoted (spot.Tail low high 2) r) (b ∷ c ∷ d ∷ bs) (at_quoted spot.Between (with_byte (with_byte (with_byte r b) c) d)) bs
   three_tails at low high r b c d bs h k l =
-      join at (at_quoted (spot.Tail low high 2) r) (at_quoted (spot.Tail 128 191 1) (with_byte r b)) (at_quoted spot.Between (with_byte (with_byte (with_byte r b) c) d)) (b ∷ c ∷ d ∷ bs) (c ∷ d ∷ bs) bs
+      join Q at (at_quoted (spot.Tail low high 2) r) (at_quoted (spot.Tail 128 191 1) (with_byte r b)) (at_quoted spot.Between (with_byte (with_byte (with_byte r b) c) d)) (b ∷ c ∷ d ∷ bs) (c ∷ d ∷ bs) bs
       (plain at (spot.Tail low high 2) (spot.Tail 128 191 1) r b (c ∷ d ∷ bs) (then_is (is_between low high b) _ _ h))
       (λ later. two_tails later 128 191 (with_byte r b) c d bs k l)
 
   lead_two : (at low high : ℕ) (r : Read) (a b c : ℕ) (bs : List ℕ) → first_byte a ≡ byte.Plain (spot.Tail low high 1) → is_between low high b ≡ true → IsTail c
-      → Reaches at (at_quoted spot.Between r) (a ∷ b ∷ c ∷ bs) (at_quoted spot.Between (with_byte (with_byte (with_byte r a) b) c)) bs
+      → Reaches Q at (at_quoted spot.Between r) (a ∷ b ∷ c ∷ bs) (at_quoted spot.Between (with_byte (with_byte (with_byte r a) b) c)) bs
   lead_two at low high r a b c bs e h k =
-      join at (at_quoted spot.Between r) (at_quoted (spot.Tail low high 1) (with_byte r a)) (at_quoted spot.Between (with_byte (with_byte (with_byte r a) b) c)) (a ∷ b ∷ c ∷ bs) (b ∷ c ∷ bs) bs
+      join Q at (at_quoted spot.Between r) (at_quoted (spot.Tail low high 1) (with_byte r a)) (at_quoted spot.Between (with_byte (with_byte (with_byte r a) b) c)) (a ∷ b ∷ c ∷ bs) (b ∷ c ∷ bs) bs
       (plain at spot.Between (spot.Tail low high 1) r a (b ∷ c ∷ bs) e)
       (λ later. two_tails later low high (with_byte r a) b c bs h k)
 
   lead_three : (at low high : ℕ) (r : Read) (a b c d : ℕ) (bs : List ℕ) → first_byte a ≡ byte.Plain (spot.Tail low high 2) → is_between low high b ≡ true → IsTail c → IsTail d
-      → Reaches at (at_quoted spot.Between r) (a ∷ b ∷ c ∷ d ∷ bs) (at_quoted spot.Between (with_byte (with_byte (with_byte (with_byte r a) b) c) d)) bs
+      → Reaches Q at (at_quoted spot.Between r) (a ∷ b ∷ c ∷ d ∷ bs) (at_quoted spot.Between (with_byte (with_byte (with_byte (with_byte r a) b) c) d)) bs
   lead_three at low high r a b c d bs e h k l =
-      join at (at_quoted spot.Between r) (at_quoted (spot.Tail low high 2) (with_byte r a)) (at_quoted spot.Between (with_byte (with_byte (with_byte (with_byte r a) b) c) d)) (a ∷ b ∷ c ∷ d ∷ bs) (b ∷ c ∷ d ∷ bs) bs
+      join Q at (at_quoted spot.Between r) (at_quoted (spot.Tail low high 2) (with_byte r a)) (at_quoted spot.Between (with_byte (with_byte (with_byte (with_byte r a) b) c) d)) (a ∷ b ∷ c ∷ d ∷ bs) (b ∷ c ∷ d ∷ bs) bs
       (plain at spot.Between (spot.Tail low high 2) r a (b ∷ c ∷ d ∷ bs) e)
       (λ later. three_tails later low high (with_byte r a) b c d bs h k l)
 
@@ -138,7 +138,7 @@ four_parts (Some w) (Some x) None o₄ unit e = let g : ⊥ = cc in absurd g
 four_parts (Some w) None o₃ o₄ unit e = let g : ⊥ = cc in absurd g
 four_parts None o₂ o₃ o₄ unit e = let g : ⊥ = cc in absurd g
 
-module _ (W : Quoted → Stage) (ps : List Parent) (goes : GoesOn W ps) where
+module _ (Q : Type 0) (W : Quoted → Stage) (ps : List Parent) (goes : GoesOn W ps) where
   abbrev between : Read → State
   between r = at_stage (W (quoted spot.Between r)) ps
 
@@ -151,77 +151,77 @@ module _ (W : Quoted → Stage) (ps : List Parent) (goes : GoesOn W ps) where
   bytes_four : (r : Read) (a b c d : ℕ) → with_byte (with_byte (with_byte (with_byte r a) b) c) d ≡ record { text = settled r ++ (a ∷ b ∷ c ∷ d ∷ []); high = None }
   bytes_four r a b c d = ap (λ (x : Read). with_byte x d) (bytes_three r a b c) ∙ ap (λ (x : List ℕ). let v : Read = record { text = x; high = None } in v) (append_assoc (settled r) (a ∷ b ∷ c ∷ []) (d ∷ []))
 
-  as_read : (at : ℕ) (r v s : Read) (bs cs : List ℕ) → v ≡ s → Reaches at (between r) bs (between v) cs → Reaches at (between r) bs (between s) cs
-  as_read at r v s bs cs e h = read_as W ps goes at (between r) bs cs v s e h
+  as_read : (at : ℕ) (r v s : Read) (bs cs : List ℕ) → v ≡ s → Reaches Q at (between r) bs (between v) cs → Reaches Q at (between r) bs (between s) cs
+  as_read at r v s bs cs e h = read_as Q W ps goes at (between r) bs cs v s e h
 
   standing_reach : (c : List ℕ) → IsStanding c → (at : ℕ) (r : Read) (bs : List ℕ)
-      → Reaches at (between r) (c ++ bs) (between (record { text = settled r ++ c; high = None })) bs
+      → Reaches Q at (between r) (c ++ bs) (between (record { text = settled r ++ c; high = None })) bs
   standing_reach [] h at r bs = absurd h
-  standing_reach (a ∷ []) h at r bs = plain W ps goes at spot.Between spot.Between r a bs (visible_first a h.0 h.1 h.2)
+  standing_reach (a ∷ []) h at r bs = plain Q W ps goes at spot.Between spot.Between r a bs (visible_first a h.0 h.1 h.2)
   standing_reach (a ∷ b ∷ []) h at r bs =
       as_read at r _ _ (a ∷ b ∷ bs) bs (bytes_two r a b)
-      (join at (between r) (at_stage (W (quoted (spot.Tail 128 191 0) (with_byte r a))) ps) (between (with_byte (with_byte r a) b)) (a ∷ b ∷ bs) (b ∷ bs) bs
-      (plain W ps goes at spot.Between (spot.Tail 128 191 0) r a (b ∷ bs) (lead_one a h.0))
-      (λ later. last_tail W ps goes later 128 191 (with_byte r a) b bs h.1))
+      (join Q at (between r) (at_stage (W (quoted (spot.Tail 128 191 0) (with_byte r a))) ps) (between (with_byte (with_byte r a) b)) (a ∷ b ∷ bs) (b ∷ bs) bs
+      (plain Q W ps goes at spot.Between (spot.Tail 128 191 0) r a (b ∷ bs) (lead_one a h.0))
+      (λ later. last_tail Q W ps goes later 128 191 (with_byte r a) b bs h.1))
   standing_reach (a ∷ b ∷ c ∷ []) (inl h, k) at r bs =
-      as_read at r _ _ (a ∷ b ∷ c ∷ bs) bs (bytes_three r a b c) (lead_two W ps goes at 160 191 r a b c bs (lead_as a 224 160 191 1 h.0 refl) h.1 k)
+      as_read at r _ _ (a ∷ b ∷ c ∷ bs) bs (bytes_three r a b c) (lead_two Q W ps goes at 160 191 r a b c bs (lead_as a 224 160 191 1 h.0 refl) h.1 k)
   standing_reach (a ∷ b ∷ c ∷ []) (inr (inl h), k) at r bs =
-      as_read at r _ _ (a ∷ b ∷ c ∷ bs) bs (bytes_three r a b c) (lead_two W ps goes at 128 191 r a b c bs (lead_middle a h.0 h.1) h.2 k)
+      as_read at r _ _ (a ∷ b ∷ c ∷ bs) bs (bytes_three r a b c) (lead_two Q W ps goes at 128 191 r a b c bs (lead_middle a h.0 h.1) h.2 k)
   standing_reach (a ∷ b ∷ c ∷ []) (inr (inr h), k) at r bs =
-      as_read at r _ _ (a ∷ b ∷ c ∷ bs) bs (bytes_three r a b c) (lead_two W ps goes at 128 159 r a b c bs (lead_as a 237 128 159 1 h.0 refl) h.1 k)
+      as_read at r _ _ (a ∷ b ∷ c ∷ bs) bs (bytes_three r a b c) (lead_two Q W ps goes at 128 159 r a b c bs (lead_as a 237 128 159 1 h.0 refl) h.1 k)
   standing_reach (a ∷ b ∷ c ∷ d ∷ []) (inl h, k, l) at r bs =
-      as_read at r _ _ (a ∷ b ∷ c ∷ d ∷ bs) bs (bytes_four r a b c d) (lead_three W ps goes at 144 191 r a b c d bs (lead_as a 240 144 191 2 h.0 refl) h.1 k l)
+      as_read at r _ _ (a ∷ b ∷ c ∷ d ∷ bs) bs (bytes_four r a b c d) (lead_three Q W ps goes at 144 191 r a b c d bs (lead_as a 240 144 191 2 h.0 refl) h.1 k l)
   standing_reach (a ∷ b ∷ c ∷ d ∷ []) (inr (inl h), k, l) at r bs =
-      as_read at r _ _ (a ∷ b ∷ c ∷ d ∷ bs) bs (bytes_four r a b c d) (lead_three W ps goes at 128 191 r a b c d bs (lead_high a h.0) h.1 k l)
+      as_read at r _ _ (a ∷ b ∷ c ∷ d ∷ bs) bs (bytes_four r a b c d) (lead_three Q W ps goes at 128 191 r a b c d bs (lead_high a h.0) h.1 k l)
   standing_reach (a ∷ b ∷ c ∷ d ∷ []) (inr (inr h), k, l) at r bs =
-      as_read at r _ _ (a ∷ b ∷ c ∷ d ∷ bs) bs (bytes_four r a b c d) (lead_three W ps goes at 128 143 r a b c d bs (lead_as a 244 128 143 2 h.0 refl) h.1 k l)
+      as_read at r _ _ (a ∷ b ∷ c ∷ d ∷ bs) bs (bytes_four r a b c d) (lead_three Q W ps goes at 128 143 r a b c d bs (lead_as a 244 128 143 2 h.0 refl) h.1 k l)
   standing_reach (a ∷ b ∷ c ∷ d ∷ e ∷ t) h at r bs = absurd h
 
   hex_step : (at left next value b d : ℕ) (r : Read) (bs : List ℕ) → hex_digit b ≡ Some d
       → hex_byte left value (Some d) ≡ byte.Inside (spot.Hex next ((value * 16 + d) % 65536))
-      → Reaches at (at_stage (W (quoted (spot.Hex left value) r)) ps) (b ∷ bs) (at_stage (W (quoted (spot.Hex next ((value * 16 + d) % 65536)) r)) ps) bs
+      → Reaches Q at (at_stage (W (quoted (spot.Hex left value) r)) ps) (b ∷ bs) (at_stage (W (quoted (spot.Hex next ((value * 16 + d) % 65536)) r)) ps) bs
   hex_step at left next value b d r bs e f =
-      silent W ps goes at (spot.Hex left value) (spot.Hex next ((value * 16 + d) % 65536)) r b bs (ap (hex_byte left value) e ∙ f)
+      silent Q W ps goes at (spot.Hex left value) (spot.Hex next ((value * 16 + d) % 65536)) r b bs (ap (hex_byte left value) e ∙ f)
 
   hex_reach : (at : ℕ) (a b c d w x y z : ℕ) (r : Read) (bs : List ℕ) → hex_digit a ≡ Some w → hex_digit b ≡ Some x → hex_digit c ≡ Some y → hex_digit d ≡ Some z
-      → Reaches at (at_stage (W (quoted (spot.Hex 3 0) r)) ps) (a ∷ b ∷ c ∷ d ∷ bs)
+      → Reaches Q at (at_stage (W (quoted (spot.Hex 3 0) r)) ps) (a ∷ b ∷ c ∷ d ∷ bs)
       (between (with_unit r (((((((0 * 16 + w) % 65536) * 16 + x) % 65536) * 16 + y) % 65536 * 16 + z) % 65536))) bs
   hex_reach at a b c d w x y z r bs h₁ h₂ h₃ h₄ =
       let v₁ : ℕ = (0 * 16 + w) % 65536 in
       let v₂ : ℕ = (v₁ * 16 + x) % 65536 in
       let v₃ : ℕ = (v₂ * 16 + y) % 65536 in
       let goal_at : State = between (with_unit r ((v₃ * 16 + z) % 65536)) in
-      join at (at_stage (W (quoted (spot.Hex 3 0) r)) ps) (at_stage (W (quoted (spot.Hex 2 v₁) r)) ps) goal_at (a ∷ b ∷ c ∷ d ∷ bs) (b ∷ c ∷ d ∷ bs) bs
+      join Q at (at_stage (W (quoted (spot.Hex 3 0) r)) ps) (at_stage (W (quoted (spot.Hex 2 v₁) r)) ps) goal_at (a ∷ b ∷ c ∷ d ∷ bs) (b ∷ c ∷ d ∷ bs) bs
       (hex_step at 3 2 0 a w r (b ∷ c ∷ d ∷ bs) h₁ refl)
-      (λ at₂. join at₂ (at_stage (W (quoted (spot.Hex 2 v₁) r)) ps) (at_stage (W (quoted (spot.Hex 1 v₂) r)) ps) goal_at (b ∷ c ∷ d ∷ bs) (c ∷ d ∷ bs) bs
+      (λ at₂. join Q at₂ (at_stage (W (quoted (spot.Hex 2 v₁) r)) ps) (at_stage (W (quoted (spot.Hex 1 v₂) r)) ps) goal_at (b ∷ c ∷ d ∷ bs) (c ∷ d ∷ bs) bs
       (hex_step at₂ 2 1 v₁ b x r (c ∷ d ∷ bs) h₂ refl)
-      (λ at₃. join at₃ (at_stage (W (quoted (spot.Hex 1 v₂) r)) ps) (at_stage (W (quoted (spot.Hex 0 v₃) r)) ps) goal_at (c ∷ d ∷ bs) (d ∷ bs) bs
+      (λ at₃. join Q at₃ (at_stage (W (quoted (spot.Hex 1 v₂) r)) ps) (at_stage (W (quoted (spot.Hex 0 v₃) r)) ps) goal_at (c ∷ d ∷ bs) (d ∷ bs) bs
       (hex_step at₃ 1 0 v₂ c y r (d ∷ bs) h₃ refl)
-      (λ at₄. unit_read W ps goes at₄ (spot.Hex 0 v₃) r d ((v₃ * 16 + z) % 65536) bs (ap (hex_byte 0 v₃) h₄))))
+      (λ at₄. unit_read Q W ps goes at₄ (spot.Hex 0 v₃) r d ((v₃ * 16 + z) % 65536) bs (ap (hex_byte 0 v₃) h₄))))
 
-  char_reach : (c : Char) (r s : Read) → Reads c r s → (at : ℕ) (bs : List ℕ) → Reaches at (between r) (spelling c ++ bs) (between s) bs
+  char_reach : (c : Char) (r s : Read) → Reads c r s → (at : ℕ) (bs : List ℕ) → Reaches Q at (between r) (spelling c ++ bs) (between s) bs
   char_reach (standing c) r s h at bs = as_read at r _ s (c ++ bs) bs (sym h.0) (standing_reach c h.1 at r bs)
   char_reach (escape b) r s h at bs =
       as_read at r (with_unit r h.0) s (92 ∷ b ∷ bs) bs (sym h.1)
-      (join at (between r) (at_stage (W (quoted spot.Escape r)) ps) (between (with_unit r h.0)) (92 ∷ b ∷ bs) (b ∷ bs) bs
-      (silent W ps goes at spot.Between spot.Escape r 92 (b ∷ bs) refl)
-      (λ later. unit_read W ps goes later spot.Escape r b h.0 bs (escape_step b h.0 h.2)))
+      (join Q at (between r) (at_stage (W (quoted spot.Escape r)) ps) (between (with_unit r h.0)) (92 ∷ b ∷ bs) (b ∷ bs) bs
+      (silent Q W ps goes at spot.Between spot.Escape r 92 (b ∷ bs) refl)
+      (λ later. unit_read Q W ps goes later spot.Escape r b h.0 bs (escape_step b h.0 h.2)))
   char_reach (unicode a b c d) r s h at bs =
       let p = four_parts (hex_digit a) (hex_digit b) (hex_digit c) (hex_digit d) h.0 h.2 in
       let v : ℕ = ((((((0 * 16 + p.0) % 65536) * 16 + p.1) % 65536) * 16 + p.2) % 65536 * 16 + p.3) % 65536 in
       let computed : hex_value a b c d ≡ Some v = four a p.0 p.4 b p.1 p.5 c p.2 p.6 d p.3 p.7 in
       let same_unit : v ≡ h.0 = (let known = h.2 in cc) in
       as_read at r (with_unit r v) s (92 ∷ 117 ∷ a ∷ b ∷ c ∷ d ∷ bs) bs (ap (λ (x : ℕ). with_unit r x) same_unit ∙ sym h.1)
-      (join at (between r) (at_stage (W (quoted spot.Escape r)) ps) (between (with_unit r v)) (92 ∷ 117 ∷ a ∷ b ∷ c ∷ d ∷ bs) (117 ∷ a ∷ b ∷ c ∷ d ∷ bs) bs
-      (silent W ps goes at spot.Between spot.Escape r 92 (117 ∷ a ∷ b ∷ c ∷ d ∷ bs) refl)
-      (λ at₂. join at₂ (at_stage (W (quoted spot.Escape r)) ps) (at_stage (W (quoted (spot.Hex 3 0) r)) ps) (between (with_unit r v)) (117 ∷ a ∷ b ∷ c ∷ d ∷ bs) (a ∷ b ∷ c ∷ d ∷ bs) bs
-      (silent W ps goes at₂ spot.Escape (spot.Hex 3 0) r 117 (a ∷ b ∷ c ∷ d ∷ bs) refl)
+      (join Q at (between r) (at_stage (W (quoted spot.Escape r)) ps) (between (with_unit r v)) (92 ∷ 117 ∷ a ∷ b ∷ c ∷ d ∷ bs) (117 ∷ a ∷ b ∷ c ∷ d ∷ bs) bs
+      (silent Q W ps goes at spot.Between spot.Escape r 92 (117 ∷ a ∷ b ∷ c ∷ d ∷ bs) refl)
+      (λ at₂. join Q at₂ (at_stage (W (quoted spot.Escape r)) ps) (at_stage (W (quoted (spot.Hex 3 0) r)) ps) (between (with_unit r v)) (117 ∷ a ∷ b ∷ c ∷ d ∷ bs) (a ∷ b ∷ c ∷ d ∷ bs) bs
+      (silent Q W ps goes at₂ spot.Escape (spot.Hex 3 0) r 117 (a ∷ b ∷ c ∷ d ∷ bs) refl)
       (λ at₃. hex_reach at₃ a b c d p.0 p.1 p.2 p.3 r bs p.4 p.5 p.6 p.7)))
 
   -- the characters behind the opening quote
-  pub chars_reach : (t : List ℕ) (r : Read) → Chars t r → (at : ℕ) (bs : List ℕ) → Reaches at (between nothing_read) (t ++ bs) (between r) bs
-  chars_reach t r no_chars at bs = here at (between nothing_read) bs
+  pub chars_reach : (t : List ℕ) (r : Read) → Chars t r → (at : ℕ) (bs : List ℕ) → Reaches Q at (between nothing_read) (t ++ bs) (between r) bs
+  chars_reach t r no_chars at bs = here Q at (between nothing_read) bs
   chars_reach t r (char_after {t = u} {r = q} h c s reads) at bs =
-      along at (between nothing_read) (between r) (t ++ bs) (u ++ (spelling c ++ bs)) bs (append_assoc u (spelling c) bs)
-      (join at (between nothing_read) (between q) (between s) (u ++ (spelling c ++ bs)) (spelling c ++ bs) bs
+      along Q at (between nothing_read) (between r) (t ++ bs) (u ++ (spelling c ++ bs)) bs (append_assoc u (spelling c) bs)
+      (join Q at (between nothing_read) (between q) (between s) (u ++ (spelling c ++ bs)) (spelling c ++ bs) bs
       (chars_reach u q h at (spelling c ++ bs)) (λ later. char_reach c q s reads later bs))

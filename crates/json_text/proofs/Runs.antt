@@ -57,7 +57,7 @@ then_kept at p bs b (Err (fault.Number k)) c h f = (0, omega arith, h)
 then_kept at p bs b (Err fault.TooLong) c h f = absurd h
 then_kept at p bs b (Err fault.NoMemory) c h f = absurd h
 
-next_place : (at : ℕ) (p : List ℕ) (b : ℕ) → at ≡ length p → at + 1 ≡ length (p ++ b ∷ [])
+pub next_place : (at : ℕ) (p : List ℕ) (b : ℕ) → at ≡ length p → at + 1 ≡ length (p ++ b ∷ [])
 next_place at p b here = omega (arith, here, length-append p (b ∷ []))
 
 pub run_kept : (at : ℕ) (s : State) (p bs : List ℕ) → at ≡ length p → Holds s.stage s.parents p → RunKept at p bs (run at s bs)
@@ -160,7 +160,7 @@ dead_at at s p (b ∷ bs) k here h e =
 -- a text is not stopped by a fault of syntax
 not_syntax : (v : Tree) (t : List ℕ) (k : ℕ) → IsText v t → run 0 at_start t ≡ Err (fault.Syntax k) → ⊥
 not_syntax v t k h e =
-    elim (text_reach v t h) [ inl o ↦ (let g : ⊥ = cc in g) | inr o ↦ subst (λ (r : Result State JsonFault). IsOther r) e o ]
+    elim (text_reach (Unit {0}) v t h (λ _. tt)) [ inl o ↦ (let g : ⊥ = cc in g) | inr o ↦ subst (λ (r : Result State JsonFault). IsOther (Unit {0}) r) e o ]
 
 run_first : (bytes : List ℕ) (k : ℕ) (r : Result State JsonFault) → run 0 at_start bytes ≡ r → (r >>= λ s. ended (length bytes) s.stage) ≡ Err (fault.Syntax k)
     → k < length bytes → CanEnd (take (suc k) bytes) → ⊥
@@ -185,7 +185,7 @@ syntax_first bytes k =
     (λ n e lt can. run_first bytes k (run 0 at_start bytes) refl e lt (subst (λ (m : ℕ). CanEnd (take m bytes)) (add-one k) can))
 
 -- A text is read as its one value, unless another fault than one of syntax is told.
-text_ends : (v w : Tree) (n : ℕ) (r : Result State JsonFault) → (r ≡ Ok (at_stage (at_end v) [])) ⊎ IsOther r → (r >>= λ s. ended n s.stage) ≡ Ok w → w ≡ v
+text_ends : (v w : Tree) (n : ℕ) (r : Result State JsonFault) → (r ≡ Ok (at_stage (at_end v) [])) ⊎ IsOther (Unit {0}) r → (r >>= λ s. ended n s.stage) ≡ Ok w → w ≡ v
 text_ends v w n r (inl h) e = let f : (r >>= λ s. ended n s.stage) ≡ Ok v = ap (λ (x : Result State JsonFault). x >>= λ s. ended n s.stage) h in cc
 text_ends v w n (Ok s) (inr o) e = absurd o
 text_ends v w n (Err f) (inr o) e = let g : ⊥ = cc in absurd g
@@ -194,9 +194,9 @@ pub one_value : (bytes : List ℕ) (v w : Tree) → IsText v bytes → reading b
 unfolding reading
 one_value bytes v w h =
     by_if (λ (r : Result Tree JsonFault). r ≡ Ok w → w ≡ v) (nat_lt most_bytes (length bytes)) _ _
-    (λ y e. cc) (λ n e. text_ends v w (length bytes) (run 0 at_start bytes) (text_reach v bytes h) e)
+    (λ y e. cc) (λ n e. text_ends v w (length bytes) (run 0 at_start bytes) (text_reach (Unit {0}) v bytes h (λ _. tt)) e)
 
-text_wrong : (v : Tree) (n k : ℕ) (r : Result State JsonFault) → (r ≡ Ok (at_stage (at_end v) [])) ⊎ IsOther r → (r >>= λ s. ended n s.stage) ≡ Err (fault.Syntax k) → ⊥
+text_wrong : (v : Tree) (n k : ℕ) (r : Result State JsonFault) → (r ≡ Ok (at_stage (at_end v) [])) ⊎ IsOther (Unit {0}) r → (r >>= λ s. ended n s.stage) ≡ Err (fault.Syntax k) → ⊥
 text_wrong v n k r (inl h) e = let f : (r >>= λ s. ended n s.stage) ≡ Ok v = ap (λ (x : Result State JsonFault). x >>= λ s. ended n s.stage) h in cc
 text_wrong v n k (Ok s) (inr o) e = o
 text_wrong v n k (Err (fault.Syntax j)) (inr o) e = o
@@ -210,7 +210,7 @@ pub text_is_right : (bytes : List ℕ) (v : Tree) (k : ℕ) → IsText v bytes �
 unfolding reading
 text_is_right bytes v k h =
     by_if (λ (r : Result Tree JsonFault). r ≡ Err (fault.Syntax k) → ⊥) (nat_lt most_bytes (length bytes)) _ _
-    (λ y e. cc) (λ n e. text_wrong v (length bytes) k (run 0 at_start bytes) (text_reach v bytes h) e)
+    (λ y e. cc) (λ n e. text_wrong v (length bytes) k (run 0 at_start bytes) (text_reach (Unit {0}) v bytes h (λ _. tt)) e)
 
 -- Each other fault stands where the grammar has it.
 behind_told : (P : List ℕ → Type 0) (bytes : List ℕ) → ToldBy P [] bytes → Behind P bytes

@@ -1,24 +1,11 @@
 -- Multipliers in thousandths and durations in nanoseconds, as a service config spells them.
 use Rattle.std.specs.Prelude.{ℕ, ◌+◌, ◌-◌, ◌*◌, ◌/◌, ◌^◌, Bool, false, ◌&&◌, ◌||◌, not, ◌==◌, nat_le, nat_lt, if◌then◌else◌, List, [], ◌∷◌, length, take, drop, Option, Some, None, position, nat_eq}
 use Rattle.std.specs.List.{list_all, ends_with}
-use Rattle.json_text.specs.Numbers.{is_digit}
+use Rattle.grpc_base.specs.Numbers.{is_number, number_of}
 
--- one digit or more
-abbrev pub are_digits : List ℕ → Bool
-are_digits ds = nat_lt 0 (length ds) && list_all is_digit ds
-
--- the number that decimal digits spell, behind those that spell n
-abbrev pub value_from : ℕ → List ℕ → ℕ
-value_from n [] = n
-value_from n (d ∷ ds) = value_from (n * 10 + (d - 48)) ds
-
-abbrev pub value_of : List ℕ → ℕ
-value_of ds = value_from 0 ds
-
--- the value of digits behind a point, the first of which counts unit; what counts less than 1 is dropped
+-- the digits behind a point, in units of which these many make 1; what is less than a unit is dropped
 abbrev pub fraction_of : ℕ → List ℕ → ℕ
-fraction_of unit [] = 0
-fraction_of unit (d ∷ ds) = (d - 48) * unit + fraction_of (unit / 10) ds
+fraction_of units digits = number_of digits * units / 10 ^ length digits
 
 -- a text, cut at its first point
 abbrev pub cut_at : List ℕ → Option ℕ → List ℕ × Option (List ℕ)
@@ -42,13 +29,13 @@ milli_found n within = if within && nat_lt 0 n then Some n else None
 
 abbrev pub milli_by : List ℕ → Option (List ℕ) → Option ℕ
 milli_by whole None =
-    if are_digits whole && is_canonical whole
-    then milli_found (value_of whole * 1000) (nat_le (value_of whole) most)
+    if is_number whole && is_canonical whole
+    then milli_found (number_of whole * 1000) (nat_le (number_of whole) most)
     else None
 milli_by whole (Some digits) =
-    if are_digits whole && is_canonical whole && are_digits digits
-    then milli_found (value_of whole * 1000 + fraction_of 100 digits)
-    (nat_lt (value_of whole) most || ((value_of whole == most) && list_all (λ d. d == 48) digits))
+    if is_number whole && is_canonical whole && is_number digits
+    then milli_found (number_of whole * 1000 + fraction_of 1000 digits)
+    (nat_lt (number_of whole) most || ((number_of whole == most) && list_all (λ d. d == 48) digits))
     else None
 
 -- the thousandths of a JSON number that is a multiplier
@@ -60,10 +47,10 @@ abbrev pub nanos_found : ℕ → Option ℕ
 nanos_found n = if nat_le n (10 ^ 18) then Some n else None
 
 abbrev pub nanos_by : List ℕ → Option (List ℕ) → Option ℕ
-nanos_by whole None = if are_digits whole then nanos_found (value_of whole * 10 ^ 9) else None
+nanos_by whole None = if is_number whole then nanos_found (number_of whole * 10 ^ 9) else None
 nanos_by whole (Some digits) =
-    if are_digits whole && are_digits digits && nat_le (length digits) 9
-    then nanos_found (value_of whole * 10 ^ 9 + fraction_of (10 ^ 8) digits)
+    if is_number whole && is_number digits && nat_le (length digits) 9
+    then nanos_found (number_of whole * 10 ^ 9 + fraction_of (10 ^ 9) digits)
     else None
 
 -- the nanoseconds of a duration: what stands before the s that ends it

@@ -1,7 +1,6 @@
 -- Where a repeated name, a level too many and an exponent stand, in the words of the grammar.
 use Rattle.std.specs.Prelude.{◌≡◌, ◌⊎◌, ℕ, zero, suc, ◌≤◌, true, List, [], ◌∷◌, ◌++◌, length, take}
-use Rattle.json_text.specs.Tree.{Items, Members}
-use Rattle.json_text.specs.Reading.{is_named, most_levels}
+use Rattle.json_text.specs.Tree.{Items, Members, is_named}
 use Rattle.json_text.specs.Grammar.{IsBlank, HasExponent, IsString, Named, BeforeItem, BeforeName}
 
 -- the front of a text up to where a value of a list may begin
@@ -26,10 +25,10 @@ RepeatsName k p =
     × (k ≡ length (outer ++ 123 ∷ front)) × Awaits levels outer × BeforeName members front × IsString name spelled
     × (is_named name members ≡ true)
 
--- a bracket at k that opens a further level where the most are open
+-- a bracket at k that opens a further level where 32 are open
 abbrev pub OpensTooDeep : ℕ → List ℕ → Type 0
 OpensTooDeep k p =
-    (levels : ℕ) × (front : List ℕ) × (b : ℕ) × (p ≡ front ++ b ∷ []) × (k ≡ length front) × (most_levels ≤ levels)
+    (levels : ℕ) × (front : List ℕ) × (b : ℕ) × (p ≡ front ++ b ∷ []) × (k ≡ length front) × (32 ≤ levels)
     × Awaits levels front × ((b ≡ 91) ⊎ (b ≡ 123))
 
 -- a number with an exponent, beginning at k

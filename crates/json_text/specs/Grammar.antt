@@ -1,12 +1,14 @@
 -- The texts of a JSON value (RFC 8259): its grammar, as a relation between a value and a text.
-use Rattle.std.specs.Prelude.{◌≡◌, ◌⊎◌, ℕ, ◌+◌, ◌*◌, true, false, ◌==◌, ◌||◌, if◌then◌else◌, List, [], ◌∷◌, ◌++◌, Option, Some, None, option_and_then, option_map}
+use Rattle.std.specs.Prelude.{◌≡◌, ◌⊎◌, ℕ, ◌+◌, ◌*◌, Bool, true, false, ◌==◌, ◌||◌, if◌then◌else◌, List, [], ◌∷◌, ◌++◌, Option, Some, None, option_and_then, option_map}
 use Rattle.json_text.specs.Tree.{Tree, null, boolean, number, string, list, object, Items, no_items, item_after, Members, no_members, member_after}
 use Rattle.json_text.specs.Numbers.{is_digit, is_e, is_sign}
 use Rattle.json_text.specs.Strings.{is_between, hex_digit, settled, with_unit, nothing_read}
-use Rattle.json_text.specs.Reading.{is_blank}
 use Rattle.json_text.specs.declared.string.Read.{Read}
 
 -- Blanks (section 2).
+abbrev pub is_blank : ℕ → Bool
+is_blank b = (b == 32) || (b == 9) || (b == 10) || (b == 13)
+
 abbrev pub IsBlank : List ℕ → Type 0
 IsBlank [] = Unit {0}
 IsBlank (b ∷ w) = (is_blank b ≡ true) × IsBlank w

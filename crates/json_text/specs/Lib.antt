@@ -4,6 +4,8 @@ pub mod Strings
 pub mod Reading
 pub mod Order
 pub mod Views
+pub mod Parts
 pub mod Decimals
 pub mod Grammar
+pub mod Readable
 pub mod Faults

@@ -1,12 +1,10 @@
 -- A number, byte by byte (RFC 8259, section 6).
-use Rattle.std.specs.Prelude.{ℕ, Bool, ◌&&◌, ◌||◌, ◌==◌, nat_le, if◌then◌else◌}
+use Rattle.std.specs.Prelude.{ℕ, Bool, ◌||◌, ◌==◌, if◌then◌else◌}
+pub use Rattle.std.specs.Char.{is_ascii_digit as is_digit}
 use Rattle.json_text.specs.declared.number.Part.{Part}
 use Rattle.json_text.specs.declared.number.Part.TheVariants as part
 use Rattle.json_text.specs.declared.number.NumberByte.{NumberByte}
 use Rattle.json_text.specs.declared.number.NumberByte.TheVariants as byte
-
-abbrev pub is_digit : ℕ → Bool
-is_digit b = nat_le 48 b && nat_le b 57
 
 abbrev pub is_e : ℕ → Bool
 is_e b = (b == 101) || (b == 69)

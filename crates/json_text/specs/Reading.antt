@@ -1,9 +1,10 @@
--- The plain reader: what is known of a JSON text after each byte of it, and the first fault.
-use Rattle.std.specs.Prelude.{◌≡◌, ℕ, ◌+◌, Bool, true, false, ◌||◌, ◌==◌, nat_lt, if◌then◌else◌, List, [], ◌∷◌, ◌++◌, length, Result, Ok, Err}
-use Rattle.std.specs.Str.{bytes_eq}
+-- The reader, byte by byte: what is known of a JSON text after each byte of it, and the first fault. It is the
+-- code's own course, told without its memory. What to believe of a text stands in Grammar, Readable and Faults.
+use Rattle.std.specs.Prelude.{◌≡◌, ℕ, ◌+◌, true, false, ◌==◌, nat_lt, if◌then◌else◌, List, [], ◌∷◌, ◌++◌, length, Result, Ok, Err}
 use Rattle.grpc_base.specs.declared.event.JsonFault.{JsonFault}
 use Rattle.grpc_base.specs.declared.event.JsonFault.TheVariants as fault
-use Rattle.json_text.specs.Tree.{Tree, null, boolean, number, string, list, object, Items, no_items, item_after, Members, no_members, member_after}
+use Rattle.json_text.specs.Tree.{Tree, null, boolean, number, string, list, object, Items, no_items, item_after, Members, no_members, member_after, is_named}
+use Rattle.json_text.specs.Grammar.{is_blank}
 use Rattle.json_text.specs.Numbers.{is_digit, number_byte}
 use Rattle.json_text.specs.Strings.{quoted_next, opened_quote}
 use Rattle.json_text.specs.declared.number.Part.{Part}
@@ -45,14 +46,6 @@ most_levels = 32
 
 abbrev pub most_bytes : ℕ
 most_bytes = 65536
-
--- blanks (RFC 8259, section 2)
-abbrev pub is_blank : ℕ → Bool
-is_blank b = (b == 32) || (b == 9) || (b == 10) || (b == 13)
-
-abbrev pub is_named : List ℕ → Members → Bool
-is_named name no_members = false
-is_named name (member_after ms k v) = bytes_eq k name || is_named name ms
 
 abbrev pub go : Stage → List Parent → Result State JsonFault
 go stage parents = Ok (record { stage = stage; parents = parents })

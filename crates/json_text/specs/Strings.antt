@@ -1,6 +1,6 @@
 -- A string, byte by byte (RFC 8259, section 7), in UTF-8 (RFC 3629, section 4).
-use Rattle.std.specs.Prelude.{ℕ, ◌+◌, ◌*◌, ◌-◌, ◌/◌, ◌%◌, Bool, ◌&&◌, ◌||◌, ◌==◌, nat_le, nat_lt, if◌then◌else◌, List, [], ◌∷◌, ◌++◌, Option, Some, None}
-use Rattle.json_text.specs.Numbers.{is_digit}
+use Rattle.std.specs.Prelude.{ℕ, ◌+◌, ◌*◌, ◌-◌, ◌%◌, Bool, ◌&&◌, ◌||◌, ◌==◌, nat_le, nat_lt, if◌then◌else◌, List, [], ◌∷◌, ◌++◌, Option, Some, None}
+use Rattle.std.specs.Char.{encode_utf8, digit_value}
 use Rattle.json_text.specs.declared.string.Spot.{Spot}
 use Rattle.json_text.specs.declared.string.Spot.TheVariants as spot
 use Rattle.json_text.specs.declared.string.StringByte.{StringByte}
@@ -54,11 +54,7 @@ escaped_byte b =
 
 -- the value of a hexadecimal digit
 abbrev pub hex_digit : ℕ → Option ℕ
-hex_digit b =
-    if is_digit b then Some (b - 48)
-    else if is_between 65 70 b then Some (b - 55)
-    else if is_between 97 102 b then Some (b - 87)
-    else None
+hex_digit b = if nat_lt (digit_value b) 16 then Some (digit_value b) else None
 
 -- one of the four digits of an escape, with the value of those before it (below 65,536), and how many follow
 abbrev pub hex_byte : ℕ → ℕ → Option ℕ → StringByte
@@ -71,14 +67,6 @@ string_byte spot.Between b = first_byte b
 string_byte (spot.Tail low high more) b = tail_byte low high more b
 string_byte spot.Escape b = escaped_byte b
 string_byte (spot.Hex left value) b = hex_byte left value (hex_digit b)
-
--- a character in UTF-8
-abbrev pub utf8_of : ℕ → List ℕ
-utf8_of n =
-    if nat_lt n 128 then n ∷ []
-    else if nat_lt n 2048 then (192 + n / 64) ∷ (128 + n % 64) ∷ []
-    else if nat_lt n 65536 then (224 + n / 4096) ∷ (128 + n / 64 % 64) ∷ (128 + n % 64) ∷ []
-    else (240 + n / 262144) ∷ (128 + n / 4096 % 64) ∷ (128 + n / 64 % 64) ∷ (128 + n % 64) ∷ []
 
 -- U+FFFD, as which a half of a pair reads that stands alone
 abbrev pub replacement : List ℕ
@@ -115,13 +103,13 @@ abbrev pub with_other : List ℕ → ℕ → Read
 with_other text unit =
     if is_high unit then record { text = text; high = Some unit }
     else if is_low unit then record { text = text ++ replacement; high = None }
-    else record { text = text ++ utf8_of unit; high = None }
+    else record { text = text ++ encode_utf8 unit; high = None }
 
 -- one escaped code unit more
 abbrev pub joined : List ℕ → Option ℕ → ℕ → Read
 joined text None unit = with_other text unit
 joined text (Some h) unit =
-    if is_low unit then record { text = text ++ utf8_of (pair_of h unit); high = None }
+    if is_low unit then record { text = text ++ encode_utf8 (pair_of h unit); high = None }
     else with_other (text ++ replacement) unit
 
 abbrev pub with_unit : Read → ℕ → Read

@@ -1,5 +1,6 @@
 -- A JSON value (RFC 8259, section 3): what a text means, apart from blanks and from how a string is escaped.
-use Rattle.std.specs.Prelude.{ℕ, Bool, List, [], ◌∷◌}
+use Rattle.std.specs.Prelude.{ℕ, Bool, false, ◌||◌, List, [], ◌∷◌}
+use Rattle.std.specs.Str.{bytes_eq}
 
 mutual
   pub data Tree : Type 0 where
@@ -24,3 +25,8 @@ mutual
 abbrev pub names : Members → List (List ℕ)
 names no_members = []
 names (member_after ms k v) = k ∷ names ms
+
+-- whether one of the members has this name
+abbrev pub is_named : List ℕ → Members → Bool
+is_named name no_members = false
+is_named name (member_after ms k v) = bytes_eq k name || is_named name ms

@@ -1,14 +1,11 @@
 // Multipliers in thousandths and durations in nanoseconds.
-ghost use Rattle.std.specs.Prelude.{◌≡◌, ◌<◌, ◌≤◌, ◌^◌, ◌*◌, ◌==◌, min, length, option_map, position, IfSome};
+ghost use Rattle.std.specs.Prelude.{◌≡◌, ◌<◌, ◌≤◌, ◌^◌, ◌*◌, ◌==◌, length, option_map, position, IfSome, IsTrue, ◌⊎◌};
 ghost use Rattle.std.specs.List.{list_all};
-ghost use Rattle.json_text.specs.Numbers.{is_digit};
-ghost use Rattle.json_text.specs.Decimals.{are_digits, value_of, fraction_of, parts_of, is_canonical, milli_by, milli_of, nanos_by, nanos_of};
+ghost use Rattle.std.specs.Char.{is_ascii_digit};
+ghost use Rattle.grpc_base.specs.Numbers.{is_number};
+ghost use Rattle.json_text.specs.Decimals.{fraction_of, parts_of, is_canonical, milli_by, milli_of, nanos_by, nanos_of};
 
-fn has_digits_alone(text: &[u8]) -> bool
-    ensures { result ≡ list_all is_digit text.now }
-{
-    text.iter().all(|b| matches!(*b, b'0'..=b'9'))
-}
+use grpc_base::read_number;
 
 fn has_zeros_alone(text: &[u8]) -> bool
     ensures { result ≡ list_all (λ b. b == 48) text.now }
@@ -16,11 +13,16 @@ fn has_zeros_alone(text: &[u8]) -> bool
     text.iter().all(|b| *b == b'0')
 }
 
-/// Whether there is one digit or more, and nothing else.
 fn are_digits(text: &[u8]) -> bool
-    ensures { result ≡ are_digits text.now }
+    ensures { result ≡ list_all is_ascii_digit text.now }
 {
-    text.len() > 0 && has_digits_alone(text)
+    text.iter().all(|b| b.is_ascii_digit())
+}
+
+fn is_number(text: &[u8]) -> bool
+    ensures { result ≡ is_number text.now }
+{
+    !text.is_empty() && are_digits(text)
 }
 
 fn point_of(text: &[u8]) -> Option<usize>
@@ -30,25 +32,14 @@ fn point_of(text: &[u8]) -> Option<usize>
     text.iter().position(|b| *b == b'.')
 }
 
-/// The number that decimal digits spell, or `limit` if it is larger.
-fn value_up_to(limit: u64, digits: &[u8]) -> u64
-    requires { limit ≤ 10 ^ 10 }
-    ensures { result ≡ min (value_of digits.now) limit }
+/// The digits behind a point, in units of which so many make 1; what is less than a unit is dropped.
+fn fraction_of(units: u64, digits: &[u8]) -> u64
+    requires places { (units ≡ 1000) ⊎ (units ≡ 1000000000) }
+    requires number { IsTrue (is_number digits.now) }
+    ensures value { result ≡ fraction_of units digits.now }
+    ensures below { result ≤ 23 * units }
 {
-    let mut value = 0;
-    for digit in digits {
-        value = (value * 10 + digit.saturating_sub(b'0') as u64).min(limit);
-    }
-    value
-}
-
-/// The value of digits behind a point, the first of which counts `unit`.
-fn fraction_of(unit: u64, digits: &[u8]) -> u64
-    requires { unit ≤ 10 ^ 8 }
-    ensures value { result ≡ fraction_of unit digits.now }
-    ensures below { result ≤ 230 * unit }
-{
-    let mut unit = unit;
+    let mut unit = units / 10;
     let mut value = 0;
     for digit in digits {
         value += digit.saturating_sub(b'0') as u64 * unit;
@@ -78,32 +69,31 @@ fn is_canonical(digits: &[u8]) -> bool
     *first != b'0' || rest.is_empty()
 }
 
-const MOST: u64 = 1_000_000;
+const MOST_MULTIPLIER: u64 = 1_000_000;
 
 fn milli_by(whole: &[u8], digits: Option<&[u8]>) -> Option<u64>
     ensures { result ≡ milli_by whole.now (option_map (λ d. d.now) digits.entry) }
 {
-    if !are_digits(whole) || !is_canonical(whole) {
+    if !is_canonical(whole) {
         return None;
     }
-    let value = value_up_to(MOST + 1, whole);
+    let value = read_number(whole)?;
     let (fraction, within) = match digits {
-        None => (0, value <= MOST),
+        None => (0, value <= MOST_MULTIPLIER),
         Some(digits) => {
-            if !are_digits(digits) {
+            if !is_number(digits) {
                 return None;
             }
             let is_zero = has_zeros_alone(digits);
-            let within = value < MOST || value == MOST && is_zero;
-            (fraction_of(100, digits), within)
+            let within = value < MOST_MULTIPLIER || value == MOST_MULTIPLIER && is_zero;
+            (fraction_of(1000, digits), within)
         }
     };
-    let milli = value * 1000 + fraction;
-    if within && milli > 0 {
-        Some(milli)
-    } else {
-        None
+    if !within {
+        return None;
     }
+    let milli = value * 1000 + fraction;
+    if milli > 0 { Some(milli) } else { None }
 }
 
 /// The thousandths of a JSON number, further digits dropped. None exactly where it is no number without
@@ -115,22 +105,24 @@ pub fn milli(number: &[u8]) -> Option<u64>
     milli_by(whole, digits)
 }
 
+const MOST_SECONDS: u64 = 1_000_000_000;
+
 fn nanos_by(whole: &[u8], digits: Option<&[u8]>) -> Option<u64>
     ensures { result ≡ nanos_by whole.now (option_map (λ d. d.now) digits.entry) }
 {
-    if !are_digits(whole) {
-        return None;
-    }
-    let value = value_up_to(1_000_000_001, whole);
+    let value = read_number(whole)?;
     let fraction = match digits {
         None => 0,
         Some(digits) => {
-            if !are_digits(digits) || digits.len() > 9 {
+            if !is_number(digits) || digits.len() > 9 {
                 return None;
             }
-            fraction_of(100_000_000, digits)
+            fraction_of(1_000_000_000, digits)
         }
     };
+    if value > MOST_SECONDS {
+        return None;
+    }
     let nanos = value * 1_000_000_000 + fraction;
     if nanos <= 1_000_000_000_000_000_000 {
         Some(nanos)

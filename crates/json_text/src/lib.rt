@@ -11,10 +11,5 @@ mod reader;
 mod string;
 
 pub use decimal::{milli, nanos};
-pub use json::Json;
+pub use json::{Json, member_of};
 pub use read::read_json;
-
-#[cfg(test)]
-mod fault_tests;
-#[cfg(test)]
-mod tests;

@@ -54,8 +54,7 @@ fn with_place(
 
 impl Members {
     ghost use Rattle.json_text.specs.Views.{members_of, tree_of};
-    ghost use Rattle.json_text.specs.Tree.{member_after, no_members};
-    ghost use Rattle.json_text.specs.Reading.{is_named};
+    ghost use Rattle.json_text.specs.Tree.{member_after, no_members, is_named};
 
     /// No members.
     pub fn new(alloc: Global) -> Members

@@ -1,8 +1,9 @@
 // JSON texts with an object at the top.
-ghost use Rattle.std.specs.Prelude.{◌+◌, ◌≡◌, ◌<◌, ◌≤◌, ◌↔◌, ℕ, length, take, IfOk, Err};
+ghost use Rattle.std.specs.Prelude.{◌+◌, ◌≡◌, ◌<◌, ◌≤◌, ◌↔◌, ℕ, length, take, IfOk, Ok, Err};
 ghost use Rattle.json_text.specs.Tree.{Tree};
 ghost use Rattle.json_text.specs.Reading.{Gives, most_bytes, run, at_start, reading};
 ghost use Rattle.json_text.specs.Grammar.{IsText, CanEnd};
+ghost use Rattle.json_text.specs.Readable.{IsReadable};
 ghost use Rattle.json_text.specs.Faults.{Behind, RepeatsName, OpensTooDeep, ExponentAt};
 ghost use Rattle.json_text.specs.Views.{state_of, tree_of};
 
@@ -15,15 +16,19 @@ use std::alloc::Global;
 const MOST_BYTES: usize = 65536;
 
 /// Reads a JSON text with an object at its top (RFC 8259), or tells its first fault.
-#[tactic(auto, using(crate::proofs::Runs::read_is_text, crate::proofs::Runs::one_value, crate::proofs::Runs::text_is_right, crate::proofs::Runs::syntax_front, crate::proofs::Runs::syntax_first, crate::proofs::Runs::too_long_is, crate::proofs::Runs::too_long_only, crate::proofs::Runs::repeated_key_is, crate::proofs::Runs::too_deep_is, crate::proofs::Runs::number_is))]
+#[tactic(auto, using(crate::proofs::Runs::read_is_text, crate::proofs::Runs::one_value, crate::proofs::Runs::text_is_right, crate::proofs::Runs::syntax_front, crate::proofs::Runs::syntax_first, crate::proofs::Runs::too_long_is, crate::proofs::Runs::too_long_only, crate::proofs::Runs::repeated_key_is, crate::proofs::Runs::too_deep_is, crate::proofs::Runs::number_is, crate::proofs::Readables::read_is_readable, crate::proofs::Readables::readable_is_read))]
 pub fn read_json(alloc: Global, bytes: &[u8]) -> Result<Json, JsonFault>
     // The bytes are a text of the value that is read, and of no other.
     ensures found { IfOk result (λ json. IsText (tree_of json) bytes.now) }
     ensures only { (v : Tree) → IsText v bytes.now → IfOk result (λ json. tree_of json ≡ v) }
 
+    // What is read has no name twice in an object, no exponent and at most 32 levels; a text of such a value that is not too long is read.
+    ensures readable { IfOk result (λ json. IsReadable (tree_of json) 0) }
+    ensures reads { (v : Tree) → IsText v bytes.now → IsReadable v 0 → length bytes.now ≤ 65536 → Gives tree_of result (Ok v) }
+
     // What is read, or which fault is told at which place; out of memory alone is free.
     ensures exact { Gives tree_of result (reading bytes.now) }
-    ensures too_long { (result ≡ Err JsonFault.TooLong) ↔ (most_bytes < length bytes.now) }
+    ensures too_long { (result ≡ Err JsonFault.TooLong) ↔ (65536 < length bytes.now) }
 
     // Each other fault is told behind the front of a text, with the place of what has it.
     ensures repeated { (at : ℕ) → result ≡ Err (JsonFault.RepeatedKey at) → Behind (λ front. RepeatsName at front) bytes.now }

@@ -1,6 +1,7 @@
 // One byte more of a text: the place that one comes to, or the fault.
-ghost use Rattle.std.specs.Prelude.{◌≡◌, ◌≤◌, ◌∷◌, [], IfOk, length};
-ghost use Rattle.json_text.specs.Reading.{Gives, in_word, in_number, in_name, run, reading, at_start, is_blank, put, opened, value_byte, top_byte, first_value_byte, next_value_byte, first_name_byte, next_name_byte, colon_byte, item_byte, member_byte, end_byte, behind_number, word_byte, digit_byte, string_goes, name_goes, named, step, at_first_value, at_first_name};
+ghost use Rattle.std.specs.Prelude.{◌≡◌, ◌∷◌, [], IfOk};
+ghost use Rattle.json_text.specs.Grammar.{is_blank};
+ghost use Rattle.json_text.specs.Reading.{Gives, in_word, in_number, in_name, put, opened, value_byte, top_byte, first_value_byte, next_value_byte, first_name_byte, next_name_byte, colon_byte, item_byte, member_byte, end_byte, behind_number, word_byte, digit_byte, string_goes, name_goes, named, step};
 ghost use Rattle.json_text.specs.Tree.{item_after};
 ghost use Rattle.json_text.specs.Numbers.{number_byte};
 ghost use Rattle.json_text.specs.Strings.{quoted_next, opened_quote};

@@ -1,6 +1,7 @@
 // A string, byte by byte (RFC 8259, section 7).
 ghost use Rattle.std.specs.Prelude.{◌≡◌, ◌<◌, ◌++◌, IfOk, OnOk, IfSome};
-ghost use Rattle.json_text.specs.Strings.{string_byte, first_byte, lead_byte, tail_byte, escaped_byte, hex_digit, hex_byte, utf8_of, is_high, is_low, pair_of, settled, with_byte, with_other, with_unit, nothing_read, opened_quote, quoted_next};
+ghost use Rattle.std.specs.Char.{encode_utf8, InScalarRange};
+ghost use Rattle.json_text.specs.Strings.{string_byte, first_byte, lead_byte, tail_byte, escaped_byte, hex_digit, hex_byte, is_high, is_low, settled, with_byte, with_other, with_unit, nothing_read, opened_quote, quoted_next};
 
 use grpc_base::{NoMemory, Text};
 use std::alloc::Global;
@@ -96,12 +97,8 @@ fn hex_digit(byte: u8) -> Option<u16>
     ensures value { result ≡ hex_digit byte }
     ensures below { IfSome result (λ d. d < 16) }
 {
-    match byte {
-        b'0'..=b'9' => Some((byte - 48) as u16),
-        b'A'..=b'F' => Some((byte - 55) as u16),
-        b'a'..=b'f' => Some((byte - 87) as u16),
-        _ => None,
-    }
+    let digit = (byte as char).to_digit(16)?;
+    Some(digit as u16)
 }
 
 fn hex_byte(left: u8, value: u16, digit: Option<u16>) -> StringByte
@@ -145,28 +142,20 @@ fn is_low(unit: u16) -> bool
     matches!(unit, 0xdc00..=0xdfff)
 }
 
-/// Appends a character in UTF-8.
-fn push_char(text: &mut Text, n: u32) -> Result<(), NoMemory>
-    requires { n < 1114112 }
-    ensures { OnOk result (text.new ≡ text.old ++ utf8_of n) }
+/// The character of this code.
+fn char_of(code: u32) -> char
+    requires { InScalarRange code }
+    ensures { result ≡ code }
 {
-    if n < 128 {
-        return text.append(&[n as u8]);
-    }
-    let last = (128 + n % 64) as u8;
-    if n < 2048 {
-        return text.append(&[(192 + n / 64) as u8, last]);
-    }
-    let third = (128 + n / 64 % 64) as u8;
-    if n < 65536 {
-        return text.append(&[(224 + n / 4096) as u8, third, last]);
-    }
-    text.append(&[
-        (240 + n / 262144) as u8,
-        (128 + n / 4096 % 64) as u8,
-        third,
-        last,
-    ])
+    char::from_u32(code).unwrap_or(char::REPLACEMENT_CHARACTER)
+}
+
+/// Appends a character in UTF-8.
+fn push_char(text: &mut Text, character: char) -> Result<(), NoMemory>
+    ensures { OnOk result (text.new ≡ text.old ++ encode_utf8 character) }
+{
+    let mut bytes = [0; 4];
+    text.append(character.encode_utf8(&mut bytes).as_bytes())
 }
 
 /// What was read of a string.
@@ -221,7 +210,7 @@ impl Read {
         let mut text = text;
         if is_low(unit) {
             let both = 65536 + first as u32 % 1024 * 1024 + unit as u32 % 1024;
-            push_char(&mut text, both)?;
+            push_char(&mut text, char_of(both))?;
             return Ok(Read { text, high: None });
         }
         text.append(&[0xef, 0xbf, 0xbd])?;
@@ -243,7 +232,7 @@ fn with_other(text: Text, unit: u16) -> Result<Read, NoMemory>
     if is_low(unit) {
         text.append(&[0xef, 0xbf, 0xbd])?;
     } else {
-        push_char(&mut text, unit as u32)?;
+        push_char(&mut text, char_of(unit as u32))?;
     }
     Ok(Read { text, high: None })
 }

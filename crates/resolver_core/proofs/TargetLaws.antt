@@ -1,22 +1,15 @@
 -- Targets read item by item.
-use Rattle.std.proofs.Common.{◌≡◌, ℕ, suc, ◌&&◌, drop, get_or, ◌+◌, ◌-◌, ◌*◌, ◌≤◌, ◌<◌, Bool, true, false, List, [], ◌∷◌, length, Option, Some, None, Result, Ok, Err, refl, ap, sym, ◌∙◌, arith, nat_le, ◌||◌, if◌then◌else◌, nat_lt, inl, inr}
+use Rattle.std.proofs.Common.{◌≡◌, ℕ, suc, ◌==◌, ◌+◌, ◌-◌, ◌<◌, Bool, true, false, List, [], ◌∷◌, length, Option, Some, None, Result, Ok, Err, refl, ap, sym, ◌∙◌, arith, nat_le, ◌||◌, if◌then◌else◌, nat_lt, inl, inr}
 use Rattle.std.proofs.lemmas.Bool.Decides.{nat_tests}
 use Rattle.std.proofs.lemmas.Bool.{cases_lt}
+use Rattle.std.specs.List.{count_by}
 use Rattle.grpc_base.specs.declared.address.Address.{Address}
 use Rattle.grpc_base.specs.Addresses.{with_address}
 use Rattle.resolver_core.specs.declared.target.TargetFault.{TargetFault}
 use Rattle.resolver_core.specs.declared.target.TargetFault.TheVariants as fault
-use Rattle.resolver_core.specs.Pieces.{pieces}
-use Rattle.resolver_core.specs.Targets.{decimal_from, with_addresses, listed_of, address_of, address_from, address_before, number_of, is_plain_decimal, ip_of, ip_from}
-use Rattle.std.proofs.lemmas.List.{at_drop_more}
-use Rattle.resolver_core.proofs.PieceLaws.{pieces-some}
-
--- further digits make no number smaller
-pub decimal_from-grows : (n : ℕ) (digits : List ℕ) → n ≤ decimal_from n digits
-decimal_from-grows n [] = omega arith
-decimal_from-grows n (digit ∷ digits) =
-    let next : n * 10 + (digit - 48) ≤ decimal_from (n * 10 + (digit - 48)) digits = decimal_from-grows (n * 10 + (digit - 48)) digits in
-    omega arith
+use Rattle.grpc_base.specs.Pieces.{pieces}
+use Rattle.resolver_core.specs.Targets.{address_before, address_from, address_of, ip_from, ip_of, listed_of, with_addresses}
+use Rattle.std.proofs.lemmas.List.Splits.{length-slice_split}
 
 -- the list that further items give, where this many more may come
 abbrev pub listed_from : List Address → ℕ → Bool → Option (List Address) → Result (List Address) TargetFault
@@ -52,22 +45,12 @@ listed_from-one addresses left false a (Some items) some_left =
     let e : nat_lt (left - 1) (length items) ≡ nat_lt left (length (a ∷ items)) = lt_both (length items) left some_left in
     rw e refl
 
-and_false : (b : Bool) → (b && false) ≡ false
-and_false true = refl
-and_false false = refl
-
--- a number over the most
-number_of-over : (most : ℕ) (text : List ℕ) → most < decimal_from 0 text → number_of most text ≡ None
-number_of-over most text over =
-    let t : nat_le (decimal_from 0 text) most ≡ false = grind (arith, nat_tests) in
-    rw (t, and_false (is_plain_decimal text)) refl
-
--- digits that are over the most, whatever follows
-pub number_of-passed : (most n i : ℕ) (text : List ℕ) → i < length text → decimal_from n (drop i text) ≡ decimal_from 0 text → most < n * 10 + (get_or text i 0 - 48) → number_of most text ≡ None
-number_of-passed most n i text within same over =
-    let step : decimal_from n (drop i text) ≡ decimal_from (n * 10 + (get_or text i 0 - 48)) (drop (i + 1) text) = at_drop_more (decimal_from n) text i 0 within in
-    let grows : n * 10 + (get_or text i 0 - 48) ≤ decimal_from (n * 10 + (get_or text i 0 - 48)) (drop (i + 1) text) = decimal_from-grows (n * 10 + (get_or text i 0 - 48)) (drop (i + 1) text) in
-    number_of-over most text (omega arith)
+-- each text has a piece
+pieces-some : (separator : ℕ) (text : List ℕ) → pieces separator text ≡ [] → ⊥
+pieces-some separator text e =
+    let some : length (pieces separator text) ≡ count_by (λ b. b == separator) text + 1 = length-slice_split (λ b. b == separator) text in
+    let none : length (pieces separator text) ≡ 0 = ap length e in
+    omega arith
 
 -- five parts are no address
 ip_from-five : (a b c d : List ℕ) (more : List (List ℕ)) → (more ≡ [] → ⊥) → ip_from (a ∷ b ∷ c ∷ d ∷ more) ≡ None

@@ -1,31 +1,23 @@
 -- Targets: the scheme `ipv4` of gRPC Name Resolution.
-use Rattle.std.specs.Prelude.{ℕ, ◌+◌, ◌-◌, ◌*◌, Bool, true, false, not, ◌==◌, ◌&&◌, nat_le, nat_eq, if◌then◌else◌, List, [], ◌∷◌, length, drop, codes, Option, Some, None, Result, Ok, Err}
-use Rattle.std.specs.List.{list_all, starts_with}
-use Rattle.std.specs.Char.{is_ascii_digit}
+use Rattle.std.specs.Prelude.{ℕ, ◌+◌, ◌*◌, Bool, true, not, ◌==◌, ◌&&◌, nat_le, nat_eq, if◌then◌else◌, List, [], ◌∷◌, length, drop, codes, Option, Some, None, Result, Ok, Err}
+use Rattle.std.specs.List.{starts_with}
 use Rattle.grpc_base.specs.declared.address.Address.{Address}
 use Rattle.grpc_base.specs.Addresses.{address_limit, with_address}
 use Rattle.resolver_core.specs.declared.target.TargetFault.{TargetFault}
 use Rattle.resolver_core.specs.declared.target.TargetFault.TheVariants as fault
-use Rattle.resolver_core.specs.Pieces.{pieces}
+use Rattle.grpc_base.specs.Numbers.{is_number, number_of}
+use Rattle.grpc_base.specs.Pieces.{pieces}
 
--- something, and no zero before other digits
+-- no zero before other digits
 abbrev pub begins_plain : List ℕ → Bool
-begins_plain [] = false
+begins_plain [] = true
 begins_plain (digit ∷ []) = true
 begins_plain (first ∷ second ∷ others) = not (first == 48)
 
--- digits without a leading zero
-abbrev pub is_plain_decimal : List ℕ → Bool
-is_plain_decimal text = list_all is_ascii_digit text && begins_plain text
-
--- the number that digits write behind a number
-abbrev pub decimal_from : ℕ → List ℕ → ℕ
-decimal_from n [] = n
-decimal_from n (digit ∷ digits) = decimal_from (n * 10 + (digit - 48)) digits
-
--- the number of a text, at most a limit
-abbrev pub number_of : ℕ → List ℕ → Option ℕ
-number_of most text = if is_plain_decimal text && nat_le (decimal_from 0 text) most then Some (decimal_from 0 text) else None
+-- the number that digits without a leading zero write, if it is at most a limit
+abbrev pub number_within : ℕ → List ℕ → Option ℕ
+number_within most text =
+    if begins_plain text && is_number text && nat_le (number_of text) most then Some (number_of text) else None
 
 -- a port, from 1 to 65,535
 abbrev pub port_from : Option ℕ → Option ℕ
@@ -33,7 +25,7 @@ port_from None = None
 port_from (Some n) = if n == 0 then None else Some n
 
 abbrev pub port_of : List ℕ → Option ℕ
-port_of text = port_from (number_of 65535 text)
+port_of text = port_from (number_within 65535 text)
 
 -- four numbers joined
 abbrev pub joined_ip : Option ℕ → Option ℕ → Option ℕ → Option ℕ → Option ℕ
@@ -42,7 +34,7 @@ joined_ip _ _ _ _ = None
 
 -- an IPv4 address `a.b.c.d`, each part from 0 to 255
 abbrev pub ip_from : List (List ℕ) → Option ℕ
-ip_from (a ∷ b ∷ c ∷ d ∷ []) = joined_ip (number_of 255 a) (number_of 255 b) (number_of 255 c) (number_of 255 d)
+ip_from (a ∷ b ∷ c ∷ d ∷ []) = joined_ip (number_within 255 a) (number_within 255 b) (number_within 255 c) (number_within 255 d)
 ip_from _ = None
 
 abbrev pub ip_of : List ℕ → Option ℕ

@@ -1,12 +1,9 @@
 // One address of a target.
 ghost use Rattle.std.specs.Prelude.{◌≡◌, ◌≤◌, IfSome};
-ghost use Rattle.std.specs.List.{list_all};
-ghost use Rattle.std.specs.Char.{is_ascii_digit};
-ghost use Rattle.resolver_core.specs.Targets.{address_of, ip_of, number_of, port_of, is_plain_decimal, begins_plain, with_port, joined_ip};
 ghost use Rattle.std.specs.Option.{ForSome};
+ghost use Rattle.resolver_core.specs.Targets.{address_of, begins_plain, ip_of, joined_ip, number_within, port_of, with_port};
 
-use crate::split::first_piece;
-use grpc_base::Address;
+use grpc_base::{Address, first_piece, read_number};
 
 /// The port of an address that names none.
 const DEFAULT_PORT: u16 = 443;
@@ -56,10 +53,10 @@ fn read_ip(text: &[u8]) -> Option<u32>
         return None;
     };
     joined_parts(
-        read_number(first, 255),
-        read_number(second, 255),
-        read_number(third, 255),
-        read_number(fourth, 255),
+        read_plain(first, 255),
+        read_plain(second, 255),
+        read_plain(third, 255),
+        read_plain(fourth, 255),
     )
 }
 
@@ -87,7 +84,7 @@ fn joined_parts(
 fn read_port(text: &[u8]) -> Option<u16>
     ensures { result ≡ port_of text.now }
 {
-    let port = read_number(text, 65535)?;
+    let port = read_plain(text, 65535)?;
     if port == 0 {
         return None;
     }
@@ -95,45 +92,27 @@ fn read_port(text: &[u8]) -> Option<u16>
 }
 
 /// The number that this text writes in decimal, without a leading zero, if it is at most `most`.
-fn read_number(text: &[u8], most: u32) -> Option<u32>
+fn read_plain(text: &[u8], most: u32) -> Option<u32>
     requires { most ≤ 65535 }
-    ensures value { result ≡ number_of most text.now }
+    ensures value { result ≡ number_within most text.now }
     ensures within { IfSome result (λ n. n ≤ most) }
 {
-    if !is_plain(text) {
+    if !begins_plain(text) {
         return None;
     }
-    let mut value = 0u32;
-    for digit in text {
-        value = value * 10 + u32::from(digit.saturating_sub(b'0'));
-        if value > most {
-            return None;
-        }
+    let number = read_number(text)?;
+    if number > most as u64 {
+        return None;
     }
-    Some(value)
+    Some(number as u32)
 }
 
-/// Whether a text is digits without a leading zero.
-fn is_plain(text: &[u8]) -> bool
-    ensures { result ≡ is_plain_decimal text.now }
-{
-    is_digits(text) && has_plain_front(text)
-}
-
-/// Whether a text is digits alone.
-fn is_digits(text: &[u8]) -> bool
-    ensures { result ≡ list_all is_ascii_digit text.now }
-{
-    text.iter().all(|b| b.is_ascii_digit())
-}
-
-/// Whether a text is not empty and has no zero before other digits.
-fn has_plain_front(text: &[u8]) -> bool
+/// Whether a text has no zero before other digits.
+fn begins_plain(text: &[u8]) -> bool
     ensures { result ≡ begins_plain text.now }
 {
     match text {
-        [] => false,
-        [_only] => true,
-        [first, ..] => *first != b'0',
+        [b'0', _second, ..] => false,
+        _ => true,
     }
 }

@@ -3,10 +3,7 @@
 
 mod item;
 mod resolver;
-mod split;
 mod target;
-#[cfg(test)]
-mod tests;
 
 pub use resolver::Resolver;
 pub use target::{TargetFault, read_target};

@@ -1,12 +1,11 @@
 // The target that a channel is made for.
 ghost use Rattle.std.specs.Prelude.{◌≡◌, ◌<◌, ◌↔◌, None, Err, IsSomeAnd, length};
 ghost use Rattle.grpc_base.specs.Addresses.{address_limit};
-ghost use Rattle.resolver_core.specs.Pieces.{pieces};
+ghost use Rattle.grpc_base.specs.Pieces.{pieces};
 ghost use Rattle.resolver_core.specs.Targets.{target_of, target_items, items_of, listed_of};
 
 use crate::item::read_address;
-use crate::split::first_piece;
-use grpc_base::AddressList;
+use grpc_base::{AddressList, first_piece};
 
 /// Why a text is no target.
 #[derive(Clone, Copy, Debug, PartialEq, Eq)]

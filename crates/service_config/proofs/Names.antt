@@ -11,7 +11,7 @@ use Rattle.std.specs.BTreeSet.{BTreeSet, contains, insert_key}
 use Rattle.std.proofs.lemmas.Map.Text.{is_eq-slice_cmp}
 use Rattle.std.proofs.lemmas.Slice.Eq.{bytes_eq-Decides}
 use Rattle.service_config.specs.declared.config.Method.{Method}
-use Rattle.service_config.specs.declared.method.Settings.{Settings}
+use Rattle.service_config.specs.declared.entry.Settings.{Settings}
 use Rattle.service_config.specs.Entries.{NameSeen, key_from, has_name, method_of, added}
 use Rattle.config_values.specs.declared.place.Fault.TheVariants as fault
 use Rattle.service_config.specs.Keys.{HasKeys}

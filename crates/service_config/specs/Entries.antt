@@ -4,7 +4,7 @@ use Rattle.std.specs.Prelude.{◌≡◌, ℕ, ◌+◌, Bool, not, ◌&&◌, ◌=
 use Rattle.std.specs.List.{list_any}
 use Rattle.std.specs.Str.{bytes_eq}
 use Rattle.json_text.specs.Tree.{Tree}
-use Rattle.config_values.specs.Trees.{values_in, text_in, flag_in}
+use Rattle.json_text.specs.Parts.{values_in, text_in, flag_in}
 use Rattle.config_values.specs.Values.{duration, size}
 use Rattle.config_values.specs.Policies.{Fields, ◌>>=◌, optional, fields_at, plan_in}
 use Rattle.config_values.specs.declared.place.Field.TheVariants as field
@@ -14,8 +14,8 @@ use Rattle.config_values.specs.declared.place.Place.TheVariants as place
 use Rattle.config_values.specs.declared.place.Fault.{Fault}
 use Rattle.config_values.specs.declared.place.Fault.TheVariants as fault
 use Rattle.service_config.specs.declared.config.Method.{Method}
-use Rattle.service_config.specs.declared.method.Name.{Name}
-use Rattle.service_config.specs.declared.method.Settings.{Settings}
+use Rattle.service_config.specs.declared.entry.Name.{Name}
+use Rattle.service_config.specs.declared.entry.Settings.{Settings}
 
 -- a service and a method
 abbrev pub NameSeen : Type 0

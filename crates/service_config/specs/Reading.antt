@@ -2,8 +2,7 @@
 -- JSON whole, the choice of the policy, each entry of methodConfig, the throttling.
 use Rattle.std.specs.Prelude.{◌≡◌, ℕ, ◌+◌, if◌then◌else◌, List, [], ◌∷◌, Option, Some, None, option_and_then, Result, Ok, Err}
 use Rattle.std.specs.Option.{ok_or, option_or}
-use Rattle.std.specs.Str.{bytes_eq}
-use Rattle.grpc_base.specs.Kinds.{KindsSeen, kind_name, has_kind}
+use Rattle.grpc_base.specs.Kinds.{KindsSeen, kind_named, kind_named_in_any_case, has_kind}
 use Rattle.grpc_base.specs.declared.kind.Kind.{Kind}
 use Rattle.grpc_base.specs.declared.kind.Kind.TheVariants as kind
 use Rattle.grpc_base.specs.declared.event.JsonFault.{JsonFault}
@@ -12,8 +11,7 @@ use Rattle.grpc_base.specs.declared.event.ConfigFault.{ConfigFault}
 use Rattle.grpc_base.specs.declared.event.ConfigFault.TheVariants as told
 use Rattle.json_text.specs.Tree.{Tree}
 use Rattle.json_text.specs.Reading.{reading}
-use Rattle.config_values.specs.Trees.{values_in, members_in, text_in}
-use Rattle.config_values.specs.Codes.{same_letters}
+use Rattle.json_text.specs.Parts.{values_in, members_in, text_in}
 use Rattle.config_values.specs.Places.{told_of}
 use Rattle.config_values.specs.Policies.{Fields, ◌>>=◌, found_at, optional, value_of, fields_at, throttle_in}
 use Rattle.service_config.specs.Entries.{methods_in}
@@ -24,23 +22,14 @@ use Rattle.config_values.specs.declared.place.Fault.{Fault}
 use Rattle.config_values.specs.declared.place.Fault.TheVariants as fault
 use Rattle.service_config.specs.declared.config.Config.{Config}
 
--- the kind of this name, spelled exactly or in any case
-abbrev pub kind_named : List ℕ → Option Kind
-kind_named name =
-    if bytes_eq name (kind_name kind.PickFirst) then Some kind.PickFirst
-    else if bytes_eq name (kind_name kind.RoundRobin) then Some kind.RoundRobin
-    else None
-
-abbrev pub kind_like : List ℕ → Option Kind
-kind_like name =
-    if same_letters name (kind_name kind.PickFirst) then Some kind.PickFirst
-    else if same_letters name (kind_name kind.RoundRobin) then Some kind.RoundRobin
-    else None
-
 -- a kind, where it is supported
 abbrev pub supported : KindsSeen → Option Kind → Option Kind
 supported kinds None = None
 supported kinds (Some k) = if has_kind kinds k then Some k else None
+
+-- the kind of this name, spelled exactly, where it is supported
+unfoldable pub supported_kind : KindsSeen → List ℕ → Option Kind
+supported_kind kinds name = supported kinds (kind_named name)
 
 -- the name in an entry of loadBalancingConfig, which has one key with any value
 abbrev pub only_name : Fields → Option (List ℕ)
@@ -56,12 +45,12 @@ abbrev pub first_kind : KindsSeen → ℕ → Option Kind → List Tree → Resu
 first_kind kinds i found [] = Ok found
 first_kind kinds i found (v ∷ vs) =
     found_at (place.Element object.Config field.LoadBalancingConfig i) (policy_name v) >>= λ name.
-    first_kind kinds (i + 1) (option_or found (supported kinds (kind_named name))) vs
+    first_kind kinds (i + 1) (option_or found (supported_kind kinds name)) vs
 
 -- the policy by its name, pick_first where it is absent
 abbrev pub named_kind : KindsSeen → Option (List ℕ) → Option Kind
 named_kind kinds None = supported kinds (Some kind.PickFirst)
-named_kind kinds (Some name) = supported kinds (kind_like name)
+named_kind kinds (Some name) = supported kinds (kind_named_in_any_case name)
 
 -- loadBalancingPolicy is read only where there is no loadBalancingConfig
 abbrev pub kind_by : KindsSeen → Fields → Option Tree → Result (Option Kind) Fault

@@ -1,8 +1,9 @@
 -- The text of a reading: a line for the policy, one for the throttling, one for each name, and the count of names; or
 -- the line of a fault. Durations are in nanoseconds.
-use Rattle.std.specs.Prelude.{ℕ, Bool, true, false, if◌then◌else◌, List, [], ◌∷◌, ◌++◌, length, flat_map, Option, Some, None, codes, decimal}
+use Rattle.std.specs.Prelude.{ℕ, if◌then◌else◌, List, [], ◌∷◌, ◌++◌, length, flat_map, Option, Some, None, codes, decimal}
 use Rattle.grpc_base.specs.Codes.{CodesSeen, code_number, has_code}
 use Rattle.grpc_base.specs.Kinds.{kind_name}
+use Rattle.grpc_base.specs.Waits.{wait_text}
 use Rattle.grpc_base.specs.declared.code.Code.{Code}
 use Rattle.grpc_base.specs.declared.code.Code.TheVariants as code
 use Rattle.grpc_base.specs.declared.plan.CallPlan.{CallPlan}
@@ -28,11 +29,6 @@ dash = codes "-"
 abbrev pub number_or_dash : Option ℕ → List ℕ
 number_or_dash None = dash
 number_or_dash (Some n) = decimal n
-
-abbrev pub wait_text : Option Bool → List ℕ
-wait_text None = dash
-wait_text (Some true) = codes "yes"
-wait_text (Some false) = codes "no"
 
 -- a service or a method, a star where it is empty
 abbrev pub text_or_star : List ℕ → List ℕ

@@ -1,10 +1,15 @@
 // A service config as the channel keeps it, and its choice for a path.
-ghost use Rattle.std.specs.Prelude.{◌≡◌, ◌<◌, ◌==◌, length, position, option_map, IfSome};
-ghost use Rattle.std.specs.List.{list_all};
+ghost use Rattle.std.specs.Prelude.{◌≡◌, true, codes, Ok};
 ghost use Rattle.std.specs.Option.{option_copied};
-ghost use Rattle.service_config.specs.Choice.{is_name_byte, is_name, named, cut_at, behind_slash, names_in, entry_of, entry_for, limit_of, taken, chosen_for};
+ghost use Rattle.grpc_base.specs.Kinds.{KindsSeen, has_kind};
+ghost use Rattle.grpc_base.specs.Requests.{names_of_path};
+ghost use Rattle.service_config.specs.Choice.{empty_config, entry_of, entry_for, limit_of, taken, chosen_for};
+ghost use Rattle.service_config.specs.Reading.{config_of};
 
-use grpc_base::{CallPlan, Chosen, Duration, Items, Kind, MessageLimit, Text, Throttle};
+use grpc_base::{
+    CallPlan, Chosen, Duration, Items, Kind, MessageLimit, Text, Throttle, names_of_path,
+};
+use std::alloc::Global;
 
 /// What a config says of one name: a method of a service, a whole service (an empty method), or every method
 /// (both empty).
@@ -33,73 +38,6 @@ pub struct Config {
     pub methods: Items<Method>,
 }
 
-fn has_name_bytes_alone(name: &[u8]) -> bool
-    ensures { result ≡ list_all is_name_byte name.now }
-{
-    name.iter().all(|b| matches!(*b, 33..=126) && *b != b'/')
-}
-
-fn is_name(name: &[u8]) -> bool
-    ensures { result ≡ is_name name.now }
-{
-    name.len() > 0 && has_name_bytes_alone(name)
-}
-
-/// The place of the first slash.
-fn slash_in(text: &[u8]) -> Option<usize>
-    ensures slash { result ≡ position (λ c. c == 47) text.now }
-    ensures within { IfSome result (λ at. at < length text.now) }
-{
-    text.iter().position(|b| *b == b'/')
-}
-
-/// A service and a method, where both may stand in a path.
-fn named<'a>(service: &'a [u8], method: &'a [u8]) -> Option<(&'a [u8], &'a [u8])>
-    ensures { option_map (λ n. (n.0.now, n.1.now)) result ≡ named service.now method.now }
-{
-    if !is_name(service) {
-        return None;
-    }
-    if !is_name(method) {
-        return None;
-    }
-    Some((service, method))
-}
-
-/// The texts before and behind this place.
-fn cut_at(text: &[u8], at: Option<usize>) -> Option<(&[u8], &[u8])>
-    requires { IfSome at (λ i. i < length text.now) }
-    ensures { option_map (λ n. (n.0.now, n.1.now)) result ≡ cut_at text.now at }
-{
-    match at {
-        None => None,
-        Some(at) => named(&text[..at], &text[at + 1..]),
-    }
-}
-
-/// What stands before and behind the second slash of a path.
-fn behind_slash(path: &[u8]) -> Option<(&[u8], &[u8])>
-    ensures { option_map (λ n. (n.0.now, n.1.now)) result ≡ behind_slash path.now }
-{
-    let [first, rest @ ..] = path else {
-        return None;
-    };
-    if *first != b'/' {
-        return None;
-    }
-    cut_at(rest, slash_in(rest))
-}
-
-/// The service and the method of a path.
-fn names_in(path: &[u8]) -> Option<(&[u8], &[u8])>
-    ensures { option_map (λ n. (n.0.now, n.1.now)) result ≡ names_in path.now }
-{
-    if path.len() > 1024 {
-        return None;
-    }
-    behind_slash(path)
-}
-
 /// The first entry of this service and this method.
 fn entry_of<'a>(methods: &'a [Method], service: &[u8], method: &[u8]) -> Option<&'a Method>
     ensures { option_copied result ≡ entry_of service.now method.now methods.now }
@@ -109,9 +47,9 @@ fn entry_of<'a>(methods: &'a [Method], service: &[u8], method: &[u8]) -> Option<
 
 /// The entry that is taken: the exact one, else that of the service, else that of the empty name.
 fn entry_for<'a>(methods: &'a [Method], path: &[u8]) -> Option<&'a Method>
-    ensures { option_copied result ≡ entry_for methods.now (names_in path.now) }
+    ensures { option_copied result ≡ entry_for methods.now (names_of_path path.now) }
 {
-    if let Some((service, method)) = names_in(path) {
+    if let Some((service, method)) = names_of_path(path) {
         if let Some(entry) = entry_of(methods, service, method) {
             return Some(entry);
         }
@@ -157,6 +95,20 @@ fn taken(throttle: Option<Throttle>, entry: Option<&Method>) -> Chosen
 }
 
 impl Config {
+    /// The empty config, which stands where no config is given. It needs no memory.
+    #[tactic(auto, using(crate::proofs::Supported::empty_reads))]
+    pub fn empty(alloc: Global) -> Config
+        ensures empty { result ≡ empty_config }
+        // It is what `{}` is read as.
+        ensures reads { (kinds : KindsSeen) → has_kind kinds Kind.PickFirst ≡ true → config_of kinds (codes "{}") ≡ Ok result }
+    {
+        Config {
+            kind: Kind::PickFirst,
+            throttle: None,
+            methods: Items::new(alloc),
+        }
+    }
+
     /// What the config chooses for a path: the entry of its service and method, else that of its service, else
     /// the default's, else nothing. A text that is no path has neither.
     pub fn chosen(&self, path: &Text) -> Chosen

@@ -4,7 +4,7 @@ ghost use Rattle.service_config.specs.Entries.{Gives, name_seen, key_from, metho
 ghost use Rattle.service_config.specs.Keys.{HasKeys};
 
 use crate::config::Method;
-use crate::method::{Name, Settings};
+use crate::entry::{Name, Settings};
 use config_values::Fault;
 use grpc_base::{NoMemory, Text};
 use std::alloc::Global;

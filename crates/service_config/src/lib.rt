@@ -4,13 +4,10 @@
 mod config;
 mod entry;
 mod known;
-mod method;
+mod methods;
 mod read;
 mod text;
 
 pub use config::{Config, Method};
 pub use read::read_config;
-pub use text::{append_config, config_text, fault_text};
-
-#[cfg(test)]
-mod tests;
+pub use text::{append_config, append_fault, config_text, fault_text};

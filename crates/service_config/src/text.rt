@@ -1,10 +1,12 @@
 // The text of a reading.
 ghost use Rattle.std.specs.Prelude.{◌≡◌, ◌++◌, ◌∷◌, [], decimal, IfOk, OnOk, flat_map};
-ghost use Rattle.service_config.specs.Text.{spaced, number_or_dash, wait_text, text_or_star, name_text, more_codes, codes_among, set_text, plan_words, method_words, method_line, throttle_line, config_text, json_fault_text, config_fault_words, fault_text};
+ghost use Rattle.grpc_base.specs.Waits.{wait_text};
+ghost use Rattle.service_config.specs.Text.{spaced, number_or_dash, text_or_star, name_text, more_codes, codes_among, set_text, plan_words, method_words, method_line, throttle_line, config_text, json_fault_text, config_fault_words, fault_text};
 
 use crate::config::{Config, Method};
-use grpc_base::{CallPlan, Code, CodeSet, ConfigFault, Duration, JsonFault, NoMemory, Throttle};
-use itoa::Buffer;
+use grpc_base::{
+    CallPlan, Code, CodeSet, ConfigFault, Duration, JsonFault, NoMemory, Throttle, append_decimal,
+};
 use std::alloc::Global;
 
 /// All codes by their numbers.
@@ -37,20 +39,12 @@ fn append_word(out: &mut Vec<u8>, word: &[u8]) -> Result<(), NoMemory>
     Ok(())
 }
 
-fn append_digits(out: &mut Vec<u8>, number: u64) -> Result<(), NoMemory>
-    ensures { OnOk result (out.new.items ≡ out.old.items ++ decimal number) }
-{
-    let mut buffer = Buffer::new();
-    out.extend_from_slice(buffer.format(number).as_bytes())?;
-    Ok(())
-}
-
 /// Appends a number behind a space.
 fn append_number(out: &mut Vec<u8>, number: u64) -> Result<(), NoMemory>
     ensures { OnOk result (out.new.items ≡ out.old.items ++ 32 ∷ decimal number) }
 {
     out.push(b' ')?;
-    append_digits(out, number)?;
+    append_decimal(out, number)?;
     Ok(())
 }
 
@@ -114,7 +108,7 @@ fn append_more(out: &mut Vec<u8>, set: &CodeSet, codes: &[Code]) -> Result<(), N
     };
     if set.has(*first) {
         out.push(b',')?;
-        append_digits(out, first.number() as u64)?;
+        append_decimal(out, first.number() as u64)?;
     }
     append_more(out, set, rest)?;
     Ok(())
@@ -132,7 +126,7 @@ fn append_among(out: &mut Vec<u8>, set: &CodeSet, codes: &[Code]) -> Result<(), 
         append_among(out, set, rest)?;
         return Ok(());
     }
-    append_digits(out, first.number() as u64)?;
+    append_decimal(out, first.number() as u64)?;
     append_more(out, set, rest)?;
     Ok(())
 }
@@ -232,7 +226,7 @@ pub fn append_config(out: &mut Vec<u8>, config: &Config) -> Result<(), NoMemory>
     append_throttle(out, &config.throttle)?;
     append_methods(out, config.methods.as_slice())?;
     out.extend_from_slice(b"end ")?;
-    append_digits(out, config.methods.len() as u64)?;
+    append_decimal(out, config.methods.len() as u64)?;
     out.push(b'\n')?;
     Ok(())
 }
@@ -250,7 +244,7 @@ fn append_offset(out: &mut Vec<u8>, number: &[u8], at: u64) -> Result<(), NoMemo
     ensures { OnOk result (out.new.items ≡ out.old.items ++ 32 ∷ (number.now ++ decimal at)) }
 {
     append_word(out, number)?;
-    append_digits(out, at)?;
+    append_decimal(out, at)?;
     Ok(())
 }
 
@@ -277,7 +271,8 @@ fn append_two(out: &mut Vec<u8>, first: &[u8], second: &[u8]) -> Result<(), NoMe
     Ok(())
 }
 
-fn append_fault_words(out: &mut Vec<u8>, fault: &ConfigFault) -> Result<(), NoMemory>
+/// Appends a fault's number and what it names, each behind a space.
+pub fn append_fault(out: &mut Vec<u8>, fault: &ConfigFault) -> Result<(), NoMemory>
     ensures { OnOk result (out.new.items ≡ out.old.items ++ spaced (config_fault_words fault.now)) }
 {
     match fault {
@@ -300,7 +295,7 @@ pub fn fault_text(alloc: Global, fault: &ConfigFault) -> Result<Vec<u8>, NoMemor
 {
     let mut out = Vec::new(alloc);
     out.extend_from_slice(b"fault config")?;
-    append_fault_words(&mut out, fault)?;
+    append_fault(&mut out, fault)?;
     out.push(b'\n')?;
     Ok(out)
 }

@@ -1,6 +1,6 @@
 use Rattle.std.proofs.Common.{◌≡◌, ◌≤◌, ◌+◌, ℕ, List, [], length, Option, Some, None, false}
 use Rattle.std.specs.Option.{option_copied}
-use Rattle.resolver_core.specs.Pieces.{pieces, pieces_of_rest}
+use Rattle.grpc_base.specs.Pieces.{pieces, pieces_of_rest}
 use Rattle.resolver_core.specs.Targets.{items_of}
 use Rattle.resolver_core.proofs.TargetLaws.{listed_from}
 use Rattle.resolver_core.proofs.target.read_items.Given as goal
