@@ -3,8 +3,6 @@
 
 mod draws;
 mod growth;
-#[cfg(test)]
-mod tests;
 mod waits;
 
 pub use draws::draw_up_to;

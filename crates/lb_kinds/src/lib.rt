@@ -5,8 +5,6 @@ mod conn;
 mod pick_first;
 mod round_robin;
 mod scan;
-#[cfg(test)]
-mod tests;
 mod view;
 
 pub use pick_first::PickFirst;

@@ -1,5 +1,5 @@
 // The view of a policy, with its state kept, so that a pick request costs one pass at most.
-ghost use Rattle.std.specs.Prelude.{◌≡◌, ◌≤◌, [], length, map, slice_get};
+ghost use Rattle.std.specs.Prelude.{◌≡◌, [], map, slice_get};
 ghost use Rattle.lb_policy.specs.Table.{is_ready, is_open, is_starting, subs_in, state_of_view, IsView};
 ghost use Rattle.lb_policy.specs.Steps.{noted_sub};
 

@@ -1,4 +1,4 @@
--- What follows from the table, for every kind, view and number of turns.
+-- What follows from the table and the steps, for every kind, view and number of turns.
 use Rattle.std.specs.Prelude.{◌≡◌, ℕ, ◌+◌, Some, List, length, slice_get}
 use Rattle.grpc_base.specs.declared.event.Conn.{Conn}
 use Rattle.grpc_base.specs.declared.event.Conn.TheVariants as conn
@@ -7,7 +7,8 @@ use Rattle.grpc_base.specs.declared.kind.Kind.TheVariants as kind
 use Rattle.grpc_base.specs.declared.kind.Pick.{Pick}
 use Rattle.grpc_base.specs.declared.kind.Pick.TheVariants as pick
 use Rattle.lb_policy.specs.declared.seen.SubSeen.{SubSeen}
-use Rattle.lb_policy.specs.Table.{is_ready, subs_in, state_of_view, wish_by, pick_by}
+use Rattle.lb_policy.specs.Table.{PolicySeen, is_ready, subs_in, state_of_view, wish_by, pick_by}
+use Rattle.lb_policy.specs.Steps.{noted}
 
 -- a subchannel of a view
 pub record IsIn (view : List SubSeen) (s : SubSeen) : Type 0 where
@@ -32,3 +33,7 @@ WishesAreInView =
 abbrev pub RoundRobinGoesRound : Type 0
 RoundRobinGoesRound =
     (turns : ℕ) (view : List SubSeen) → pick_by kind.RoundRobin (turns + length (subs_in is_ready view)) view ≡ pick_by kind.RoundRobin turns view
+
+-- a policy that noted a state of a subchannel is left as it is by noting that state again
+abbrev pub NotingAgainChangesNothing : Type 0
+NotingAgainChangesNothing = (sub : ℕ) (state : Conn) (p : PolicySeen) → noted sub state (noted sub state p) ≡ noted sub state p

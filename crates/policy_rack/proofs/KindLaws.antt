@@ -1,30 +1,67 @@
--- A kind of the set of all kinds has a place.
-use Rattle.std.proofs.Common.{◌≡◌, ℕ, ◌+◌, ◌∙◌, Bool, true, false, is_some, cond, Some, List, [], ◌∷◌, refl}
+-- The set of the kinds of some policies, gathered one by one; a kind of that set has a place.
+use Rattle.std.proofs.Common.{◌≡◌, ℕ, ◌+◌, ◌∙◌, Bool, true, false, ◌||◌, is_some, cond, Option, Some, List, [], ◌∷◌, map, refl, ap, sym}
+use Rattle.std.specs.List.{position_from}
 use Rattle.grpc_base.specs.declared.kind.Kind.{Kind}
 use Rattle.grpc_base.specs.declared.kind.Kind.TheVariants as kind
-use Rattle.grpc_base.specs.Kinds.{KindsSeen, no_kinds, with_kind, has_kind}
+use Rattle.grpc_base.specs.Kinds.{KindsSeen, each_kind, no_kinds, with_kind, has_kind}
 use Rattle.lb_policy.specs.Table.{PolicySeen}
-use Rattle.policy_rack.specs.Kinds.{same_kind, first_place, kinds_with, kinds_of}
+use Rattle.policy_rack.specs.Kinds.{same_kind, has_policy, first_place, kinds_of}
 
--- a kind of the set with one more is that kind, or was there
-with-other : (j k : Kind) (s : KindsSeen) → same_kind j k ≡ false → has_kind (with_kind s j) k ≡ has_kind s k
-with-other kind.PickFirst kind.PickFirst s e = let g : ⊥ = (cc) in absurd g
-with-other kind.PickFirst kind.RoundRobin s e = refl
-with-other kind.RoundRobin kind.PickFirst s e = refl
-with-other kind.RoundRobin kind.RoundRobin s e = let g : ⊥ = (cc) in absurd g
+-- a set with the kinds of some policies added, one by one
+abbrev pub kinds_with : KindsSeen → List PolicySeen → KindsSeen
+kinds_with kinds [] = kinds
+kinds_with kinds (p ∷ ps) = kinds_with (with_kind kinds p.kind) ps
 
-place-step : (k : Kind) (place : ℕ) (p : PolicySeen) (ps : List PolicySeen) (s : KindsSeen) (b : Bool) → same_kind p.kind k ≡ b → has_kind s k ≡ false → has_kind (kinds_with (with_kind s p.kind) ps) k ≡ true → (has_kind (with_kind s p.kind) k ≡ false → is_some (first_place k (place + 1) ps) ≡ true) → is_some (cond b (Some place) (first_place k (place + 1) ps)) ≡ true
-place-step k place p ps s true e none h next = refl
-place-step k place p ps s false e none h next = next (with-other p.kind k s e ∙ none)
+or-false : (b : Bool) → b ≡ (b || false)
+or-false true = refl
+or-false false = refl
 
-place-in : (k : Kind) (place : ℕ) (ps : List PolicySeen) (s : KindsSeen) → has_kind s k ≡ false → has_kind (kinds_with s ps) k ≡ true → is_some (first_place k place ps) ≡ true
-place-in k place [] s none h = let g : ⊥ = (cc) in absurd g
-place-in k place (p ∷ ps) s none h =
-    place-step k place p ps s (same_kind p.kind k) refl none h (λ later. place-in k (place + 1) ps (with_kind s p.kind) later h)
+or-true : (b : Bool) → true ≡ (b || true)
+or-true true = refl
+or-true false = refl
 
-none-yet : (k : Kind) → has_kind no_kinds k ≡ false
-none-yet kind.PickFirst = refl
-none-yet kind.RoundRobin = refl
+or-assoc : (a b c : Bool) → ((a || b) || c) ≡ (a || (b || c))
+or-assoc true b c = refl
+or-assoc false b c = refl
 
-pub has_place : (k : Kind) (ps : List PolicySeen) → has_kind (kinds_of ps) k ≡ true → is_some (first_place k 0 ps) ≡ true
-has_place k ps h = place-in k 0 ps no_kinds (none-yet k) h
+-- the set of the kinds that pass a test
+abbrev set_by : (Kind → Bool) → KindsSeen
+set_by test = map test each_kind
+
+map-same : (f g : Kind → Bool) → ((k : Kind) → f k ≡ g k) → (ks : List Kind) → map f ks ≡ map g ks
+map-same f g same [] = refl
+map-same f g same (k ∷ ks) = ap (λ (b : Bool). b ∷ map f ks) (same k) ∙ ap (λ (bs : List Bool). g k ∷ bs) (map-same f g same ks)
+
+two : (a b c d : Bool) → a ≡ c → b ≡ d → a ∷ b ∷ [] ≡ c ∷ d ∷ []
+two a b c d e h = ap (λ (x : Bool). x ∷ b ∷ []) e ∙ ap (λ (x : Bool). c ∷ x ∷ []) h
+
+-- a set with one kind more
+set-more : (test : Kind → Bool) (j : Kind) → with_kind (set_by test) j ≡ set_by (λ k. test k || same_kind j k)
+set-more test kind.PickFirst = two true (test kind.RoundRobin) (test kind.PickFirst || true) (test kind.RoundRobin || false) (or-true (test kind.PickFirst)) (or-false (test kind.RoundRobin))
+set-more test kind.RoundRobin = two (test kind.PickFirst) true (test kind.PickFirst || false) (test kind.RoundRobin || true) (or-false (test kind.PickFirst)) (or-true (test kind.RoundRobin))
+
+set-with : (test : Kind → Bool) (ps : List PolicySeen) → kinds_with (set_by test) ps ≡ set_by (λ k. test k || has_policy k ps)
+set-with test [] = map-same test (λ k. test k || false) (λ k. or-false (test k)) each_kind
+set-with test (p ∷ ps) =
+    ap (λ (s : KindsSeen). kinds_with s ps) (set-more test p.kind) ∙ set-with (λ k. test k || same_kind p.kind k) ps ∙ map-same (λ k. (test k || same_kind p.kind k) || has_policy k ps) (λ k. test k || (same_kind p.kind k || has_policy k ps)) (λ k. or-assoc (test k) (same_kind p.kind k) (has_policy k ps)) each_kind
+
+-- gathered from none they are the set of the kinds
+pub kinds_gathered : (ps : List PolicySeen) → kinds_with no_kinds ps ≡ kinds_of ps
+kinds_gathered ps = set-with (λ k. false) ps
+
+has-kind : (k : Kind) (ps : List PolicySeen) → has_kind (kinds_of ps) k ≡ has_policy k ps
+has-kind kind.PickFirst ps = refl
+has-kind kind.RoundRobin ps = refl
+
+some-or : (b r : Bool) (n : ℕ) (o : Option ℕ) → is_some o ≡ r → is_some (cond b (Some n) o) ≡ (b || r)
+some-or true r n o e = refl
+some-or false r n o e = e
+
+place-any : (k : Kind) (ps : List PolicySeen) (n : ℕ) → is_some (position_from (λ (p : PolicySeen). same_kind p.kind k) n ps) ≡ has_policy k ps
+place-any k [] n = refl
+place-any k (p ∷ ps) n =
+    some-or (same_kind p.kind k) (has_policy k ps) n (position_from (λ (q : PolicySeen). same_kind q.kind k) (n + 1) ps) (place-any k ps (n + 1))
+
+-- a kind of the set has a place
+pub has_place : (k : Kind) (ps : List PolicySeen) → has_kind (kinds_of ps) k ≡ true → is_some (first_place k ps) ≡ true
+has_place k ps h = place-any k ps 0 ∙ sym (has-kind k ps) ∙ h

@@ -1,5 +1,5 @@
-mod AskLaws
-mod KindLaws
+pub mod KindLaws
 mod LiveKinds
+mod NoteLaws
 mod PlaceLaws
 mod RunLaws

@@ -1,8 +1,10 @@
 -- The two live generations are of different kinds.
 use Rattle.std.proofs.Common.{◌≡◌, ℕ, zero, suc, ◌∙◌, Bool, true, false, not, ◌||◌, ◌&&◌, if◌then◌else◌, Option, Some, None, List, [], ◌∷◌, map, slice_get, refl, ap, sym, subst}
 use Rattle.std.proofs.lemmas.Option.{none-some, same_Some}
+use Rattle.std.proofs.lemmas.Bool.{eq-eqb}
 use Rattle.grpc_base.specs.declared.kind.Kind.{Kind}
 use Rattle.grpc_base.specs.declared.kind.Kind.TheVariants as kind
+use Rattle.grpc_base.specs.Kinds.{kind_number}
 use Rattle.lb_policy.specs.declared.seen.SubSeen.{SubSeen}
 use Rattle.lb_policy.specs.Table.{PolicySeen}
 use Rattle.lb_policy.specs.Steps.{emptied, given, noted, turned}
@@ -71,8 +73,7 @@ differ-calls (call ∷ calls) r = differ-calls calls (after_call call r) ∙ dif
 
 -- policies at two places
 same-self : (k : Kind) → same_kind k k ≡ true
-same-self kind.PickFirst = refl
-same-self kind.RoundRobin = refl
+same-self k = eq-eqb (kind_number k) (kind_number k) refl
 
 or-left : (a b : Bool) → (a || b) ≡ false → a ≡ false
 or-left true b e = e

@@ -56,3 +56,7 @@ RackKeeps = (calls : List RackCall) (policies : List PolicySeen) → IsKept (aft
 abbrev pub LiveKindsDiffer : Type 0
 LiveKindsDiffer =
     (calls : List RackCall) (policies : List PolicySeen) → are_ready policies ≡ true → KindsOfLiveDiffer (after_calls calls (new_rack policies))
+
+-- a rack that noted a state of a subchannel is left as it is by noting that state again
+abbrev pub NotingAgainChangesNothing : Type 0
+NotingAgainChangesNothing = (sub : ℕ) (state : Conn) (r : RackSeen) → noted_by_live sub state (noted_by_live sub state r) ≡ noted_by_live sub state r

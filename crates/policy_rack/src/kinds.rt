@@ -8,10 +8,7 @@ use lb_policy::Balancer;
 pub fn is_same(one: Kind, other: Kind) -> bool
     ensures { result ≡ same_kind one other }
 {
-    match one {
-        Kind::PickFirst => matches!(other, Kind::PickFirst),
-        Kind::RoundRobin => matches!(other, Kind::RoundRobin),
-    }
+    one == other
 }
 
 /// Whether one of them is of this kind.
@@ -28,7 +25,7 @@ pub fn has_kind<P: Balancer>(policies: &[P], kind: Kind) -> bool
 
 /// The place of the first one of this kind.
 pub fn place_of<P: Balancer>(policies: &[P], kind: Kind) -> Option<usize>
-    ensures { result ≡ first_place kind 0 (map P.seen policies.now) }
+    ensures { result ≡ first_place kind (map P.seen policies.now) }
 {
     for (place, policy) in policies.iter().enumerate() {
         if is_same(policy.kind(), kind) {
@@ -39,6 +36,7 @@ pub fn place_of<P: Balancer>(policies: &[P], kind: Kind) -> Option<usize>
 }
 
 /// The set of their kinds.
+#[tactic(auto, using(crate::proofs::KindLaws::kinds_gathered))]
 pub fn set_of<P: Balancer>(policies: &[P]) -> KindSet
     ensures { result ≡ kinds_of (map P.seen policies.now) }
 {

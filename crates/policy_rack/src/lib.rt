@@ -7,9 +7,8 @@ mod live;
 mod places;
 mod rack;
 mod ready;
-#[cfg(test)]
-mod tests;
 
+pub use kinds::set_of;
 pub use laws::laws_of_runs;
 pub use live::Live;
 pub use rack::Rack;

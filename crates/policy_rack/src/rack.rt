@@ -1,6 +1,5 @@
 // The rack: the policies, and which of them are in use.
-ghost use Rattle.std.specs.Prelude.{◌≡◌, ◌<◌, map, true, is_some, IsSomeAnd, IfSome, if◌then◌else◌, ◌||◌, ◌+◌};
-ghost use Rattle.std.specs.Option.{option_map};
+ghost use Rattle.std.specs.Prelude.{◌≡◌, ◌<◌, map, true, IsSomeAnd, IfSome, if◌then◌else◌, ◌||◌, ◌+◌};
 ghost use Rattle.grpc_base.specs.Kinds.{has_kind};
 ghost use Rattle.lb_policy.specs.Table.{IsView, pick_of};
 ghost use Rattle.policy_rack.specs.Kinds as kinds_spec;
@@ -62,8 +61,8 @@ impl<P: Balancer> Rack<P> {
         requires kind { has_kind (kinds_spec.kinds_of self.old.policies) kind ≡ true }
         requires view { IsView subs.now }
         requires made { self.old.made < 4000000000 }
-        ensures after { self.new ≡ adopted subs.now (kinds_spec.first_place kind 0 self.old.policies) self.old }
-        ensures generation { result ≡ adopted_number (kinds_spec.first_place kind 0 self.old.policies) self.old }
+        ensures after { self.new ≡ adopted subs.now (kinds_spec.first_place kind self.old.policies) self.old }
+        ensures generation { result ≡ adopted_number (kinds_spec.first_place kind self.old.policies) self.old }
     {
         let place = kinds::place_of(self.policies.as_slice(), kind).unwrap();
         if let Some(live) = self.current {

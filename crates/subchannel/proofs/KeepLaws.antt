@@ -1,5 +1,5 @@
 -- What keeping two lists of addresses does to the list and to the numbers of its live ones.
-use Rattle.std.proofs.Common.{◌≡◌, ℕ, zero, suc, ◌+◌, ◌-◌, ◌≤◌, Bool, true, false, ◌&&◌, ◌||◌, not, if◌then◌else◌, cond, List, [], ◌∷◌, ◌++◌, length, map, filter, Some, refl, ap, sym, subst, ◌∙◌, arith, length-append, append_assoc}
+use Rattle.std.proofs.Common.{◌≡◌, ℕ, zero, suc, ◌+◌, ◌≤◌, Bool, true, false, ◌&&◌, ◌||◌, not, if◌then◌else◌, cond, List, [], ◌∷◌, ◌++◌, length, map, filter, Some, refl, ap, sym, subst, ◌∙◌, arith, length-append, append_assoc}
 use Rattle.std.proofs.lemmas.List.{length-map}
 use Rattle.grpc_base.specs.declared.address.Address.{Address}
 use Rattle.grpc_base.specs.Addresses.{has_address}
@@ -30,8 +30,8 @@ changed-behind f (x ∷ front) rest s = ap (λ (zs : List SubRecord). x ∷ zs) 
 
 changed_at-behind : (f : SubRecord → SubRecord) (front rest : List SubRecord) (s : SubRecord) (n : ℕ) → n ≡ length front + 1 → changed_at f (front ++ s ∷ rest) n ≡ front ++ f s ∷ rest
 changed_at-behind f front rest s n e =
-    let place : n - 1 ≡ length front = omega arith in
-    ap (changed f (front ++ s ∷ rest)) place ∙ changed-behind f front rest s
+    let number : n ≡ suc (length front) = omega arith in
+    ap (changed_at f (front ++ s ∷ rest)) number ∙ changed-behind f front rest s
 
 -- looking at the live ones is looking at all
 module _ (current pending : List Address) where

@@ -149,6 +149,11 @@ length-changed f [] i = refl
 length-changed f (s ∷ xs) zero = refl
 length-changed f (s ∷ xs) (suc i) = ap suc (length-changed f xs i)
 
+-- a change at a number is one at the place in front of it
+changed-number : (f : SubRecord → SubRecord) (xs : List SubRecord) (n : ℕ) → 1 ≤ n → changed f xs (n - 1) ≡ changed_at f xs n
+changed-number f xs zero h = absurd (omega arith)
+changed-number f xs (suc place) h = let e : suc place - 1 ≡ place = omega arith in ap (changed f xs) e
+
 -- the subchannel of a number changed in its place
 pub set-numbered : (f : SubRecord → SubRecord) (xs now : List SubRecord) (n : ℕ) (x y : SubRecord) → xs ≡ now → HasNumber now n → x ≡ get_or xs (n - 1) x → y ≡ f x → slice_set xs (n - 1) y ≡ changed_at f now n
 set-numbered f xs now n x y same has is new =
@@ -156,7 +161,7 @@ set-numbered f xs now n x y same has is new =
     let b : n ≤ length now = has.within in
     let l : length xs ≡ length now = ap (λ (zs : List SubRecord). length zs) same in
     let inside : n - 1 < length xs = omega arith in
-    set-changed f xs (n - 1) x y inside is new ∙ ap (λ (zs : List SubRecord). changed f zs (n - 1)) same
+    set-changed f xs (n - 1) x y inside is new ∙ ap (λ (zs : List SubRecord). changed f zs (n - 1)) same ∙ changed-number f now n a
 
 pub set-place : (f : SubRecord → SubRecord) (xs now : List SubRecord) (n : ℕ) (x y : SubRecord) → xs ≡ now → HasNumber now n → x ≡ get_or xs (n - 1) x → y ≡ f x → slice_set xs (n - 1) y ≡ changed f xs (n - 1)
 set-place f xs now n x y same has is new =

@@ -1,11 +1,11 @@
 -- How many live subchannels an address has over whole runs.
-use Rattle.std.proofs.Common.{◌≡◌, ◌≤◌, ℕ, zero, suc, ◌+◌, ◌-◌, Bool, true, false, ◌&&◌, ◌||◌, ◌==◌, not, if◌then◌else◌, cond, Option, Some, None, List, [], ◌∷◌, ◌++◌, map, filter, Contains, refl, ap, sym, subst, ◌∙◌, arith}
+use Rattle.std.proofs.Common.{◌≡◌, ◌≤◌, ℕ, zero, suc, ◌+◌, Bool, true, false, ◌&&◌, ◌||◌, ◌==◌, not, if◌then◌else◌, cond, Option, Some, None, List, [], ◌∷◌, ◌++◌, map, filter, Contains, refl, ap, sym, subst, ◌∙◌, arith}
 use Rattle.std.proofs.lemmas.Bool.{eqb-true}
 use Rattle.std.proofs.lemmas.List.Elements.{Contains-append_right, Contains-get_or}
 use Rattle.grpc_base.specs.declared.address.Address.{Address}
 use Rattle.grpc_base.specs.Addresses.{IsWithoutRepeats, has_address}
 use Rattle.subchannel.specs.Records.{SubRecord, is_live, is_due, wished, dialed, linked_up, failed, greeted, lost, clocked, new_sub, shut_down}
-use Rattle.subchannel.specs.Boards.{changed, clocked_at, first_number, kept_or_shut, lacking, kept, is_live_at, has_live}
+use Rattle.subchannel.specs.Boards.{changed, changed_at, clocked_at, first_number, kept_or_shut, lacking, kept, is_live_at, has_live}
 use Rattle.subchannel.specs.Runs.{BoardCall, Keep, Wished, Dial, Up, Failed, Ready, Lost, Clock, after_call, after_calls, AreLists, AllAreLists, live_count}
 use Rattle.subchannel.proofs.NumberLaws.{only_live-at}
 use Rattle.subchannel.proofs.KeepLaws.{KeepsLive}
@@ -178,9 +178,13 @@ count-changed f a (s ∷ subs) zero live address =
     ap (λ (b : Bool). (if b then 1 else 0) + live_count a subs) here
 count-changed f a (s ∷ subs) (suc place) live address = ap (λ (k : ℕ). (if is_live_at a s then 1 else 0) + k) (count-changed f a subs place live address)
 
+count-changed_at : (f : SubRecord → SubRecord) (a : Address) (subs : List SubRecord) (n : ℕ) → KeepsLive f → ((s : SubRecord) → (f s).address ≡ s.address) → live_count a (changed_at f subs n) ≡ live_count a subs
+count-changed_at f a subs zero live address = refl
+count-changed_at f a subs (suc place) live address = count-changed f a subs place live address
+
 count-clocked : (moment : ℕ) (a : Address) (subs : List SubRecord) (o : Option ℕ) → live_count a (clocked_at moment subs o) ≡ live_count a subs
 count-clocked moment a subs None = refl
-count-clocked moment a subs (Some n) = count-changed (clocked moment) a subs (n - 1) (keeps_live-clocked moment) (address-step (Clock moment))
+count-clocked moment a subs (Some n) = count-changed_at (clocked moment) a subs n (keeps_live-clocked moment) (address-step (Clock moment))
 
 one_at_most : (b : Bool) → (if b then 1 else 0) ≤ 1
 one_at_most true = omega arith
@@ -192,12 +196,12 @@ within m n e h = omega arith
 once-step : (call : BoardCall) (subs : List SubRecord) → AreLists call → ((a : Address) → live_count a subs ≤ 1) → (a : Address) → live_count a (after_call call subs) ≤ 1
 once-step (Keep current pending) subs lists once a =
     within (live_count a (kept current pending subs)) (if has_address current a || has_address pending a then 1 else 0) (count-kept current pending subs a lists.0 lists.1 (once a)) (one_at_most (has_address current a || has_address pending a))
-once-step (Wished n) subs lists once a = within _ (live_count a subs) (count-changed wished a subs (n - 1) keeps_live-wished (address-step (Wished n))) (once a)
-once-step (Dial n moment word) subs lists once a = within _ (live_count a subs) (count-changed (dialed moment word) a subs (n - 1) (keeps_live-dialed moment word) (address-step (Dial n moment word))) (once a)
-once-step (Up n) subs lists once a = within _ (live_count a subs) (count-changed linked_up a subs (n - 1) keeps_live-linked_up (address-step (Up n))) (once a)
-once-step (Failed n) subs lists once a = within _ (live_count a subs) (count-changed failed a subs (n - 1) keeps_live-failed (address-step (Failed n))) (once a)
-once-step (Ready n) subs lists once a = within _ (live_count a subs) (count-changed greeted a subs (n - 1) keeps_live-greeted (address-step (Ready n))) (once a)
-once-step (Lost n) subs lists once a = within _ (live_count a subs) (count-changed lost a subs (n - 1) keeps_live-lost (address-step (Lost n))) (once a)
+once-step (Wished n) subs lists once a = within _ (live_count a subs) (count-changed_at wished a subs n keeps_live-wished (address-step (Wished n))) (once a)
+once-step (Dial n moment word) subs lists once a = within _ (live_count a subs) (count-changed_at (dialed moment word) a subs n (keeps_live-dialed moment word) (address-step (Dial n moment word))) (once a)
+once-step (Up n) subs lists once a = within _ (live_count a subs) (count-changed_at linked_up a subs n keeps_live-linked_up (address-step (Up n))) (once a)
+once-step (Failed n) subs lists once a = within _ (live_count a subs) (count-changed_at failed a subs n keeps_live-failed (address-step (Failed n))) (once a)
+once-step (Ready n) subs lists once a = within _ (live_count a subs) (count-changed_at greeted a subs n keeps_live-greeted (address-step (Ready n))) (once a)
+once-step (Lost n) subs lists once a = within _ (live_count a subs) (count-changed_at lost a subs n keeps_live-lost (address-step (Lost n))) (once a)
 once-step (Clock moment) subs lists once a = within _ (live_count a subs) (count-clocked moment a subs (first_number (is_due moment) subs)) (once a)
 
 once-from : (calls : List BoardCall) (subs : List SubRecord) → AllAreLists calls → ((a : Address) → live_count a subs ≤ 1) → (a : Address) → live_count a (after_calls calls subs) ≤ 1

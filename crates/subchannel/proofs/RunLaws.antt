@@ -1,11 +1,11 @@
 -- One subchannel of a board over whole runs.
-use Rattle.std.proofs.Common.{◌≡◌, ◌⊎◌, inl, inr, ℕ, zero, suc, ◌-◌, Bool, true, false, ◌&&◌, ◌||◌, not, if◌then◌else◌, is_some, Option, Some, None, IsSomeAnd, List, [], ◌∷◌, ◌++◌, map, slice_get, refl, ap, sym, subst, ◌∙◌}
+use Rattle.std.proofs.Common.{◌≡◌, ◌⊎◌, inl, inr, ℕ, zero, suc, Bool, true, false, ◌&&◌, ◌||◌, not, if◌then◌else◌, is_some, Option, Some, None, IsSomeAnd, List, [], ◌∷◌, ◌++◌, map, slice_get, refl, ap, sym, subst, ◌∙◌}
 use Rattle.grpc_base.specs.declared.address.Address.{Address}
 use Rattle.grpc_base.specs.declared.event.Conn.{Conn}
 use Rattle.grpc_base.specs.declared.event.Conn.TheVariants as conn
 use Rattle.grpc_base.specs.Addresses.{has_address}
 use Rattle.subchannel.specs.Records.{SubRecord, is_live, is_connecting, is_ready, is_failure, is_idle, is_dialable, is_dialing, is_greeting, is_due, wished, dialed, linked_up, failed, greeted, lost, clocked, backing_off, shut_down, next_dials, again_after, until_after}
-use Rattle.subchannel.specs.Boards.{numbered, changed, clocked_at, first_number, kept_or_shut}
+use Rattle.subchannel.specs.Boards.{numbered, changed, changed_at, clocked_at, first_number, kept_or_shut}
 use Rattle.subchannel.specs.Runs.{BoardCall, Keep, Wished, Dial, Up, Failed, Ready, Lost, Clock, after_call, after_calls, IsLater, MayEndFailure}
 use Rattle.subchannel.proofs.KeepLaws.{is_live-kept}
 use Rattle.subchannel.proofs.StepLaws.{keeps_live-wished, keeps_live-dialed, keeps_live-linked_up, keeps_live-failed, keeps_live-greeted, keeps_live-lost, keeps_live-clocked}
@@ -33,6 +33,10 @@ numbered-changed : (f : SubRecord → SubRecord) (subs : List SubRecord) (place 
 numbered-changed f subs place zero s e = let no : ⊥ = (cc) in absurd no
 numbered-changed f subs place (suc i) s e = get-changed f subs place i s e
 
+numbered-changed_at : (f : SubRecord → SubRecord) (subs : List SubRecord) (n number : ℕ) (s : SubRecord) → numbered subs number ≡ Some s → (numbered (changed_at f subs n) number ≡ Some s) ⊎ (numbered (changed_at f subs n) number ≡ Some (f s))
+numbered-changed_at f subs zero number s e = inl e
+numbered-changed_at f subs (suc place) number s e = numbered-changed f subs place number s e
+
 get-mapped : (f : SubRecord → SubRecord) (subs more : List SubRecord) (i : ℕ) (s : SubRecord) → slice_get subs i ≡ Some s → slice_get (map f subs ++ more) i ≡ Some (f s)
 get-mapped f [] more i s e = let no : ⊥ = (cc) in absurd no
 get-mapped f (x ∷ subs) more zero s e = let same : x ≡ s = (cc) in ap (λ (y : SubRecord). Some (f y)) same
@@ -44,17 +48,17 @@ numbered-mapped f subs more (suc i) s e = get-mapped f subs more i s e
 
 clocked-step : (moment : ℕ) (subs : List SubRecord) (o : Option ℕ) (number : ℕ) (s : SubRecord) → numbered subs number ≡ Some s → (numbered (clocked_at moment subs o) number ≡ Some s) ⊎ (numbered (clocked_at moment subs o) number ≡ Some (clocked moment s))
 clocked-step moment subs None number s e = inl e
-clocked-step moment subs (Some n) number s e = numbered-changed (clocked moment) subs (n - 1) number s e
+clocked-step moment subs (Some n) number s e = numbered-changed_at (clocked moment) subs n number s e
 
 -- a call leaves a subchannel or does its one step
 step-at : (call : BoardCall) (subs : List SubRecord) (number : ℕ) (s : SubRecord) → numbered subs number ≡ Some s → (numbered (after_call call subs) number ≡ Some s) ⊎ (numbered (after_call call subs) number ≡ Some (step_of call s))
 step-at (Keep current pending) subs number s e = inr (numbered-mapped (kept_or_shut current pending) subs _ number s e)
-step-at (Wished n) subs number s e = numbered-changed wished subs (n - 1) number s e
-step-at (Dial n moment word) subs number s e = numbered-changed (dialed moment word) subs (n - 1) number s e
-step-at (Up n) subs number s e = numbered-changed linked_up subs (n - 1) number s e
-step-at (Failed n) subs number s e = numbered-changed failed subs (n - 1) number s e
-step-at (Ready n) subs number s e = numbered-changed greeted subs (n - 1) number s e
-step-at (Lost n) subs number s e = numbered-changed lost subs (n - 1) number s e
+step-at (Wished n) subs number s e = numbered-changed_at wished subs n number s e
+step-at (Dial n moment word) subs number s e = numbered-changed_at (dialed moment word) subs n number s e
+step-at (Up n) subs number s e = numbered-changed_at linked_up subs n number s e
+step-at (Failed n) subs number s e = numbered-changed_at failed subs n number s e
+step-at (Ready n) subs number s e = numbered-changed_at greeted subs n number s e
+step-at (Lost n) subs number s e = numbered-changed_at lost subs n number s e
 step-at (Clock moment) subs number s e = clocked-step moment subs (first_number (is_due moment) subs) number s e
 
 -- a choice between two records

@@ -1,5 +1,5 @@
 -- All subchannels that a channel made, by number from 1 in order of first appearance ("gRPC Connectivity Semantics and API").
-use Rattle.std.specs.Prelude.{ℕ, zero, suc, ◌-◌, ◌≤◌, min, Bool, false, not, ◌&&◌, ◌||◌, ◌==◌, if◌then◌else◌, Option, Some, None, List, [], ◌∷◌, ◌++◌, length, map, filter, slice_get}
+use Rattle.std.specs.Prelude.{ℕ, zero, suc, ◌≤◌, min, Bool, false, not, ◌&&◌, ◌||◌, ◌==◌, if◌then◌else◌, Option, Some, None, List, [], ◌∷◌, ◌++◌, length, map, filter, slice_get}
 use Rattle.std.specs.List.{list_any, position_from}
 use Rattle.grpc_base.specs.declared.address.Address.{Address}
 use Rattle.grpc_base.specs.Addresses.{has_address}
@@ -29,9 +29,10 @@ changed f [] place = []
 changed f (s ∷ subs) zero = f s ∷ subs
 changed f (s ∷ subs) (suc place) = s ∷ changed f subs place
 
--- the list after something happened to the subchannel of a number
+-- the list after something happened to the subchannel of a number; no subchannel has number 0
 abbrev pub changed_at : (SubRecord → SubRecord) → List SubRecord → ℕ → List SubRecord
-changed_at f subs number = changed f subs (number - 1)
+changed_at f subs zero = subs
+changed_at f subs (suc place) = changed f subs place
 
 -- the lowest number of a subchannel that passes a test
 abbrev pub first_number : (SubRecord → Bool) → List SubRecord → Option ℕ

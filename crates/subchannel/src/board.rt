@@ -1,8 +1,8 @@
 // All subchannels that a channel made.
-ghost use Rattle.std.specs.Prelude.{◌≡◌, ◌≤◌, ◌<◌, ◌↔◌, ◌-◌, [], length, Some, None, Option, OnOk, OnErr, IfOk, IfErr, IsErr, IfSome, IfNone, IsSomeAnd, false};
+ghost use Rattle.std.specs.Prelude.{◌≡◌, ◌≤◌, ◌<◌, ◌↔◌, [], length, Some, None, OnOk, OnErr, IfOk, IsErr, IfSome, IfNone, false};
 ghost use Rattle.std.specs.Option.{option_copied};
 ghost use Rattle.grpc_base.specs.Limits.{moment_limit};
-ghost use Rattle.subchannel.specs.Records.{wished, dialed, until_after, linked_up, failed, greeted, lost, clocked, is_dialable, is_dialing, is_due};
+ghost use Rattle.subchannel.specs.Records.{wished, dialed, until_after, linked_up, failed, greeted, lost, is_dialable, is_dialing, is_due};
 ghost use Rattle.subchannel.specs.Boards.{numbered, HasNumber, changed_at, first_number, is_live_at, first_clocked, next_of_all, kept};
 
 use crate::keep::{live_after, new_subs, shut_unwanted};

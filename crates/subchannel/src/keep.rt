@@ -1,12 +1,10 @@
 // What a board does to keep two lists of addresses.
-ghost use Rattle.std.specs.Prelude.{◌≡◌, ◌≤◌, ◌<◌, ◌+◌, ◌-◌, ◌++◌, [], length, map, filter, IfOk, OnOk};
+ghost use Rattle.std.specs.Prelude.{◌≡◌, ◌≤◌, ◌+◌, ◌++◌, ◌||◌, [], length, map, filter, IfOk, OnOk};
 ghost use Rattle.std.specs.Vec.{vec_len};
-ghost use Rattle.std.specs.Prelude.{◌||◌};
 ghost use Rattle.grpc_base.specs.Addresses.{has_address};
 ghost use Rattle.subchannel.specs.Records.{new_sub};
-ghost use Rattle.subchannel.specs.Boards.{changed_at, has_live, is_live_at, kept_or_shut, lacking};
+ghost use Rattle.subchannel.specs.Boards.{changed, changed_at, has_live, kept_or_shut, lacking, passes};
 ghost use Rattle.subchannel.specs.Insides.{kept_numbers, live_numbers, made_limit, numbers_from, stays};
-ghost use Rattle.subchannel.specs.Boards.{passes};
 
 use crate::scan::{first_of_address, is_live_sub, sub_at};
 use crate::sub::Subchannel;
@@ -138,7 +136,20 @@ pub fn shut_unwanted(
 fn shut_at(subs: &mut Vec<Subchannel>, number: u32, current: &AddressList, pending: &AddressList)
     ensures { subs.new.items ≡ changed_at (kept_or_shut current.now pending.now) subs.old.items number }
 {
-    let place = number.saturating_sub(1) as usize;
+    if let Some(place) = number.checked_sub(1) {
+        shut_place(subs, place as usize, current, pending);
+    }
+}
+
+/// Shuts the subchannel at a place if its address is in neither list.
+fn shut_place(
+    subs: &mut Vec<Subchannel>,
+    place: usize,
+    current: &AddressList,
+    pending: &AddressList,
+)
+    ensures { subs.new.items ≡ changed (kept_or_shut current.now pending.now) subs.old.items place }
+{
     if place < subs.len() {
         let sub = &mut subs[place];
         shut_if_unwanted(sub, current, pending);

@@ -8,8 +8,6 @@ mod phase;
 mod runs;
 mod scan;
 mod sub;
-#[cfg(test)]
-mod tests;
 
 pub use board::Board;
 pub use runs::laws_of_runs;

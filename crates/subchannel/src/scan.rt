@@ -1,11 +1,9 @@
 // The live subchannels looked through by number.
-ghost use Rattle.std.specs.Prelude.{◌≡◌, ◌≤◌, find, IfSome};
+ghost use Rattle.std.specs.Prelude.{◌≡◌, find, IfSome};
 ghost use Rattle.std.specs.Option.{option_copied};
-ghost use Rattle.grpc_base.specs.Limits.{moment_limit};
 ghost use Rattle.subchannel.specs.Records.{is_dialable, is_due, is_live};
-ghost use Rattle.subchannel.specs.Boards.{numbered, is_live_at, first_number, HasNumber};
+ghost use Rattle.subchannel.specs.Boards.{numbered, is_live_at, first_number, passes, HasNumber};
 ghost use Rattle.subchannel.specs.Insides.{live_numbers};
-ghost use Rattle.subchannel.specs.Boards.{passes};
 
 use crate::sub::Subchannel;
 use grpc_base::{Address, Conn};

@@ -1,5 +1,5 @@
 // One subchannel.
-ghost use Rattle.std.specs.Prelude.{◌≡◌, ◌≤◌, ◌↔◌, IfOk, IsErr, IsFalse, true, false, OnErr, OnOk};
+ghost use Rattle.std.specs.Prelude.{◌≡◌, ◌≤◌, ◌↔◌, IfOk, IsErr, false};
 ghost use Rattle.grpc_base.specs.Limits.{moment_limit};
 ghost use Rattle.subchannel.specs.Records.{new_sub, wished, dialed, until_after, linked_up, failed, greeted, lost, shut_down, clocked, next_of, is_dialable, is_dialing};
 

@@ -1,3 +1,4 @@
+use Rattle.lb_policy.proofs.NoteLaws.{noted-again}
 use Rattle.lb_policy.proofs.TableLaws.{picks-follow, wishes-in, goes-round}
 use Rattle.lb_policy.proofs.laws.laws_of_the_table.Goals as goal
 
@@ -9,3 +10,6 @@ returns-clause-wishes c = wishes-in
 
 pub returns-clause-round : goal.returns-clause-round
 returns-clause-round c = goes-round
+
+pub returns-clause-noting : goal.returns-clause-noting
+returns-clause-noting c = noted-again

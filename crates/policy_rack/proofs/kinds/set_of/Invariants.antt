@@ -1,5 +1,6 @@
 use Rattle.std.proofs.Common.{◌≡◌, map, drop}
-use Rattle.policy_rack.specs.Kinds.{kinds_with, kinds_of}
+use Rattle.policy_rack.specs.Kinds.{kinds_of}
+use Rattle.policy_rack.proofs.KindLaws.{kinds_with}
 use Rattle.policy_rack.proofs.kinds.set_of.Given as goal
 
 -- with the kinds of the rest these are all

@@ -1,4 +1,5 @@
 use Rattle.policy_rack.proofs.RunLaws.{rack-keeps}
+use Rattle.policy_rack.proofs.NoteLaws.{noting-again}
 use Rattle.policy_rack.proofs.LiveKinds.{live-kinds-differ}
 use Rattle.policy_rack.proofs.laws.laws_of_runs.Goals as goal
 
@@ -7,3 +8,6 @@ returns-clause-kept c = rack-keeps
 
 pub returns-clause-kinds : goal.returns-clause-kinds
 returns-clause-kinds c = live-kinds-differ
+
+pub returns-clause-noting : goal.returns-clause-noting
+returns-clause-noting c = noting-again

@@ -1,5 +1,6 @@
 -- A rack that has just taken its first result may be asked.
 use Rattle.std.proofs.Common.{◌≡◌, ℕ, zero, suc, ◌+◌, ◌<◌, Bool, true, false, is_some, cond, Option, Some, None, IsSomeAnd, List, [], ◌∷◌, length, map, slice_get, refl, sym, subst, arith}
+use Rattle.std.specs.List.{position_from}
 use Rattle.std.proofs.lemmas.Option.{none-some, same_Some}
 use Rattle.grpc_base.specs.declared.kind.Kind.{Kind}
 use Rattle.grpc_base.specs.Kinds.{has_kind}
@@ -22,16 +23,16 @@ within-step : (n m len : ℕ) (b : Bool) (rest : Option ℕ) → cond b (Some n)
 within-step n m len true rest e next = let s : n ≡ m = same_Some n m e in omega arith
 within-step n m len false rest e next = let l : m < n + 1 + len = next e in omega arith
 
-within : (k : Kind) (n m : ℕ) (ps : List PolicySeen) → first_place k n (map emptied ps) ≡ Some m → m < n + length ps
+within : (k : Kind) (n m : ℕ) (ps : List PolicySeen) → position_from (λ (q : PolicySeen). same_kind q.kind k) n (map emptied ps) ≡ Some m → m < n + length ps
 within k n m [] e = absurd (none-some m e)
-within k n m (p ∷ ps) e = within-step n m (length ps) (same_kind p.kind k) (first_place k (n + 1) (map emptied ps)) e (within k (n + 1) m ps)
+within k n m (p ∷ ps) e = within-step n m (length ps) (same_kind p.kind k) (position_from (λ (q : PolicySeen). same_kind q.kind k) (n + 1) (map emptied ps)) e (within k (n + 1) m ps)
 
 fresh : (subs : List SubSeen) (ps : List PolicySeen) (o : Option ℕ) → is_some o ≡ true → ((m : ℕ) → o ≡ Some m → m < 0 + length ps) → MayTurn (policy_of (adopted subs o (new_rack ps)).policies (adopted subs o (new_rack ps)).current)
 fresh subs ps None h range = let g : ⊥ = (cc) in absurd g
 fresh subs ps (Some m) h range = let l : m < 0 + length ps = range m refl in at-place subs ps m (omega arith)
 
-pub may-ask : (r t : RackSeen) (ps : List PolicySeen) (k : Kind) (subs : List SubSeen) → r ≡ new_rack ps → has_kind (kinds_of r.policies) k ≡ true → t ≡ adopted subs (first_place k 0 r.policies) r → MayTurn (policy_of t.policies t.current)
+pub may-ask : (r t : RackSeen) (ps : List PolicySeen) (k : Kind) (subs : List SubSeen) → r ≡ new_rack ps → has_kind (kinds_of r.policies) k ≡ true → t ≡ adopted subs (first_place k r.policies) r → MayTurn (policy_of t.policies t.current)
 may-ask r t ps k subs e h f =
     let has : has_kind (kinds_of (map emptied ps)) k ≡ true = subst (λ (s : RackSeen). has_kind (kinds_of s.policies) k ≡ true) e h in
-    let is : t ≡ adopted subs (first_place k 0 (map emptied ps)) (new_rack ps) = subst (λ (s : RackSeen). t ≡ adopted subs (first_place k 0 s.policies) s) e f in
-    subst (λ (s : RackSeen). MayTurn (policy_of s.policies s.current)) (sym is) (fresh subs ps (first_place k 0 (map emptied ps)) (has_place k (map emptied ps) has) (λ m. within k 0 m ps))
+    let is : t ≡ adopted subs (first_place k (map emptied ps)) (new_rack ps) = subst (λ (s : RackSeen). t ≡ adopted subs (first_place k s.policies) s) e f in
+    subst (λ (s : RackSeen). MayTurn (policy_of s.policies s.current)) (sym is) (fresh subs ps (first_place k (map emptied ps)) (has_place k (map emptied ps) has) (λ m. within k 0 m ps))

@@ -1,7 +1,7 @@
 use Rattle.std.proofs.Common.{map}
 use Rattle.grpc_base.specs.declared.kind.Kind.TheVariants as kind
-use Rattle.policy_rack.proofs.AskLaws.{may-ask}
-use Rattle.policy_rack.proofs.tests.first_pick.Goals as goal
+use Rattle.policy_tests.proofs.AskLaws.{may-ask}
+use Rattle.policy_tests.proofs.policy_rack_tests.first_pick.Goals as goal
 
 pub ask-requires : goal.ask-requires
 ask-requires g c =

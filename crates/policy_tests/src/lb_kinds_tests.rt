@@ -2,8 +2,8 @@
 ghost use Rattle.std.specs.Prelude.{◌≡◌};
 ghost use Rattle.lb_policy.specs.Table.{IsView};
 
-use crate::{PickFirst, RoundRobin};
 use grpc_base::{Conn, Kind, Pick};
+use lb_kinds::{PickFirst, RoundRobin};
 use lb_policy::{Policy, SubSeen};
 
 fn state_of(digit: u32) -> Conn {

@@ -4,11 +4,12 @@ ghost use Rattle.policy_rack.specs.Kinds.{are_ready};
 ghost use Rattle.grpc_base.specs.declared.kind.Kind.TheVariants as kind;
 ghost use Rattle.lb_kinds.specs.Seen.{of_kind};
 
-use crate::{Rack, boxes_ready, policies_ready};
 use arrayvec::ArrayVec;
 use grpc_base::{Conn, Kind, Pick};
 use lb_kinds::{PickFirst, RoundRobin};
 use lb_policy::{Balancer, Policy, SubSeen};
+use policy_rack::{Rack, boxes_ready, policies_ready};
+use std::alloc::Global;
 use std::test::Fail;
 
 /// A policy that is in no box.
@@ -19,7 +20,7 @@ enum Plain {
 }
 
 impl Balancer for Plain {
-    ghost use Rattle.policy_rack.specs.declared.tests.Plain.TheVariants as plain;
+    ghost use Rattle.policy_tests.specs.declared.policy_rack_tests.Plain.TheVariants as plain;
 
     ghost seen = { λ p. elim p [ plain.First policy ↦ of_kind kind.PickFirst policy | plain.Round policy ↦ of_kind kind.RoundRobin policy ] };
 
@@ -116,19 +117,6 @@ fn three_results<P: Balancer>(policies: Vec<P>) -> &'static str
     ""
 }
 
-#[test]
-fn third_result_is_for_the_first_generation(rt: HostRuntime) -> Result<(), Fail> {
-    let alloc = rt.alloc();
-    let mut boxes: Vec<Box<dyn Policy>> = Vec::new(alloc);
-    assert!(rt; !boxes_ready(&boxes));
-    boxes.push(Box::new(alloc, RoundRobin::new())?)?;
-    assert!(rt; !boxes_ready(&boxes));
-    boxes.push(Box::new(alloc, PickFirst::new())?)?;
-    assert!(rt; boxes_ready(&boxes));
-    assert_eq!(rt; three_results(boxes), "");
-    Ok(())
-}
-
 /// Whether a pending generation takes over once its subchannel is READY, and not before from a READY one.
 fn takes_over<P: Balancer>(policies: Vec<P>) -> bool
     requires { are_ready (map P.seen policies.items) ≡ true }
@@ -158,46 +146,65 @@ fn first_pick<P: Balancer>(policies: Vec<P>) -> Option<(u32, Pick)>
     Some(rack.ask())
 }
 
+/// The two policies of the channel, each in a box.
+fn in_boxes(alloc: Global) -> Result<Vec<Box<dyn Policy>>, Fail> {
+    let mut policies: Vec<Box<dyn Policy>> = Vec::new(alloc);
+    policies.push(Box::new(alloc, RoundRobin::new())?)?;
+    policies.push(Box::new(alloc, PickFirst::new())?)?;
+    Ok(policies)
+}
+
+/// The same two, in no box and in the other order.
+fn in_no_box(alloc: Global) -> Result<Vec<Plain>, Fail> {
+    let mut policies = Vec::new(alloc);
+    policies.push(Plain::First(PickFirst::new()))?;
+    policies.push(Plain::Round(RoundRobin::new()))?;
+    Ok(policies)
+}
+
 #[test]
-fn asks_the_current_policy(rt: HostRuntime) -> Result<(), Fail> {
+fn takes_one_policy_of_each_kind_with_pick_first(rt: HostRuntime) -> Result<(), Fail> {
     let alloc = rt.alloc();
     let mut boxes: Vec<Box<dyn Policy>> = Vec::new(alloc);
-    boxes.push(Box::new(alloc, PickFirst::new())?)?;
+    assert!(rt; !boxes_ready(&boxes));
     boxes.push(Box::new(alloc, RoundRobin::new())?)?;
+    assert!(rt; !boxes_ready(&boxes));
+    boxes.push(Box::new(alloc, PickFirst::new())?)?;
     assert!(rt; boxes_ready(&boxes));
-    assert_eq!(rt; first_pick(boxes), Some((1, Pick::Place(7))));
+    boxes.push(Box::new(alloc, PickFirst::new())?)?;
+    assert!(rt; !boxes_ready(&boxes));
     Ok(())
 }
 
 #[test]
-fn holds_plain_policies(rt: HostRuntime) -> Result<(), Fail> {
-    let alloc = rt.alloc();
-    let mut plain = Vec::new(alloc);
-    plain.push(Plain::Round(RoundRobin::new()))?;
-    assert!(rt; !policies_ready(plain.as_slice()));
-    plain.push(Plain::First(PickFirst::new()))?;
+fn third_result_is_for_the_first_generation(rt: HostRuntime) -> Result<(), Fail> {
+    let boxes = in_boxes(rt.alloc())?;
+    assert!(rt; boxes_ready(&boxes));
+    assert_eq!(rt; three_results(boxes), "");
+    let plain = in_no_box(rt.alloc())?;
     assert!(rt; policies_ready(plain.as_slice()));
     assert_eq!(rt; three_results(plain), "");
-    let mut plain = Vec::new(alloc);
-    plain.push(Plain::First(PickFirst::new()))?;
-    plain.push(Plain::Round(RoundRobin::new()))?;
-    assert!(rt; policies_ready(plain.as_slice()));
-    assert_eq!(rt; first_pick(plain), Some((1, Pick::Place(7))));
-    let mut plain = Vec::new(alloc);
-    plain.push(Plain::First(PickFirst::new()))?;
-    plain.push(Plain::Round(RoundRobin::new()))?;
+    Ok(())
+}
+
+#[test]
+fn lets_a_ready_generation_take_over(rt: HostRuntime) -> Result<(), Fail> {
+    let boxes = in_boxes(rt.alloc())?;
+    assert!(rt; boxes_ready(&boxes));
+    assert!(rt; takes_over(boxes));
+    let plain = in_no_box(rt.alloc())?;
     assert!(rt; policies_ready(plain.as_slice()));
     assert!(rt; takes_over(plain));
     Ok(())
 }
 
 #[test]
-fn lets_a_ready_generation_take_over(rt: HostRuntime) -> Result<(), Fail> {
-    let alloc = rt.alloc();
-    let mut boxes: Vec<Box<dyn Policy>> = Vec::new(alloc);
-    boxes.push(Box::new(alloc, PickFirst::new())?)?;
-    boxes.push(Box::new(alloc, RoundRobin::new())?)?;
+fn asks_the_current_policy(rt: HostRuntime) -> Result<(), Fail> {
+    let boxes = in_boxes(rt.alloc())?;
     assert!(rt; boxes_ready(&boxes));
-    assert!(rt; takes_over(boxes));
+    assert_eq!(rt; first_pick(boxes), Some((1, Pick::Place(7))));
+    let plain = in_no_box(rt.alloc())?;
+    assert!(rt; policies_ready(plain.as_slice()));
+    assert_eq!(rt; first_pick(plain), Some((1, Pick::Place(7))));
     Ok(())
 }
