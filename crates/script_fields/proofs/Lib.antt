@@ -1,5 +1,6 @@
 pub mod AddressLaws
 pub mod Digits
+pub mod JoinedLaws
 pub mod ListedLaws
 pub mod MetaLaws
 pub mod NumberLaws
@@ -8,4 +9,3 @@ pub mod PartLaws
 pub mod TextLaws
 pub mod VisibleLaws
 pub mod WordLaws
-pub mod Words

@@ -8,12 +8,13 @@ use Rattle.std.proofs.lemmas.List.Sums.{fold-append}
 use Rattle.std.proofs.lemmas.List.Elements.{recursion_from_All, All-from_recursion, All-push}
 use Rattle.grpc_base.specs.declared.address.Address.{Address}
 use Rattle.grpc_base.specs.Addresses.{address_limit, has_address, with_address}
-use Rattle.script_fields.specs.Spelling.{address_text, addresses_text, parted}
-use Rattle.script_fields.specs.Reading.{SpellsAddresses, listed, parts_behind}
+use Rattle.grpc_base.specs.Pieces.{pieces, pieces_of_rest}
+use Rattle.script_fields.specs.Spelling.{address_text, addresses_text}
+use Rattle.script_fields.specs.Reading.{SpellsAddresses, listed}
 use Rattle.script_fields.specs.Values.{IsAddress, IsNoDigit}
 use Rattle.script_fields.proofs.AddressLaws.{byte_a, byte_b, byte_c, byte_d, text_is_quad}
 use Rattle.script_fields.proofs.MetaLaws.{append_free}
-use Rattle.script_fields.proofs.PartLaws.{all_read, one_spelled, parted-joined}
+use Rattle.script_fields.proofs.PartLaws.{all_read, one_spelled, pieces-joined}
 use Rattle.script_fields.proofs.TextLaws.{bool_cases, free_of}
 
 -- how many addresses were read, and the list of them where they are few
@@ -24,7 +25,7 @@ IsCounted items count list = ((length items ≤ 64) × (count ≡ length items) 
 pub record IsReadList (text : List ℕ) (list : List Address) (count : ℕ) (rest : Option (List ℕ)) : Type 0 where
   pub items : List Address
   pub good : All IsAddress items
-  pub parts : parted 44 text ≡ map address_text items ++ parts_behind 44 rest
+  pub parts : pieces 44 text ≡ map address_text items ++ pieces_of_rest 44 rest
   pub counted : IsCounted items count list
 
 -- an address has no comma
@@ -53,9 +54,9 @@ addresses_free [] good = tt
 addresses_free (x ∷ xs) good = (address_free x good.0, addresses_free xs good.1)
 
 -- a text that is no dash has the spellings of its addresses as its parts
-pub addresses_parted : (text : List ℕ) (xs : List Address) → text ≢ 45 ∷ [] → SpellsAddresses text xs → parted 44 text ≡ map address_text xs
+pub addresses_parted : (text : List ℕ) (xs : List Address) → text ≢ 45 ∷ [] → SpellsAddresses text xs → pieces 44 text ≡ map address_text xs
 addresses_parted text [] other spelled = absurd (other spelled.1)
-addresses_parted text (x ∷ xs) other spelled = ap (parted 44) spelled.1 ∙ parted-joined 44 (address_text x) (map address_text xs) (addresses_free (x ∷ xs) (recursion_from_All IsAddress (x ∷ xs) spelled.0))
+addresses_parted text (x ∷ xs) other spelled = ap (pieces 44) spelled.1 ∙ pieces-joined 44 (address_text x) (map address_text xs) (addresses_free (x ∷ xs) (recursion_from_All IsAddress (x ∷ xs) spelled.0))
 
 -- a list is no longer than what it is made of
 with_length : (xs : List Address) (a : Address) → length (with_address xs a) ≤ length xs + 1
@@ -93,28 +94,28 @@ counted_next items a count made list new is few many =
 pub list_none : (text : List ℕ) → IsReadList text [] 0 (Some text)
 list_none text = record { items = []; good = All-from_recursion IsAddress [] tt; parts = refl; counted = inl (omega arith, refl, refl) }
 
-pub list_refused : (text : List ℕ) (list : List Address) (count : ℕ) (items item : List ℕ) (behind : Option (List ℕ)) (xs : List Address) → text ≢ 45 ∷ [] → IsReadList text list count (Some items) → parted 44 items ≡ item ∷ parts_behind 44 behind → ((a : Address) → IsAddress a → item ≡ address_text a → ⊥) → SpellsAddresses text xs → ⊥
+pub list_refused : (text : List ℕ) (list : List Address) (count : ℕ) (items item : List ℕ) (behind : Option (List ℕ)) (xs : List Address) → text ≢ 45 ∷ [] → IsReadList text list count (Some items) → pieces 44 items ≡ item ∷ pieces_of_rest 44 behind → ((a : Address) → IsAddress a → item ≡ address_text a → ⊥) → SpellsAddresses text xs → ⊥
 list_refused text list count items item behind xs other is first none spelled =
-    let parts : map address_text xs ≡ map address_text is.items ++ item ∷ parts_behind 44 behind =
+    let parts : map address_text xs ≡ map address_text is.items ++ item ∷ pieces_of_rest 44 behind =
     sym (addresses_parted text xs other spelled) ∙ is.parts ∙ ap (λ (t : List (List ℕ)). map address_text is.items ++ t) first in
     let one : (a : Address) × IsAddress a × (item ≡ address_text a) =
-    one_spelled address_text IsAddress xs (map address_text is.items) item (parts_behind 44 behind) (recursion_from_All IsAddress xs spelled.0) parts in
+    one_spelled address_text IsAddress xs (map address_text is.items) item (pieces_of_rest 44 behind) (recursion_from_All IsAddress xs spelled.0) parts in
     none one.0 one.1 one.2
 
-pub list_more : (text : List ℕ) (list new : List Address) (count made : ℕ) (items item : List ℕ) (behind : Option (List ℕ)) (a : Address) → IsReadList text list count (Some items) → parted 44 items ≡ item ∷ parts_behind 44 behind → IsAddress a → item ≡ address_text a → (count < address_limit → length list ≤ count → (made ≡ count + 1) × (new ≡ with_address list a)) → (address_limit ≤ count → made ≡ address_limit + 1) → IsReadList text new made behind
+pub list_more : (text : List ℕ) (list new : List Address) (count made : ℕ) (items item : List ℕ) (behind : Option (List ℕ)) (a : Address) → IsReadList text list count (Some items) → pieces 44 items ≡ item ∷ pieces_of_rest 44 behind → IsAddress a → item ≡ address_text a → (count < address_limit → length list ≤ count → (made ≡ count + 1) × (new ≡ with_address list a)) → (address_limit ≤ count → made ≡ address_limit + 1) → IsReadList text new made behind
 list_more text list new count made items item behind a is first good spelled few many =
     let whole : map address_text (is.items ++ a ∷ []) ≡ map address_text is.items ++ address_text a ∷ [] = map-append address_text is.items (a ∷ []) in
-    let parts : parted 44 text ≡ map address_text is.items ++ address_text a ∷ parts_behind 44 behind =
-    is.parts ∙ ap (λ (t : List (List ℕ)). map address_text is.items ++ t) (first ∙ ap (λ (v : List ℕ). v ∷ parts_behind 44 behind) spelled) in
+    let parts : pieces 44 text ≡ map address_text is.items ++ address_text a ∷ pieces_of_rest 44 behind =
+    is.parts ∙ ap (λ (t : List (List ℕ)). map address_text is.items ++ t) (first ∙ ap (λ (v : List ℕ). v ∷ pieces_of_rest 44 behind) spelled) in
     record {
       items = is.items ++ a ∷ [];
       good = All-push IsAddress is.items a is.good good;
-      parts = parts ∙ sym (append_assoc (map address_text is.items) (address_text a ∷ []) (parts_behind 44 behind)) ∙ ap (λ (t : List (List ℕ)). t ++ parts_behind 44 behind) (sym whole);
+      parts = parts ∙ sym (append_assoc (map address_text is.items) (address_text a ∷ []) (pieces_of_rest 44 behind)) ∙ ap (λ (t : List (List ℕ)). t ++ pieces_of_rest 44 behind) (sym whole);
       counted = counted_next is.items a count made list new is.counted few many;
     }
 
 -- all is read
-whole_text : (text : List ℕ) (items : List Address) → parted 44 text ≡ map address_text items ++ [] → text ≡ addresses_text items
+whole_text : (text : List ℕ) (items : List Address) → pieces 44 text ≡ map address_text items ++ [] → text ≡ addresses_text items
 whole_text text [] e = absurd ((all_read 44 text [] e).0 refl)
 whole_text text (x ∷ items) e = (all_read 44 text (map address_text (x ∷ items)) e).1
 

@@ -7,18 +7,19 @@ use Rattle.std.proofs.lemmas.List.Sums.{sum_by-append}
 use Rattle.std.proofs.lemmas.List.Elements.{recursion_from_All, All-from_recursion, All-push}
 use Rattle.grpc_base.specs.declared.fields.Field.{Field}
 use Rattle.grpc_base.specs.Metadata.{IsMetaName, IsMetaValue, IsPair, IsRequestMetadata, is_meta_name_byte, meta_limit, meta_size, pair_size}
+use Rattle.grpc_base.specs.Pieces.{pieces, pieces_of_rest}
 use Rattle.grpc_base.proofs.MetaLaws.{meta_size-push}
-use Rattle.script_fields.specs.Spelling.{hex_digits, lower_digit, pair_text, parted}
-use Rattle.script_fields.specs.Reading.{SpellsMeta, parts_behind}
+use Rattle.script_fields.specs.Spelling.{hex_digits, lower_digit, pair_text}
+use Rattle.script_fields.specs.Reading.{SpellsMeta}
 use Rattle.script_fields.specs.Values.{IsBytes}
 use Rattle.script_fields.proofs.TextLaws.{bytes_from, hex_one, one_cut}
-use Rattle.script_fields.proofs.PartLaws.{all_read, parted-joined}
+use Rattle.script_fields.proofs.PartLaws.{all_read, pieces-joined}
 
 -- what has been read of a text, and what is left
 pub record IsReadMeta (text : List ℕ) (meta : List Field) (rest : Option (List ℕ)) : Type 0 where
   pub kept : IsRequestMetadata meta
   pub bytes : All (λ f. IsBytes f.value) meta
-  pub parts : parted 44 text ≡ map pair_text meta ++ parts_behind 44 rest
+  pub parts : pieces 44 text ≡ map pair_text meta ++ pieces_of_rest 44 rest
 
 -- a pair of a request that a text may spell
 abbrev IsGood : Field → Type 0
@@ -64,9 +65,9 @@ pairs_free [] good = tt
 pairs_free (f ∷ fs) good = (pair_free f good.0.0, pairs_free fs good.1)
 
 -- a text that is no dash has the spellings of its pairs as its parts
-pub meta_parted : (text : List ℕ) (pairs : List Field) → text ≢ 45 ∷ [] → SpellsMeta text pairs → parted 44 text ≡ map pair_text pairs
+pub meta_parted : (text : List ℕ) (pairs : List Field) → text ≢ 45 ∷ [] → SpellsMeta text pairs → pieces 44 text ≡ map pair_text pairs
 meta_parted text [] other spelled = absurd (other spelled.2)
-meta_parted text (f ∷ fs) other spelled = ap (parted 44) spelled.2 ∙ parted-joined 44 (pair_text f) (map pair_text fs) (pairs_free (f ∷ fs) (all_good (f ∷ fs) spelled.0 spelled.1))
+meta_parted text (f ∷ fs) other spelled = ap (pieces 44) spelled.2 ∙ pieces-joined 44 (pair_text f) (map pair_text fs) (pairs_free (f ∷ fs) (all_good (f ∷ fs) spelled.0 spelled.1))
 
 -- a pair by its name and its digits
 pub pair_parts : (item name digits : List ℕ) (f : Field) → item ≡ name ++ 58 ∷ digits → All (λ b. b ≢ 58) name → IsPair f → item ≡ pair_text f → (name ≡ f.name) × (digits ≡ hex_digits f.value)
@@ -123,26 +124,26 @@ pub read_none : (text : List ℕ) → IsReadMeta text [] (Some text)
 read_none text = record { kept = record { pairs_are = All-from_recursion IsPair [] tt; within = omega arith }; bytes = All-from_recursion (λ f. IsBytes f.value) [] tt; parts = refl }
 
 -- an item that is refused is that of no metadata
-pub read_refused : (text : List ℕ) (meta : List Field) (items item : List ℕ) (behind : Option (List ℕ)) (pairs : List Field) → text ≢ 45 ∷ [] → IsReadMeta text meta (Some items) → parted 44 items ≡ item ∷ parts_behind 44 behind → ((f : Field) → IsPair f → IsBytes f.value → item ≡ pair_text f → meta_size meta + pair_size f ≤ meta_limit → ⊥) → SpellsMeta text pairs → ⊥
+pub read_refused : (text : List ℕ) (meta : List Field) (items item : List ℕ) (behind : Option (List ℕ)) (pairs : List Field) → text ≢ 45 ∷ [] → IsReadMeta text meta (Some items) → pieces 44 items ≡ item ∷ pieces_of_rest 44 behind → ((f : Field) → IsPair f → IsBytes f.value → item ≡ pair_text f → meta_size meta + pair_size f ≤ meta_limit → ⊥) → SpellsMeta text pairs → ⊥
 read_refused text meta items item behind pairs other is first none spelled =
-    let parts : map pair_text pairs ≡ map pair_text meta ++ item ∷ parts_behind 44 behind =
+    let parts : map pair_text pairs ≡ map pair_text meta ++ item ∷ pieces_of_rest 44 behind =
     sym (meta_parted text pairs other spelled) ∙ is.parts ∙ ap (λ (t : List (List ℕ)). map pair_text meta ++ t) first in
     let next : (f : Field) × (tail : List Field) × (pairs ≡ meta ++ f ∷ tail) × (item ≡ pair_text f) × IsGood f =
-    next_of meta pairs item (parts_behind 44 behind) (all_good meta is.kept is.bytes) (all_good pairs spelled.0 spelled.1) parts in
+    next_of meta pairs item (pieces_of_rest 44 behind) (all_good meta is.kept is.bytes) (all_good pairs spelled.0 spelled.1) parts in
     let within : meta_size (meta ++ next.0 ∷ next.1) ≤ meta_limit = subst (λ (ps : List Field). meta_size ps ≤ meta_limit) next.2 spelled.0.within in
     none next.0 next.4.0 next.4.1 next.3 (room_for meta next.1 next.0 within)
 
 -- one pair more
-pub read_more : (text : List ℕ) (meta made : List Field) (items item : List ℕ) (behind : Option (List ℕ)) → IsReadMeta text meta (Some items) → parted 44 items ≡ item ∷ parts_behind 44 behind → ((f : Field) × IsBytes f.value × (item ≡ pair_text f) × (made ≡ meta ++ f ∷ [])) → (IsRequestMetadata meta → IsRequestMetadata made) → IsReadMeta text made behind
+pub read_more : (text : List ℕ) (meta made : List Field) (items item : List ℕ) (behind : Option (List ℕ)) → IsReadMeta text meta (Some items) → pieces 44 items ≡ item ∷ pieces_of_rest 44 behind → ((f : Field) × IsBytes f.value × (item ≡ pair_text f) × (made ≡ meta ++ f ∷ [])) → (IsRequestMetadata meta → IsRequestMetadata made) → IsReadMeta text made behind
 read_more text meta made items item behind is first pushed kept =
     let f : Field = pushed.0 in
     let spelled : map pair_text made ≡ map pair_text meta ++ pair_text f ∷ [] = ap (map pair_text) pushed.3 ∙ map-append pair_text meta (f ∷ []) in
-    let parts : parted 44 text ≡ map pair_text meta ++ pair_text f ∷ parts_behind 44 behind =
-    is.parts ∙ ap (λ (t : List (List ℕ)). map pair_text meta ++ t) (first ∙ ap (λ (v : List ℕ). v ∷ parts_behind 44 behind) pushed.2) in
+    let parts : pieces 44 text ≡ map pair_text meta ++ pair_text f ∷ pieces_of_rest 44 behind =
+    is.parts ∙ ap (λ (t : List (List ℕ)). map pair_text meta ++ t) (first ∙ ap (λ (v : List ℕ). v ∷ pieces_of_rest 44 behind) pushed.2) in
     record {
       kept = kept is.kept;
       bytes = subst (All (λ f. IsBytes f.value)) (sym pushed.3) (All-push (λ f. IsBytes f.value) meta f is.bytes pushed.1);
-      parts = parts ∙ sym (append_assoc (map pair_text meta) (pair_text f ∷ []) (parts_behind 44 behind)) ∙ ap (λ (t : List (List ℕ)). t ++ parts_behind 44 behind) (sym spelled);
+      parts = parts ∙ sym (append_assoc (map pair_text meta) (pair_text f ∷ []) (pieces_of_rest 44 behind)) ∙ ap (λ (t : List (List ℕ)). t ++ pieces_of_rest 44 behind) (sym spelled);
     }
 
 -- all is read

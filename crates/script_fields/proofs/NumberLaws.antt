@@ -1,6 +1,6 @@
 -- Numbers of any length.
-use Rattle.std.proofs.Common.{◌≡◌, ℕ, zero, suc, ◌<◌, ◌≤◌, ◌^◌, List, length, get_or, true, sym, ap, arith, rules, Option, Some, None, inl, inr, refl}
-use Rattle.std.specs.Prelude.{decimal, IfSome}
+use Rattle.std.proofs.Common.{◌≡◌, ℕ, zero, suc, ◌<◌, ◌≤◌, ◌^◌, List, length, get_or, true, sym, subst, ap, ◌∙◌, arith, rules, Option, Some, None, inl, inr, refl}
+use Rattle.std.specs.Prelude.{decimal, IfSome, IsTrue}
 use Rattle.std.specs.List.{list_all}
 use Rattle.std.specs.Char.{is_ascii_digit}
 use Rattle.std.specs.Str.Parse.{digits_value}
@@ -31,6 +31,22 @@ number_spelled (suc n) small =
     let first : 48 < get_or (decimal (suc n)) 0 0 = first_decimal (suc n) (omega arith) small in
     record { digits = both_tests (decimal (suc n)) (decimal_nonempty (suc n) small) (own.from (decimal (suc n)) (decimal_is_IsNumeral (suc n) small).0.1); no_zero_first = λ e. absurd (omega (arith, first, e)); value = (decimal_is_IsNumeral (suc n) small).1 }
 
+-- such a text is the spelling of its number, where that is below 2^64
+pub canonical_decimal : (text : List ℕ) → SpellsNumber text (number_of text) → number_of text < 2 ^ 64 → text ≡ decimal (number_of text)
+canonical_decimal text spelled small = sym (decimal-digits_value own text (digits_of_number text spelled.digits) (some_of_number text spelled.digits) spelled.no_zero_first small)
+
+pub decimal_canonical : (text : List ℕ) (n : ℕ) → n < 2 ^ 64 → text ≡ decimal n → SpellsNumber text (number_of text) × (number_of text ≡ n)
+decimal_canonical text n small e =
+    let is : SpellsNumber text n = subst (λ t. SpellsNumber t n) (sym e) (number_spelled n small) in
+    (record { digits = is.digits; no_zero_first = is.no_zero_first; value = refl }, is.value)
+
+-- such a text whose number is 2^64 or more is no spelling of one below
+pub large_number : (text : List ℕ) → SpellsNumber text (number_of text) → (IsTrue (is_number text) → 2 ^ 64 ≤ number_of text) → (n : ℕ) → n < 2 ^ 64 → text ≡ decimal n → ⊥
+large_number text spelled large n small e =
+    let same : number_of text ≡ n = (decimal_canonical text n small e).1 in
+    let above : 2 ^ 64 ≤ number_of text = large spelled.digits in
+    omega (arith, small, same, above)
+
 -- the same of what may be none
 pub number_or_dash_spelled : (t : Option ℕ) → IfSome t (λ n. n < 2 ^ 64) → SpellsNumberOrDash (number_or_dash t) t
 number_or_dash_spelled None small = refl
@@ -42,7 +58,7 @@ number_above text most small spelled none =
     elim (cases_lt most (number_of text)) [
       | inl above ↦ above
       | inr within ↦ (
-          let is : decimal (number_of text) ≡ text = decimal-digits_value own text (digits_of_number text spelled.digits) (some_of_number text spelled.digits) spelled.no_zero_first (omega (arith, small, within)) in
-          absurd (none (number_of text) within (sym is))
+          let is : text ≡ decimal (number_of text) = canonical_decimal text spelled (omega (arith, small, within)) in
+          absurd (none (number_of text) within is)
           )
     ]

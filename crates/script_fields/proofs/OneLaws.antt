@@ -1,7 +1,7 @@
 -- No text spells two values.
 use Rattle.std.proofs.Common.{◌≡◌, ◌≢◌, ℕ, ◌/◌, ◌%◌, ◌<◌, ◌≤◌, ◌^◌, Bool, true, false, Option, Some, None, List, [], ◌∷◌, ◌++◌, length, map, refl, ap, sym, subst, arith, append_assoc, ◌∙◌, w64}
 use Rattle.std.specs.Int.{from_be_bytes}
-use Rattle.std.specs.List.{AllByRecursion}
+use Rattle.std.specs.List.{AllByRecursion, join_with_byte}
 use Rattle.std.specs.Prelude.{decimal}
 use Rattle.std.proofs.lemmas.Bool.{true≢false}
 use Rattle.std.proofs.lemmas.Fmt.{decimal_injective}
@@ -10,7 +10,7 @@ use Rattle.std.proofs.lemmas.Nat.{from_be_bytes-to_be_bytes_8}
 use Rattle.grpc_base.specs.declared.address.Address.{Address}
 use Rattle.grpc_base.specs.declared.fields.Field.{Field}
 use Rattle.script_fields.specs.Reading.{SpellsAddresses, SpellsConfig, SpellsMessage, SpellsMeta, SpellsNumber, SpellsNumberOrDash, SpellsPiece, SpellsWord}
-use Rattle.script_fields.specs.Spelling.{address_text, addresses_text, dash, hex_digits, joined, meta_text, pair_text, wait_text, word_bytes}
+use Rattle.script_fields.specs.Spelling.{address_text, addresses_text, dash, hex_digits, meta_text, pair_text, wait_text, word_bytes}
 use Rattle.script_fields.specs.Values.{IsAddress, IsNoDigit}
 use Rattle.script_fields.proofs.AddressLaws.{byte_a, byte_b, byte_c, byte_d, colon, dot, last_four, text_is_quad}
 use Rattle.script_fields.proofs.Digits.{word_same}
@@ -88,7 +88,7 @@ each_one f P one (x ∷ v) (y ∷ w) p q e =
 dash_no_meta : (f : Field) (v : List Field) → dash ≡ meta_text (f ∷ v) → ⊥
 dash_no_meta f [] e = dash_free 58 f.name (hex_digits f.value) (λ b. omega (arith, b)) e
 dash_no_meta f (g ∷ v) e =
-    let rest : List ℕ = 44 ∷ joined 44 (map pair_text (g ∷ v)) in
+    let rest : List ℕ = 44 ∷ join_with_byte 44 (map pair_text (g ∷ v)) in
     dash_free 58 f.name (hex_digits f.value ++ rest) (λ b. omega (arith, b)) (e ∙ append_assoc f.name (58 ∷ hex_digits f.value) rest)
 
 pub meta_one : (text : List ℕ) (v w : List Field) → SpellsMeta text v → SpellsMeta text w → v ≡ w
@@ -124,7 +124,7 @@ address_one v w p q e =
 dash_no_addresses : (x : Address) (v : List Address) → dash ≡ addresses_text (x ∷ v) → ⊥
 dash_no_addresses x [] e = dash_free 46 (decimal (x.ip / 2 ^ 24)) _ (λ b. omega (arith, b)) (e ∙ text_is_quad x)
 dash_no_addresses x (y ∷ v) e =
-    let rest : List ℕ = 44 ∷ joined 44 (map address_text (y ∷ v)) in
+    let rest : List ℕ = 44 ∷ join_with_byte 44 (map address_text (y ∷ v)) in
     let behind : List ℕ = last_four (x.ip / 2 ^ 16 % 256) (x.ip / 2 ^ 8 % 256) (x.ip % 256) x.port in
     dash_free 46 (decimal (x.ip / 2 ^ 24)) (behind ++ rest) (λ b. omega (arith, b))
     (e ∙ ap (λ (t : List ℕ). t ++ rest) (text_is_quad x) ∙ append_assoc (decimal (x.ip / 2 ^ 24)) (46 ∷ behind) rest)

@@ -1,4 +1,4 @@
--- Texts of numbers, hex and parts.
+-- Texts of numbers and of hex.
 use Rattle.std.proofs.Common.{length-append, ◌≡◌, ◌≢◌, ℕ, ◌+◌, ◌/◌, ◌%◌, ◌^◌, ◌<◌, ◌≤◌, List, [], ◌∷◌, ◌++◌, length, refl, ap, sym, subst, inl, inr, ◌⊎◌, arith, All, take, drop, ◌-◌, ◌∙◌, true, false, Bool, Option, Some, None, Result, Ok, Err, get_or}
 use Rattle.std.specs.Cmp.Lexicographic.{pointwise}
 use Rattle.std.specs.Option.{MatchOption}
@@ -11,7 +11,7 @@ use Rattle.std.specs.List.{AllByRecursion}
 use Rattle.std.specs.Prelude.{decimal, IfOk, IfSome, IfNone, nat_eq, ◌==◌}
 use Rattle.std.proofs.lemmas.Fmt.{decimal_injective, decimal_by_steps}
 use Rattle.std.proofs.lemmas.List.Elements.{recursion_from_All, All-from_get_or, All-from_recursion}
-use Rattle.script_fields.specs.Spelling.{hex_digits, hex_or_dash, lower_digit, parted}
+use Rattle.script_fields.specs.Spelling.{hex_digits, hex_or_dash, lower_digit}
 use Rattle.script_fields.specs.Values.{IsBytes}
 use Rattle.script_fields.specs.Values.{IsNoDigit}
 
@@ -103,51 +103,9 @@ hex_one (x ∷ v) (y ∷ w) p q e =
     let same : v ≡ w = hex_one v w p.1 q.1 tail in
     (cc)
 
--- parts
 pub bool_cases : (t : Bool) → (t ≡ true) ⊎ (t ≡ false)
 bool_cases true = inl refl
 bool_cases false = inr refl
-
-same_byte : (b : ℕ) → (b == b) ≡ true
-same_byte b = grind (arith, nat_tests)
-
-other_byte : (x b : ℕ) → x ≢ b → (x == b) ≡ false
-other_byte x b other = grind (arith, nat_tests, other)
-
--- a text cut at a byte that its front does not have
-pub parted-cut : (b : ℕ) (s rest : List ℕ) → AllByRecursion (λ d. d ≢ b) s → parted b (s ++ b ∷ rest) ≡ s ∷ parted b rest
-parted-cut b [] rest free = rw (same_byte b) refl
-parted-cut b (x ∷ s) rest free = rw (other_byte x b free.0) (rw (parted-cut b s rest free.1) refl)
-
-pub parted-free : (b : ℕ) (s : List ℕ) → AllByRecursion (λ d. d ≢ b) s → parted b s ≡ s ∷ []
-parted-free b [] free = refl
-parted-free b (x ∷ s) free = rw (other_byte x b free.0) (rw (parted-free b s free.1) refl)
-
-pub parts_of_cut : (b : ℕ) (text s rest : List ℕ) → text ≡ s ++ b ∷ rest → All (λ d. d ≢ b) s → parted b text ≡ s ∷ parted b rest
-parts_of_cut b text s rest e free = ap (parted b) e ∙ parted-cut b s rest (recursion_from_All (λ d. d ≢ b) s free)
-
-pub parts_of_whole : (b : ℕ) (text : List ℕ) → All (λ d. d ≢ b) text → parted b text ≡ text ∷ []
-parts_of_whole b text free = parted-free b text (recursion_from_All (λ d. d ≢ b) text free)
-
--- there is always a first part
-pub parted-some : (b : ℕ) (s : List ℕ) → (part : List ℕ) × (parts : List (List ℕ)) × (parted b s ≡ part ∷ parts)
-parted-some b [] = ([], [], refl)
-parted-some b (x ∷ s) =
-    let p : (part : List ℕ) × (parts : List (List ℕ)) × (parted b s ≡ part ∷ parts) = parted-some b s in
-    elim (bool_cases (x == b)) [
-      | inl same ↦ ([], parted b s, rw same refl)
-      | inr other ↦ (x ∷ p.0, p.1, rw other (rw p.2 refl))
-    ]
-
--- a text of one empty part is empty
-pub parted-blank : (b : ℕ) (s : List ℕ) → parted b s ≡ [] ∷ [] → s ≡ []
-parted-blank b [] e = refl
-parted-blank b (x ∷ s) e =
-    let p : (part : List ℕ) × (parts : List (List ℕ)) × (parted b s ≡ part ∷ parts) = parted-some b s in
-    elim (bool_cases (x == b)) [
-      | inl same ↦ (let e2 : [] ∷ parted b s ≡ [] ∷ [] = (rw same at e) in let e3 : [] ∷ (p.0 ∷ p.1) ≡ [] ∷ [] = (rw p.2 at e2) in absurd ((cc)))
-      | inr other ↦ (let e2 : parted b (x ∷ s) ≡ (x ∷ p.0) ∷ p.1 = rw other (rw p.2 refl) in let e3 : (x ∷ p.0) ∷ p.1 ≡ [] ∷ [] = sym e2 ∙ e in absurd ((cc)))
-    ]
 
 take-append-le2 : (head rest : List ℕ) → take (length head) (head ++ rest) ≡ head
 take-append-le2 head rest = grind (arith, common_steps)
@@ -165,28 +123,9 @@ front_not_taken now None text head h = λ rest e.
     let front : take (length head) text ≡ head = ap (take (length head)) e ∙ take-append-le2 head rest in
     true≢false (sym ((bytes_eq-Decides (take (length head) text) head).1 front) ∙ h)
 
--- an end that was taken off what stands behind a front, and one that was not
-pub end_taken : {X : Type 0} (now : X → List ℕ) (o : Option X) (text head rest tail : List ℕ) → text ≡ head ++ rest → MatchOption o (pointwise nat_eq (drop (length rest - length tail) rest) tail ≡ false) (λ x. (pointwise nat_eq (drop (length rest - length tail) rest) tail ≡ true) × (now x ≡ take (length rest - length tail) rest) × (length (now x) + length tail ≡ length rest)) → IfSome o (λ x. text ≡ head ++ (now x ++ tail))
-end_taken now (Some x) text head rest tail e h =
-    let back : drop (length rest - length tail) rest ≡ tail = (bytes_eq-Decides (drop (length rest - length tail) rest) tail).0 h.0 in
-    e ∙ ap (λ t. head ++ t) (sym (take-append-drop (length rest - length tail) rest) ∙ ap (λ t. take (length rest - length tail) rest ++ t) back ∙ ap (λ t. t ++ tail) (sym h.1))
-end_taken now None text head rest tail e h = tt
-
 pub same_behind : (head x y : List ℕ) → head ++ x ≡ head ++ y → x ≡ y
 same_behind [] x y e = e
 same_behind (h ∷ head) x y e = (let tail : head ++ x ≡ head ++ y = (cc) in same_behind head x y tail)
-
-drop_front : (part tail : List ℕ) → drop (length part) (part ++ tail) ≡ tail
-drop_front [] tail = refl
-drop_front (x ∷ part) tail = drop_front part tail
-
-pub end_not_taken : {X : Type 0} (now : X → List ℕ) (o : Option X) (text head rest tail : List ℕ) → text ≡ head ++ rest → MatchOption o (pointwise nat_eq (drop (length rest - length tail) rest) tail ≡ false) (λ x. (pointwise nat_eq (drop (length rest - length tail) rest) tail ≡ true) × (now x ≡ take (length rest - length tail) rest) × (length (now x) + length tail ≡ length rest)) → IfNone o ((part : List ℕ) → text ≢ head ++ (part ++ tail))
-end_not_taken now (Some x) text head rest tail e h = tt
-end_not_taken now None text head rest tail e h = λ part f.
-    let is : rest ≡ part ++ tail = same_behind head rest (part ++ tail) (sym e ∙ f) in
-    let short : length rest - length tail ≡ length part = (let l : length rest ≡ length part + length tail = ap length is ∙ length-append part tail in omega (arith, l)) in
-    let back : drop (length rest - length tail) rest ≡ tail = ap (λ k. drop k rest) short ∙ ap (drop (length part)) is ∙ drop_front part tail in
-    true≢false (sym ((bytes_eq-Decides (drop (length rest - length tail) rest) tail).1 back) ∙ h)
 
 -- bytes that are told by their spelling
 pub bytes_from : (v : List ℕ) → IsBytes v → AllByRecursion (λ b. b < 256) v

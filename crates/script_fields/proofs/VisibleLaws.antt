@@ -1,6 +1,6 @@
 -- A field is visible ASCII, and a list of addresses is spelled as itself.
 use Rattle.std.proofs.Common.{◌≡◌, ℕ, ◌+◌, ◌/◌, ◌%◌, ◌^◌, ◌<◌, ◌≤◌, Bool, true, false, Option, Some, None, List, [], ◌∷◌, ◌++◌, length, map, All, sym, ap, subst, ◌∙◌, inl, inr, arith, append_assoc}
-use Rattle.std.specs.List.{AllByRecursion, fold}
+use Rattle.std.specs.List.{AllByRecursion, fold, join_with_byte}
 use Rattle.std.specs.Prelude.{decimal, IfSome}
 use Rattle.std.proofs.lemmas.Bool.{cond-false}
 use Rattle.std.proofs.lemmas.Bool.Decides.{nat_tests}
@@ -13,7 +13,7 @@ use Rattle.grpc_base.specs.Addresses.{has_address, with_address}
 use Rattle.grpc_base.specs.Metadata.{IsPair, IsRequestMetadata, is_meta_name_byte}
 use Rattle.grpc_base.specs.Requests.{IsName, IsPath}
 use Rattle.script_fields.specs.Reading.{SpellsConfig, listed}
-use Rattle.script_fields.specs.Spelling.{address_text, addresses_text, config_text, dash, hex_digits, hex_or_dash, joined, lower_digit, meta_text, number_or_dash, pair_text, wait_text, word_bytes}
+use Rattle.script_fields.specs.Spelling.{address_text, addresses_text, config_hex, dash, hex_digits, hex_or_dash, lower_digit, meta_text, number_or_dash, pair_text, wait_text, word_bytes}
 use Rattle.script_fields.specs.Values.{IsAddress, IsBytes}
 use Rattle.script_fields.proofs.AddressLaws.{byte_a, byte_b, byte_c, byte_d, text_is_quad}
 use Rattle.script_fields.proofs.ListedLaws.{fold_length}
@@ -51,7 +51,7 @@ pub hex_or_dash_visible : (v : List ℕ) → IsBytes v → AllByRecursion IsVisi
 hex_or_dash_visible [] bytes = dash_visible
 hex_or_dash_visible (b ∷ v) bytes = hex_visible (b ∷ v) bytes
 
-pub config_visible : (text : List ℕ) (v : Option (List ℕ)) → SpellsConfig text v → AllByRecursion IsVisible (config_text v)
+pub config_visible : (text : List ℕ) (v : Option (List ℕ)) → SpellsConfig text v → AllByRecursion IsVisible (config_hex v)
 config_visible text None spelled = dash_visible
 config_visible text (Some config) spelled = hex_visible config spelled.0
 
@@ -71,10 +71,10 @@ wait_visible (Some false) = ((omega arith, omega arith), ((omega arith, omega ar
 
 -- ---- lists of values
 
-joined_visible : (b : ℕ) (ws : List (List ℕ)) → IsVisible b → AllByRecursion (λ (v : List ℕ). AllByRecursion IsVisible v) ws → AllByRecursion IsVisible (joined b ws)
+joined_visible : (b : ℕ) (ws : List (List ℕ)) → IsVisible b → AllByRecursion (λ (v : List ℕ). AllByRecursion IsVisible v) ws → AllByRecursion IsVisible (join_with_byte b ws)
 joined_visible b [] between all = tt
 joined_visible b (w ∷ []) between all = all.0
-joined_visible b (w ∷ (v ∷ ws)) between all = visible_append w (b ∷ joined b (v ∷ ws)) all.0 (between, joined_visible b (v ∷ ws) between all.1)
+joined_visible b (w ∷ (v ∷ ws)) between all = visible_append w (b ∷ join_with_byte b (v ∷ ws)) all.0 (between, joined_visible b (v ∷ ws) between all.1)
 
 comma_visible : IsVisible 44
 comma_visible = (omega arith, omega arith)

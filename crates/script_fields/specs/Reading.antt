@@ -8,7 +8,7 @@ use Rattle.grpc_base.specs.Metadata.{IsRequestMetadata}
 use Rattle.grpc_base.specs.Numbers.{is_number, number_of}
 use Rattle.script_fields.specs.declared.fault.FieldFault.{FieldFault}
 use Rattle.script_fields.specs.declared.fault.FieldFault.TheVariants as fault
-use Rattle.script_fields.specs.Spelling.{addresses_text, dash, hex_digits, hex_or_dash, meta_text, parted, word_bytes}
+use Rattle.script_fields.specs.Spelling.{addresses_text, dash, hex_digits, hex_or_dash, meta_text, word_bytes}
 use Rattle.script_fields.specs.Values.{IsAddress, IsBytes}
 
 -- why a text is not read: no value is spelled so, or the one that is goes beyond its limit
@@ -34,10 +34,6 @@ abbrev pub SpellsConfig : List ℕ → Option (List ℕ) → Type 0
 SpellsConfig text None = text ≡ dash
 SpellsConfig text (Some config) = SpellsPiece text config
 
--- the most bytes of a service config
-abbrev pub config_limit : ℕ
-config_limit = 65536
-
 -- the metadata of a request
 abbrev pub SpellsMeta : List ℕ → List Field → Type 0
 SpellsMeta text pairs = IsRequestMetadata pairs × All (λ f. IsBytes f.value) pairs × (text ≡ meta_text pairs)
@@ -60,8 +56,3 @@ pub record SpellsNumber (text : List ℕ) (number : ℕ) : Type 0 where
 abbrev pub SpellsNumberOrDash : List ℕ → Option ℕ → Type 0
 SpellsNumberOrDash text None = text ≡ dash
 SpellsNumberOrDash text (Some number) = SpellsNumber text number
-
--- the parts that stand behind a byte
-abbrev pub parts_behind : ℕ → Option (List ℕ) → List (List ℕ)
-parts_behind byte None = []
-parts_behind byte (Some text) = parted byte text

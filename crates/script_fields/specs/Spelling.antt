@@ -1,31 +1,19 @@
 -- How the fields of scripts and reports are spelled, in both alike.
-use Rattle.std.specs.Prelude.{ℕ, ◌+◌, ◌/◌, ◌%◌, ◌^◌, Bool, true, false, not, Option, Some, None, List, [], ◌∷◌, ◌++◌, map, codes, decimal, if◌then◌else◌, nat_le, ◌&&◌, ◌==◌, flat_map}
+use Rattle.std.specs.Prelude.{ℕ, ◌+◌, ◌/◌, ◌%◌, ◌^◌, not, Option, Some, None, List, [], ◌∷◌, ◌++◌, map, codes, decimal, if◌then◌else◌, nat_le, ◌&&◌, ◌==◌, flat_map}
+use Rattle.std.specs.List.{join_with_byte}
 pub use Rattle.grpc_base.specs.Addresses.{address_text}
+use Rattle.grpc_base.specs.Pieces.{pieces}
+pub use Rattle.grpc_base.specs.Waits.{wait_text}
 use Rattle.grpc_base.specs.declared.address.Address.{Address}
 use Rattle.grpc_base.specs.declared.fields.Field.{Field}
 
--- texts with one byte between each and the next
-abbrev pub joined : ℕ → List (List ℕ) → List ℕ
-joined byte [] = []
-joined byte (x ∷ []) = x
-joined byte (x ∷ (y ∷ rest)) = x ++ byte ∷ joined byte (y ∷ rest)
-
 -- words with one space between
 abbrev pub words : List (List ℕ) → List ℕ
-words ws = joined 32 ws
-
--- the parts of a text between each of this byte and the next: one more than there are of it
-abbrev pub parted : ℕ → List ℕ → List (List ℕ)
-parted byte [] = [] ∷ []
-parted byte (b ∷ bytes) = if b == byte then [] ∷ parted byte bytes else behind b (parted byte bytes)
-  where
-    behind : ℕ → List (List ℕ) → List (List ℕ)
-    behind b [] = (b ∷ []) ∷ []
-    behind b (part ∷ parts) = (b ∷ part) ∷ parts
+words ws = join_with_byte 32 ws
 
 -- the fields of a line: what stands between its spaces
 abbrev pub fields : List ℕ → List (List ℕ)
-fields line = parted 32 line
+fields line = pieces 32 line
 
 -- what stands for nothing
 abbrev pub dash : List ℕ
@@ -71,7 +59,7 @@ percent_text (b ∷ (c ∷ rest)) = flat_map percent_byte (b ∷ (c ∷ rest))
 -- addresses with commas, a dash where there are none
 abbrev pub addresses_text : List Address → List ℕ
 addresses_text [] = dash
-addresses_text (a ∷ rest) = joined 44 (map address_text (a ∷ rest))
+addresses_text (a ∷ rest) = join_with_byte 44 (map address_text (a ∷ rest))
 
 -- metadata: names with their values in hex, with commas, a dash where there is none
 abbrev pub pair_text : Field → List ℕ
@@ -79,15 +67,9 @@ pair_text f = f.name ++ 58 ∷ hex_digits f.value
 
 abbrev pub meta_text : List Field → List ℕ
 meta_text [] = dash
-meta_text (f ∷ fields) = joined 44 (map pair_text (f ∷ fields))
-
--- whether a call waits for ready
-abbrev pub wait_text : Option Bool → List ℕ
-wait_text None = dash
-wait_text (Some true) = codes "yes"
-wait_text (Some false) = codes "no"
+meta_text (f ∷ fields) = join_with_byte 44 (map pair_text (f ∷ fields))
 
 -- a service config in hex, where there is one
-abbrev pub config_text : Option (List ℕ) → List ℕ
-config_text None = dash
-config_text (Some bytes) = hex_digits bytes
+abbrev pub config_hex : Option (List ℕ) → List ℕ
+config_hex None = dash
+config_hex (Some bytes) = hex_digits bytes

@@ -2,8 +2,8 @@
 mod numbers;
 mod texts;
 
-pub use numbers::{append_digits, append_number, append_number_or_dash, append_word};
+pub use numbers::{append_number, append_number_or_dash, append_word};
 pub use texts::{
-    append_address, append_addresses, append_config, append_hex, append_hex_of_word,
-    append_hex_word, append_meta, append_text, append_wait,
+    append_addresses, append_config, append_hex, append_hex_of_word, append_hex_word, append_meta,
+    append_text, append_wait,
 };

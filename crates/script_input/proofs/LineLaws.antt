@@ -2,6 +2,7 @@
 use Rattle.std.proofs.Common.{◌≡◌, ◌∙◌, ◌<◌, ◌≤◌, ℕ, ◌+◌, List, [], ◌∷◌, ◌++◌, Bool, Option, Some, None, ap, arith, inl, inr, length, map, refl, subst, sym}
 use Rattle.std.proofs.lemmas.List.{map-append}
 use Rattle.grpc_base.specs.declared.event.Stamped.{Stamped}
+use Rattle.grpc_base.specs.Limits.{line_limit}
 use Rattle.script_fields.specs.Spelling.{fields}
 use Rattle.script_lines.specs.declared.line.ScriptLine.{ScriptLine}
 use Rattle.script_lines.specs.declared.line.ScriptLine.TheVariants as line
@@ -9,7 +10,7 @@ use Rattle.script_lines.specs.declared.reader.BadLine.{BadLine}
 use Rattle.script_lines.specs.declared.reader.BadLine.TheVariants as bad
 use Rattle.script_lines.specs.declared.reader.ScriptKind.{ScriptKind}
 use Rattle.script_lines.specs.declared.reader.ScriptKind.TheVariants as script
-use Rattle.script_lines.specs.Lines.{IsReplayLine, line_bytes}
+use Rattle.script_lines.specs.Lines.{IsReplayLine}
 use Rattle.script_lines.specs.Reader.{IsBadLine, IsKindFault, IsKindLine, IsLine, IsLineFault, ReaderSeen}
 use Rattle.script_input.specs.declared.collected.Channel.{Channel}
 use Rattle.script_input.specs.declared.fault.InputFault.{InputFault}
@@ -86,7 +87,7 @@ told_of r text closed (bad.At n cause) e is same = subst (IsTold r text closed) 
 told_of r text closed bad.NoMemory e is same = subst (IsTold r text closed) (sym same) tt
 
 -- a line that is too long stays so, whatever follows
-pub long_stays : (n : ℕ) (text longer : List ℕ) (closed closed' : Bool) (c : ℕ) → line_bytes < length text → length text ≤ length longer → IsFaultAt n text closed c → IsFaultAt n longer closed' c
+pub long_stays : (n : ℕ) (text longer : List ℕ) (closed closed' : Bool) (c : ℕ) → line_limit < length text → length text ≤ length longer → IsFaultAt n text closed c → IsFaultAt n longer closed' c
 long_stays n text longer closed closed' c long more (inl (inl many)) = inl (inl many)
 long_stays n text longer closed closed' c long more (inl (inr (few, inl past))) = inl (inr (few, inl ((λ short. absurd (omega (arith, short, long, more))), past.1)))
 long_stays n text longer closed closed' c long more (inl (inr (few, inr passed))) = absurd (omega (arith, passed.0, long))

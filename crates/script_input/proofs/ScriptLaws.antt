@@ -4,12 +4,12 @@ use Rattle.std.specs.List.{AllByRecursion}
 use Rattle.std.proofs.lemmas.List.Elements.{recursion_from_All}
 use Rattle.grpc_base.specs.declared.address.Address.{Address}
 use Rattle.grpc_base.specs.declared.event.Stamped.{Stamped}
-use Rattle.grpc_base.specs.Limits.{moment_limit}
-use Rattle.script_fields.specs.Spelling.{fields, parted}
-use Rattle.script_fields.proofs.TextLaws.{parts_of_cut}
+use Rattle.grpc_base.specs.Limits.{line_limit, moment_limit}
+use Rattle.grpc_base.specs.Pieces.{pieces}
+use Rattle.grpc_base.proofs.PieceLaws.{pieces-parted}
+use Rattle.script_fields.specs.Spelling.{fields}
 use Rattle.script_lines.specs.declared.line.ScriptLine.{ScriptLine}
 use Rattle.script_lines.specs.declared.line.ScriptLine.TheVariants as line
-use Rattle.script_lines.specs.Lines.{line_bytes}
 use Rattle.script_lines.specs.Spelling.{IsSpelled, at_moment, channel_text, lines_text, stamped_text}
 use Rattle.script_lines.proofs.AgainLaws.{channel_is, stamped_again}
 use Rattle.script_lines.proofs.OneLine.{replay_one}
@@ -70,7 +70,7 @@ AreMoved (s ∷ events) (m ∷ moved) = (m ≡ at_moment s m.moment) × (m.momen
 AreMoved events moved = ⊥
 
 abbrev pub IsShort : Stamped → Type 0
-IsShort s = length (stamped_text s) ≤ line_bytes
+IsShort s = length (stamped_text s) ≤ line_limit
 
 lines_again : (n : ℕ) (texts : List (List ℕ)) (events moved : List Stamped) → 2 ≤ n → AreLines n texts (map (λ s. line.Event s) events) → AreMoved events moved → AllByRecursion IsShort moved → AreLines n (map stamped_text moved) (map (λ s. line.Event s) moved)
 lines_again n [] [] [] behind t is short = tt
@@ -89,10 +89,10 @@ lines_again n (text ∷ texts) (s ∷ events) (m ∷ moved) behind t is short =
 abbrev AreOneLine : List (List ℕ) → Type 0
 AreOneLine lines = AllByRecursion (λ l. All (λ b. b ≢ 10) l) lines
 
-lines_parted : (lines : List (List ℕ)) → AreOneLine lines → parted 10 (lines_text lines) ≡ lines ++ [] ∷ []
+lines_parted : (lines : List (List ℕ)) → AreOneLine lines → pieces 10 (lines_text lines) ≡ lines ++ [] ∷ []
 lines_parted [] free = refl
 lines_parted (l ∷ lines) free =
-    parts_of_cut 10 (lines_text (l ∷ lines)) l (lines_text lines) (append_assoc l (10 ∷ []) (lines_text lines)) free.0
+    pieces-parted 10 (lines_text (l ∷ lines)) l (lines_text lines) (append_assoc l (10 ∷ []) (lines_text lines)) free.0
     ∙ ap (λ (t : List (List ℕ)). l ∷ t) (lines_parted lines free.1)
 
 no_feed : (text : List ℕ) → All (λ b. (32 ≤ b) × (b ≤ 126)) text → All (λ b. b ≢ 10) text

@@ -3,10 +3,11 @@ use Rattle.std.proofs.Common.{◌≡◌, ◌≢◌, ◌∙◌, ◌<◌, ◌≤�
 use Rattle.std.specs.Prelude.{◌==◌}
 use Rattle.std.proofs.lemmas.Bool.Decides.{nat_tests}
 use Rattle.grpc_base.specs.declared.event.Stamped.{Stamped}
-use Rattle.script_fields.specs.Spelling.{parted}
-use Rattle.script_fields.proofs.TextLaws.{parted-blank, parted-some}
+use Rattle.grpc_base.specs.Limits.{line_limit}
+use Rattle.grpc_base.specs.Pieces.{pieces}
+use Rattle.script_fields.proofs.PartLaws.{pieces-blank, pieces-some}
 use Rattle.script_lines.specs.declared.line.ScriptLine.{ScriptLine}
-use Rattle.script_lines.specs.Lines.{line_bytes, line_limit}
+use Rattle.script_lines.specs.Lines.{script_limit}
 use Rattle.script_lines.specs.Reader.{IsBehind, IsLine, ReaderSeen}
 use Rattle.script_input.specs.declared.collected.Channel.{Channel}
 use Rattle.script_input.specs.declared.collected.Collected.{Collected}
@@ -15,7 +16,7 @@ use Rattle.script_input.specs.declared.fault.InputFault.TheVariants as fault
 use Rattle.script_input.specs.Collecting.{HasRead, HasTaken, IsBadInput, IsDecided, IsKept, IsTold, IsUnscript, Leads, reads_of}
 use Rattle.script_input.specs.Scripts.{AreLines, IsFaultAt, IsScript, SaysAt, is_closed}
 use Rattle.script_input.proofs.LineLaws.{fault_at, long_stays, no_events, reads_next, says_line}
-use Rattle.script_input.proofs.PartLaws.{closed_some, parted_append, parts_ended, parts_longer, some_behind}
+use Rattle.script_input.proofs.PartLaws.{closed_some, pieces_append, parts_ended, parts_longer, some_behind}
 
 -- the number of the next line
 number : (input : List ℕ) (s : Collected) → (h : HasRead input s) → s.reader.lines + 1 ≡ length h.texts + 1
@@ -26,17 +27,17 @@ number input s h = ap (λ (n : ℕ). n + 1) h.count
 pub taken_line : (old new : Collected) (input text whole : List ℕ) (read : ScriptLine) → All (λ b. b ≢ 10) text → whole ≡ old.line.items ++ text → IsLine old.reader whole true read → IsBehind old.reader read new.reader → IsKept old.channel old.events.items read new.channel new.events.items → new.line.items ≡ [] → HasRead input old → HasTaken input (text ++ 10 ∷ []) old new
 taken_line old new input text whole read free joined is behind kept blank h =
     let says : SaysAt (1 + length h.texts) whole read = says_line old.reader (1 + length h.texts) whole read h.kind (omega (arith, h.count)) is in
-    let ended : parted 10 ((input ++ (text ++ 10 ∷ [])) ++ []) ≡ h.texts ++ (old.line.items ++ text) ∷ ([] ∷ []) = parts_ended input text [] h.texts old.line.items h.parts free in
+    let ended : pieces 10 ((input ++ (text ++ 10 ∷ [])) ++ []) ≡ h.texts ++ (old.line.items ++ text) ∷ ([] ∷ []) = parts_ended input text [] h.texts old.line.items h.parts free in
     let size : length (h.texts ++ whole ∷ []) ≡ length h.texts + 1 = length-append h.texts (whole ∷ []) in
-    let within : 1 + length h.texts ≤ line_limit = says.0.0 in
-    let short : length whole ≤ line_bytes = says.0.1 in
+    let within : 1 + length h.texts ≤ script_limit = says.0.0 in
+    let short : length whole ≤ line_limit = says.0.1 in
     let long : length whole ≡ length old.line.items + length text = ap length joined ∙ length-append old.line.items text in
     let piece : length (text ++ 10 ∷ []) ≡ length text + 1 = length-append text (10 ∷ []) in
     record {
       read = record {
         texts = h.texts ++ whole ∷ [];
         parts =
-            ap (parted 10) (sym (append-nil (input ++ (text ++ 10 ∷ [])))) ∙ ended
+            ap (pieces 10) (sym (append-nil (input ++ (text ++ 10 ∷ [])))) ∙ ended
             ∙ ap (λ (w : List ℕ). h.texts ++ w ∷ ([] ∷ [])) (sym joined)
             ∙ sym (append_assoc h.texts (whole ∷ []) ([] ∷ []))
             ∙ ap (λ (w : List ℕ). (h.texts ++ whole ∷ []) ++ w ∷ []) (sym blank);
@@ -55,8 +56,8 @@ decided_line old text whole (fault.BadLine n cause) free joined told input h mor
       before = h.texts;
       reads = reads_of old.channel old.events.items;
       text = whole;
-      behind = parted 10 more;
-      parts = parts_ended input text more h.texts old.line.items h.parts free ∙ ap (λ (w : List ℕ). h.texts ++ w ∷ parted 10 more) (sym joined);
+      behind = pieces 10 more;
+      parts = parts_ended input text more h.texts old.line.items h.parts free ∙ ap (λ (w : List ℕ). h.texts ++ w ∷ pieces 10 more) (sym joined);
       lines = h.lines;
       number = told.0 ∙ number input old h;
       there = λ none. absurd (some_behind more none);
@@ -67,7 +68,7 @@ decided_line old text whole e free joined told input h more = absurd told
 
 -- ---- bytes without a line feed
 
-pub taken_front : (old new : Collected) (input text : List ℕ) → All (λ b. b ≢ 10) text → new.line.items ≡ old.line.items ++ text → length new.line.items ≤ line_bytes → new.reader ≡ old.reader → new.channel ≡ old.channel → new.events.items ≡ old.events.items → HasRead input old → HasTaken input text old new
+pub taken_front : (old new : Collected) (input text : List ℕ) → All (λ b. b ≢ 10) text → new.line.items ≡ old.line.items ++ text → length new.line.items ≤ line_limit → new.reader ≡ old.reader → new.channel ≡ old.channel → new.events.items ≡ old.events.items → HasRead input old → HasTaken input text old new
 taken_front old new input text free joined short reader channel events h =
     let long : length new.line.items ≡ length old.line.items + length text = ap length joined ∙ length-append old.line.items text in
     let lines : new.reader.lines ≡ old.reader.lines = ap (λ (r : ReaderSeen). r.lines) reader in
@@ -86,11 +87,11 @@ taken_front old new input text free joined short reader channel events h =
       room = omega (arith, lines, h.count, h.few, short, long);
     }
 
-pub decided_front : (old : Collected) (text whole : List ℕ) (e : InputFault) → All (λ b. b ≢ 10) text → whole ≡ old.line.items ++ text → line_bytes < length whole → IsTold old.reader whole false e → IsDecided old text e
+pub decided_front : (old : Collected) (text whole : List ℕ) (e : InputFault) → All (λ b. b ≢ 10) text → whole ≡ old.line.items ++ text → line_limit < length whole → IsTold old.reader whole false e → IsDecided old text e
 decided_front old text whole (fault.BadLine n cause) free joined long told input h more =
-    let q : (part : List ℕ) × (parts : List (List ℕ)) × (parted 10 more ≡ part ∷ parts) = parted-some 10 more in
-    let parts : parted 10 ((input ++ text) ++ more) ≡ h.texts ++ ((old.line.items ++ text) ++ q.0) ∷ q.1 =
-    parted_append 10 (input ++ text) more h.texts (old.line.items ++ text) q.0 q.1 (parts_longer input text h.texts old.line.items h.parts free) q.2 in
+    let q : (part : List ℕ) × (parts : List (List ℕ)) × (pieces 10 more ≡ part ∷ parts) = pieces-some 10 more in
+    let parts : pieces 10 ((input ++ text) ++ more) ≡ h.texts ++ ((old.line.items ++ text) ++ q.0) ∷ q.1 =
+    pieces_append 10 (input ++ text) more h.texts (old.line.items ++ text) q.0 q.1 (parts_longer input text h.texts old.line.items h.parts free) q.2 in
     let size : length (whole ++ q.0) ≡ length whole + length q.0 = length-append whole q.0 in
     record {
       before = h.texts;
@@ -148,7 +149,7 @@ pub unscript_empty : (s : Collected) → s.line.items ≡ [] → s.channel ≡ N
 unscript_empty s blank none input h =
     let lines : AreLines 1 h.texts (reads_of None s.events.items) = subst (λ (o : Option Channel). AreLines 1 h.texts (reads_of o s.events.items)) none h.lines in
     let both : (h.texts ≡ []) × (s.events.items ≡ []) = no_events h.texts s.events.items lines in
-    parted-blank 10 input (h.parts ∙ ap (λ (ts : List (List ℕ)). ts ++ s.line.items ∷ []) both.0 ∙ ap (λ (w : List ℕ). w ∷ []) blank)
+    pieces-blank 10 input (h.parts ∙ ap (λ (ts : List (List ℕ)). ts ++ s.line.items ∷ []) both.0 ∙ ap (λ (w : List ℕ). w ∷ []) blank)
 
 pub finished : (s : Collected) (channel : Channel) → s.line.items ≡ [] → s.channel ≡ Some channel → (input : List ℕ) → HasRead input s → IsScript input channel.target channel.addresses s.events.items
 finished s channel blank some input h = record {

@@ -1,13 +1,14 @@
 -- What is kept while a script is read, and what the next bytes do to it.
 use Rattle.std.specs.Prelude.{◌≡◌, ◌≤◌, ℕ, ◌+◌, ◌-◌, ◌*◌, Bool, Option, Some, None, List, [], ◌∷◌, ◌++◌, length, map}
 use Rattle.grpc_base.specs.declared.event.Stamped.{Stamped}
-use Rattle.script_fields.specs.Spelling.{parted}
+use Rattle.grpc_base.specs.Limits.{line_limit}
+use Rattle.grpc_base.specs.Pieces.{pieces}
 use Rattle.script_lines.specs.declared.line.ScriptLine.{ScriptLine}
 use Rattle.script_lines.specs.declared.line.ScriptLine.TheVariants as line
 use Rattle.script_lines.specs.declared.reader.BadLine.{BadLine}
 use Rattle.script_lines.specs.declared.reader.BadLine.TheVariants as bad
 use Rattle.script_lines.specs.declared.reader.ScriptKind.TheVariants as script
-use Rattle.script_lines.specs.Lines.{line_bytes, line_limit}
+use Rattle.script_lines.specs.Lines.{script_limit}
 use Rattle.script_lines.specs.Reader.{IsLineFault, ReaderSeen}
 use Rattle.script_input.specs.declared.collected.Channel.{Channel}
 use Rattle.script_input.specs.declared.collected.Collected.{Collected}
@@ -24,16 +25,16 @@ reads_of (Some channel) events = script_reads channel.target channel.addresses e
 -- these bytes were read: whole lines, and the front of another
 pub record HasRead (input : List ℕ) (s : Collected) : Type 0 where
   pub texts : List (List ℕ)
-  pub parts : parted 10 input ≡ texts ++ s.line.items ∷ []
+  pub parts : pieces 10 input ≡ texts ++ s.line.items ∷ []
   pub lines : AreLines 1 texts (reads_of s.channel s.events.items)
   pub kind : s.reader.kind ≡ script.Replay
   pub count : s.reader.lines ≡ length texts
-  pub few : length texts ≤ line_limit
-  pub short : length s.line.items ≤ line_bytes
+  pub few : length texts ≤ script_limit
+  pub short : length s.line.items ≤ line_limit
 
 -- how many bytes a script may still have, at most
 abbrev pub room_of : Collected → ℕ
-room_of s = (line_limit + 1 - s.reader.lines) * (line_bytes + 1) - length s.line.items
+room_of s = (script_limit + 1 - s.reader.lines) * (line_limit + 1) - length s.line.items
 
 -- these bytes are read behind any others
 pub record HasTaken (input piece : List ℕ) (old new : Collected) : Type 0 where

@@ -2,10 +2,12 @@
 use Rattle.std.specs.Prelude.{◌≡◌, ◌≢◌, ◌≤◌, ◌⊎◌, ℕ, ◌+◌, Bool, true, false, List, [], ◌∷◌, ◌++◌, length, map}
 use Rattle.grpc_base.specs.declared.address.Address.{Address}
 use Rattle.grpc_base.specs.declared.event.Stamped.{Stamped}
-use Rattle.script_fields.specs.Spelling.{fields, parted}
+use Rattle.grpc_base.specs.Limits.{line_limit}
+use Rattle.grpc_base.specs.Pieces.{pieces}
+use Rattle.script_fields.specs.Spelling.{fields}
 use Rattle.script_lines.specs.declared.line.ScriptLine.{ScriptLine}
 use Rattle.script_lines.specs.declared.line.ScriptLine.TheVariants as line
-use Rattle.script_lines.specs.Lines.{IsRawFault, IsRawLine, IsReplayFault, IsReplayLine, line_bytes}
+use Rattle.script_lines.specs.Lines.{IsRawFault, IsRawLine, IsReplayFault, IsReplayLine}
 
 -- the line of a number, which a line feed ended, and what it says
 abbrev pub SaysAt : ℕ → List ℕ → ScriptLine → Type 0
@@ -28,7 +30,7 @@ script_reads target addresses events = line.Channel target addresses ∷ map (λ
 -- a script: what stands between its line feeds are its lines, and behind the last line feed there is nothing
 pub record IsScript (input target : List ℕ) (addresses : List Address) (events : List Stamped) : Type 0 where
   pub texts : List (List ℕ)
-  pub parts : parted 10 input ≡ texts ++ [] ∷ []
+  pub parts : pieces 10 input ≡ texts ++ [] ∷ []
   pub lines : AreLines 1 texts (script_reads target addresses events)
 
 -- no other script is spelled so
@@ -48,7 +50,7 @@ pub record IsFirstBad (input : List ℕ) (n cause : ℕ) : Type 0 where
   pub reads : List ScriptLine
   pub text : List ℕ
   pub behind : List (List ℕ)
-  pub parts : parted 10 input ≡ before ++ text ∷ behind
+  pub parts : pieces 10 input ≡ before ++ text ∷ behind
   pub lines : AreLines 1 before reads
   pub number : n ≡ length before + 1
   pub there : behind ≡ [] → text ≢ []
@@ -59,6 +61,6 @@ pub record IsFront (input : List ℕ) : Type 0 where
   pub texts : List (List ℕ)
   pub reads : List ScriptLine
   pub rest : List ℕ
-  pub parts : parted 10 input ≡ texts ++ rest ∷ []
+  pub parts : pieces 10 input ≡ texts ++ rest ∷ []
   pub lines : AreLines 1 texts reads
-  pub short : length rest ≤ line_bytes
+  pub short : length rest ≤ line_limit

@@ -4,13 +4,10 @@ ghost use Rattle.script_input.specs.Collecting.{HasRead, IsDecided, IsFinished, 
 
 use crate::fault::InputFault;
 use crate::script::Script;
-use grpc_base::{AddressList, Stamped, Text};
-use script_fields::cut_at;
+use grpc_base::limits::LINE_BYTES;
+use grpc_base::{AddressList, Stamped, Text, split_at_byte};
 use script_lines::{BadLine, ScriptKind, ScriptLine, ScriptReader};
 use std::alloc::Global;
-
-/// The most bytes of a line.
-const LINE_BYTES: usize = 8_400_000;
 
 /// What the channel line says.
 #[derive(Debug, Drop)]
@@ -48,7 +45,7 @@ impl Collected {
         ensures bad { IfErr result (IsDecided self.old piece.now) }
     {
         let mut rest = piece;
-        while let Some((text, behind)) = cut_at(rest, b'\n') {
+        while let Some((text, behind)) = split_at_byte(rest, b'\n') {
             self.take_line(text)?;
             rest = behind;
         }

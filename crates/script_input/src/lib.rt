@@ -5,8 +5,6 @@ mod collected;
 mod fault;
 mod read;
 mod script;
-#[cfg(test)]
-mod tests;
 
 pub use fault::InputFault;
 pub use read::read_replay;

@@ -1,6 +1,6 @@
 -- What a line says is read again from its own spelling.
 use Rattle.std.proofs.Common.{◌≡◌, ◌≢◌, ◌≤◌, ◌<◌, ◌^◌, ℕ, ◌+◌, Bool, true, List, [], ◌∷◌, ◌++◌, length, All, Option, Some, None, refl, ap, sym, subst, arith, ◌∙◌}
-use Rattle.std.specs.List.{AllByRecursion, list_all}
+use Rattle.std.specs.List.{AllByRecursion, join_with_byte, list_all}
 use Rattle.std.specs.Prelude.{IfSome, decimal, nat_le, ◌&&◌}
 use Rattle.std.proofs.lemmas.Bool.{and_parts}
 use Rattle.std.proofs.lemmas.Bool.Decides.{nat_tests}
@@ -12,9 +12,9 @@ use Rattle.grpc_base.specs.declared.event.Stamped.{Stamped}
 use Rattle.grpc_base.specs.Limits.{duration_limit, moment_limit}
 use Rattle.grpc_base.specs.Requests.{IsPath, RequestSeen}
 use Rattle.script_fields.specs.Reading.{SpellsNumberOrDash, listed}
-use Rattle.script_fields.specs.Spelling.{addresses_text, config_text, fields, hex_digits, hex_or_dash, joined, meta_text, number_or_dash, wait_text, word_bytes, words}
+use Rattle.script_fields.specs.Spelling.{addresses_text, config_hex, fields, hex_digits, hex_or_dash, meta_text, number_or_dash, wait_text, word_bytes, words}
 use Rattle.script_fields.specs.Values.{IsAddress}
-use Rattle.script_fields.proofs.PartLaws.{joined-parted, parted-joined}
+use Rattle.script_fields.proofs.PartLaws.{joined-pieces, pieces-joined}
 use Rattle.script_fields.proofs.VisibleLaws.{IsVisible, addresses_visible, config_visible, hex_or_dash_visible, listed_addresses, listed_again, listed_short, meta_visible, number_or_dash_visible, number_visible, path_visible, wait_visible, word_visible}
 use Rattle.script_lines.specs.declared.line.ScriptLine.{ScriptLine}
 use Rattle.script_lines.specs.declared.line.ScriptLine.TheVariants as line
@@ -44,7 +44,7 @@ no_spaces (w ∷ ws) v = (no_space w v.0, no_spaces ws v.1)
 
 -- words are the fields of their line
 words_fields : (w : List ℕ) (ws : List (List ℕ)) → AreVisible (w ∷ ws) → fields (words (w ∷ ws)) ≡ w ∷ ws
-words_fields w ws v = parted-joined 32 w ws (no_spaces (w ∷ ws) v)
+words_fields w ws v = pieces-joined 32 w ws (no_spaces (w ∷ ws) v)
 
 abbrev IsPrintable : ℕ → Type 0
 IsPrintable b = (32 ≤ b) × (b ≤ 126)
@@ -60,7 +60,7 @@ printable_alone (b ∷ w) v = ((omega (arith, v.0.0), v.0.1), printable_alone w 
 words_printable : (ws : List (List ℕ)) → AreVisible ws → AllByRecursion IsPrintable (words ws)
 words_printable [] v = tt
 words_printable (w ∷ []) v = printable_alone w v.0
-words_printable (w ∷ (x ∷ ws)) v = printable_before w (32 ∷ joined 32 (x ∷ ws)) v.0 ((omega arith, omega arith), words_printable (x ∷ ws) v.1)
+words_printable (w ∷ (x ∷ ws)) v = printable_before w (32 ∷ join_with_byte 32 (x ∷ ws)) v.0 ((omega arith, omega arith), words_printable (x ∷ ws) v.1)
 
 -- ---- names
 
@@ -122,7 +122,7 @@ addresses_again xs text t =
 addresses_are_visible : (xs : List Address) (text : List ℕ) → AreAddresses xs text → AllByRecursion IsVisible (addresses_text xs)
 addresses_are_visible xs text t = addresses_visible xs (subst (All IsAddress) (sym t.3) (listed_addresses t.0 t.1.0))
 
-config_again : (config : Option (List ℕ)) (text : List ℕ) → IsConfigOrDash config text → IsConfigOrDash config (config_text config)
+config_again : (config : Option (List ℕ)) (text : List ℕ) → IsConfigOrDash config text → IsConfigOrDash config (config_hex config)
 config_again None text t = (refl, tt)
 config_again (Some bytes) text t = ((t.0.0, t.0.1, refl), t.1)
 
@@ -139,7 +139,7 @@ event_again texts (event.Send n bytes) t = (decimal n, hex_or_dash bytes, refl, 
 event_again texts (event.Finish n) t = (decimal n, refl, (t.2.0, refl))
 event_again texts (event.Take n) t = (decimal n, refl, (t.2.0, refl))
 event_again texts (event.Cancel n) t = (decimal n, refl, (t.2.0, refl))
-event_again texts (event.Resolved addresses config) t = (addresses_text addresses, config_text config, refl, addresses_again addresses t.0 t.3, config_again config t.1 t.4)
+event_again texts (event.Resolved addresses config) t = (addresses_text addresses, config_hex config, refl, addresses_again addresses t.0 t.3, config_again config t.1 t.4)
 event_again texts event.ResolveFailed t = refl
 event_again texts event.TakeDial t = refl
 event_again texts (event.LinkUp n) t = (decimal n, refl, (t.2.0, refl))
@@ -185,7 +185,7 @@ stamped_again (first ∷ []) s moment within t = absurd t
 
 -- a channel line is its own spelling
 pub channel_is : (text target : List ℕ) → fields text ≡ channel_words target → text ≡ channel_text target
-channel_is text target e = sym (joined-parted 32 text) ∙ ap words e
+channel_is text target e = sym (joined-pieces 32 text) ∙ ap words e
 
 channel_again : (text target : List ℕ) (addresses : List Address) → IsChannelText (fields text) target addresses → IsChannelText (fields (channel_text target)) target addresses
 channel_again text target addresses t = (ap fields (sym (channel_is text target t.0)) ∙ t.0, t.1)

@@ -6,10 +6,11 @@ use Rattle.std.proofs.lemmas.List.Elements.{recursion_from_All, All-from_recursi
 use Rattle.grpc_base.specs.declared.script.AnswerLine.{AnswerLine}
 use Rattle.grpc_base.specs.declared.script.AnswerPart.{AnswerPart}
 use Rattle.grpc_base.specs.declared.script.AnswerPart.TheVariants as part
-use Rattle.script_fields.proofs.TextLaws.{dash_one}
+use Rattle.script_fields.proofs.TextLaws.{bytes_from, hex_one}
 use Rattle.script_lines.specs.declared.part.PartKind.{PartKind}
 use Rattle.script_lines.specs.declared.part.PartKind.TheVariants as kind
-use Rattle.script_lines.specs.Answers.{Answered, AreParts, ArePartsFault, IsAnswerFault, IsAnswerFields, IsAnswerText, IsPart, IsPartFault, IsPartOf, IsPartsFault, IsPartsText, IsValue, IsValueFault, IsWithin, count_of, is_end, letter_of, part_kind}
+use Rattle.grpc_base.specs.Scripts.{ends_stream}
+use Rattle.script_lines.specs.Answers.{Answered, AreParts, ArePartsFault, IsAnswerFault, IsAnswerFields, IsAnswerText, IsPart, IsPartFault, IsPartOf, IsPartsFault, IsPartsText, IsValue, IsValueFault, IsWithin, count_of, letter_of, part_kind}
 use Rattle.script_lines.specs.Causes.{Before, bad_count, bad_number}
 use Rattle.script_lines.specs.Fields.{IsNumber, number_limit, path_field}
 use Rattle.script_lines.proofs.GrammarLaws.{good_field}
@@ -44,7 +45,7 @@ part_same ended text k j r s p q =
     (sym (kind_back k) ∙ ap kind_from both.0 ∙ kind_back j, both.1)
 
 value_fault : (p : AnswerPart) (rest : List ℕ) (c : ℕ) → IsValue rest p → IsValueFault (part_kind p) rest c → ⊥
-value_fault (part.Message message) rest c v f = f.0 message v
+value_fault (part.Message message) rest c v f = f.0 message v.0 v.1
 value_fault (part.Status code) rest c v f = f.0 code v
 value_fault (part.Reset code) rest c v f = f.0 code v
 value_fault (part.Hold count) rest c v f = f.0 count v
@@ -61,7 +62,7 @@ kind_end kind.Status = true
 kind_end kind.Reset = true
 kind_end k = false
 
-end_kind : (p : AnswerPart) → is_end p ≡ kind_end (part_kind p)
+end_kind : (p : AnswerPart) → ends_stream p ≡ kind_end (part_kind p)
 unfolding kind_end
 end_kind part.Head = refl
 end_kind (part.Message message) = refl
@@ -71,7 +72,7 @@ end_kind (part.Reset code) = refl
 end_kind part.Goaway = refl
 end_kind (part.Hold count) = refl
 
-pub same_end : (ended : Bool) (text : List ℕ) (p q : AnswerPart) → IsPart ended text p → IsPart ended text q → is_end p ≡ is_end q
+pub same_end : (ended : Bool) (text : List ℕ) (p q : AnswerPart) → IsPart ended text p → IsPart ended text q → ends_stream p ≡ ends_stream q
 same_end ended text p q s t = end_kind p ∙ ap kind_end (part_same ended text (part_kind p) (part_kind q) s.0 t.0 s.1 t.1).0 ∙ sym (end_kind q)
 
 good_parts : (ended : Bool) (texts : List (List ℕ)) (ps : List AnswerPart) (c : ℕ) → AreParts ended texts ps → ArePartsFault ended texts c → ⊥
@@ -79,12 +80,12 @@ good_parts ended [] ps c t f = f
 good_parts ended (text ∷ texts) [] c t f = t
 good_parts ended (text ∷ texts) (p ∷ ps) c t (inl f) = good_part ended text p c t.0 f
 good_parts ended (text ∷ texts) (p ∷ ps) c t (inr f) =
-    good_parts (ended || is_end p) texts ps c t.1 (subst (λ b. ArePartsFault (ended || b) texts c) (sym (same_end ended text p f.0 t.0 f.1)) f.2)
+    good_parts (ended || ends_stream p) texts ps c t.1 (subst (λ b. ArePartsFault (ended || b) texts c) (sym (same_end ended text p f.0 t.0 f.1)) f.2)
 
 -- two messages of one text are as long
 part_within : (p q : AnswerPart) (rest : List ℕ) → part_kind p ≡ part_kind q → IsValue rest p → IsValue rest q → IsWithin p → IsWithin q
 part_within (part.Message m) (part.Message n) rest same v w within =
-    (let l : length m ≡ length n = ap length (dash_one m n v.0 w.0 (sym v.1 ∙ w.1)) in omega (arith, l, within))
+    (let l : length m ≡ length n = ap length (hex_one m n (bytes_from m v.0) (bytes_from n w.0) (sym v.1 ∙ w.1)) in omega (arith, l, within))
 part_within part.Head (part.Message n) rest same v w within = absurd ((cc))
 part_within (part.Status a) (part.Message n) rest same v w within = absurd ((cc))
 part_within (part.Pushback a) (part.Message n) rest same v w within = absurd ((cc))
@@ -99,8 +100,8 @@ parts_within ended [] ps (q ∷ qs) s t within = absurd t
 parts_within ended (text ∷ texts) [] (q ∷ qs) s t within = absurd s
 parts_within ended (text ∷ texts) (p ∷ ps) (q ∷ qs) s t within =
     let same : (part_kind p ≡ part_kind q) × (s.0.0 ≡ t.0.0) = part_same ended text (part_kind p) (part_kind q) s.0.0 t.0.0 s.0.1 t.0.1 in
-    let there : AreParts (ended || is_end p) texts qs = subst (λ b. AreParts (ended || b) texts qs) (sym (same_end ended text p q s.0 t.0)) t.1 in
-    (part_within p q s.0.0 same.0 s.0.2 (subst (λ r. IsValue r q) (sym same.1) t.0.2) within.0, parts_within (ended || is_end p) texts ps qs s.1 there within.1)
+    let there : AreParts (ended || ends_stream p) texts qs = subst (λ b. AreParts (ended || b) texts qs) (sym (same_end ended text p q s.0 t.0)) t.1 in
+    (part_within p q s.0.0 same.0 s.0.2 (subst (λ r. IsValue r q) (sym same.1) t.0.2) within.0, parts_within (ended || ends_stream p) texts ps qs s.1 there within.1)
 
 good_text : (text : List ℕ) (ps : List AnswerPart) (c : ℕ) → IsPartsText text ps → IsPartsFault text c → ⊥
 good_text text ps c t (inl f) = good_parts false _ ps c t.0 f

@@ -1,6 +1,7 @@
 pub mod AgainLaws
 pub mod AnswerLaws
 pub mod CountLaws
+pub mod DataLaws
 pub mod FieldLaws
 pub mod GrammarLaws
 pub mod LineLaws

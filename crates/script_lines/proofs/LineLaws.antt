@@ -1,7 +1,7 @@
 -- Fields of a text, and first faults behind what passed.
 use Rattle.std.proofs.Common.{◌≡◌, ℕ, List, [], ◌∷◌, length, refl, ap, sym, subst, inl, inr, arith, ◌∙◌, Result, Ok, Err, IfErr, IsErrAnd}
 use Rattle.script_fields.specs.Spelling.{fields}
-use Rattle.script_fields.proofs.TextLaws.{parted-some}
+use Rattle.script_fields.proofs.PartLaws.{pieces-some}
 use Rattle.script_lines.specs.declared.cause.LineFault.{LineFault}
 use Rattle.script_lines.specs.declared.cause.LineFault.TheVariants as fault
 use Rattle.script_lines.specs.Causes.{bad_count}
@@ -11,7 +11,7 @@ use Rattle.script_lines.specs.Lines.{IsStampedFault, IsToldBy}
 
 -- a text has a field, be it empty
 pub some_field : (text : List ℕ) → (first : List ℕ) × (others : List (List ℕ)) × (fields text ≡ first ∷ others)
-some_field text = parted-some 32 text
+some_field text = pieces-some 32 text
 
 pub not_one : (first text : List ℕ) (texts : List (List ℕ)) → texts ≡ first ∷ fields text → length texts ≡ 1 → ⊥
 not_one first text texts is one =

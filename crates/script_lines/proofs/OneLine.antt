@@ -8,7 +8,9 @@ use Rattle.grpc_base.specs.declared.script.AnswerPart.TheVariants as part
 use Rattle.grpc_base.specs.declared.script.CallLine.{CallLine}
 use Rattle.resolver_core.specs.declared.target.TargetFault.{TargetFault}
 use Rattle.resolver_core.specs.Targets.{target_of}
-use Rattle.script_fields.specs.Spelling.{fields, parted}
+use Rattle.grpc_base.specs.Pieces.{pieces}
+use Rattle.script_fields.specs.Spelling.{fields}
+use Rattle.script_fields.proofs.TextLaws.{bytes_from, hex_one}
 use Rattle.script_fields.proofs.OneLaws.{message_one, piece_one}
 use Rattle.script_lines.specs.declared.line.ScriptLine.{ScriptLine}
 use Rattle.script_lines.specs.declared.line.ScriptLine.TheVariants as line
@@ -16,7 +18,8 @@ use Rattle.script_lines.specs.declared.part.PartKind.{PartKind}
 use Rattle.script_lines.specs.declared.part.PartKind.TheVariants as kind
 use Rattle.script_lines.specs.declared.reader.ScriptKind.{ScriptKind}
 use Rattle.script_lines.specs.declared.reader.ScriptKind.TheVariants as script
-use Rattle.script_lines.specs.Answers.{Answered, AreParts, IsAnswerText, IsPart, IsValue, is_end, part_kind}
+use Rattle.grpc_base.specs.Scripts.{ends_stream}
+use Rattle.script_lines.specs.Answers.{Answered, AreParts, IsAnswerText, IsPart, IsValue, part_kind}
 use Rattle.script_lines.specs.Fields.{AreMessages, IsConfig}
 use Rattle.script_lines.specs.Lines.{IsCallText, IsChannelText, IsLiveLine, IsLiveText, IsReplayLine}
 use Rattle.script_lines.specs.Reader.{IsKindLine, IsLine, IsOnlyLine, ReaderSeen}
@@ -58,7 +61,7 @@ made_again (part.Hold count) = refl
 
 made_one : (k : PartKind) (v w : List ℕ) (n m : ℕ) (rest : List ℕ) → IsValue rest (part_made k v n) → IsValue rest (part_made k w m) → part_made k v n ≡ part_made k w m
 made_one kind.Head v w n m rest t u = refl
-made_one kind.Message v w n m rest t u = ap part.Message (message_one rest v w t u)
+made_one kind.Message v w n m rest t u = ap part.Message (hex_one v w (bytes_from v t.0) (bytes_from w u.0) (sym t.1 ∙ u.1))
 made_one kind.Status v w n m rest t u = ap part.Status (call_one n m rest t u)
 made_one kind.Pushback v w n m rest t u = ap part.Pushback (t ∙ sym u)
 made_one kind.Reset v w n m rest t u = ap part.Reset (call_one n m rest t u)
@@ -82,15 +85,15 @@ parts_one ended (text ∷ texts) [] qs t u = absurd t
 parts_one ended (text ∷ texts) (p ∷ ps) [] t u = absurd u
 parts_one ended (text ∷ texts) (p ∷ ps) (q ∷ qs) t u =
     let head : p ≡ q = part_one ended text p q t.0 u.0 in
-    let there : AreParts (ended || is_end p) texts qs = subst (λ b. AreParts (ended || b) texts qs) (sym (same_end ended text p q t.0 u.0)) u.1 in
-    let tail : ps ≡ qs = parts_one (ended || is_end p) texts ps qs t.1 there in
+    let there : AreParts (ended || ends_stream p) texts qs = subst (λ b. AreParts (ended || b) texts qs) (sym (same_end ended text p q t.0 u.0)) u.1 in
+    let tail : ps ≡ qs = parts_one (ended || ends_stream p) texts ps qs t.1 there in
     λ i. head i ∷ tail i
 
 answer_one : (answered : Answered) (texts : List (List ℕ)) (a b : AnswerLine) → IsAnswerText answered texts a → IsAnswerText answered texts b → a ≡ b
 answer_one answered (name ∷ (path ∷ (n ∷ (parts ∷ [])))) a b t u =
     let same_path : a.path ≡ b.path = t.2 ∙ sym u.2 in
     let same_n : a.n ≡ b.n = t.3 ∙ sym u.3 in
-    let same_parts : a.parts ≡ b.parts = parts_one false (parted 44 parts) a.parts b.parts t.5.0 u.5.0 in
+    let same_parts : a.parts ≡ b.parts = parts_one false (pieces 44 parts) a.parts b.parts t.5.0 u.5.0 in
     λ i. record { path = same_path i; n = same_n i; parts = same_parts i }
 answer_one answered texts a b t u = absurd t
 

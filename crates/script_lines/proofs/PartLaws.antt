@@ -2,7 +2,8 @@
 use Rattle.std.proofs.Common.{◌≡◌, ℕ, List, [], ◌∷◌, ◌++◌, Bool, sym, subst, inr, append_assoc, append-nil}
 use Rattle.std.specs.Prelude.{◌||◌, false}
 use Rattle.grpc_base.specs.declared.script.AnswerPart.{AnswerPart}
-use Rattle.script_lines.specs.Answers.{AreParts, ArePartsFault, IsPart, is_end}
+use Rattle.grpc_base.specs.Scripts.{ends_stream}
+use Rattle.script_lines.specs.Answers.{AreParts, ArePartsFault, IsPart}
 
 -- what is left gives the rest of the parts, or the first fault
 abbrev pub Continues : List (List ℕ) → Bool → List (List ℕ) → List AnswerPart → Type 0
@@ -10,7 +11,7 @@ Continues all ended texts parts =
     ((ps : List AnswerPart) → AreParts ended texts ps → AreParts false all (parts ++ ps))
     × ((c : ℕ) → ArePartsFault ended texts c → ArePartsFault false all c)
 
-pub part_step : (all : List (List ℕ)) (ended next : Bool) (first : List ℕ) (texts more : List (List ℕ)) (parts pushed : List AnswerPart) (p : AnswerPart) → texts ≡ first ∷ more → next ≡ (ended || is_end p) → pushed ≡ parts ++ p ∷ [] → IsPart ended first p → Continues all ended texts parts → Continues all next more pushed
+pub part_step : (all : List (List ℕ)) (ended next : Bool) (first : List ℕ) (texts more : List (List ℕ)) (parts pushed : List AnswerPart) (p : AnswerPart) → texts ≡ first ∷ more → next ≡ (ended || ends_stream p) → pushed ≡ parts ++ p ∷ [] → IsPart ended first p → Continues all ended texts parts → Continues all next more pushed
 part_step all ended next first texts more parts pushed p is then made good inv =
     let old : Continues all ended (first ∷ more) parts = subst (λ t. Continues all ended t parts) is inv in
     rw then (rw made (

@@ -1,6 +1,7 @@
 -- A line that has a fault is none.
 use Rattle.std.proofs.Common.{ℕ, ◌+◌, ◌≤◌, Bool, List, length, inl, inr}
 use Rattle.script_fields.specs.Spelling.{fields}
+use Rattle.grpc_base.specs.Limits.{line_limit}
 use Rattle.script_lines.specs.declared.line.ScriptLine.{ScriptLine}
 use Rattle.script_lines.specs.declared.line.ScriptLine.TheVariants as line
 use Rattle.script_lines.specs.declared.reader.BadLine.{BadLine}
@@ -9,7 +10,7 @@ use Rattle.script_lines.specs.declared.reader.ScriptKind.{ScriptKind}
 use Rattle.script_lines.specs.declared.reader.ScriptKind.TheVariants as script
 use Rattle.script_lines.specs.Answers.{Answered}
 use Rattle.script_lines.specs.Causes.{Before, not_text, too_long}
-use Rattle.script_lines.specs.Lines.{IsRawFault, IsRawLine, IsTextLine, line_bytes}
+use Rattle.script_lines.specs.Lines.{IsRawFault, IsRawLine, IsTextLine}
 use Rattle.script_lines.specs.Reader.{IsBadLine, IsKindFault, IsKindLine, IsLine, IsLineFault, IsNoLine, ReaderSeen}
 use Rattle.script_lines.proofs.AnswerLaws.{read_answer}
 use Rattle.script_lines.proofs.GrammarLaws.{read_live, read_replay}
@@ -22,7 +23,7 @@ read_raw n text closed c t (inr f) = long f.1
     ended (inl h) = h.0 t.2
     ended (inr h) = h.1
 
-    long : Before (length text ≤ line_bytes) too_long c (Before (IsTextLine text closed) not_text c ⊥) → ⊥
+    long : Before (length text ≤ line_limit) too_long c (Before (IsTextLine text closed) not_text c ⊥) → ⊥
     long (inl h) = h.0 t.1
     long (inr h) = ended h.1
 

@@ -1,15 +1,17 @@
 -- The lines of a server script.
-use Rattle.std.specs.Prelude.{◌≡◌, ◌≤◌, ◌⊎◌, ℕ, ◌+◌, Bool, true, false, ◌||◌, Option, Some, None, List, [], ◌∷◌, length, codes, All, nat_eq}
+use Rattle.std.specs.Prelude.{◌≡◌, ◌≤◌, ◌⊎◌, ℕ, ◌+◌, Bool, true, false, ◌||◌, List, [], ◌∷◌, length, codes, All, nat_eq}
 use Rattle.std.specs.Cmp.Lexicographic.{pointwise}
 use Rattle.std.specs.Map.{lookup}
 use Rattle.std.specs.Option.{unwrap_or}
 use Rattle.grpc_base.specs.declared.script.AnswerLine.{AnswerLine}
 use Rattle.grpc_base.specs.declared.script.AnswerPart.{AnswerPart}
 use Rattle.grpc_base.specs.declared.script.AnswerPart.TheVariants as part
-use Rattle.grpc_base.specs.Limits.{message_limit}
+use Rattle.grpc_base.specs.Limits.{message_limit, pushback_limit}
+use Rattle.grpc_base.specs.Pieces.{pieces}
 use Rattle.grpc_base.specs.Requests.{IsPath}
-use Rattle.script_fields.specs.Reading.{SpellsMessage}
-use Rattle.script_fields.specs.Spelling.{parted}
+use Rattle.grpc_base.specs.Scripts.{ends_stream}
+use Rattle.script_fields.specs.Spelling.{hex_digits}
+use Rattle.script_fields.specs.Values.{IsBytes}
 use Rattle.script_lines.specs.declared.part.PartKind.{PartKind}
 use Rattle.script_lines.specs.declared.part.PartKind.TheVariants as kind
 use Rattle.script_lines.specs.Causes.{Before, bad_count, bad_hex, bad_number, past_limit, unknown_kind}
@@ -29,7 +31,7 @@ letter_of kind.Hold = 119
 abbrev pub HasShape : PartKind → List ℕ → Type 0
 HasShape kind.Head rest = rest ≡ []
 HasShape kind.Goaway rest = rest ≡ []
-HasShape kind.Pushback rest = (1 ≤ length rest) × (length rest ≤ 1024)
+HasShape kind.Pushback rest = (1 ≤ length rest) × (length rest ≤ pushback_limit)
 HasShape k rest = Unit {0}
 
 -- behind a status or a reset nothing but a GOAWAY may stand
@@ -51,10 +53,10 @@ part_kind (part.Reset code) = kind.Reset
 part_kind part.Goaway = kind.Goaway
 part_kind (part.Hold count) = kind.Hold
 
--- the value of a part, and the cause where what stands behind its letter spells none
+-- the value of a part, a message as its digits of hex, none for the empty one; and the cause where what stands behind the letter spells none
 abbrev pub IsValue : List ℕ → AnswerPart → Type 0
 IsValue rest part.Head = Unit {0}
-IsValue rest (part.Message message) = SpellsMessage rest message
+IsValue rest (part.Message message) = IsBytes message × (rest ≡ hex_digits message)
 IsValue rest (part.Status code) = IsNumber number_limit code rest
 IsValue rest (part.Pushback text) = text ≡ rest
 IsValue rest (part.Reset code) = IsNumber number_limit code rest
@@ -65,7 +67,7 @@ abbrev pub IsNoNumber : List ℕ → Type 0
 IsNoNumber rest = (n : ℕ) → IsNumber number_limit n rest → ⊥
 
 abbrev pub IsValueFault : PartKind → List ℕ → ℕ → Type 0
-IsValueFault kind.Message rest c = ((message : List ℕ) → SpellsMessage rest message → ⊥) × (c ≡ bad_hex)
+IsValueFault kind.Message rest c = ((message : List ℕ) → IsBytes message → rest ≡ hex_digits message → ⊥) × (c ≡ bad_hex)
 IsValueFault kind.Status rest c = IsNoNumber rest × (c ≡ bad_number)
 IsValueFault kind.Reset rest c = IsNoNumber rest × (c ≡ bad_number)
 IsValueFault kind.Hold rest c = IsNoNumber rest × (c ≡ bad_number)
@@ -80,27 +82,16 @@ IsPartFault ended text c =
     (((k : PartKind) (rest : List ℕ) → IsPartOf ended k text rest → ⊥) × (c ≡ unknown_kind))
     ⊎ ((k : PartKind) × (rest : List ℕ) × IsPartOf ended k text rest × IsValueFault k rest c)
 
--- whether a status or a reset has come
-abbrev pub is_end : AnswerPart → Bool
-is_end (part.Status code) = true
-is_end (part.Reset code) = true
-is_end p = false
-
 -- parts from left to right, and their first fault
 abbrev pub AreParts : Bool → List (List ℕ) → List AnswerPart → Type 0
 AreParts ended [] [] = Unit {0}
-AreParts ended (text ∷ texts) (p ∷ ps) = IsPart ended text p × AreParts (ended || is_end p) texts ps
+AreParts ended (text ∷ texts) (p ∷ ps) = IsPart ended text p × AreParts (ended || ends_stream p) texts ps
 AreParts ended texts ps = ⊥
 
 abbrev pub ArePartsFault : Bool → List (List ℕ) → ℕ → Type 0
 ArePartsFault ended [] c = ⊥
 ArePartsFault ended (text ∷ texts) c =
-    IsPartFault ended text c ⊎ ((p : AnswerPart) × IsPart ended text p × ArePartsFault (ended || is_end p) texts c)
-
--- the parts behind a comma
-abbrev pub parts_behind : Option (List ℕ) → List (List ℕ)
-parts_behind None = []
-parts_behind (Some text) = parted 44 text
+    IsPartFault ended text c ⊎ ((p : AnswerPart) × IsPart ended text p × ArePartsFault (ended || ends_stream p) texts c)
 
 -- a part within the limit of messages
 abbrev pub IsWithin : AnswerPart → Type 0
@@ -109,12 +100,12 @@ IsWithin p = Unit {0}
 
 -- the field of the parts, with commas between them, and its first fault: the parts, and after them the limit
 abbrev pub IsPartsText : List ℕ → List AnswerPart → Type 0
-IsPartsText text ps = AreParts false (parted 44 text) ps × All IsWithin ps
+IsPartsText text ps = AreParts false (pieces 44 text) ps × All IsWithin ps
 
 abbrev pub IsPartsFault : List ℕ → ℕ → Type 0
 IsPartsFault text c =
-    ArePartsFault false (parted 44 text) c
-    ⊎ ((ps : List AnswerPart) × AreParts false (parted 44 text) ps × (All IsWithin ps → ⊥) × (c ≡ past_limit))
+    ArePartsFault false (pieces 44 text) c
+    ⊎ ((ps : List AnswerPart) × AreParts false (pieces 44 text) ps × (All IsWithin ps → ⊥) × (c ≡ past_limit))
 
 -- the paths of the lines before, each with how many of them it had
 abbrev pub Answered : Type 0

@@ -3,11 +3,11 @@ use Rattle.std.specs.Prelude.{◌≡◌, ◌≤◌, ◌⊎◌, ℕ, Bool, Option
 use Rattle.grpc_base.specs.declared.address.Address.{Address}
 use Rattle.grpc_base.specs.declared.fields.Field.{Field}
 use Rattle.grpc_base.specs.Addresses.{address_limit}
-use Rattle.grpc_base.specs.Limits.{duration_limit, message_limit, moment_limit}
+use Rattle.grpc_base.specs.Limits.{config_limit, duration_limit, message_limit, moment_limit}
 use Rattle.grpc_base.specs.Requests.{IsPath, RequestSeen}
 use Rattle.script_fields.specs.declared.fault.FieldFault.{FieldFault}
 use Rattle.script_fields.specs.declared.fault.FieldFault.TheVariants as field
-use Rattle.script_fields.specs.Reading.{SpellsAddresses, SpellsConfig, SpellsMessage, SpellsMeta, SpellsNumberOrDash, SpellsPiece, SpellsWord, config_limit, listed}
+use Rattle.script_fields.specs.Reading.{SpellsAddresses, SpellsConfig, SpellsMessage, SpellsMeta, SpellsNumberOrDash, SpellsPiece, SpellsWord, listed}
 use Rattle.script_fields.specs.Spelling.{number_or_dash, wait_text}
 use Rattle.script_lines.specs.declared.cause.LineFault.{LineFault}
 use Rattle.script_lines.specs.declared.cause.LineFault.TheVariants as fault

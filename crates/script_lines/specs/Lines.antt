@@ -1,9 +1,10 @@
 -- The lines of a script.
-use Rattle.std.specs.Prelude.{◌≡◌, ◌≢◌, ◌≤◌, ◌⊎◌, ℕ, Bool, true, Option, Some, None, Ok, List, [], ◌∷◌, ◌++◌, length, map, codes, All}
+use Rattle.std.specs.Prelude.{◌≡◌, ◌≢◌, ◌≤◌, ◌⊎◌, ℕ, Bool, true, Option, Ok, List, [], ◌∷◌, ◌++◌, length, map, codes, All}
 use Rattle.grpc_base.specs.declared.event.Stamped.{Stamped}
 use Rattle.grpc_base.specs.declared.address.Address.{Address}
 use Rattle.grpc_base.specs.declared.script.CallLine.{CallLine}
-use Rattle.grpc_base.specs.Limits.{moment_limit}
+use Rattle.grpc_base.specs.Limits.{line_limit, moment_limit}
+use Rattle.grpc_base.specs.Pieces.{pieces_of_rest}
 use Rattle.resolver_core.specs.Targets.{target_of}
 use Rattle.script_fields.specs.Spelling.{fields}
 use Rattle.script_lines.specs.declared.cause.LineFault.{LineFault}
@@ -16,8 +17,7 @@ use Rattle.script_lines.specs.Fields.{AreArgumentsFault, AreFieldsFault, AreMess
 
 -- what stands behind the first field of a text, as fields
 abbrev pub fields_behind : Option (List ℕ) → List (List ℕ)
-fields_behind None = []
-fields_behind (Some text) = fields text
+fields_behind rest = pieces_of_rest 32 rest
 
 -- a fault that names such a cause, or out of memory
 abbrev pub IsToldBy : (ℕ → Type 0) → LineFault → Type 0
@@ -36,12 +36,9 @@ IsStampedFault (moment ∷ word ∷ name ∷ others) c =
     ⊎ (IsGood moment_field moment × (IsFieldFault word_field word c ⊎ (IsGood word_field word × IsEventFault (name ∷ others) c)))
 IsStampedFault texts c = c ≡ bad_count
 
--- the most lines of a script, and the most bytes of a line
-abbrev pub line_limit : ℕ
-line_limit = 1048578
-
-abbrev pub line_bytes : ℕ
-line_bytes = 8400000
+-- the most lines of a script: a channel line, a service config and 1,048,576 events
+abbrev pub script_limit : ℕ
+script_limit = 1048578
 
 -- a line of printable ASCII that a line feed ended
 abbrev pub IsTextLine : List ℕ → Bool → Type 0
@@ -49,11 +46,11 @@ IsTextLine text closed = All (λ b. (32 ≤ b) × (b ≤ 126)) text × (closed �
 
 -- a line that passes the tests of every script, and the first of them that it fails
 abbrev pub IsRawLine : ℕ → List ℕ → Bool → Type 0
-IsRawLine n text closed = (n ≤ line_limit) × (length text ≤ line_bytes) × IsTextLine text closed
+IsRawLine n text closed = (n ≤ script_limit) × (length text ≤ line_limit) × IsTextLine text closed
 
 abbrev pub IsRawFault : ℕ → List ℕ → Bool → ℕ → Type 0
 IsRawFault n text closed c =
-    Before (n ≤ line_limit) too_many c (Before (length text ≤ line_bytes) too_long c (Before (IsTextLine text closed) not_text c ⊥))
+    Before (n ≤ script_limit) too_many c (Before (length text ≤ line_limit) too_long c (Before (IsTextLine text closed) not_text c ⊥))
 
 -- the first line of a replay or live script, and its first fault
 abbrev pub channel_words : List ℕ → List (List ℕ)

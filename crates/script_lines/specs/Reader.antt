@@ -1,6 +1,7 @@
 -- What a reader of a script keeps from line to line, and what it says of each.
 use Rattle.std.specs.Prelude.{◌≡◌, ◌⊎◌, ℕ, ◌+◌, Bool, if◌then◌else◌, nat_eq, List}
 use Rattle.std.specs.Cmp.Lexicographic.{pointwise}
+use Rattle.grpc_base.specs.Scripts.{IsAnswer}
 use Rattle.script_fields.specs.Spelling.{fields}
 use Rattle.script_lines.specs.declared.line.ScriptLine.{ScriptLine}
 use Rattle.script_lines.specs.declared.line.ScriptLine.TheVariants as line
@@ -32,6 +33,11 @@ IsKindFault script.Server n answered texts c = IsAnswerFault answered texts c
 -- the next line of a script, be it ended by a line feed or not
 abbrev pub IsLine : ReaderSeen → List ℕ → Bool → ScriptLine → Type 0
 IsLine r text closed read = IsRawLine (r.lines + 1) text closed × IsKindLine r.kind (r.lines + 1) r.answered (fields text) read
+
+-- an answer keeps the rules of a server script as data
+abbrev pub KeepsRules : ScriptLine → Type 0
+KeepsRules (line.Answer answer) = IsAnswer answer
+KeepsRules read = Unit {0}
 
 -- no other line is spelled so
 abbrev pub IsOnlyLine : ReaderSeen → List ℕ → Bool → ScriptLine → Type 0

@@ -4,7 +4,7 @@ use Rattle.grpc_base.specs.declared.event.Event.{Event}
 use Rattle.grpc_base.specs.declared.event.Event.TheVariants as event
 use Rattle.grpc_base.specs.declared.event.Stamped.{Stamped}
 use Rattle.grpc_base.specs.Limits.{moment_limit}
-use Rattle.script_fields.specs.Spelling.{addresses_text, config_text, fields, hex_digits, hex_or_dash, meta_text, number_or_dash, wait_text, word_bytes, words}
+use Rattle.script_fields.specs.Spelling.{addresses_text, config_hex, fields, hex_digits, hex_or_dash, meta_text, number_or_dash, wait_text, word_bytes, words}
 use Rattle.script_lines.specs.declared.line.ScriptLine.{ScriptLine}
 use Rattle.script_lines.specs.declared.line.ScriptLine.TheVariants as line
 use Rattle.script_lines.specs.Lines.{IsChannelText, IsStampedText, IsTextLine, channel_words}
@@ -16,7 +16,7 @@ event_words (event.Send call message) = codes "send" ∷ decimal call ∷ hex_or
 event_words (event.Finish call) = codes "finish" ∷ decimal call ∷ []
 event_words (event.Take call) = codes "take" ∷ decimal call ∷ []
 event_words (event.Cancel call) = codes "cancel" ∷ decimal call ∷ []
-event_words (event.Resolved addresses config) = codes "resolved" ∷ addresses_text addresses ∷ config_text config ∷ []
+event_words (event.Resolved addresses config) = codes "resolved" ∷ addresses_text addresses ∷ config_hex config ∷ []
 event_words event.ResolveFailed = codes "unresolved" ∷ []
 event_words event.TakeDial = codes "dial" ∷ []
 event_words (event.LinkUp sub) = codes "up" ∷ decimal sub ∷ []

@@ -10,12 +10,11 @@ ghost use Rattle.script_lines.specs.declared.reader.ScriptKind.TheVariants as sc
 
 use crate::cause::{BAD_COUNT, BAD_NUMBER, LineFault, UNKNOWN_KIND, bad};
 use crate::counts::Counts;
-use crate::field::path_field_of;
+use crate::field::{path_field_of, read_u32};
 use crate::line::ScriptLine;
 use crate::parts::parts_of;
 use crate::split::{first_field, three_fields};
 use grpc_base::AnswerLine;
-use script_fields::number_within;
 use std::alloc::Global;
 
 /// The answer that a line gives, behind the answers that were counted.
@@ -55,11 +54,11 @@ fn number_behind(text: &[u8], before: u32) -> Result<u32, LineFault>
     ensures ok { IfOk result (λ n. (n ≡ before + 1) × IsNumber number_limit n text.now) }
     ensures bad { IfErr result (IsToldBy (λ c. (IsNumber number_limit (before + 1) text.now → ⊥) × (c ≡ bad_number))) }
 {
-    let Some(number) = number_within(text, 4294967295) else {
+    let Some(number) = read_u32(text) else {
         return Err(bad(BAD_NUMBER));
     };
-    if number != before as u64 + 1 {
+    if number as u64 != before as u64 + 1 {
         return Err(bad(BAD_NUMBER));
     }
-    Ok(number as u32)
+    Ok(number)
 }

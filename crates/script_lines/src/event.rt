@@ -14,7 +14,7 @@ use crate::field::{
 use crate::name::{EventName, name_of};
 use crate::request::request_of;
 use crate::split::{first_field, four_fields, one_field, two_fields};
-use grpc_base::Event;
+use grpc_base::{BoxedAddresses, Event};
 use std::alloc::Global;
 
 /// The event that these fields give, of which the first is its name.
@@ -119,6 +119,7 @@ fn resolved(alloc: Global, rest: Option<&[u8]>) -> Result<Event, LineFault>
     };
     let addresses = addresses_field_of(addresses)?;
     let config = config_field_of(alloc, config)?;
+    let addresses = BoxedAddresses::new(alloc, addresses)?;
     Ok(Event::Resolved { addresses, config })
 }
 

@@ -1,7 +1,8 @@
 // The fields of a line, each read by its kind.
-ghost use Rattle.std.specs.Prelude.{◌≡◌, IfOk, IfErr};
+ghost use Rattle.std.specs.Prelude.{◌≡◌, IfOk, IfErr, IfSome, IfNone};
 ghost use Rattle.grpc_base.specs.Limits.{moment_limit};
 ghost use Rattle.grpc_base.specs.Requests.{IsPath};
+ghost use Rattle.script_lines.specs.Answers.{IsNoNumber};
 ghost use Rattle.script_lines.specs.Fields.{AreAddresses, IsConfig, IsConfigOrDash, IsFieldFault, IsMessage, IsMeta, IsNumber, IsPiece, IsPing, IsTimeout, IsWait, IsWorker, addresses_field, config_field, config_or_dash_field, line_fault, message_field, meta_field, moment_field, number_field, number_limit, path_field, piece_field, ping_field, timeout_field, wait_field, word_field, word_limit, worker_field};
 ghost use Rattle.script_lines.specs.Lines.{IsToldBy};
 
@@ -9,18 +10,13 @@ use crate::cause::{
     BAD_ADDRESS, BAD_HEX, BAD_METADATA, BAD_NUMBER, BAD_PATH, LineFault, PAST_LIMIT, UNKNOWN_KIND,
     bad,
 };
+use grpc_base::limits::{CONFIG_BYTES, MESSAGE_BYTES};
 use grpc_base::{AddressList, Metadata, Moment, Octets, Text, is_path};
 use script_fields::{
     FieldFault, addresses_of, config_of, message_of, meta_of, number_within, piece_of, timeout_of,
     wait_of, word_of_hex,
 };
 use std::alloc::Global;
-
-/// The most bytes of a message.
-const MESSAGE_BYTES: usize = 4_194_304;
-
-/// The most bytes of a service config.
-const CONFIG_BYTES: usize = 65_536;
 
 /// A moment of a script.
 pub fn moment_of(text: &[u8]) -> Result<Moment, LineFault>
@@ -47,13 +43,22 @@ pub fn word_of(text: &[u8]) -> Result<u64, LineFault>
     }
 }
 
+/// The number of at most 32 bits whose one spelling this is.
+pub fn read_u32(text: &[u8]) -> Option<u32>
+    ensures some { IfSome result (λ n. IsNumber number_limit n text.now) }
+    ensures none { IfNone result (IsNoNumber text.now) }
+{
+    let number = number_within(text, u32::MAX as u64)?;
+    Some(number as u32)
+}
+
 /// The number of a call, a subchannel, a link or a room.
 pub fn number_of(text: &[u8]) -> Result<u32, LineFault>
     ensures ok { IfOk result (λ n. IsNumber number_limit n text.now) }
     ensures bad { IfErr result (IsToldBy (IsFieldFault number_field text.now)) }
 {
-    match number_within(text, 4294967295) {
-        Some(number) => Ok(number as u32),
+    match read_u32(text) {
+        Some(number) => Ok(number),
         None => Err(bad(BAD_NUMBER)),
     }
 }

@@ -2,8 +2,6 @@
 #![tactic(auto)]
 
 mod answer;
-#[cfg(test)]
-mod bad_tests;
 mod call;
 mod cause;
 mod channel;
@@ -21,8 +19,6 @@ mod replay;
 mod request;
 mod split;
 mod stamped;
-#[cfg(test)]
-mod tests;
 
 pub use line::ScriptLine;
 pub use reader::{BadLine, ScriptKind, ScriptReader};

@@ -2,14 +2,16 @@
 ghost use Rattle.std.specs.Prelude.{◌≡◌, ◌≢◌, ◌↔◌, IsTrue, IfOk, IfErr, IfSome, IfNone, ℕ, List};
 ghost use Rattle.script_lines.specs.declared.part.PartKind as part_kinds;
 ghost use Rattle.script_lines.specs.declared.part.PartKind.TheVariants as kinds;
-ghost use Rattle.script_lines.specs.Answers.{HasShape, IsNoNumber, IsPart, IsPartFault, IsPartOf, IsValue, IsValueFault, MayStand, is_end, letter_of, part_kind};
+ghost use Rattle.script_lines.specs.Answers.{HasShape, IsNoNumber, IsPart, IsPartFault, IsPartOf, IsValue, IsValueFault, MayStand, letter_of, part_kind};
 ghost use Rattle.script_lines.specs.Causes.{bad_number};
 ghost use Rattle.script_lines.specs.Fields.{IsNumber, number_limit};
 ghost use Rattle.script_lines.specs.Lines.{IsToldBy};
 
 use crate::cause::{BAD_HEX, BAD_NUMBER, LineFault, UNKNOWN_KIND, bad};
+use crate::field::read_u32;
+use grpc_base::limits::PUSHBACK_BYTES;
 use grpc_base::{AnswerPart, Octets, Text};
-use script_fields::{bytes_or_dash, number_within};
+use script_fields::bytes_of;
 use std::alloc::Global;
 
 /// What a part is, by the letter that begins it.
@@ -23,9 +25,6 @@ pub enum PartKind {
     Goaway,
     Hold,
 }
-
-/// The most bytes of a pushback.
-const PUSHBACK_BYTES: usize = 1024;
 
 /// The kind of this letter.
 fn kind_of(letter: u8) -> Option<PartKind>
@@ -105,18 +104,18 @@ fn number_part(rest: &[u8]) -> Result<u32, LineFault>
     ensures ok { IfOk result (λ n. IsNumber number_limit n rest.now) }
     ensures bad { IfErr result (IsToldBy (λ c. IsNoNumber rest.now × (c ≡ bad_number))) }
 {
-    match number_within(rest, 4294967295) {
-        Some(number) => Ok(number as u32),
+    match read_u32(rest) {
+        Some(number) => Ok(number),
         None => Err(bad(BAD_NUMBER)),
     }
 }
 
-/// The message of a part, of any length.
+/// The message of a part, of any length: no digits are the empty one.
 fn message_of(alloc: Global, rest: &[u8]) -> Result<AnswerPart, LineFault>
     ensures ok { IfOk result (λ p. (part_kind p ≡ kinds.Message) × IsValue rest.now p) }
     ensures bad { IfErr result (IsToldBy (IsValueFault kinds.Message rest.now)) }
 {
-    let Some(bytes) = bytes_or_dash(alloc, rest)? else {
+    let Some(bytes) = bytes_of(alloc, rest)? else {
         return Err(bad(BAD_HEX));
     };
     let message = Octets::of_vec(bytes)?;
@@ -133,11 +132,4 @@ pub fn part_of(alloc: Global, ended: bool, text: &[u8]) -> Result<AnswerPart, Li
     };
     let part = value_of(alloc, kind, rest)?;
     Ok(part)
-}
-
-/// Whether nothing but a GOAWAY may stand behind a part.
-pub fn is_end(part: &AnswerPart) -> bool
-    ensures { result ≡ is_end part.now }
-{
-    matches!(part, AnswerPart::Status(_) | AnswerPart::Reset(_))
 }

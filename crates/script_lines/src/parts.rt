@@ -1,18 +1,15 @@
 // The parts of an answer, with commas between them.
-ghost use Rattle.std.specs.Prelude.{◌≡◌, ◌↔◌, ◌||◌, ◌∷◌, false, IsTrue, IfOk, IfErr, All};
-ghost use Rattle.std.specs.Option.{option_copied};
-ghost use Rattle.script_fields.specs.Spelling.{parted};
-ghost use Rattle.script_lines.specs.Answers.{AreParts, ArePartsFault, IsPartsFault, IsPartsText, IsWithin, is_end, parts_behind};
+ghost use Rattle.std.specs.Prelude.{◌≡◌, ◌↔◌, ◌||◌, false, IsTrue, IfOk, IfErr, All};
+ghost use Rattle.grpc_base.specs.Pieces.{pieces};
+ghost use Rattle.grpc_base.specs.Scripts.{ends_stream};
+ghost use Rattle.script_lines.specs.Answers.{AreParts, ArePartsFault, IsPartsFault, IsPartsText, IsWithin};
 ghost use Rattle.script_lines.specs.Lines.{IsToldBy};
 
 use crate::cause::{LineFault, PAST_LIMIT, bad};
-use crate::part::{is_end, part_of};
-use grpc_base::{AnswerPart, Items};
-use script_fields::cut_at;
+use crate::part::part_of;
+use grpc_base::limits::MESSAGE_BYTES;
+use grpc_base::{AnswerPart, Items, ends_stream, first_piece};
 use std::alloc::Global;
-
-/// The most bytes of a message.
-const MESSAGE_BYTES: usize = 4_194_304;
 
 /// The parts of an answer, each message within its limit.
 pub fn parts_of(alloc: Global, text: &[u8]) -> Result<Items<AnswerPart>, LineFault>
@@ -28,14 +25,14 @@ pub fn parts_of(alloc: Global, text: &[u8]) -> Result<Items<AnswerPart>, LineFau
 
 /// The parts of an answer, with messages of any length.
 fn all_parts(alloc: Global, text: &[u8]) -> Result<Items<AnswerPart>, LineFault>
-    ensures ok { IfOk result (λ ps. AreParts false (parted 44 text.now) ps) }
-    ensures bad { IfErr result (IsToldBy (ArePartsFault false (parted 44 text.now))) }
+    ensures ok { IfOk result (λ ps. AreParts false (pieces 44 text.now) ps) }
+    ensures bad { IfErr result (IsToldBy (ArePartsFault false (pieces 44 text.now))) }
 {
     let mut parts = Items::new(alloc);
     let mut ended = false;
     let mut rest = Some(text);
     while let Some(texts) = rest {
-        let (first, more) = first_part(texts);
+        let (first, more) = first_piece(texts, b',');
         let part = part_of(alloc, ended, first)?;
         ended = ended_by(ended, &part);
         parts.push(part)?;
@@ -46,19 +43,9 @@ fn all_parts(alloc: Global, text: &[u8]) -> Result<Items<AnswerPart>, LineFault>
 
 /// Whether nothing but a GOAWAY may stand behind this part and those before it.
 fn ended_by(ended: bool, part: &AnswerPart) -> bool
-    ensures { result ≡ (ended || is_end part.now) }
+    ensures { result ≡ (ended || ends_stream part.now) }
 {
-    ended || is_end(part)
-}
-
-/// The first part, and what stands behind its comma, if there is one.
-fn first_part(text: &[u8]) -> (&[u8], Option<&[u8]>)
-    ensures { parted 44 text.now ≡ result.0.now ∷ parts_behind (option_copied result.1) }
-{
-    match cut_at(text, b',') {
-        Some((part, rest)) => (part, Some(rest)),
-        None => (text, None),
-    }
+    ended || ends_stream(part)
 }
 
 /// Whether each message is within its limit.

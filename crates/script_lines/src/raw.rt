@@ -3,12 +3,10 @@ ghost use Rattle.std.specs.Prelude.{◌≡◌, ◌≤◌, ◌↔◌, IsTrue, OnO
 ghost use Rattle.script_lines.specs.Lines.{IsRawFault, IsRawLine, IsToldBy};
 
 use crate::cause::{LineFault, NOT_TEXT, TOO_LONG, TOO_MANY, bad};
+use grpc_base::limits::LINE_BYTES;
 
 /// The most lines of a script: a channel line, a config and 1,048,576 events.
-const LINE_LIMIT: u64 = 1_048_578;
-
-/// The most bytes of a line, without its line feed.
-const LINE_BYTES: usize = 8_400_000;
+const SCRIPT_LINES: u64 = 1_048_578;
 
 /// Tests the line of this number, from 1: how many there are, how long it is, and that it is printable and
 /// ended by a line feed.
@@ -16,7 +14,7 @@ pub fn test_line(number: u64, text: &[u8], closed: bool) -> Result<(), LineFault
     ensures ok { OnOk result (IsRawLine number text.now closed) }
     ensures bad { IfErr result (IsToldBy (IsRawFault number text.now closed)) }
 {
-    if number > LINE_LIMIT {
+    if number > SCRIPT_LINES {
         return Err(bad(TOO_MANY));
     }
     if text.len() > LINE_BYTES {

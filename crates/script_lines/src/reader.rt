@@ -3,7 +3,7 @@ ghost use Rattle.std.specs.Prelude.{◌≡◌, ◌+◌, ℕ, List, IfOk, IfErr, 
 ghost use Rattle.script_fields.specs.Spelling.{fields};
 ghost use Rattle.script_lines.specs.Answers.{count_of};
 ghost use Rattle.script_lines.specs.Lines.{IsRawLine, IsToldBy};
-ghost use Rattle.script_lines.specs.Reader.{IsBadLine, IsBehind, IsKindFault, IsKindLine, IsLine, IsNoLine, IsNumberedFault, IsOnlyLine, IsSame, answer_count};
+ghost use Rattle.script_lines.specs.Reader.{IsBadLine, IsBehind, IsKindFault, IsKindLine, IsLine, IsNoLine, IsNumberedFault, IsOnlyLine, IsSame, KeepsRules, answer_count};
 ghost use Rattle.script_lines.specs.Spelling.{IsReadAgain};
 
 use crate::answer::next_answer;
@@ -45,7 +45,7 @@ pub struct ScriptReader {
 }
 
 impl Model for ScriptReader {
-    ghost use Rattle.script_lines.specs.Lines.{line_limit};
+    ghost use Rattle.script_lines.specs.Lines.{script_limit};
     ghost use Rattle.script_lines.specs.Reader.{ReaderSeen};
     ghost use Rattle.std.specs.Prelude.{◌≤◌};
 
@@ -53,7 +53,7 @@ impl Model for ScriptReader {
 
     ghost view = { λ r. record { kind = r.kind; lines = r.lines; answered = r.counts } };
 
-    ghost invariant = { λ r. r.lines ≤ line_limit };
+    ghost invariant = { λ r. r.lines ≤ script_limit };
 }
 
 impl ScriptReader {
@@ -72,13 +72,15 @@ impl ScriptReader {
     }
 
     /// Reads the next line: its bytes without the line feed, and whether one ended it. What it says is the one thing
-    /// that they spell, and is read again from its own spelling. BadLine names the line and the first cause in the
-    /// order of the tests. The reader is as before where it answers an error.
+    /// that they spell; a channel line and an event are read again from their own spelling, and an answer keeps the
+    /// rules of a server script. BadLine names the line and
+    /// the first cause in the order of the tests. The reader is as before where it answers an error.
     pub fn line(&mut self, text: &[u8], closed: bool) -> Result<ScriptLine, BadLine>
         ensures ok { IfOk result (IsLine self.old text.now closed) }
         ensures bad { IfErr result (IsBadLine self.old text.now closed) }
         ensures only { IfOk result (IsOnlyLine self.old text.now closed) }
         ensures again { IfOk result IsReadAgain }
+        ensures rules { IfOk result KeepsRules }
         ensures no_line { IfErr result (IsNoLine self.old text.now closed) }
         ensures behind { IfOk result (λ read. IsBehind self.old read self.new) }
         ensures same { OnErr result (IsSame self.old self.new) }

@@ -4,16 +4,13 @@ ghost use Rattle.std.specs.Option.{option_copied};
 ghost use Rattle.script_fields.specs.Spelling.{fields};
 ghost use Rattle.script_lines.specs.Lines.{fields_behind};
 
-use script_fields::cut_at;
+use grpc_base::first_piece;
 
 /// The first field, and what stands behind its space, if there is one.
 pub fn first_field(text: &[u8]) -> (&[u8], Option<&[u8]>)
     ensures { fields text.now ≡ result.0.now ∷ fields_behind (option_copied result.1) }
 {
-    match cut_at(text, b' ') {
-        Some((field, rest)) => (field, Some(rest)),
-        None => (text, None),
-    }
+    first_piece(text, b' ')
 }
 
 /// The next field of a rest, and what stands behind it.

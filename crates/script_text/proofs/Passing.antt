@@ -20,6 +20,9 @@ Appends-none None = refl
 pub AppendsFront-none : (a : Option (List ℕ)) (xs : List ℕ) → AppendsFront a a xs
 AppendsFront-none a xs = (0, omega arith, Appends-none a)
 
+pub none_written : (a : Option (List ℕ)) (xs : List ℕ) → AppendsFront a a xs
+none_written a xs = AppendsFront-none a xs
+
 -- a front of a text is one of a longer text
 pub AppendsFront-more : (a b : Option (List ℕ)) (xs ys : List ℕ) → AppendsFront a b xs → AppendsFront a b (xs ++ ys)
 AppendsFront-more a b xs ys h =

@@ -6,10 +6,13 @@ use Rattle.std.proofs.lemmas.Grind.{flat_map-append}
 use Rattle.attempt_ledger.specs.declared.journal.Journal.{Journal}
 use Rattle.attempt_ledger.specs.declared.row.Row.{Row}
 use Rattle.grpc_base.specs.Codes.{code_number}
+use Rattle.grpc_base.specs.Refusals.{refusal_number}
+use Rattle.grpc_base.specs.declared.event.ConfigFault.{ConfigFault}
 use Rattle.grpc_base.specs.declared.event.Entry.{Entry}
 use Rattle.grpc_base.specs.declared.event.Reply.{Reply}
 use Rattle.grpc_base.specs.declared.event.Reply.TheVariants as reply
 use Rattle.attempt_ledger.specs.declared.ledger.Ledger.{Ledger}
+use Rattle.service_config.specs.Text.{spaced as spaced_words_of}
 use Rattle.script_text.specs.Output.{spaced}
 use Rattle.script_text.specs.Report.{channel_text, entry_text, row_text, end_text, lines_text, report_of}
 use Rattle.script_text.specs.Spelling.{address_text, cause_text, config_fault_words, hex_or_dash, meta_text, percent_text, reply_words, words}
@@ -21,6 +24,19 @@ words_are w (v ∷ vs) = ap (λ t. w ++ 32 ∷ t) (words_are v vs)
 
 pub spaced-append : (vs ws : List (List ℕ)) → spaced (vs ++ ws) ≡ spaced vs ++ spaced ws
 spaced-append vs ws = flat_map-append (λ (w : List ℕ). 32 ∷ w) vs ws
+
+-- both crates part words alike
+spaced_alike : (ws : List (List ℕ)) → spaced_words_of ws ≡ spaced ws
+spaced_alike [] = refl
+spaced_alike (w ∷ ws) = ap (λ t. 32 ∷ (w ++ t)) (spaced_alike ws)
+
+-- the words of a fault behind the name of the reply
+pub bad_config_words : (out named told : List ℕ) (f : ConfigFault) → named ≡ out ++ 32 ∷ codes "badconfig" → told ≡ named ++ spaced_words_of (config_fault_words f) → told ≡ out ++ spaced (codes "badconfig" ∷ config_fault_words f)
+bad_config_words out named told f e g =
+    g
+    ∙ ap (λ (t : List ℕ). t ++ spaced_words_of (config_fault_words f)) e
+    ∙ ap (λ (t : List ℕ). (out ++ 32 ∷ codes "badconfig") ++ t) (spaced_alike (config_fault_words f))
+    ∙ append_assoc out (32 ∷ codes "badconfig") (spaced (config_fault_words f))
 
 spaced_words : (w : List ℕ) (ws : List (List ℕ)) → spaced (w ∷ ws) ≡ 32 ∷ words (w ∷ ws)
 spaced_words w ws = ap (λ t. 32 ∷ t) (sym (words_are w ws))
@@ -37,7 +53,7 @@ some_reply (reply.BadConfig f) = (codes "badconfig", config_fault_words f, refl)
 some_reply (reply.Dial sub address until) = (codes "dial", decimal sub ∷ address_text address ∷ decimal until ∷ [], refl)
 some_reply (reply.Link link) = (codes "link", decimal link ∷ [], refl)
 some_reply (reply.Octets octets) = (codes "octets", hex_or_dash octets ∷ [], refl)
-some_reply (reply.Refused refusal) = (codes "refused", decimal refusal ∷ [], refl)
+some_reply (reply.Refused refusal) = (codes "refused", decimal (refusal_number refusal) ∷ [], refl)
 
 spaced_reply : (r : Reply) → spaced (reply_words r) ≡ 32 ∷ words (reply_words r)
 spaced_reply r =

@@ -2,7 +2,7 @@
 ghost use Rattle.std.specs.Prelude.{◌≡◌, ◌++◌, ◌∷◌, [], codes, decimal, List, ℕ, OnOk};
 ghost use Rattle.grpc_base.specs.declared.event.Event.TheVariants as event;
 ghost use Rattle.script_text.specs.Output.{spaced};
-ghost use Rattle.script_text.specs.Spelling.{event_words, hex_or_dash, hex_digits, word_bytes, addresses_text, config_text};
+ghost use Rattle.script_text.specs.Spelling.{event_words, hex_or_dash, hex_digits, word_bytes, addresses_text, config_hex};
 
 use grpc_base::{AddressList, Event, NoMemory, Octets, Request};
 use script_fields::{
@@ -21,7 +21,12 @@ pub fn append_event(alloc: Global, out: &mut Vec<u8>, event: &Event) -> Result<(
         Event::Finish { call } => append_numbered(out, b"finish", *call as u64),
         Event::Take { call } => append_numbered(out, b"take", *call as u64),
         Event::Cancel { call } => append_numbered(out, b"cancel", *call as u64),
-        Event::Resolved { addresses, config } => append_resolved(alloc, out, addresses, config),
+        Event::Resolved { addresses, config } => append_resolved(
+            alloc,
+            out,
+            addresses.as_list(),
+            config,
+        ),
         Event::ResolveFailed => append_word(out, b"unresolved"),
         Event::TakeDial => append_word(out, b"dial"),
         Event::LinkUp { sub } => append_numbered(out, b"up", *sub as u64),
@@ -75,7 +80,7 @@ fn append_resolved(
     addresses: &AddressList,
     config: &Option<Octets>,
 ) -> Result<(), NoMemory>
-    ensures { OnOk result (out.new.items ≡ out.old.items ++ spaced (codes "resolved" ∷ addresses_text addresses.now ∷ config_text config.now ∷ [])) }
+    ensures { OnOk result (out.new.items ≡ out.old.items ++ spaced (codes "resolved" ∷ addresses_text addresses.now ∷ config_hex config.now ∷ [])) }
 {
     append_word(out, b"resolved")?;
     append_addresses(out, addresses.as_slice())?;

@@ -1,14 +1,13 @@
 // Scripts and reports as texts: how an event, a reply and a row are spelled, and the report of a session.
 #![tactic(auto)]
 
+mod config;
 mod events;
 mod output;
 mod replies;
 mod report;
 mod rows;
 
+pub use config::write_config;
 pub use report::{ReportFault, write_report};
 pub use script_lines::{BadLine, ScriptKind, ScriptLine, ScriptReader};
-
-#[cfg(test)]
-mod tests;

@@ -2,16 +2,12 @@
 ghost use Rattle.std.specs.Prelude.{◌≡◌, ◌++◌, ◌∷◌, [], codes, decimal, List, ℕ, OnOk};
 ghost use Rattle.grpc_base.specs.Codes.{code_number};
 ghost use Rattle.script_text.specs.Output.{spaced};
-ghost use Rattle.script_text.specs.Spelling.{reply_words, cause_text, config_fault_words, json_fault_text, hex_or_dash, meta_text, percent_text, address_text};
+ghost use Rattle.script_text.specs.Spelling.{reply_words, cause_text, config_fault_words, hex_or_dash, meta_text, percent_text, address_text};
 
 use crate::events::append_numbered;
-use grpc_base::{
-    Address, Code, ConfigFault, EndCause, JsonFault, Metadata, NoMemory, Octets, Reply, Text,
-};
-use script_fields::{
-    append_address, append_digits, append_hex_word, append_meta, append_number, append_text,
-    append_word,
-};
+use grpc_base::{Address, Code, ConfigFault, EndCause, Metadata, NoMemory, Octets, Reply, Text};
+use script_fields::{append_hex_word, append_meta, append_number, append_text, append_word};
+use service_config::append_fault;
 use std::alloc::Global;
 
 /// Appends a reply's words.
@@ -31,10 +27,7 @@ pub fn append_reply(alloc: Global, out: &mut Vec<u8>, reply: &Reply) -> Result<(
             cause,
         } => append_end(alloc, out, *code, text, meta, *cause),
         Reply::NotYet => append_word(out, b"notyet"),
-        Reply::BadConfig { fault } => {
-            append_word(out, b"badconfig")?;
-            append_config_fault(out, fault)
-        }
+        Reply::BadConfig { fault } => append_bad_config(out, fault),
         Reply::Dial {
             sub,
             address,
@@ -42,7 +35,7 @@ pub fn append_reply(alloc: Global, out: &mut Vec<u8>, reply: &Reply) -> Result<(
         } => append_dial(out, *sub, address, *until),
         Reply::Link { link } => append_numbered(out, b"link", *link as u64),
         Reply::Octets { octets } => append_octets(alloc, out, b"octets", octets),
-        Reply::Refused { refusal } => append_numbered(out, b"refused", *refusal as u64),
+        Reply::Refused { refusal } => append_numbered(out, b"refused", refusal.number() as u64),
     }
 }
 
@@ -90,7 +83,7 @@ fn append_dial(out: &mut Vec<u8>, sub: u32, address: &Address, until: u64) -> Re
 {
     append_numbered(out, b"dial", sub as u64)?;
     out.push(b' ')?;
-    append_address(out, address)?;
+    address.append_to(out)?;
     append_number(out, until)
 }
 
@@ -109,49 +102,12 @@ fn cause_bytes(cause: EndCause) -> &'static [u8]
     }
 }
 
-/// Appends the words of a fault of a service config.
-fn append_config_fault(out: &mut Vec<u8>, fault: &ConfigFault) -> Result<(), NoMemory>
-    ensures { OnOk result (out.new.items ≡ out.old.items ++ spaced (config_fault_words fault.now)) }
+/// Appends the words of a reply that a service config is bad.
+#[tactic(auto, using(crate::proofs::Words::bad_config_words))]
+fn append_bad_config(out: &mut Vec<u8>, fault: &ConfigFault) -> Result<(), NoMemory>
+    ensures { OnOk result (out.new.items ≡ out.old.items ++ spaced (codes "badconfig" ∷ config_fault_words fault.now)) }
 {
-    match fault {
-        ConfigFault::Json { fault } => {
-            append_word(out, b"1")?;
-            append_json_fault(out, *fault)
-        }
-        ConfigFault::Field { path } => append_two(out, b"2", path.as_slice()),
-        ConfigFault::BothPolicies { path } => append_two(out, b"3", path.as_slice()),
-        ConfigFault::RepeatedName { path } => append_two(out, b"4", path.as_slice()),
-        ConfigFault::NoSupportedPolicy => append_two(out, b"5", b"-"),
-        ConfigFault::NoMemory => append_word(out, b"-"),
-    }
-}
-
-/// Appends two words.
-fn append_two(out: &mut Vec<u8>, first: &[u8], second: &[u8]) -> Result<(), NoMemory>
-    ensures { OnOk result (out.new.items ≡ out.old.items ++ spaced (first.now ∷ second.now ∷ [])) }
-{
-    append_word(out, first)?;
-    append_word(out, second)
-}
-
-/// Appends a fault of a JSON text behind a space.
-fn append_json_fault(out: &mut Vec<u8>, fault: JsonFault) -> Result<(), NoMemory>
-    ensures { OnOk result (out.new.items ≡ out.old.items ++ 32 ∷ json_fault_text fault) }
-{
-    match fault {
-        JsonFault::Syntax { at } => append_offset(out, b"1:", at),
-        JsonFault::RepeatedKey { at } => append_offset(out, b"2:", at),
-        JsonFault::TooDeep { at } => append_offset(out, b"3:", at),
-        JsonFault::Number { at } => append_offset(out, b"4:", at),
-        JsonFault::TooLong => append_word(out, b"5:65536"),
-        JsonFault::NoMemory => append_word(out, b"-"),
-    }
-}
-
-/// Appends a fault's number with its colon, and an offset.
-fn append_offset(out: &mut Vec<u8>, number: &[u8], at: u64) -> Result<(), NoMemory>
-    ensures { OnOk result (out.new.items ≡ out.old.items ++ 32 ∷ (number.now ++ decimal at)) }
-{
-    append_word(out, number)?;
-    append_digits(out, at)
+    append_word(out, b"badconfig")?;
+    append_fault(out, fault)?;
+    Ok(())
 }

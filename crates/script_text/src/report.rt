@@ -10,8 +10,8 @@ use crate::replies::append_reply;
 use crate::rows::append_row;
 use attempt_ledger::{Journal, Ledger, Row};
 use gate_io::Sink;
-use grpc_base::{Entry, NoMemory, Text};
-use script_fields::{append_digits, append_number, append_word};
+use grpc_base::{Entry, NoMemory, Text, append_decimal};
+use script_fields::{append_number, append_word};
 use std::alloc::Global;
 
 /// Why a report was not written whole; a front of it was.
@@ -69,7 +69,7 @@ fn append_channel(out: &mut Vec<u8>, target: &Text) -> Result<(), NoMemory>
 fn append_entry(alloc: Global, out: &mut Vec<u8>, entry: &Entry) -> Result<(), NoMemory>
     ensures { OnOk result (out.new.items ≡ out.old.items ++ entry_text entry.now ++ 10 ∷ []) }
 {
-    append_digits(out, entry.moment.nanos())?;
+    append_decimal(out, entry.moment.nanos())?;
     append_number(out, entry.word)?;
     append_event(alloc, out, &entry.event)?;
     append_word(out, b"=")?;

@@ -6,11 +6,8 @@ ghost use Rattle.script_fields.specs.Reading.{IsFieldFault, SpellsAddresses, lis
 
 use crate::FieldFault;
 use crate::read::address::address_of;
-use crate::read::cut::first_part;
-use grpc_base::{Address, AddressList};
-
-/// The most addresses of a field, repeats counted.
-const ADDRESS_LIMIT: usize = 64;
+use grpc_base::limits::ADDRESSES;
+use grpc_base::{Address, AddressList, first_piece};
 
 /// The addresses of this text, each once, of at most 64 that stand there; a dash is none.
 pub fn addresses_of(text: &[u8]) -> Result<AddressList, FieldFault>
@@ -25,14 +22,14 @@ pub fn addresses_of(text: &[u8]) -> Result<AddressList, FieldFault>
     let mut count = 0usize;
     let mut rest = Some(text);
     while let Some(items) = rest {
-        let (item, behind) = first_part(items, b',');
+        let (item, behind) = first_piece(items, b',');
         let Some(address) = address_of(item) else {
             return Err(FieldFault::Form);
         };
         count = add(&mut list, count, address);
         rest = behind;
     }
-    if count > ADDRESS_LIMIT {
+    if count > ADDRESSES {
         return Err(FieldFault::Limit);
     }
     Ok(list)
@@ -43,8 +40,8 @@ fn add(list: &mut AddressList, count: usize, address: Address) -> usize
     ensures few { count < address_limit → length list.old ≤ count → (result ≡ count + 1) × (list.new ≡ with_address list.old address) }
     ensures many { address_limit ≤ count → result ≡ address_limit + 1 }
 {
-    if count >= ADDRESS_LIMIT || list.push(address).is_err() {
-        return ADDRESS_LIMIT + 1;
+    if count >= ADDRESSES || list.push(address).is_err() {
+        return ADDRESSES + 1;
     }
     count + 1
 }

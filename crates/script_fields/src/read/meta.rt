@@ -6,9 +6,8 @@ ghost use Rattle.script_fields.specs.Reading.{SpellsMeta};
 ghost use Rattle.script_fields.specs.Spelling.{pair_text};
 ghost use Rattle.script_fields.specs.Values.{IsBytes};
 
-use crate::read::cut::{cut_at, first_part};
 use crate::read::hex_bytes::bytes_of;
-use grpc_base::{MetaFault, Metadata, NoMemory};
+use grpc_base::{MetaFault, Metadata, NoMemory, first_piece, split_at_byte};
 use std::alloc::Global;
 
 /// The metadata that this text spells, by the rules of a request; a dash is none.
@@ -23,7 +22,7 @@ pub fn meta_of(alloc: Global, text: &[u8]) -> Result<Option<Metadata>, NoMemory>
     }
     let mut rest = Some(text);
     while let Some(items) = rest {
-        let (item, behind) = first_part(items, b',');
+        let (item, behind) = first_piece(items, b',');
         if !push_pair(alloc, &mut meta, item)? {
             return Ok(None);
         }
@@ -38,7 +37,7 @@ fn push_pair(alloc: Global, meta: &mut Metadata, item: &[u8]) -> Result<bool, No
     ensures kept { IfOk result (λ y. y ≡ true → IsRequestMetadata meta.old → IsRequestMetadata meta.new) }
     ensures refused { IfOk result (λ y. y ≡ false → (f : Field) → IsPair f → IsBytes f.value → item.now ≡ pair_text f → meta_size meta.old + pair_size f ≤ meta_limit → ⊥) }
 {
-    let Some((name, digits)) = cut_at(item, b':') else {
+    let Some((name, digits)) = split_at_byte(item, b':') else {
         return Ok(false);
     };
     let Some(value) = bytes_of(alloc, digits)? else {

@@ -1,8 +1,20 @@
 // Numbers in decimal digits, with no zero in front of another digit.
-ghost use Rattle.std.specs.Prelude.{◌≡◌, ◌≤◌, ◌<◌, ◌≢◌, ◌^◌, ◌++◌, ◌∷◌, ℕ, List, IfSome, IfNone, decimal};
+ghost use Rattle.std.specs.Prelude.{◌≡◌, ◌≤◌, ◌<◌, ◌↔◌, ◌^◌, ◌++◌, ◌∷◌, ℕ, List, IfSome, IfNone, IsTrue, decimal};
+ghost use Rattle.grpc_base.specs.Numbers.{number_of};
+ghost use Rattle.script_fields.specs.Reading.{SpellsNumber};
 ghost use Rattle.script_fields.specs.Values.{IsNoDigit};
 
-use crate::read::cut::cut_at;
+use grpc_base::{is_number, read_number, split_at_byte};
+
+/// Whether this is a number of any length with no zero in front of another digit.
+pub fn is_canonical(text: &[u8]) -> bool
+    ensures { IsTrue result ↔ SpellsNumber text.now (number_of text.now) }
+{
+    if !is_number(text) {
+        return false;
+    }
+    text[0] != b'0' || text.len() == 1
+}
 
 /// The number whose one spelling this is. None exactly where no number below 2^64 is spelled so.
 fn number_of(text: &[u8]) -> Option<u64>
@@ -10,15 +22,10 @@ fn number_of(text: &[u8]) -> Option<u64>
     ensures none { IfNone result ((n : ℕ) → n < 2 ^ 64 → text.now ≡ decimal n → ⊥) }
     ensures within { IfSome result (λ n. n < 2 ^ 64) }
 {
-    let Ok(digits) = std::str::from_utf8(text) else {
-        return None;
-    };
-    let Ok(number) = digits.parse::<u64>() else {
-        return None;
-    };
-    if itoa::Buffer::new().format(number).as_bytes() != text {
+    if !is_canonical(text) {
         return None;
     }
+    let number = read_number(text)?;
     Some(number)
 }
 
@@ -40,6 +47,6 @@ pub fn number_before(text: &[u8], byte: u8, most: u64) -> Option<(u64, &[u8])>
     ensures some { IfSome result (λ p. (p.0 ≤ most) × (text.now ≡ decimal p.0 ++ byte ∷ p.1.now)) }
     ensures none { IfNone result ((n : ℕ) (rest : List ℕ) → n ≤ most → text.now ≡ decimal n ++ byte ∷ rest → ⊥) }
 {
-    let (digits, rest) = cut_at(text, byte)?;
+    let (digits, rest) = split_at_byte(text, byte)?;
     Some((number_within(digits, most)?, rest))
 }

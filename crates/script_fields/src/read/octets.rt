@@ -1,14 +1,13 @@
 // Messages, pieces of a link and service configs, all in hex.
 ghost use Rattle.std.specs.Prelude.{◌≡◌, ◌≤◌, ◌<◌, ℕ, List, length, IfSome, IfNone, IfOk, IfErr, IsSomeAnd};
-ghost use Rattle.script_fields.specs.Reading.{IsFieldFault, SpellsConfig, SpellsMessage, SpellsPiece, config_limit};
+ghost use Rattle.grpc_base.specs.Limits.{config_limit};
+ghost use Rattle.script_fields.specs.Reading.{IsFieldFault, SpellsConfig, SpellsMessage, SpellsPiece};
 
 use crate::FieldFault;
 use crate::read::hex_bytes::{bytes_of, bytes_or_dash};
+use grpc_base::limits::CONFIG_BYTES;
 use grpc_base::{NoMemory, Octets};
 use std::alloc::Global;
-
-/// The most bytes of a service config.
-const CONFIG_LIMIT: usize = 65_536;
 
 /// The bytes of a message of at most so many; a dash is the empty one.
 pub fn message_of(alloc: Global, text: &[u8], most: usize) -> Result<Octets, FieldFault>
@@ -51,7 +50,7 @@ pub fn config_of(alloc: Global, text: &[u8]) -> Result<Option<Octets>, FieldFaul
     let Some(config) = piece_of(alloc, text)? else {
         return Err(FieldFault::Form);
     };
-    if config.len() > CONFIG_LIMIT {
+    if config.len() > CONFIG_BYTES {
         return Err(FieldFault::Limit);
     }
     Ok(Some(config))

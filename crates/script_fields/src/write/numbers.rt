@@ -2,8 +2,7 @@
 ghost use Rattle.std.specs.Prelude.{◌≡◌, ◌++◌, ◌∷◌, decimal, OnOk};
 ghost use Rattle.script_fields.specs.Spelling.{number_or_dash};
 
-use grpc_base::NoMemory;
-use itoa::Buffer;
+use grpc_base::{NoMemory, append_decimal};
 
 /// Appends a word behind a space.
 pub fn append_word(out: &mut Vec<u8>, word: &[u8]) -> Result<(), NoMemory>
@@ -14,21 +13,12 @@ pub fn append_word(out: &mut Vec<u8>, word: &[u8]) -> Result<(), NoMemory>
     Ok(())
 }
 
-/// Appends the digits of a number.
-pub fn append_digits(out: &mut Vec<u8>, number: u64) -> Result<(), NoMemory>
-    ensures { OnOk result (out.new.items ≡ out.old.items ++ decimal number) }
-{
-    let mut buffer = Buffer::new();
-    out.extend_from_slice(buffer.format(number).as_bytes())?;
-    Ok(())
-}
-
 /// Appends a number behind a space.
 pub fn append_number(out: &mut Vec<u8>, number: u64) -> Result<(), NoMemory>
     ensures { OnOk result (out.new.items ≡ out.old.items ++ 32 ∷ decimal number) }
 {
     out.push(b' ')?;
-    append_digits(out, number)
+    append_decimal(out, number)
 }
 
 /// Appends a number behind a space, or a dash.

@@ -1,8 +1,8 @@
 // Bytes, texts, addresses and metadata.
 ghost use Rattle.std.specs.Prelude.{◌≡◌, ◌++◌, ◌∷◌, OnOk, flat_map};
-ghost use Rattle.script_fields.specs.Spelling.{hex_digits, hex_or_dash, word_bytes, percent_byte, percent_text, address_text, addresses_text, pair_text, meta_text, wait_text, config_text};
+ghost use Rattle.script_fields.specs.Spelling.{hex_digits, hex_or_dash, word_bytes, percent_byte, percent_text, addresses_text, pair_text, meta_text, wait_text, config_hex};
 
-use crate::write::numbers::{append_digits, append_word};
+use crate::write::numbers::append_word;
 use grpc_base::{Address, Field, NoMemory, Octets};
 use percent_encoding::{AsciiSet, CONTROLS, ascii_set, percent_encode};
 use std::alloc::Global;
@@ -62,22 +62,6 @@ fn append_escaped(alloc: Global, out: &mut Vec<u8>, text: &[u8]) -> Result<(), N
     Ok(())
 }
 
-/// Appends an address as four numbers and a port.
-pub fn append_address(out: &mut Vec<u8>, address: &Address) -> Result<(), NoMemory>
-    ensures { OnOk result (out.new.items ≡ out.old.items ++ address_text address.now) }
-{
-    let ip = address.ip as u64;
-    append_digits(out, ip / 0x100_0000)?;
-    out.push(b'.')?;
-    append_digits(out, ip / 0x1_0000 % 256)?;
-    out.push(b'.')?;
-    append_digits(out, ip / 256 % 256)?;
-    out.push(b'.')?;
-    append_digits(out, ip % 256)?;
-    out.push(b':')?;
-    append_digits(out, address.port as u64)
-}
-
 /// Appends addresses with commas behind a space, a dash where there are none.
 pub fn append_addresses(out: &mut Vec<u8>, addresses: &[Address]) -> Result<(), NoMemory>
     ensures { OnOk result (out.new.items ≡ out.old.items ++ 32 ∷ addresses_text addresses.now) }
@@ -86,10 +70,10 @@ pub fn append_addresses(out: &mut Vec<u8>, addresses: &[Address]) -> Result<(), 
         return append_word(out, b"-");
     };
     out.push(b' ')?;
-    append_address(out, first)?;
+    first.append_to(out)?;
     for address in rest {
         out.push(b',')?;
-        append_address(out, address)?;
+        address.append_to(out)?;
     }
     Ok(())
 }
@@ -136,7 +120,7 @@ pub fn append_config(
     out: &mut Vec<u8>,
     config: &Option<Octets>,
 ) -> Result<(), NoMemory>
-    ensures { OnOk result (out.new.items ≡ out.old.items ++ 32 ∷ config_text config.now) }
+    ensures { OnOk result (out.new.items ≡ out.old.items ++ 32 ∷ config_hex config.now) }
 {
     match config {
         None => append_word(out, b"-"),

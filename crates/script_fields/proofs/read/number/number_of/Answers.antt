@@ -1,24 +1,17 @@
-use Rattle.std.proofs.Common.{◌≡◌, sym, subst, ap, Ok, ◌∙◌}
-use Rattle.std.specs.Prelude.{decimal, not}
-use Rattle.std.specs.Str.{IsUtf8}
-use Rattle.std.proofs.lemmas.Str.{IsUtf8-from_ascii}
-use Rattle.std.proofs.lemmas.Fmt.{IsAscii-decimal, parse-decimal}
-use Rattle.std.proofs.lemmas.Slice.Eq.{bytes_eq-Decides}
+use Rattle.std.proofs.Common.{◌<◌, ◌^◌, refl, sym, ap, arith, rules, ◌∙◌}
+use Rattle.std.specs.Prelude.{decimal}
 use Rattle.std.proofs.lemmas.Bool.{true≢false}
+use Rattle.script_fields.proofs.NumberLaws.{canonical_decimal, decimal_canonical, large_number}
+use Rattle.script_fields.proofs.TextLaws.{if_none}
 use Rattle.script_fields.proofs.read.number.number_of.Goals as goal
 
-pub returns-in_default-clause-none : goal.returns-in_default-clause-none
-returns-in_default-clause-none c = λ n small e.
-    absurd (c.in_default.ensures.cases.0 (subst IsUtf8 (sym e) (IsUtf8-from_ascii _ (IsAscii-decimal n small))))
+pub returns-then-not-is_canonical-clause-none : goal.returns-then-not-is_canonical-clause-none
+returns-then-not-is_canonical-clause-none c = λ n small e. true≢false (sym (c.if-not-is_canonical.ensures.1 (decimal_canonical c.args.text.now n small e).0))
 
-pub returns-in_default-parse-clause-none : goal.returns-in_default-parse-clause-none
-returns-in_default-parse-clause-none c = λ n small e.
-    let is : c.parse.result ≡ Ok n = parse-decimal 64 n _ c.parse.result small small (c.in-Ok.ensures.cases.0 ∙ e) c.parse.ensures.value.0 in
-    absurd ((cc (is, c.in_default-parse.is)))
+pub returns-in_err-number-clause-none : goal.returns-in_err-number-clause-none
+returns-in_err-number-clause-none c = if_none _ (large_number c.args.text.now (c.if-not-is_canonical.ensures.0 refl) c.in_err-number.ensures.none)
 
-pub returns-then-ne-clause-none : goal.returns-then-ne-clause-none
-returns-then-ne-clause-none c = λ n small e.
-    let is : c.parse.result ≡ Ok n = parse-decimal 64 n _ c.parse.result small small (c.in-Ok.ensures.cases.0 ∙ e) c.parse.ensures.value.0 in
-    let same : c.in-Ok-parse.number ≡ n = (cc (is, c.in-Ok-parse.is)) in
-    let text : c.as_bytes.result.now ≡ c.args.text.now = c.as_bytes.ensures.value ∙ c.format.ensures.text ∙ ap decimal same ∙ sym e in
-    true≢false (c.if-ne.ensures ∙ ap not ((bytes_eq-Decides c.as_bytes.result.now c.args.text.now).1 text))
+pub returns-clause-some : goal.returns-clause-some
+returns-clause-some c =
+    let small : c.in_ok-number.number < 2 ^ 64 = search rules in
+    canonical_decimal c.args.text.now (c.if-not-is_canonical.ensures.0 refl) (omega (arith, small, c.in_ok-number.ensures.some)) ∙ ap decimal c.in_ok-number.ensures.some

@@ -1,6 +1,6 @@
 use Rattle.std.proofs.Common.{arith}
 use Rattle.std.proofs.lemmas.Grind.{common_steps}
-use Rattle.script_fields.proofs.Words.{addresses_parts}
+use Rattle.script_fields.proofs.JoinedLaws.{addresses_parts}
 use Rattle.script_fields.proofs.write.texts.append_addresses.Goals as goal
 
 pub loop-address-init : goal.loop-address-init

@@ -1,6 +1,6 @@
 use Rattle.std.proofs.Common.{arith}
 use Rattle.std.proofs.lemmas.Grind.{common_steps}
-use Rattle.script_fields.proofs.Words.{meta_parts}
+use Rattle.script_fields.proofs.JoinedLaws.{meta_parts}
 use Rattle.script_fields.proofs.write.texts.append_meta.Goals as goal
 
 pub loop-pair-init : goal.loop-pair-init

@@ -1,11 +1,13 @@
 // Reports whose lines are written out by the formats' rules, and sinks that fail.
-use crate::{ReportFault, write_report};
 use attempt_ledger::{CallSeen, Journal, Ledger, LinkSeen, Placed, Row, RowCause, RowEnd, RowKind};
 use gate_io::MemSink;
 use grpc_base::{
-    Address, AddressList, Code, ConfigFault, Conn, EndCause, Entry, Event, Field, Items, JsonFault,
-    Metadata, Moment, NoMemory, Octets, Pushback, Reply, Request, Text,
+    Address, AddressList, BoxedAddresses, Code, ConfigFault, Conn, EndCause, Entry, Event, Field,
+    Items, JsonFault, KindSet, Metadata, Moment, NoMemory, Octets, Pushback, Refusal, Reply,
+    Request, Text,
 };
+use script_text::{ReportFault, write_config, write_report};
+use service_config::read_config;
 use std::alloc::Global;
 use std::test::Fail;
 
@@ -128,7 +130,7 @@ fn push_results(alloc: Global, entries: &mut Items<Entry>) -> Result<(), Fail> {
     let fault = ConfigFault::Json {
         fault: JsonFault::Syntax { at: 17 },
     };
-    let addresses = AddressList::new();
+    let addresses = BoxedAddresses::new(alloc, AddressList::new())?;
     let config = None;
     step(
         entries,
@@ -138,6 +140,7 @@ fn push_results(alloc: Global, entries: &mut Items<Entry>) -> Result<(), Fail> {
     let mut addresses = AddressList::new();
     let _ = addresses.push(LOCAL);
     let _ = addresses.push(OTHER);
+    let addresses = BoxedAddresses::new(alloc, addresses)?;
     let config = Some(Octets::of_slice(alloc, b"{}")?);
     let path = Text::of_slice(alloc, b"methodConfig[0].timeout")?;
     let fault = ConfigFault::Field { path };
@@ -162,7 +165,9 @@ fn push_dials(entries: &mut Items<Entry>) -> Result<(), Fail> {
     step(
         entries,
         Event::DialFailed { sub: 2 },
-        Reply::Refused { refusal: 5 },
+        Reply::Refused {
+            refusal: Refusal::NotDialing,
+        },
     )
 }
 
@@ -401,8 +406,37 @@ fn a_write_that_fails_leaves_a_front(rt: HostRuntime) -> Result<(), Fail> {
     ] {
         let mut sink = MemSink::new(alloc, 10, vec![in alloc; failing]?);
         let answer = write_report(alloc, &journal, &ledger, &target, &mut sink);
-        assert_eq!(rt; answer, Err(ReportFault::Write));
-        assert_eq!(rt; sink.taken(), front);
+        assert_eq!(rt; answer, Err(ReportFault::Write), "write {failing}");
+        assert_eq!(rt; sink.taken(), front, "write {failing}");
     }
+    Ok(())
+}
+
+/// A service config, and its lines.
+const CONFIG: &[u8] =
+    b"{\"loadBalancingConfig\":[{\"round_robin\":{}}],\"methodConfig\":[{\"name\":[{\"service\":\"a.B\"},{\"service\":\"a.C\",\"method\":\"Get\"}],\"timeout\":\"1.5s\",\"retryPolicy\":{\"maxAttempts\":9,\"initialBackoff\":\"0.1s\",\"maxBackoff\":\"1s\",\"backoffMultiplier\":2,\"retryableStatusCodes\":[\"UNAVAILABLE\"]}}],\"retryThrottling\":{\"maxTokens\":10,\"tokenRatio\":0.5466}}";
+
+const CONFIG_LINES: &[u8] = b"policy round_robin
+throttle 10000 546
+method a.B/* - 1500000000 - - retry 5 100000000 1000000000 2000 14
+method a.C/Get - 1500000000 - - retry 5 100000000 1000000000 2000 14
+end 2
+";
+
+#[test]
+fn a_config_is_written_whole(rt: HostRuntime) -> Result<(), Fail> {
+    let alloc = rt.alloc();
+    let config = read_config(alloc, CONFIG, KindSet::all())
+        .ok()
+        .ok_or("a valid config")?;
+    let mut sink = MemSink::new(alloc, usize::MAX, Vec::new(alloc));
+    assert_eq!(rt; write_config(alloc, &config, &mut sink), Ok(()));
+    assert_eq!(rt; sink.taken(), CONFIG_LINES);
+    let mut failing = MemSink::new(alloc, 7, vec![in alloc; 2]?);
+    assert_eq!(rt;
+        write_config(alloc, &config, &mut failing),
+        Err(ReportFault::Write)
+    );
+    assert_eq!(rt; failing.taken(), b"policy ".as_slice());
     Ok(())
 }

@@ -2,7 +2,7 @@
 //
 // A row is the cause in two digits, the kind of script, in a small letter where no line feed ends the last line, and the
 // lines with bars between. In them `{T*N}` stands for T so often; a `#` in T is the number of the time, from 0.
-use crate::{BadLine, ScriptKind, ScriptReader};
+use script_lines::{BadLine, ScriptKind, ScriptReader};
 use std::alloc::Global;
 use std::process::Abort;
 use std::test::Fail;
@@ -200,6 +200,9 @@ static CASES: &str = "\
 00Rchannel 1 ipv4:1.2.3.4|0 0 begin /a/b - - k-bin:20,k-bin:ff0a\n\
 00Rchannel 1 ipv4:1.2.3.4|0 0 begin /a/b - - a-bin:{41*10724}\n\
 09Rchannel 1 ipv4:1.2.3.4|0 0 begin /a/b - - a-bin:{41*10725}\n\
+00Rchannel 1 ipv4:1.2.3.4|0 0 begin /a/b - - a:{,a:*432},a:{41*14}\n\
+09Rchannel 1 ipv4:1.2.3.4|0 0 begin /a/b - - a:{,a:*432},a:{41*15}\n\
+09Rchannel 1 ipv4:1.2.3.4|0 0 begin /a/b - - a:{,a:*434}\n\
 09Rchannel 1 ipv4:1.2.3.4|0 0 begin /a/b - - k-bin:0\n\
 09Rchannel 1 ipv4:1.2.3.4|0 0 begin /a/b - - k-bin:FA\n\
 09Rchannel 1 ipv4:1.2.3.4|0 0 begin /a/b - - kK:61\n\
@@ -238,6 +241,7 @@ static CASES: &str = "\
 07Lchannel 1 ipv4:1.2.3.4|call 1 /a/b - - - - x\n\
 01Lconfig 7b7d\n\
 10Lchannel 1 ipv4:\n\
+00Lchannel 1 ipv4:1.2.3.4|config {00000000*16384}\n\
 11Lchannel 1 ipv4:1.2.3.4|config {00000000*16384}00\n\
 00Lchannel 1 ipv4:1.2.3.4|call 1 /a/b - - -{ -*64}\n\
 06Lchannel 1 ipv4:1.2.3.4|call 1 /a/b - - -{ -*65}\n\
@@ -254,7 +258,7 @@ static CASES: &str = "\
 06Lchannel 1 ipv4:1.2.3.4|config 7B x\n\
 07Lchannel 1 ipv4:1.2.3.4|config {00000000*16384}000\n\
 00Sanswer /a.B/C 1 w1,h,m6f6b,s0|answer /a.B/C 2 h,m6f6b,s0|answer /a.B/D 1 g\n\
-00Sanswer /a/b 1 h,m-,p7,s4294967295,g,g\n\
+00Sanswer /a/b 1 h,m,p7,s4294967295,g,g\n\
 00Sanswer /a/b 1 r7,g\n\
 05Schannel 1 ipv4:1.2.3.4\n\
 05S\n\
@@ -277,7 +281,7 @@ static CASES: &str = "\
 04Sanswer /a/b 1 w\n\
 04Sanswer /a/b 1 r4294967296\n\
 07Sanswer /a/b 1 m6,s01\n\
-07Sanswer /a/b 1 m\n\
+07Sanswer /a/b 1 m-\n\
 07Sanswer /a/b 1 mFF\n\
 00Sanswer /a/b 1 p{7*1024},s0\n\
 05Sanswer /a/b 1 p{7*1025},s0\n\

@@ -1,13 +1,14 @@
 -- Joined texts as what a writer appends: the first one, and each other behind the byte.
 use Rattle.std.proofs.Common.{◌≡◌, ℕ, ◌-◌, ◌≤◌, List, [], ◌∷◌, ◌++◌, length, get_or, take, drop, sym, ap, ◌∙◌, arith}
 use Rattle.std.specs.Prelude.{map, flat_map}
+use Rattle.std.specs.List.{join_with_byte}
 use Rattle.std.proofs.lemmas.List.{append-nil, take_all}
 use Rattle.grpc_base.specs.declared.address.Address.{Address}
 use Rattle.grpc_base.specs.declared.fields.Field.{Field}
-use Rattle.script_fields.specs.Spelling.{joined, address_text, addresses_text, pair_text, meta_text}
+use Rattle.script_fields.specs.Spelling.{address_text, addresses_text, pair_text, meta_text}
 
 -- texts made of the values of a list
-pub joined-map : {X : Type 0} (byte : ℕ) (f : X → List ℕ) (x : X) (xs : List X) → joined byte (map f (x ∷ xs)) ≡ f x ++ flat_map (λ y. byte ∷ f y) xs
+pub joined-map : {X : Type 0} (byte : ℕ) (f : X → List ℕ) (x : X) (xs : List X) → join_with_byte byte (map f (x ∷ xs)) ≡ f x ++ flat_map (λ y. byte ∷ f y) xs
 joined-map byte f x [] = sym (append-nil (f x))
 joined-map byte f x (y ∷ ys) = ap (λ t. f x ++ byte ∷ t) (joined-map byte f y ys)
 

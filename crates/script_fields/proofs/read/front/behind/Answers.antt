@@ -1,5 +1,5 @@
 use Rattle.script_fields.proofs.TextLaws.{front_taken, front_not_taken}
-use Rattle.script_fields.proofs.read.cut.behind.Goals as goal
+use Rattle.script_fields.proofs.read.front.behind.Goals as goal
 
 pub returns-clause-some : goal.returns-clause-some
 returns-clause-some c = front_taken (λ r. r.now) c.strip_prefix.result c.args.text.now c.args.head.now c.strip_prefix.ensures.cases
