@@ -15,7 +15,7 @@ use Rattle.grpc_base.specs.Requests.{RequestSeen}
 use Rattle.grpc_status.specs.StatusMaps.{code_of_text}
 use Rattle.h2_frame.specs.Frames.{written}
 use Rattle.channel_core.specs.Core.{ledger_of, run_from}
-use Rattle.channel_core.specs.FirstCall.{first_message_limit}
+use Rattle.channel_core.specs.FirstCall.{first_message_limit, first_dial}
 use Rattle.channel_core.specs.Lawful.{Rises, answer_to, ask_of, beginning_at, beginning_of, begins, call_end_of, commit_of, end_of, entries_where, first_of_call, generation_at, gives_addresses, links_of, name_of, placed_by, state_of}
 use Rattle.channel_core.specs.Steps.{short_request}
 use Rattle.channel_core.specs.Wire.{client_settings, preface, request_text, settings_ack}
@@ -25,7 +25,7 @@ use Rattle.channel_core.proofs.Sessions.{Call, events_of, stamped_all}
 abbrev pub replies : Call → List ℕ → List ((ℕ → Reply) × Conn)
 replies c text =
     (λ m. reply.Done, conn.Connecting)
-    ∷ (λ m. reply.Dial 1 c.address (m + 20000000000), conn.Connecting)
+    ∷ (λ m. reply.Dial 1 c.address (m + first_dial), conn.Connecting)
     ∷ (λ m. reply.Link 1, conn.Connecting)
     ∷ (λ m. reply.Octets (preface ++ written client_settings), conn.Connecting)
     ∷ (λ m. reply.Done, conn.Ready)

@@ -8,7 +8,7 @@ use Rattle.grpc_base.specs.declared.event.Entry.{Entry}
 use Rattle.grpc_base.specs.declared.event.Stamped.{Stamped}
 use Rattle.grpc_base.specs.Requests.{RequestSeen}
 use Rattle.attempt_ledger.specs.declared.ledger.Ledger.{Ledger}
-use Rattle.grpc_meta.specs.RequestFields.{authority_of}
+use Rattle.grpc_base.specs.Addresses.{address_text}
 use Rattle.channel_core.specs.Core.{IsRun, entry_made, ledger_made, ledger_of, no_ledger, run_from}
 use Rattle.channel_core.specs.FirstCall.{AreFirstEvents, first_message_limit, stamped_of}
 use Rattle.channel_core.specs.Lawful.{IsLawful}
@@ -20,10 +20,10 @@ use Rattle.channel_core.proofs.WireLaws.{wire}
 use Rattle.channel_core.specs.Wire.{request_text}
 
 -- the laws of a journal of a call so far
-call_lawful : (authority address : Address) (request : RequestSeen) (message : List ℕ) (first : ℕ) (second : Option ℕ) (stamps : List (ℕ × ℕ)) → length (authority_of authority) ≤ 21 → IsCall (call_with address request message first second) → IsLawful authority (journal_of authority (call_with address request message first second) stamps) (ledger_of (journal_of authority (call_with address request message first second) stamps))
+call_lawful : (authority address : Address) (request : RequestSeen) (message : List ℕ) (first : ℕ) (second : Option ℕ) (stamps : List (ℕ × ℕ)) → length (address_text authority) ≤ 21 → IsCall (call_with address request message first second) → IsLawful authority (journal_of authority (call_with address request message first second) stamps) (ledger_of (journal_of authority (call_with address request message first second) stamps))
 call_lawful n a r m b v stamps short is =
     let c : Call = call_with a r m b v in
-    let message : length m ≤ 16379 = is.message in
+    let message : length m ≤ first_message_limit = is.message in
     record {
       moments = rises 0 (events_of c) (replies c (request_text n r m)) stamps;
       states = states n a r m b v stamps;
@@ -44,11 +44,11 @@ call_lawful n a r m b v stamps short is =
 fits_of : (n : ℕ) → n ≤ first_message_limit → nat_lt first_message_limit n ≡ false
 fits_of n h = grind (arith, nat_tests)
 
-run_lawful : (authority address : Address) (request : RequestSeen) (message : List ℕ) (first : ℕ) (second : Option ℕ) (stamps : List (ℕ × ℕ)) (entries : List Entry) → length (authority_of authority) ≤ 21 → IsCall (call_with address request message first second) → entries ≡ run_from authority [] (stamped_all (events_of (call_with address request message first second)) stamps) → IsLawful authority entries (ledger_of entries)
+run_lawful : (authority address : Address) (request : RequestSeen) (message : List ℕ) (first : ℕ) (second : Option ℕ) (stamps : List (ℕ × ℕ)) (entries : List Entry) → length (address_text authority) ≤ 21 → IsCall (call_with address request message first second) → entries ≡ run_from authority [] (stamped_all (events_of (call_with address request message first second)) stamps) → IsLawful authority entries (ledger_of entries)
 run_lawful n a r m b v stamps entries short is run =
     subst (λ (es : List Entry). IsLawful n es (ledger_of es)) (sym (run ∙ ran n a r m b v stamps (fits_of (length m) is.message))) (call_lawful n a r m b v stamps short is)
 
-by_value : (authority address : Address) (request : RequestSeen) (message value : List ℕ) (stamps : List (ℕ × ℕ)) (entries : List Entry) → length (authority_of authority) ≤ 21 → IsCall (record { address = address; request = request; message = message; value = value }) → entries ≡ run_from authority [] (stamped_all (events_of (record { address = address; request = request; message = message; value = value })) stamps) → IsLawful authority entries (ledger_of entries)
+by_value : (authority address : Address) (request : RequestSeen) (message value : List ℕ) (stamps : List (ℕ × ℕ)) (entries : List Entry) → length (address_text authority) ≤ 21 → IsCall (record { address = address; request = request; message = message; value = value }) → entries ≡ run_from authority [] (stamped_all (events_of (record { address = address; request = request; message = message; value = value })) stamps) → IsLawful authority entries (ledger_of entries)
 by_value n a r m [] stamps entries short is run = let front : 1 ≤ 0 = is.value_front in absurd (omega arith)
 by_value n a r m (b ∷ []) stamps entries short is run = run_lawful n a r m b None stamps entries short is run
 by_value n a r m (b ∷ w ∷ []) stamps entries short is run = run_lawful n a r m b (Some w) stamps entries short is run
@@ -97,7 +97,7 @@ run_made authority before reserved now ledger new s run same first journal made 
     (made ∙ ap (λ (es : List Entry). ledger_made es ledger s) same)
 
 -- a new channel has run nothing
-pub run_new : (authority : Address) → length (authority_of authority) ≤ 21 → IsRun authority [] no_ledger
+pub run_new : (authority : Address) → length (address_text authority) ≤ 21 → IsRun authority [] no_ledger
 run_new authority short = record {
   events = [];
   first = λ k s e. absurd (cc);

@@ -8,7 +8,8 @@ use Rattle.grpc_base.specs.declared.fields.Field.{Field}
 use Rattle.grpc_base.specs.Metadata.{meta_limit, meta_size}
 use Rattle.grpc_base.specs.Requests.{RequestSeen}
 use Rattle.attempt_ledger.specs.Journals.{accepted, is_finished}
-use Rattle.grpc_meta.specs.RequestFields.{authority_of, fields_of_request, list_size}
+use Rattle.grpc_base.specs.Addresses.{address_text}
+use Rattle.grpc_meta.specs.RequestFields.{fields_of_request, list_size}
 use Rattle.grpc_meta.proofs.RequestLaws.{list_size-request}
 use Rattle.h2_frame.specs.Frames.{FrameSeen, is_allowed, written}
 use Rattle.h2_frame.specs.Readings.{IsReading, fault_of, frames_of, rest_of}
@@ -18,7 +19,7 @@ use Rattle.h2_hpack.specs.declared.fault.HpackFault.{HpackFault}
 use Rattle.h2_hpack.specs.Encoding.{block_bytes}
 use Rattle.h2_hpack.specs.Tables.{Table, list_size as table_size, new_table}
 use Rattle.h2_hpack.proofs.RoundTrip.{block_reads}
-use Rattle.channel_core.specs.FirstCall.{answer_frame, settings_frame}
+use Rattle.channel_core.specs.FirstCall.{answer_frame, settings_frame, first_message_limit}
 use Rattle.channel_core.specs.Lawful.{SendsPrefix}
 use Rattle.channel_core.specs.Messages.{framed, framed_all}
 use Rattle.channel_core.specs.Sent.{data_sent}
@@ -77,7 +78,7 @@ request_said authority r message =
     ∷ []
 
 -- a header list of a request without metadata fits
-request_fits : (authority : Address) (r : RequestSeen) → length (authority_of authority) ≤ 21 → length r.path ≤ 1024 → r.meta ≡ [] → table_size (fields_of_request r authority None 1) ≤ 16384
+request_fits : (authority : Address) (r : RequestSeen) → length (address_text authority) ≤ 21 → length r.path ≤ 1024 → r.meta ≡ [] → table_size (fields_of_request r authority None 1) ≤ 16384
 request_fits authority r short path meta =
     let none : meta_size r.meta ≤ meta_limit = subst (λ (m : List Field). meta_size m ≤ meta_limit) (sym meta) (lit≤ tt) in
     let fits : list_size (fields_of_request r authority None 1) ≤ 16384 = list_size-request r authority None 1 path none short (lit< tt) in
@@ -85,7 +86,7 @@ request_fits authority r short path meta =
     omega arith
 
 -- the frames of a request
-frames_of_request : (authority : Address) (r : RequestSeen) (message : List ℕ) → length (head_frame authority r).payload ≤ 16384 → length message ≤ 16379 → frames_of (written client_settings ++ written settings_ack ++ (request_text authority r message ++ [])) ≡ client_settings ∷ settings_ack ∷ head_frame authority r ∷ data_frame message ∷ []
+frames_of_request : (authority : Address) (r : RequestSeen) (message : List ℕ) → length (head_frame authority r).payload ≤ 16384 → length message ≤ first_message_limit → frames_of (written client_settings ++ written settings_ack ++ (request_text authority r message ++ [])) ≡ client_settings ∷ settings_ack ∷ head_frame authority r ∷ data_frame message ∷ []
 unfolding request_text
 frames_of_request authority r message head data_ =
     let p : List ℕ = (head_frame authority r).payload in
@@ -103,7 +104,7 @@ frames_of_request authority r message head data_ =
     ∙ ap (λ (fs : List FrameSeen). settings_ack ∷ fs) (ap frames_of regrouped ∙ third))
 
 -- and what they say
-pub said_request : (authority : Address) (r : RequestSeen) (message : List ℕ) → length (authority_of authority) ≤ 21 → length r.path ≤ 1024 → r.meta ≡ [] → length message ≤ 16379 → said_of (written client_settings ++ written settings_ack ++ (request_text authority r message ++ [])) ≡ request_said authority r message
+pub said_request : (authority : Address) (r : RequestSeen) (message : List ℕ) → length (address_text authority) ≤ 21 → length r.path ≤ 1024 → r.meta ≡ [] → length message ≤ first_message_limit → said_of (written client_settings ++ written settings_ack ++ (request_text authority r message ++ [])) ≡ request_said authority r message
 said_request authority r message short path meta data_ =
     let fields : List Field = fields_of_request r authority None 1 in
     let fits : table_size fields ≤ 16384 = request_fits authority r short path meta in

@@ -8,7 +8,7 @@ use Rattle.grpc_base.specs.declared.event.Reply.{Reply}
 use Rattle.grpc_base.specs.declared.event.Stamped.{Stamped}
 use Rattle.attempt_ledger.specs.declared.journal.Journal.{Journal}
 use Rattle.attempt_ledger.specs.declared.ledger.Ledger.{Ledger}
-use Rattle.grpc_meta.specs.RequestFields.{authority_of}
+use Rattle.grpc_base.specs.Addresses.{address_text}
 use Rattle.channel_core.specs.FirstCall.{AreFirstEvents}
 use Rattle.channel_core.specs.Steps.{next_place, reply_to, state_after, told}
 
@@ -66,7 +66,7 @@ pub record IsRun (authority : Address) (entries : List Entry) (ledger : Ledger) 
   pub count : length events ≡ length entries
   pub ran : entries ≡ run_from authority [] events
   pub written : ledger ≡ ledger_of entries
-  pub authority_is : length (authority_of authority) ≤ 21
+  pub authority_is : length (address_text authority) ≤ 21
 
 -- what a step adds to the journal: this event with its word, at the later of its moment and the last step's, and its reply
 pub record Gains (old new : CoreSeen) (s : Stamped) (reply : Reply) : Type 0 where

@@ -47,9 +47,13 @@ pub record IsAddress (a : Address) : Type 0 where
 abbrev pub first_message_limit : ℕ
 first_message_limit = 16379
 
--- moments of the first call lie before the first dial is given up
+-- the first dial is given up 20 s after it began, and not before ("Connection Backoff Protocol", MIN_CONNECT_TIMEOUT)
+abbrev pub first_dial : ℕ
+first_dial = 20000000000
+
+-- moments of the first call lie before the first dial, at moment 0, is given up
 abbrev pub first_moment_limit : ℕ
-first_moment_limit = 20000000000
+first_moment_limit = first_dial
 
 -- how many lines the script of the first call has
 abbrev pub first_lines : ℕ

@@ -31,6 +31,7 @@ use Rattle.attempt_ledger.specs.declared.row.RowKind.TheVariants as row_kind
 use Rattle.attempt_ledger.specs.Journals.{accepted, is_finished, received, request_of, sent}
 use Rattle.grpc_meta.specs.RequestFields.{fields_of_request}
 use Rattle.h2_frame.specs.Readings.{rest_of}
+use Rattle.channel_core.specs.FirstCall.{first_dial}
 use Rattle.channel_core.specs.Delivery.{committed_row, next_item, response_after}
 use Rattle.channel_core.specs.Messages.{framed_all}
 use Rattle.channel_core.specs.Response.{Response}
@@ -218,7 +219,7 @@ address_of _ = None
 -- a dial of the one subchannel may last 20 s ("Connection Backoff Protocol", MIN_CONNECT_TIMEOUT)
 abbrev pub dial_of : Option Address → ℕ → Reply
 dial_of None moment = reply.NotYet
-dial_of (Some a) moment = reply.Dial 1 a (moment + 20000000000)
+dial_of (Some a) moment = reply.Dial 1 a (moment + first_dial)
 
 -- what the entry of this number replies
 abbrev pub answer_to : Address → List Entry → Ledger → ℕ → ℕ → Event → Reply

@@ -14,9 +14,8 @@ use Rattle.attempt_ledger.specs.declared.row.RowCause.{RowCause}
 use Rattle.attempt_ledger.specs.declared.row.RowCause.TheVariants as cause
 use Rattle.grpc_meta.specs.ResponseFields.{pushback_of, shown_of, values_of}
 use Rattle.grpc_status.specs.StatusMaps.{code_of_text, http_codes, looked_up, reset_codes, text_of_message}
-use Rattle.h2_frame.specs.declared.kinds.TheConstants.{DATA, GOAWAY, RST_STREAM, WINDOW_UPDATE}
-use Rattle.h2_frame.specs.declared.flags.TheConstants.{END_STREAM}
-use Rattle.h2_frame.specs.declared.error_codes.TheConstants.{REFUSED_STREAM}
+use Rattle.h2_frame.specs.Numbers.{data_type, goaway_type, rst_stream_type, window_update_type, end_stream_flag}
+use Rattle.grpc_base.specs.ErrorCodes.{refused_stream}
 use Rattle.h2_frame.specs.Frames.{has_flag}
 use Rattle.channel_core.specs.Messages.{Flaw, BadFlag, messages_of}
 use Rattle.channel_core.specs.Said.{FrameAt, HeaderList, Said, Headers, Other, content_of, said_of}
@@ -143,26 +142,26 @@ with_data limit r a =
     let bytes = r.data_ ++ content_of a.frame in
     if is_none r.head then record r { end = Some (bare_end code.Internal cause.Framing false a.end) }
     else if has_bad_flag (messages_of limit bytes).flaw then record r { data_ = bytes; end = Some (bare_end code.Internal cause.Framing false a.end) }
-    else if has_flag a.frame.flags END_STREAM then record r { data_ = bytes; end = Some (bare_end code.Unknown cause.Http false a.end) }
+    else if has_flag a.frame.flags end_stream_flag then record r { data_ = bytes; end = Some (bare_end code.Unknown cause.Http false a.end) }
     else record r { data_ = bytes }
 
 -- a frame of the stream
 abbrev pub with_own_frame : ℕ → Response → FrameAt → Response
 with_own_frame limit r a =
-    if a.frame.kind == DATA then with_data limit r a
-    else if a.frame.kind == RST_STREAM then
+    if a.frame.kind == data_type then with_data limit r a
+    else if a.frame.kind == rst_stream_type then
     record r {
       end = Some (bare_end (looked_up reset_codes (number_at 0 a.frame.payload)) cause.Reset
-          ((number_at 0 a.frame.payload == REFUSED_STREAM) && is_none r.head) a.end);
+          ((number_at 0 a.frame.payload == refused_stream) && is_none r.head) a.end);
     }
-    else if (a.frame.kind == WINDOW_UPDATE) && (number_at 0 a.frame.payload % 2147483648 == 0) then
+    else if (a.frame.kind == window_update_type) && (number_at 0 a.frame.payload % 2147483648 == 0) then
     record r { end = Some (bare_end code.Internal cause.Framing false a.end) }
     else r
 
 -- a frame that is no part of a header block: one of the stream, or a GOAWAY that leaves the stream out
 abbrev pub with_frame : ℕ → ℕ → Response → FrameAt → Response
 with_frame limit stream r a =
-    if (a.frame.kind == GOAWAY) && nat_lt (number_at 0 a.frame.payload % 2147483648) stream then
+    if (a.frame.kind == goaway_type) && nat_lt (number_at 0 a.frame.payload % 2147483648) stream then
     record r { end = Some (bare_end code.Unavailable cause.Goaway true a.end) }
     else if a.frame.stream == stream then with_own_frame limit r a
     else r

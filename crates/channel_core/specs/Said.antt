@@ -2,8 +2,7 @@
 -- (RFC 9113, sections 4.1, 4.3 and 6; RFC 7541).
 use Rattle.std.specs.Prelude.{ℕ, ◌+◌, ◌-◌, Bool, false, ◌&&◌, not, Option, Some, None, List, [], ◌∷◌, ◌++◌, ◌==◌, length, take, drop, slice_index_or, if◌then◌else◌, Ok, Err}
 use Rattle.grpc_base.specs.declared.fields.Field.{Field}
-use Rattle.h2_frame.specs.declared.kinds.TheConstants.{HEADERS, SETTINGS}
-use Rattle.h2_frame.specs.declared.flags.TheConstants.{ACK, END_HEADERS, END_STREAM}
+use Rattle.h2_frame.specs.Numbers.{headers_type, settings_type, ack_flag, end_headers_flag, end_stream_flag}
 use Rattle.h2_frame.specs.Frames.{FrameSeen, fields_size, has_flag, is_padded}
 use Rattle.h2_frame.specs.Readings.{frames_of}
 use Rattle.h2_hpack.specs.Blocks.{State, decoded}
@@ -41,8 +40,8 @@ pub record Block : Type 0 where
 -- the block of which a frame is a part, where a block is open or the frame begins one
 abbrev pub block_with : Option Block → FrameAt → Option Block
 block_with None a =
-    if a.frame.kind == HEADERS then
-    Some (record { stream = a.frame.stream; ends = has_flag a.frame.flags END_STREAM; bytes = content_of a.frame; end = a.end })
+    if a.frame.kind == headers_type then
+    Some (record { stream = a.frame.stream; ends = has_flag a.frame.flags end_stream_flag; bytes = content_of a.frame; end = a.end })
     else None
 block_with (Some b) a = Some (record b { bytes = b.bytes ++ a.frame.payload; end = a.end })
 
@@ -65,7 +64,7 @@ said_from state open_ [] = []
 said_from state open_ (a ∷ frames) =
     elim (block_with open_ a) [
       | None ↦ Other a ∷ said_from state None frames
-      | Some b ↦ (if has_flag a.frame.flags END_HEADERS then (elim (decoded state b.bytes) [
+      | Some b ↦ (if has_flag a.frame.flags end_headers_flag then (elim (decoded state b.bytes) [
         | Err e ↦ []
         | Ok r ↦ Headers (record { stream = b.stream; ends = b.ends; fields = r.fields; end = b.end }) ∷ said_from (Ok r.table) None frames
       ])
@@ -79,4 +78,4 @@ said_of bytes = said_from (Ok new_table) None (frames_at 0 (frames_of bytes))
 -- whether this is a side's SETTINGS, and not the acknowledgement of the other side's (section 6.5)
 abbrev pub is_settings : Said → Bool
 is_settings (Headers h) = false
-is_settings (Other a) = (a.frame.kind == SETTINGS) && not (has_flag a.frame.flags ACK)
+is_settings (Other a) = (a.frame.kind == settings_type) && not (has_flag a.frame.flags ack_flag)

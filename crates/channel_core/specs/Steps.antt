@@ -25,7 +25,7 @@ use Rattle.attempt_ledger.specs.declared.row.RowEnd.{RowEnd}
 use Rattle.attempt_ledger.specs.declared.row.RowKind.TheVariants as row_kind
 use Rattle.attempt_ledger.specs.declared.row.RowCause.TheVariants as row_cause
 use Rattle.grpc_status.specs.StatusMaps.{code_of_text}
-use Rattle.channel_core.specs.FirstCall.{first_message_limit}
+use Rattle.channel_core.specs.FirstCall.{first_dial, first_message_limit}
 use Rattle.channel_core.specs.Wire.{client_settings, preface, request_text, settings_ack}
 use Rattle.h2_frame.specs.Frames.{written as written_frame}
 
@@ -62,10 +62,6 @@ is_settings piece = slice_index_or piece 3 0 == 4
 abbrev pub is_settings_arrival : Event → Bool
 is_settings_arrival (event.Arrived link piece) = is_settings piece
 is_settings_arrival _ = false
-
--- the first dial is given up 20 s after it began, and not before ("Connection Backoff Protocol", MIN_CONNECT_TIMEOUT)
-abbrev pub dial_least : ℕ
-dial_least = 20000000000
 
 -- what a reply gives to be written on a link
 abbrev pub drained_in : Reply → List ℕ
@@ -232,7 +228,7 @@ last_end rows = first_of (λ r. r.ended) rows
 -- the dial of the one subchannel, once its address is known
 abbrev pub dial_reply : Option Address → ℕ → Reply
 dial_reply None moment = reply.NotYet
-dial_reply (Some a) moment = reply.Dial 1 a (moment + dial_least)
+dial_reply (Some a) moment = reply.Dial 1 a (moment + first_dial)
 
 -- the end of the call, once its attempt ended
 abbrev pub end_reply : Option RowEnd → Reply

@@ -6,8 +6,7 @@ use Rattle.grpc_base.specs.declared.event.Entry.{Entry}
 use Rattle.grpc_base.specs.Requests.{RequestSeen}
 use Rattle.attempt_ledger.specs.Journals.{accepted, is_finished, received, request_of}
 use Rattle.grpc_meta.specs.RequestFields.{fields_of_request}
-use Rattle.h2_frame.specs.declared.kinds.TheConstants.{DATA, HEADERS, SETTINGS}
-use Rattle.h2_frame.specs.declared.flags.TheConstants.{ACK, END_HEADERS, END_STREAM}
+use Rattle.h2_frame.specs.Numbers.{data_type, headers_type, settings_type, ack_flag, end_headers_flag, end_stream_flag}
 use Rattle.h2_frame.specs.Frames.{FrameSeen, written}
 use Rattle.h2_hpack.specs.Encoding.{block_bytes}
 use Rattle.channel_core.specs.Messages.{framed}
@@ -19,24 +18,24 @@ preface = 80 ∷ 82 ∷ 73 ∷ 32 ∷ 42 ∷ 32 ∷ 72 ∷ 84 ∷ 84 ∷ 80 ∷ 
 
 -- the client's SETTINGS: ENABLE_PUSH 0 and MAX_HEADER_LIST_SIZE 16384
 abbrev pub client_settings : FrameSeen
-client_settings = record { kind = SETTINGS; flags = 0; stream = 0; payload = 0 ∷ 2 ∷ 0 ∷ 0 ∷ 0 ∷ 0 ∷ 0 ∷ 6 ∷ 0 ∷ 0 ∷ 64 ∷ 0 ∷ [] }
+client_settings = record { kind = settings_type; flags = 0; stream = 0; payload = 0 ∷ 2 ∷ 0 ∷ 0 ∷ 0 ∷ 0 ∷ 0 ∷ 6 ∷ 0 ∷ 0 ∷ 64 ∷ 0 ∷ [] }
 
 -- the acknowledgement of SETTINGS
 abbrev pub settings_ack : FrameSeen
-settings_ack = record { kind = SETTINGS; flags = ACK; stream = 0; payload = [] }
+settings_ack = record { kind = settings_type; flags = ack_flag; stream = 0; payload = [] }
 
 -- the head of a first attempt's request on stream 1
 abbrev pub head_frame : Address → RequestSeen → FrameSeen
 head_frame authority r = record {
-  kind = HEADERS;
-  flags = END_HEADERS;
+  kind = headers_type;
+  flags = end_headers_flag;
   stream = 1;
   payload = block_bytes (fields_of_request r authority None 1);
 }
 
 -- its one message, which completes it
 abbrev pub data_frame : List ℕ → FrameSeen
-data_frame message = record { kind = DATA; flags = END_STREAM; stream = 1; payload = framed message }
+data_frame message = record { kind = data_type; flags = end_stream_flag; stream = 1; payload = framed message }
 
 -- the bytes of the two
 unfoldable pub request_text : Address → RequestSeen → List ℕ → List ℕ

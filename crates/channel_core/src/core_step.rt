@@ -4,7 +4,7 @@ ghost use Rattle.channel_core.specs.FirstCall.{AreFirstEvents, StandsAt, stamped
 ghost use Rattle.channel_core.specs.Core.{Gains, IsNew, entry_made, ledger_made};
 ghost use Rattle.channel_core.specs.Lawful.{IsLawful};
 ghost use Rattle.channel_core.specs.Steps.{next_place};
-ghost use Rattle.grpc_meta.specs.RequestFields.{authority_of};
+ghost use Rattle.grpc_base.specs.Addresses.{address_text};
 
 use crate::heard::{state, step_moment};
 use crate::record::write;
@@ -123,7 +123,7 @@ impl ChannelCore {
 /// An address of these parts. Its text is short, which bounds each request's header list.
 fn address_of(ip: u32, port: u16) -> Address
     ensures same { result ≡ record { ip = ip; port = port } }
-    ensures short { length (authority_of result) ≤ 21 }
+    ensures short { length (address_text result) ≤ 21 }
 {
     Address { ip, port }
 }
@@ -147,7 +147,7 @@ fn apply(
     let moment = step_moment(before, stamped.moment);
     let state = state(before, &stamped.event);
     let reply = reply(alloc, authority, before, ledger, moment, &stamped.event)?;
-    let kept = reply.copy(alloc)?;
+    let kept = reply.copy()?;
     write(alloc, ledger, number, moment, &stamped.event)?;
     entries.push(Entry {
         moment,

@@ -28,7 +28,7 @@ fn first_address(event: &Event) -> Option<Address>
         Event::Resolved {
             addresses,
             config: _,
-        } => addresses.as_slice().first().copied(),
+        } => addresses.as_list().as_slice().first().copied(),
         _ => None,
     }
 }

@@ -3,6 +3,7 @@
 
 mod answer;
 mod core_step;
+pub mod first_call;
 mod heard;
 mod record;
 mod replies;

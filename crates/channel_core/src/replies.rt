@@ -3,6 +3,7 @@ ghost use Rattle.std.specs.Prelude.{◌≡◌, ◌++◌, ℕ, length, drop, IfOk
 ghost use Rattle.channel_core.specs.FirstCall.{StandsAt};
 ghost use Rattle.channel_core.specs.Steps.{ack_so_far, address_in, dial_reply, drained_in, end_reply, first_of, last_end, next_number, reply_to, request_so_far, short_request, all_to_send, drained};
 
+use crate::first_call::{FIRST_DIAL, MESSAGE_BYTES};
 use crate::heard::{
     begun_request, ended_row, is_finished, is_ready, resolved_address, sent_message,
 };
@@ -11,12 +12,6 @@ use attempt_ledger::{Ledger, Row};
 use bytes::BytesMut;
 use grpc_base::{Address, EndCause, Entry, Event, Moment, NoMemory, Octets, Reply, Request};
 use std::alloc::Global;
-
-/// The first dial is given up so many nanoseconds after it began, and not before.
-const DIAL_LEAST: u64 = 20_000_000_000;
-
-/// A message of this length and its five bytes of framing fill one DATA frame.
-const LONGEST_MESSAGE: usize = 16_379;
 
 /// What is replied to an event, before its step wrote anything.
 pub fn reply(
@@ -42,7 +37,7 @@ pub fn reply(
             let octets = unsent(alloc, authority, before)?;
             Ok(Reply::Octets { octets })
         }
-        Event::Take { call: _ } => end(alloc, ledger.rows.as_slice()),
+        Event::Take { call: _ } => end(ledger.rows.as_slice()),
         Event::Resolved {
             addresses: _,
             config: _,
@@ -76,21 +71,21 @@ fn dial(before: &[Entry], moment: Moment) -> Reply
         Some(address) => Reply::Dial {
             sub: 1,
             address,
-            until: moment.nanos() + DIAL_LEAST,
+            until: moment.nanos() + FIRST_DIAL,
         },
         None => Reply::NotYet,
     }
 }
 
 /// The end of the call, where its attempt ended.
-fn end(alloc: Global, rows: &[Row]) -> Result<Reply, NoMemory>
+fn end(rows: &[Row]) -> Result<Reply, NoMemory>
     ensures { IfOk result (λ r. r ≡ end_reply (last_end rows.now)) }
 {
     let Some(end) = ended_row(rows) else {
         return Ok(Reply::NotYet);
     };
     let text = end.text.copy()?;
-    let meta = end.meta.copy(alloc)?;
+    let meta = end.meta.copy()?;
     Ok(Reply::End {
         code: end.code,
         text,
@@ -177,7 +172,7 @@ fn append_short_request(
 ) -> Result<(), NoMemory>
     ensures { OnOk result (text.new.items ≡ text.old.items ++ short_request authority request.now message.now) }
 {
-    if message.len() > LONGEST_MESSAGE {
+    if message.len() > MESSAGE_BYTES {
         return Ok(());
     }
     append_request(alloc, text, authority, request, message)

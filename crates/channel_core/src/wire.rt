@@ -1,6 +1,7 @@
 // What the client sends for one call.
 ghost use Rattle.std.specs.Prelude.{◌≡◌, ◌≤◌, ◌++◌, OnOk, IfOk, length};
 ghost use Rattle.h2_frame.specs.Frames.{written};
+ghost use Rattle.channel_core.specs.FirstCall.{first_message_limit};
 ghost use Rattle.channel_core.specs.Messages.{framed};
 ghost use Rattle.channel_core.specs.Wire.{client_settings, data_frame, head_frame, preface, request_text, settings_ack};
 
@@ -53,7 +54,7 @@ pub fn append_request(
     request: &Request,
     message: &[u8],
 ) -> Result<(), NoMemory>
-    requires fits { length message.now ≤ 16379 }
+    requires fits { length message.now ≤ first_message_limit }
     ensures { OnOk result (out.new.items ≡ out.old.items ++ request_text authority request.now message.now) }
 {
     append_head(alloc, out, authority, request)?;
@@ -83,7 +84,7 @@ fn append_head(
 
 /// Appends the message of the request.
 fn append_data(alloc: Global, out: &mut BytesMut, message: &[u8]) -> Result<(), NoMemory>
-    requires fits { length message.now ≤ 16379 }
+    requires fits { length message.now ≤ first_message_limit }
     ensures { OnOk result (out.new.items ≡ out.old.items ++ written (data_frame message.now)) }
 {
     let payload = framed_message(alloc, message)?;
@@ -98,7 +99,7 @@ fn append_data(alloc: Global, out: &mut BytesMut, message: &[u8]) -> Result<(), 
 
 /// A message behind its flag and its length (gRPC over HTTP/2, "Length-Prefixed-Message").
 fn framed_message(alloc: Global, message: &[u8]) -> Result<BytesMut, NoMemory>
-    requires fits { length message.now ≤ 16379 }
+    requires fits { length message.now ≤ first_message_limit }
     ensures { IfOk result (λ t. t.items ≡ framed message.now) }
 {
     let mut data = BytesMut::with_capacity(alloc, message.len() + 5)?;

@@ -8,14 +8,15 @@ use Rattle.grpc_base.specs.Limits.{moment_limit}
 use Rattle.attempt_ledger.specs.declared.journal.Journal.{Journal}
 use Rattle.attempt_ledger.specs.declared.ledger.Ledger.{Ledger}
 use Rattle.attempt_ledger.specs.Journals.{stamped_of}
-use Rattle.script_fields.specs.Spelling.{fields, parted}
+use Rattle.grpc_base.specs.Pieces.{pieces}
+use Rattle.script_fields.specs.Spelling.{fields}
 use Rattle.script_lines.specs.declared.line.ScriptLine.TheVariants as line
 use Rattle.script_lines.specs.Lines.{IsStampedText}
 use Rattle.script_input.specs.Reading.{ReadsScript}
 use Rattle.script_input.specs.Scripts.{AreLines, IsOnlyScript, IsScript, script_reads}
 use Rattle.script_input.proofs.ScriptLaws.{AreMoved, script_again}
 use Rattle.channel_top.specs.Shape.{IsFirstCall, target_text}
-use Rattle.channel_top.specs.Top.{IsDone, IsScriptAgain, IsSession, WritesSession, highest_so_far}
+use Rattle.channel_top.specs.Top.{IsDone, IsReport, IsScriptAgain, IsSession, highest_so_far}
 
 moment_within : (texts : List (List ℕ)) (s : Stamped) → IsStampedText texts s → s.moment ≤ moment_limit
 moment_within (moment ∷ (word ∷ others)) s t = t.0.0
@@ -53,23 +54,23 @@ session_again input target addresses authority events journal ledger script sess
     short
 
 -- a script has a line
-some_input : (target : List ℕ) (addresses : List Address) (events : List Stamped) (texts : List (List ℕ)) → parted 10 [] ≡ texts ++ [] ∷ [] → AreLines 1 texts (script_reads target addresses events) → ⊥
+some_input : (target : List ℕ) (addresses : List Address) (events : List Stamped) (texts : List (List ℕ)) → pieces 10 [] ≡ texts ++ [] ∷ [] → AreLines 1 texts (script_reads target addresses events) → ⊥
 some_input target addresses events [] e t = t
 some_input target addresses events (text ∷ []) e t = (let bad : ◌≡◌ {A = List (List ℕ)} [] ([] ∷ []) = (cc) in absurd ((cc)))
 some_input target addresses events (text ∷ (next ∷ texts)) e t = (let bad : [] ≡ next ∷ (texts ++ [] ∷ []) = (cc) in absurd ((cc)))
 
--- the script of the first call was read and its report written
-pub report_done : (left left' taken taken' : Option (List ℕ)) (target : List ℕ) (addresses : List Address) (events own : List Stamped) (authority : Address) → ReadsScript left left' target addresses events → IsFirstCall target events authority → own ≡ events → WritesSession authority own taken taken' → IsDone left left' taken taken'
-report_done left left' taken taken' target addresses events own authority read first same written =
+-- the script of the first call was read, and this is its report
+pub report_done : (left left' : Option (List ℕ)) (target : List ℕ) (addresses : List Address) (events own : List Stamped) (authority : Address) (text : List ℕ) → ReadsScript left left' target addresses events → IsFirstCall target events authority → own ≡ events → IsReport authority own text → IsDone left left' text
+report_done left left' target addresses events own authority text read first same report_own =
     let input : List ℕ = read.input in
     let script : IsScript input (target_text authority) addresses events = subst (λ (t : List ℕ). IsScript input t addresses events) first.target_is read.script in
-    let report : WritesSession authority events taken taken' = subst (λ (es : List Stamped). WritesSession authority es taken taken') same written in
+    let report : IsReport authority events text = subst (λ (es : List Stamped). IsReport authority es text) same report_own in
     record {
       input = input;
       read = read.read;
       at_end = read.at_end;
       done = inr (
-        (λ none. some_input target addresses events read.script.texts (ap (parted 10) (sym none) ∙ read.script.parts) read.script.lines),
+        (λ none. some_input target addresses events read.script.texts (ap (pieces 10) (sym none) ∙ read.script.parts) read.script.lines),
         record {
           authority = authority;
           addresses = addresses;

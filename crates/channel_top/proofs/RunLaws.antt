@@ -1,7 +1,5 @@
 -- A session, event by event: its events stay the first of the script, and its journal has those that were given so far.
 use Rattle.std.proofs.Common.{◌≡◌, ◌<◌, ℕ, ◌+◌, ◌-◌, Option, Some, None, List, [], ◌∷◌, ◌++◌, map, length, length-append, refl, ap, ◌∙◌, sym, subst, slice_get, arith, append_assoc, append-nil, option_map, false, Bool}
-use Rattle.std.specs.Prelude.{Err, OnOk, Ok, Result, is_err}
-use Rattle.gate_io.specs.Outside.{Appends}
 use Rattle.attempt_ledger.specs.declared.journal.Journal.{Journal}
 use Rattle.attempt_ledger.specs.declared.ledger.Ledger.{Ledger}
 use Rattle.std.specs.Option.{option_map_or}
@@ -19,7 +17,7 @@ use Rattle.channel_core.specs.Lawful.{IsLawful}
 use Rattle.script_text.specs.Report.{report_of}
 use Rattle.channel_top.specs.Runs.{HasRun}
 use Rattle.channel_top.specs.Shape.{target_text}
-use Rattle.channel_top.specs.Top.{WritesSession, highest_so_far}
+use Rattle.channel_top.specs.Top.{IsReport, highest_so_far}
 
 -- the newest of the first events, with those before it
 pub AreFirstEvents-front : (xs ys : List Stamped) (s : Stamped) → AreFirstEvents (xs ++ s ∷ ys) → AreFirstEvents (xs ++ s ∷ [])
@@ -142,14 +140,9 @@ IsRunning-done authority all core left running none =
       moments_are = sym (append-nil (map (λ x. x.moment) core.journal.entries)) ∙ end.moments;
     }
 
--- what holds of a run holds where it gave no fault
-pub on_ok : {P : Type 0} {X E : Type 0} → (r : Result X E) (failed : Bool) → failed ≡ is_err r → failed ≡ false → OnOk r P → P
-on_ok (Ok x) failed is passed holds = holds
-on_ok (Err x) failed is passed holds = absurd (cc)
-
 -- the report of a channel that has run these events is that of their session
-pub session_written : (authority other : Address) (target : List ℕ) (events : List Stamped) (core : CoreSeen) (journal : Journal) (ledger : Ledger) (taken taken' : Option (List ℕ)) → other ≡ authority → HasRun other events core → journal ≡ core.journal → ledger ≡ core.ledger → (core.spent ≡ false → IsLawful core.authority core.journal.entries ledger) → target ≡ target_text authority → Appends taken taken' (report_of target journal ledger) → WritesSession authority events taken taken'
-session_written authority other target events core journal ledger taken taken' is run j l lawful same written =
+pub session_report : (authority other : Address) (target : List ℕ) (events : List Stamped) (core : CoreSeen) (journal : Journal) (ledger : Ledger) → other ≡ authority → HasRun other events core → journal ≡ core.journal → ledger ≡ core.ledger → (core.spent ≡ false → IsLawful core.authority core.journal.entries ledger) → target ≡ target_text authority → IsReport authority events (report_of target journal ledger)
+session_report authority other target events core journal ledger is run j l lawful same =
     let laws : IsLawful authority journal.entries ledger =
     subst (λ (x : Journal). IsLawful authority x.entries ledger) (sym j)
     (subst (λ (a : Address). IsLawful a core.journal.entries ledger) (run.authority_is ∙ is) (lawful run.unspent)) in
@@ -162,5 +155,5 @@ session_written authority other target events core journal ledger taken taken' i
         moments_are = ap (λ (x : Journal). map (λ e. e.moment) x.entries) j ∙ run.moments_are;
         lawful = laws;
       };
-      written = subst (λ (t : List ℕ). Appends taken taken' (report_of t journal ledger)) same written;
+      text_is = ap (λ (t : List ℕ). report_of t journal ledger) same;
     }

@@ -5,3 +5,4 @@ pub mod Runs
 pub mod Shape
 pub mod Top
 pub mod Words
+pub mod Writing

@@ -1,46 +1,55 @@
 -- What the program reads and writes for the words that it is given, by its status.
-use Rattle.std.specs.Prelude.{◌≡◌, ◌⊎◌, ℕ, Option, List}
-use Rattle.gate_io.specs.Outside.{Appends}
-use Rattle.channel_top.specs.Top.{IsDone, StopsAtRead, TellsBadLine, TellsWords}
-use Rattle.channel_top.specs.ConfigMode.{IsConfigDone, StopsInConfig, TellsConfigFault}
+use Rattle.std.specs.Prelude.{◌≡◌, ◌⊎◌, ℕ, Option, List, [], ◌∷◌, ◌++◌, codes}
+use Rattle.grpc_base.specs.Kinds.{KindsSeen}
+use Rattle.channel_top.specs.Top.{IsDone, IsReplayText, StopsAtRead, TellsBadLine}
+use Rattle.channel_top.specs.ConfigMode.{IsConfigDone, IsConfigText, StopsInConfig, TellsConfigFault}
 use Rattle.channel_top.specs.Words.{AreWrong, AskForText, Runs}
 use Rattle.channel_top.specs.declared.words.Mode.{Mode}
 use Rattle.channel_top.specs.declared.words.Mode.TheVariants as mode
 
--- a mode is done
-abbrev pub IsDoneIn : Mode → Option (List ℕ) → Option (List ℕ) → Option (List ℕ) → Option (List ℕ) → Type 0
-IsDoneIn mode.Replay left left' taken taken' = IsDone left left' taken taken'
-IsDoneIn mode.Config left left' taken taken' = IsConfigDone left left' taken taken'
+-- a mode is done, and this is its text, where these kinds of policy are supported
+abbrev pub IsDoneIn : KindsSeen → Mode → Option (List ℕ) → Option (List ℕ) → List ℕ → Type 0
+IsDoneIn kinds mode.Replay left left' text = IsDone left left' text
+IsDoneIn kinds mode.Config left left' text = IsConfigDone kinds left left' text
 
--- a mode told the fault of its input
-abbrev pub TellsFaultIn : Mode → Option (List ℕ) → Option (List ℕ) → Option (List ℕ) → Option (List ℕ) → Type 0
-TellsFaultIn mode.Replay left left' taken taken' = TellsBadLine left left' taken taken'
-TellsFaultIn mode.Config left left' taken taken' = TellsConfigFault left left' taken taken'
+-- this text of a mode tells the fault of its input
+abbrev pub TellsFaultIn : KindsSeen → Mode → Option (List ℕ) → Option (List ℕ) → List ℕ → Type 0
+TellsFaultIn kinds mode.Replay left left' text = TellsBadLine left left' text
+TellsFaultIn kinds mode.Config left left' text = TellsConfigFault kinds left left' text
 
 -- a read failed in a mode
 abbrev pub StopsIn : Mode → Option (List ℕ) → Option (List ℕ) → Option (List ℕ) → Option (List ℕ) → ℕ → ℕ → Type 0
 StopsIn mode.Replay left left' taken taken' faults faults' = StopsAtRead left left' taken taken' faults faults'
 StopsIn mode.Config left left' taken taken' faults faults' = StopsInConfig left left' taken taken' faults faults'
 
--- a text was written, and nothing was read
-pub record PrintsText (left left' taken taken' : Option (List ℕ)) : Type 0 where
-  pub text : List ℕ
-  pub read : left' ≡ left
-  pub written : Appends taken taken' text
+-- the output of a mode, by what it read
+abbrev pub IsOutputIn : KindsSeen → Mode → Option (List ℕ) → Option (List ℕ) → List ℕ → Type 0
+IsOutputIn kinds mode.Replay left left' text = IsReplayText left left' text
+IsOutputIn kinds mode.Config left left' text = IsConfigText kinds left left' text
 
--- status 0: the mode that the words run is done, or the words ask for the text of help or of the version, and one was written
-abbrev pub Finishes : List (List ℕ) → Option (List ℕ) → Option (List ℕ) → Option (List ℕ) → Option (List ℕ) → Type 0
-Finishes words left left' taken taken' =
-    ((m : Mode) × Runs m words × IsDoneIn m left left' taken taken') ⊎ (AskForText words × PrintsText left left' taken taken')
+-- the line that tells wrong words
+abbrev pub words_fault_text : List ℕ
+words_fault_text = codes "fault words" ++ 10 ∷ []
 
--- status 2: the words are wrong, and that was told
-abbrev pub RefusesWords : List (List ℕ) → Option (List ℕ) → Option (List ℕ) → Option (List ℕ) → Option (List ℕ) → Type 0
-RefusesWords words left left' taken taken' = AreWrong words × TellsWords left left' taken taken'
+-- status 0: the mode that the words run is done, and this is its text; or the words ask for the text of help or of the version, and
+-- nothing is read
+abbrev pub Finishes : KindsSeen → List (List ℕ) → Option (List ℕ) → Option (List ℕ) → List ℕ → Type 0
+Finishes kinds words left left' text =
+    ((m : Mode) × Runs m words × IsDoneIn kinds m left left' text) ⊎ (AskForText words × (left' ≡ left))
 
--- status 3: the mode that the words run told the fault of its input
-abbrev pub TellsFault : List (List ℕ) → Option (List ℕ) → Option (List ℕ) → Option (List ℕ) → Option (List ℕ) → Type 0
-TellsFault words left left' taken taken' = (m : Mode) × Runs m words × TellsFaultIn m left left' taken taken'
+-- status 2: the words are wrong, the text tells that, and nothing is read
+abbrev pub RefusesWords : List (List ℕ) → Option (List ℕ) → Option (List ℕ) → List ℕ → Type 0
+RefusesWords words left left' text = AreWrong words × (left' ≡ left) × (text ≡ words_fault_text)
+
+-- status 3: the text tells the fault of the input of the mode that the words run
+abbrev pub TellsFault : KindsSeen → List (List ℕ) → Option (List ℕ) → Option (List ℕ) → List ℕ → Type 0
+TellsFault kinds words left left' text = (m : Mode) × Runs m words × TellsFaultIn kinds m left left' text
 
 -- status 4: a read failed in the mode that the words run
 abbrev pub StopsReading : List (List ℕ) → Option (List ℕ) → Option (List ℕ) → Option (List ℕ) → Option (List ℕ) → ℕ → ℕ → Type 0
 StopsReading words left left' taken taken' faults faults' = (m : Mode) × Runs m words × StopsIn m left left' taken taken' faults faults'
+
+-- the output of the program, by what it read: that of status 0, 2 or 3
+abbrev pub IsOutput : KindsSeen → List (List ℕ) → Option (List ℕ) → Option (List ℕ) → List ℕ → Type 0
+IsOutput kinds words left left' text =
+    Finishes kinds words left left' text ⊎ (RefusesWords words left left' text ⊎ TellsFault kinds words left left' text)

@@ -2,7 +2,7 @@
 use Rattle.std.specs.Prelude.{◌≡◌, ◌≤◌, ◌<◌, ◌⊎◌, ℕ, ◌+◌, ◌-◌, Some, List, ◌++◌, length, codes, slice_get}
 use Rattle.grpc_base.specs.declared.address.Address.{Address}
 use Rattle.grpc_base.specs.declared.event.Stamped.{Stamped}
-use Rattle.script_text.specs.Spelling.{address_text}
+use Rattle.grpc_base.specs.Addresses.{address_text}
 pub use Rattle.channel_core.specs.FirstCall.{AreFirstEvents, IsAddress, IsAnswer, IsBytes, IsStampedAt, StandsAt, answer_frame, first_lines, first_message_limit, first_moment_limit, settings_frame}
 
 -- the target of the first line: one address with its port

@@ -1,22 +1,18 @@
--- What the top call reads, runs and writes, by its status.
+-- What the mode `replay` reads and runs, and the text that it makes of it, by its status.
 use Rattle.std.specs.Prelude.{◌≡◌, ◌≤◌, ◌⊎◌, ℕ, Option, List, [], ◌∷◌, ◌++◌, length, map, max, codes, decimal, All}
 use Rattle.grpc_base.specs.declared.address.Address.{Address}
 use Rattle.grpc_base.specs.declared.event.Stamped.{Stamped}
+use Rattle.grpc_base.specs.Limits.{line_limit}
 use Rattle.attempt_ledger.specs.Journals.{stamped_of}
 use Rattle.attempt_ledger.specs.declared.journal.Journal.{Journal}
 use Rattle.attempt_ledger.specs.declared.ledger.Ledger.{Ledger}
-use Rattle.gate_io.specs.Outside.{Appends, IsAtEnd, Takes}
+use Rattle.gate_io.specs.Outside.{IsAtEnd, Takes}
 use Rattle.channel_core.specs.Lawful.{IsLawful}
 use Rattle.script_input.specs.Reading.{FindsBad, ReadsScript, StopsReading}
 use Rattle.script_input.specs.Scripts.{IsOnlyScript, IsScript}
-use Rattle.script_lines.specs.Lines.{line_bytes}
-use Rattle.script_text.specs.Report.{channel_text, lines_text, report_of}
-use Rattle.script_text.specs.Spelling.{stamped_text}
+use Rattle.script_lines.specs.Spelling.{channel_text, lines_text, stamped_text}
+use Rattle.script_text.specs.Report.{report_of}
 use Rattle.channel_top.specs.Shape.{IsFirstCall, IsFirstOutOfShape, target_text}
-
--- the line that tells wrong words
-abbrev pub words_fault_text : List ℕ
-words_fault_text = codes "fault words" ++ 10 ∷ []
 
 -- the line that tells the first bad line of a script
 abbrev pub line_fault_text : ℕ → ℕ → List ℕ
@@ -42,33 +38,33 @@ script_of target events = lines_text (channel_text target ∷ map stamped_text e
 -- it is read as these events, where none of its lines is too long for a script
 abbrev pub IsScriptAgain : List ℕ → List Address → List Stamped → Type 0
 IsScriptAgain target addresses events =
-    All (λ s. length (stamped_text s) ≤ line_bytes) events → IsScript (script_of target events) target addresses events
+    All (λ s. length (stamped_text s) ≤ line_limit) events → IsScript (script_of target events) target addresses events
 
--- the report of a session was written
-pub record WritesSession (authority : Address) (events : List Stamped) (taken taken' : Option (List ℕ)) : Type 0 where
+-- the text is the report of a session
+pub record IsReport (authority : Address) (events : List Stamped) (text : List ℕ) : Type 0 where
   pub journal : Journal
   pub ledger : Ledger
   pub session : IsSession authority events journal ledger
-  pub written : Appends taken taken' (report_of (target_text authority) journal ledger)
+  pub text_is : text ≡ report_of (target_text authority) journal ledger
 
--- the one script that these bytes spell, of the first call, was read, and the report of its session was written; the report's
--- lines of entries are, up to each ` = `, a script again
-pub record Reports (input : List ℕ) (taken taken' : Option (List ℕ)) : Type 0 where
+-- the bytes spell one script, of the first call, and the text is the report of its session; the report's lines of entries are, up
+-- to each ` = `, a script again
+pub record Reports (input text : List ℕ) : Type 0 where
   pub authority : Address
   pub addresses : List Address
   pub events : List Stamped
   pub script : IsScript input (target_text authority) addresses events
   pub first : IsFirstCall (target_text authority) events authority
   pub only : IsOnlyScript input (target_text authority) addresses events
-  pub report : WritesSession authority events taken taken'
+  pub report : IsReport authority events text
   pub again : IsScriptAgain (target_text authority) addresses (map stamped_of report.journal.entries)
 
--- status 0: the input was read to its end; no bytes give no bytes, and any others are a script whose report was written
-pub record IsDone (left left' taken taken' : Option (List ℕ)) : Type 0 where
+-- status 0: the input was read to its end; no bytes give no text, and any others are a script and give its report
+pub record IsDone (left left' : Option (List ℕ)) (text : List ℕ) : Type 0 where
   pub input : List ℕ
   pub read : Takes left left' input
   pub at_end : IsAtEnd left'
-  pub done : ((input ≡ []) × (taken' ≡ taken)) ⊎ ((input ≡ [] → ⊥) × Reports input taken taken')
+  pub done : ((input ≡ []) × (text ≡ [])) ⊎ ((input ≡ [] → ⊥) × Reports input text)
 
 -- the cause of a line that says something and is not in the shape of the first call
 abbrev pub out_of_shape : ℕ
@@ -82,19 +78,18 @@ pub record FindsOutOfShape (left left' : Option (List ℕ)) (n : ℕ) : Type 0 w
   pub script : ReadsScript left left' target addresses events
   pub first : IsFirstOutOfShape target events n
 
--- status 3: the first bad line was told; of a script that has none, the first line out of shape
-pub record TellsBadLine (left left' taken taken' : Option (List ℕ)) : Type 0 where
+-- status 3: the text tells the first bad line; of a script that has none, the first line out of shape
+pub record TellsBadLine (left left' : Option (List ℕ)) (text : List ℕ) : Type 0 where
   pub line : ℕ
   pub cause : ℕ
   pub bad : FindsBad left left' line cause ⊎ ((cause ≡ out_of_shape) × FindsOutOfShape left left' line)
-  pub written : Appends taken taken' (line_fault_text line cause)
+  pub text_is : text ≡ line_fault_text line cause
+
+-- the output of the mode
+abbrev pub IsReplayText : Option (List ℕ) → Option (List ℕ) → List ℕ → Type 0
+IsReplayText left left' text = IsDone left left' text ⊎ TellsBadLine left left' text
 
 -- status 4: a read failed before the input's end and before its first bad line; nothing was written
 pub record StopsAtRead (left left' taken taken' : Option (List ℕ)) (faults faults' : ℕ) : Type 0 where
   pub stops : StopsReading left left' faults faults'
   pub written : taken' ≡ taken
-
--- status 2: the words are wrong, and nothing was read
-pub record TellsWords (left left' taken taken' : Option (List ℕ)) : Type 0 where
-  pub read : left' ≡ left
-  pub written : Appends taken taken' words_fault_text

@@ -7,9 +7,6 @@ use gate_io::{ReadAnswer, Source};
 use grpc_base::NoMemory;
 use std::alloc::Global;
 
-/// How many bytes of a script are judged.
-pub const JUDGED: usize = 65_536;
-
 /// How reading stopped.
 #[derive(Clone, Copy, Debug, PartialEq, Eq)]
 pub enum Ending {

@@ -1,12 +1,13 @@
 // The mode `replay`.
 ghost use Rattle.std.specs.Prelude.{◌≡◌, ◌⊎◌};
-ghost use Rattle.gate_io.specs.Outside.{Appends, Rises};
-ghost use Rattle.channel_top.specs.Top.{IsDone, StopsAtRead, TellsBadLine, WritesSession, line_fault_text};
+ghost use Rattle.gate_io.specs.Outside.{Appends, AppendsFront, Rises};
+ghost use Rattle.channel_top.specs.Top.{IsDone, IsReplayText, IsReport, StopsAtRead, TellsBadLine, line_fault_text};
 ghost use Rattle.channel_top.specs.Shape.{AreFirstEvents, target_text};
+ghost use Rattle.channel_top.specs.Writing.{WritesAll, WritesFront, WritesSome};
 
 use crate::session::report_session;
 use crate::shape::{FirstCall, first_call};
-use crate::tell::tell_line;
+use crate::tell::{tell_line, unwritten};
 use gate_io::{Sink, Source};
 use script_input::{InputFault, read_replay};
 use std::alloc::Global;
@@ -16,10 +17,11 @@ const OUT_OF_SHAPE: u8 = 13;
 
 /// Reads a script, runs it and writes the report.
 pub fn run_replay<S: Source, K: Sink>(alloc: Global, script: &mut S, report: &mut K) -> u8
-    ensures done { result ≡ 0 → IsDone (S.left script.old) (S.left script.new) (K.taken report.old) (K.taken report.new) }
-    ensures line { result ≡ 3 → TellsBadLine (S.left script.old) (S.left script.new) (K.taken report.old) (K.taken report.new) }
+    ensures done { result ≡ 0 → WritesAll (IsDone (S.left script.old) (S.left script.new)) (K.taken report.old) (K.taken report.new) }
+    ensures line { result ≡ 3 → WritesAll (TellsBadLine (S.left script.old) (S.left script.new)) (K.taken report.old) (K.taken report.new) }
     ensures reading { result ≡ 4 → StopsAtRead (S.left script.old) (S.left script.new) (K.taken report.old) (K.taken report.new) (S.faults script.old) (S.faults script.new) }
-    ensures writing { result ≡ 5 → Rises (K.faults report.old) (K.faults report.new) }
+    ensures writing { result ≡ 5 → Rises (K.faults report.old) (K.faults report.new) × WritesFront (IsReplayText (S.left script.old) (S.left script.new)) (K.taken report.old) (K.taken report.new) }
+    ensures memory { result ≡ 6 → WritesSome (IsReplayText (S.left script.old) (S.left script.new)) (K.taken report.old) (K.taken report.new) }
     ensures known { (result ≡ 0) ⊎ (result ≡ 3) ⊎ (result ≡ 4) ⊎ (result ≡ 5) ⊎ (result ≡ 6) }
 {
     match read_replay(alloc, script) {
@@ -40,14 +42,14 @@ pub fn run_replay<S: Source, K: Sink>(alloc: Global, script: &mut S, report: &mu
 fn report_first<K: Sink>(alloc: Global, first: FirstCall, report: &mut K) -> u8
     requires first { AreFirstEvents first.events.items }
     requires target { first.target ≡ target_text first.authority }
-    ensures done { result ≡ 0 → WritesSession first.authority first.events.items (K.taken report.old) (K.taken report.new) }
-    ensures writing { result ≡ 5 → Rises (K.faults report.old) (K.faults report.new) }
+    ensures done { result ≡ 0 → WritesAll (IsReport first.authority first.events.items) (K.taken report.old) (K.taken report.new) }
+    ensures writing { result ≡ 5 → Rises (K.faults report.old) (K.faults report.new) × WritesFront (IsReport first.authority first.events.items) (K.taken report.old) (K.taken report.new) }
+    ensures memory { result ≡ 6 → WritesSome (IsReport first.authority first.events.items) (K.taken report.old) (K.taken report.new) }
     ensures known { (result ≡ 0) ⊎ (result ≡ 5) ⊎ (result ≡ 6) }
 {
     match report_session(alloc, first, report) {
-        Ok(true) => 0,
-        Ok(false) => 5,
-        Err(_) => 6,
+        Ok(()) => 0,
+        Err(fault) => unwritten(fault),
     }
 }
 
@@ -55,11 +57,11 @@ fn report_first<K: Sink>(alloc: Global, first: FirstCall, report: &mut K) -> u8
 fn tell_bad<K: Sink>(alloc: Global, line: u64, cause: u8, report: &mut K) -> u8
     ensures told { result ≡ 3 → Appends (K.taken report.old) (K.taken report.new) (line_fault_text line cause) }
     ensures writing { result ≡ 5 → Rises (K.faults report.old) (K.faults report.new) }
+    ensures front { (result ≡ 5) ⊎ (result ≡ 6) → AppendsFront (K.taken report.old) (K.taken report.new) (line_fault_text line cause) }
     ensures known { (result ≡ 3) ⊎ (result ≡ 5) ⊎ (result ≡ 6) }
 {
     match tell_line(alloc, report, line, cause) {
-        Ok(true) => 3,
-        Ok(false) => 5,
-        Err(_) => 6,
+        Ok(()) => 3,
+        Err(fault) => unwritten(fault),
     }
 }

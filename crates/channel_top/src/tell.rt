@@ -1,28 +1,55 @@
 // The one-line answers of the program.
-ghost use Rattle.std.specs.Prelude.{◌≡◌, ◌++◌, true, false, decimal, IfOk, OnOk};
-ghost use Rattle.gate_io.specs.Outside.{Appends, Rises};
+ghost use Rattle.std.specs.Prelude.{◌≡◌, ◌++◌, ◌⊎◌, decimal, Err, IfOk, OnErr, OnOk};
+ghost use Rattle.gate_io.specs.Outside.{Appends, AppendsFront, Rises};
 ghost use Rattle.channel_top.specs.Top.{line_fault_text};
+ghost use Rattle.script_text.specs.declared.report.ReportFault.TheVariants as unwritten_by;
 
 use gate_io::{Sink, write_whole};
 use grpc_base::{NoMemory, Text};
 use itoa::Buffer;
+use script_text::ReportFault;
 use std::alloc::Global;
 
 /// The answer to wrong words.
 pub const WORDS_FAULT: &[u8] = b"fault words\n";
 
-/// Tells the first bad line of a script, and says whether the text was written; if not, a write failed.
+/// The status of the program where its output was not written whole.
+pub fn unwritten(fault: ReportFault) -> u8
+    ensures write { result ≡ 5 → fault ≡ unwritten_by.Write }
+    ensures known { (result ≡ 5) ⊎ (result ≡ 6) }
+{
+    match fault {
+        ReportFault::Write => 5,
+        ReportFault::NoMemory => 6,
+    }
+}
+
+/// Writes a text whole, or a front of it.
+pub fn write_text<K: Sink>(report: &mut K, text: &[u8]) -> Result<(), ReportFault>
+    ensures ok { OnOk result (Appends (K.taken report.old) (K.taken report.new) text.now) }
+    ensures err { OnErr result (AppendsFront (K.taken report.old) (K.taken report.new) text.now) }
+    ensures write { (result ≡ Err ReportFault.Write) → Rises (K.faults report.old) (K.faults report.new) }
+{
+    if write_whole(report, text) {
+        return Ok(());
+    }
+    Err(ReportFault::Write)
+}
+
+/// Tells the first bad line of a script.
+#[tactic(auto, using(crate::proofs::WrittenLaws::none_written))]
 pub fn tell_line<K: Sink>(
     alloc: Global,
     report: &mut K,
     line: u64,
     cause: u8,
-) -> Result<bool, NoMemory>
-    ensures written { IfOk result (λ w. w ≡ true → Appends (K.taken report.old) (K.taken report.new) (line_fault_text line cause)) }
-    ensures failed { IfOk result (λ w. w ≡ false → Rises (K.faults report.old) (K.faults report.new)) }
+) -> Result<(), ReportFault>
+    ensures ok { OnOk result (Appends (K.taken report.old) (K.taken report.new) (line_fault_text line cause)) }
+    ensures err { OnErr result (AppendsFront (K.taken report.old) (K.taken report.new) (line_fault_text line cause)) }
+    ensures write { (result ≡ Err ReportFault.Write) → Rises (K.faults report.old) (K.faults report.new) }
 {
     let text = line_fault(alloc, line, cause)?;
-    Ok(write_whole(report, text.as_slice()))
+    write_text(report, text.as_slice())
 }
 
 /// The line that tells a bad line.

@@ -2,12 +2,19 @@
 #![tactic(auto)]
 
 use channel_top::run_channel;
-use gate_io::{StdSink, StdSource};
+use gate_io::{Sink, Source, StdSink, StdSource};
+use grpc_base::NoMemory;
+use lb_kinds::{PickFirst, RoundRobin};
+use lb_policy::Policy;
+use policy_rack::boxes_ready;
 use std::alloc::Global;
 use std::env::args;
 use std::io;
 use std::process::ExitCode;
 use std::rt::Env;
+
+/// The status where memory is wanting.
+const NO_MEMORY: u8 = 6;
 
 /// Why the words of the command are not known.
 enum NoWords {
@@ -37,14 +44,44 @@ fn words(rt: &(impl Env + AllocGlobal)) -> Result<Vec<String>, NoWords> {
     Ok(words)
 }
 
+/// Runs the top call with these policies, where they may be handed to it.
+fn run_with<S: Source, K: Sink>(
+    alloc: Global,
+    words: &[String],
+    script: &mut S,
+    report: &mut K,
+    boxes: Vec<Box<dyn Policy>>,
+) -> u8 {
+    if !boxes_ready(&boxes) {
+        return NO_MEMORY;
+    }
+    run_channel(alloc, words, script, report, boxes)
+}
+
+/// Runs the top call with one policy of each kind.
+fn run<S: Source, K: Sink>(
+    alloc: Global,
+    words: &[String],
+    script: &mut S,
+    report: &mut K,
+) -> Result<u8, NoMemory> {
+    let mut boxes: Vec<Box<dyn Policy>> = Vec::new(alloc);
+    boxes.push(Box::new(alloc, PickFirst::new())?)?;
+    boxes.push(Box::new(alloc, RoundRobin::new())?)?;
+    Ok(run_with(alloc, words, script, report, boxes))
+}
+
 fn main(rt: HostRuntime) -> ExitCode {
     let alloc: Global = rt.alloc();
     let words = match words(&rt) {
         Ok(words) => words,
         Err(NoWords::NotText) => Vec::new(alloc),
-        Err(NoWords::NoMemory) => return ExitCode::from(6),
+        Err(NoWords::NoMemory) => return ExitCode::from(NO_MEMORY),
     };
     let mut script = StdSource::new(rt.reader());
     let mut report = StdSink::new(io::writer(&rt));
-    ExitCode::from(run_channel(alloc, words.as_slice(), &mut script, &mut report))
+    match run(alloc, words.as_slice(), &mut script, &mut report) {
+        Ok(status) => ExitCode::from(status),
+        Err(NoMemory) => ExitCode::from(NO_MEMORY),
+    }
 }

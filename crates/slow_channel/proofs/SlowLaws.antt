@@ -7,7 +7,7 @@ use Rattle.h2_frame.specs.Frames.{FrameSeen, IsFrame}
 use Rattle.h2_frame.specs.Readings.{Reading, Whole, Partial, Fault, frames_after, frames_within, reading_of}
 use Rattle.h2_frame.proofs.FrameLaws.{whole_is_frame}
 use Rattle.h2_frame.specs.Frames.{has_flag}
-use Rattle.h2_frame.specs.declared.flags.TheConstants.{END_HEADERS}
+use Rattle.h2_frame.specs.Numbers.{end_headers_flag}
 use Rattle.h2_hpack.specs.Blocks.{Reading as BlockReading, State, decoded, fields_in, table_in}
 use Rattle.h2_hpack.specs.declared.fault.HpackFault.{HpackFault}
 use Rattle.grpc_base.specs.declared.fields.Field.{Field}
@@ -134,7 +134,7 @@ block_cases (Err e) b frames = refl
 abbrev said_by_block : State → FrameAt → List FrameAt → Option Block → List Said
 said_by_block state a frames o = elim o [
   | None ↦ Other a ∷ said_from state None frames
-  | Some b ↦ (if has_flag a.frame.flags END_HEADERS then (elim (decoded state b.bytes) [
+  | Some b ↦ (if has_flag a.frame.flags end_headers_flag then (elim (decoded state b.bytes) [
     | Err e ↦ []
     | Ok r ↦ Headers (record { stream = b.stream; ends = b.ends; fields = r.fields; end = b.end }) ∷ said_from (Ok r.table) None frames
   ])
@@ -147,7 +147,7 @@ said_in_steps state begun a frames = refl
 pub said_other : (state : State) (begun : Option Block) (a : FrameAt) (frames : List FrameAt) → block_with begun a ≡ None → said_from state begun (a ∷ frames) ≡ Other a ∷ said_from state None frames
 said_other state begun a frames e = said_in_steps state begun a frames ∙ ap (said_by_block state a frames) e
 
-pub said_going_on : (state : State) (begun : Option Block) (b : Block) (a : FrameAt) (frames : List FrameAt) → block_with begun a ≡ Some b → has_flag a.frame.flags END_HEADERS ≡ false → said_from state begun (a ∷ frames) ≡ said_from state (Some b) frames
+pub said_going_on : (state : State) (begun : Option Block) (b : Block) (a : FrameAt) (frames : List FrameAt) → block_with begun a ≡ Some b → has_flag a.frame.flags end_headers_flag ≡ false → said_from state begun (a ∷ frames) ≡ said_from state (Some b) frames
 said_going_on state begun b a frames e flag =
     said_in_steps state begun a frames ∙ ap (said_by_block state a frames) e
     ∙ ap (λ (f : Bool). if f then (elim (decoded state b.bytes) [
@@ -155,7 +155,7 @@ said_going_on state begun b a frames e flag =
       | Ok r ↦ Headers (record { stream = b.stream; ends = b.ends; fields = r.fields; end = b.end }) ∷ said_from (Ok r.table) None frames
     ]) else said_from state (Some b) frames) flag
 
-pub said_closed : (state : State) (begun : Option Block) (b : Block) (a : FrameAt) (frames : List FrameAt) → block_with begun a ≡ Some b → has_flag a.frame.flags END_HEADERS ≡ true → said_from state begun (a ∷ frames) ≡ said_block (decoded state b.bytes) b (λ s. said_from s None frames)
+pub said_closed : (state : State) (begun : Option Block) (b : Block) (a : FrameAt) (frames : List FrameAt) → block_with begun a ≡ Some b → has_flag a.frame.flags end_headers_flag ≡ true → said_from state begun (a ∷ frames) ≡ said_block (decoded state b.bytes) b (λ s. said_from s None frames)
 said_closed state begun b a frames e flag =
     said_in_steps state begun a frames ∙ ap (said_by_block state a frames) e
     ∙ ap (λ (f : Bool). if f then (elim (decoded state b.bytes) [
@@ -165,10 +165,10 @@ said_closed state begun b a frames e flag =
     ∙ block_cases (decoded state b.bytes) b frames
 
 -- a block that does not decode is the last, and one that does has its header list in front of what follows
-pub said_ends : (state after : State) (begun : Option Block) (b : Block) (a : FrameAt) (frames : List FrameAt) → block_with begun a ≡ Some b → has_flag a.frame.flags END_HEADERS ≡ true → ((others : State → List Said) → said_block (decoded state b.bytes) b others ≡ list_then None after others) → said_from state begun (a ∷ frames) ≡ []
+pub said_ends : (state after : State) (begun : Option Block) (b : Block) (a : FrameAt) (frames : List FrameAt) → block_with begun a ≡ Some b → has_flag a.frame.flags end_headers_flag ≡ true → ((others : State → List Said) → said_block (decoded state b.bytes) b others ≡ list_then None after others) → said_from state begun (a ∷ frames) ≡ []
 said_ends state after begun b a frames e flag h = said_closed state begun b a frames e flag ∙ h (λ s. said_from s None frames)
 
-pub said_list : (state after : State) (begun : Option Block) (b : Block) (a : FrameAt) (frames : List FrameAt) (l : HeaderList) → block_with begun a ≡ Some b → has_flag a.frame.flags END_HEADERS ≡ true → ((others : State → List Said) → said_block (decoded state b.bytes) b others ≡ list_then (Some l) after others) → said_from state begun (a ∷ frames) ≡ Headers l ∷ said_from after None frames
+pub said_list : (state after : State) (begun : Option Block) (b : Block) (a : FrameAt) (frames : List FrameAt) (l : HeaderList) → block_with begun a ≡ Some b → has_flag a.frame.flags end_headers_flag ≡ true → ((others : State → List Said) → said_block (decoded state b.bytes) b others ≡ list_then (Some l) after others) → said_from state begun (a ∷ frames) ≡ Headers l ∷ said_from after None frames
 said_list state after begun b a frames l e flag h = said_closed state begun b a frames e flag ∙ h (λ s. said_from s None frames)
 
 -- all behind the first

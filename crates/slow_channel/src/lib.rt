@@ -8,8 +8,6 @@ mod response;
 mod said;
 mod sent;
 mod status;
-#[cfg(test)]
-mod tests;
 
 pub use frames::FrameEnd;
 pub use messages::{FoundMessages, MessageFlaw, messages_of};

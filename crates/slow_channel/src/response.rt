@@ -20,7 +20,7 @@ use attempt_ledger::{EndNews, RowCause};
 use grpc_base::{Code, Metadata, NoMemory, Octets, Pushback};
 use grpc_meta::shown;
 use grpc_status::of_reset;
-use h2_frame::{error_codes, flags, kinds};
+use h2_frame::{error_code, flags, kinds};
 use std::alloc::Global;
 use std::marker::Model;
 
@@ -280,7 +280,7 @@ fn with_own_frame(
     }
     let number = first_number(frame.payload.as_slice());
     if frame.kind == kinds::RST_STREAM {
-        let unseen = number == error_codes::REFUSED_STREAM && response.head.is_none();
+        let unseen = number == error_code::REFUSED_STREAM && response.head.is_none();
         let end = bare_end(alloc, of_reset(number), RowCause::Reset, unseen, frame.end);
         return Ok(with_end(response, end));
     }

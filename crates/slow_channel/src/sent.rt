@@ -1,6 +1,6 @@
 // The requests that a client's bytes say: their header lists, the bytes of their messages, and whether they are complete.
 ghost use Rattle.std.specs.Prelude.{◌≡◌, ◌==◌, ◌&&◌, [], ◌∷◌, ◌++◌, IfOk, MatchOption, option_map};
-ghost use Rattle.h2_frame.specs.declared.kinds.TheConstants.{DATA};
+ghost use Rattle.h2_frame.specs.Numbers.{data_type};
 ghost use Rattle.channel_core.specs.Sent.{client_said, data_in, data_sent, ends_in, is_complete, list_in, opened};
 
 use crate::frames::FrameEnd;
@@ -79,7 +79,7 @@ fn data_in(stream: u32, item: &SaidItem) -> &[u8]
 
 /// Whether a frame is DATA on a stream.
 fn is_data_on(stream: u32, frame: &FrameEnd) -> bool
-    ensures { result ≡ (frame.now.frame.kind == DATA) && (frame.now.frame.stream == stream) }
+    ensures { result ≡ (frame.now.frame.kind == data_type) && (frame.now.frame.stream == stream) }
 {
     frame.kind == kinds::DATA && frame.stream == stream
 }

@@ -5,13 +5,8 @@ ghost use Rattle.grpc_base.specs.Requests.{IsRequest};
 ghost use Rattle.channel_top.specs.Shape.{IsAddress, IsAnswer, IsBytes, IsStampedAt, StandsAt, first_message_limit, settings_frame};
 
 use crate::shape::answer::is_answer;
+use channel_core::first_call::{FIRST_DIAL, MESSAGE_BYTES};
 use grpc_base::{AddressList, Event, Octets, Request, Stamped};
-
-/// A message of this length and its five bytes of framing fit one DATA frame.
-const MESSAGE_LIMIT: usize = 16_379;
-
-/// The first dial is given up at this moment.
-const MOMENT_LIMIT: u64 = 20_000_000_000;
 
 /// A SETTINGS frame without a payload (RFC 9113, section 6.5).
 const SETTINGS: [u8; 9] = [0, 0, 0, 4, 0, 0, 0, 0, 0];
@@ -22,7 +17,7 @@ pub fn is_stamped_at(line: usize, stamped: &Stamped) -> bool
 {
     let _word = stamped.word;
     let moment = stamped.moment.nanos();
-    moment < MOMENT_LIMIT && stands_at(line, &stamped.event)
+    moment < FIRST_DIAL && stands_at(line, &stamped.event)
 }
 
 /// Whether this event may stand in the line of this number.
@@ -31,7 +26,7 @@ fn stands_at(line: usize, event: &Event) -> bool
 {
     match event {
         Event::Resolved { addresses, config } => {
-            line == 2 && config.is_none() && is_one_address(addresses)
+            line == 2 && config.is_none() && is_one_address(addresses.as_list())
         }
         Event::TakeDial => line == 3,
         Event::LinkUp { sub } => line == 4 && *sub == 1,
@@ -86,5 +81,5 @@ fn is_plain(request: &Request) -> bool
 fn is_short(message: &[u8]) -> bool
     ensures { IsTrue result ↔ (IsBytes message.now × (length message.now ≤ first_message_limit)) }
 {
-    message.len() <= MESSAGE_LIMIT
+    message.len() <= MESSAGE_BYTES
 }

@@ -1,6 +1,8 @@
 // The top call on whole inputs: every status, and what is written with it.
-use crate::{run_channel, run_steady};
+use crate::program::{each_policy, run};
+use channel_top::run_steady;
 use gate_io::{MemSink, MemSource, SteadySink, SteadySource};
+use policy_rack::boxes_ready;
 use std::alloc::Global;
 use std::process::Abort;
 use std::test::Fail;
@@ -36,8 +38,7 @@ fn answer(alloc: Global, case: &Case) -> Result<(u8, MemSink), Fail> {
     let piece = if case.piece == 0 { 65_536 } else { case.piece };
     let mut script = MemSource::new(text, piece, vec![in alloc; case.failed_read]?);
     let mut report = MemSink::new(alloc, 65_536, vec![in alloc; case.failed_write]?);
-    let words = vec![in alloc; String::from_str(alloc, case.word)?]?;
-    let status = run_channel(alloc, words.as_slice(), &mut script, &mut report);
+    let status = run(alloc, case.word.as_bytes(), &mut script, &mut report)?;
     Ok((status, report))
 }
 
@@ -123,10 +124,18 @@ fn steady_ends_answer_as_well(rt: HostRuntime) -> Result<(), Fail> {
     let mut script = SteadySource::new(Vec::new(rt.alloc()));
     let mut report = SteadySink::new();
     let words = vec![in rt.alloc(); String::from_str(rt.alloc(), "replay")?]?;
-    assert_eq!(rt;
-        run_channel(rt.alloc(), words.as_slice(), &mut script, &mut report),
-        0
+    let boxes = each_policy(rt.alloc())?;
+    if !boxes_ready(&boxes) {
+        return Err("no two of one kind, and pick_first among them".into());
+    }
+    let status = run_steady(
+        rt.alloc(),
+        words.as_slice(),
+        &mut script,
+        &mut report,
+        boxes,
     );
+    assert_eq!(rt; status, 0);
     assert_eq!(rt; report.count(), 0);
     Ok(())
 }

@@ -1,6 +1,5 @@
 // Bad scripts through the top call: the first bad line and its cause. In a table's texts a semicolon stands for a line feed.
-use crate::run_channel;
-use gate_io::{MemSink, MemSource};
+use crate::program::answer;
 use std::alloc::Global;
 use std::process::Abort;
 use std::test::Fail;
@@ -121,15 +120,6 @@ fn script_with(alloc: Global, number: u64, text: &str, is_end: bool) -> Result<V
     Ok(script)
 }
 
-/// The status of a script, and what was written.
-fn answer(alloc: Global, script: Vec<u8>) -> Result<(u8, MemSink), Fail> {
-    let words = vec![in alloc; String::from_str(alloc, "replay")?]?;
-    let mut source = MemSource::new(script, 50, Vec::new(alloc));
-    let mut report = MemSink::new(alloc, 65_536, Vec::new(alloc));
-    let status = run_channel(alloc, words.as_slice(), &mut source, &mut report);
-    Ok((status, report))
-}
-
 /// A script whose bad line of this number is told, for this cause.
 fn expect_told(
     rt: &impl Abort,
@@ -138,7 +128,7 @@ fn expect_told(
     line: &str,
     cause: &str,
 ) -> Result<(), Fail> {
-    let (status, report) = answer(alloc, script)?;
+    let (status, report) = answer(alloc, b"replay", script, 50)?;
     let want = format!(in alloc; "fault line {line} cause {cause}\n")?;
     assert_eq!(rt; status, 3, "{want}");
     assert!(rt; report.taken() == want.as_bytes(), "{want}");
@@ -168,7 +158,7 @@ fn forms_in_shape_are_run(rt: HostRuntime) -> Result<(), Fail> {
     for record in GOOD.lines() {
         let (line, text) = record.split_once(' ').ok_or("a line")?;
         let script = script_with(alloc, line.parse::<u64>()?, text, false)?;
-        let (status, _report) = answer(alloc, script)?;
+        let (status, _report) = answer(alloc, b"replay", script, 50)?;
         assert_eq!(rt; status, 0, "{record}");
     }
     Ok(())

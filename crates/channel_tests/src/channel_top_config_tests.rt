@@ -1,6 +1,8 @@
 // The mode that reads a config, and the words, on whole inputs: every status, and what is written with it.
-use crate::run_channel;
+use crate::program::{run, run_with};
 use gate_io::{MemSink, MemSource};
+use lb_kinds::PickFirst;
+use lb_policy::Policy;
 use std::alloc::Global;
 use std::test::Fail;
 
@@ -19,19 +21,10 @@ config --seed\x01{}\x012fault words\n\x02\
 replay config\x01{}\x012fault words\n\x02\
 config -- more\x01{}\x012fault words\n\x02\
 --version\x01{}\x010grpcc 0.1.0\n\x02\
-config -V\x01{}\x010grpcc config 0.1.0\n\x02";
+config -V\x01{}\x010grpcc config 0.1.0\n";
 
 /// The end of each text of help.
 static OPTIONS: &[u8] = b"Options:\n  -h, --help     Print help\n  -V, --version  Print version\n";
-
-fn words_of(alloc: Global, line: &[u8]) -> Result<Vec<String>, Fail> {
-    let mut words = Vec::new(alloc);
-    for word in line.split(|b| *b == b' ') {
-        let text = String::from_utf8_lossy(alloc, word)?;
-        words.push(text)?;
-    }
-    Ok(words)
-}
 
 /// The status and what was written, of words with a space between and bytes that are read in pieces of 64, where these calls
 /// of read and write fail.
@@ -42,10 +35,9 @@ fn answer(
     failed_read: u64,
     failed_write: u64,
 ) -> Result<(u8, MemSink), Fail> {
-    let words = words_of(alloc, line)?;
     let mut source = MemSource::new(bytes, 64, vec![in alloc; failed_read]?);
     let mut report = MemSink::new(alloc, 65_536, vec![in alloc; failed_write]?);
-    let status = run_channel(alloc, words.as_slice(), &mut source, &mut report);
+    let status = run(alloc, line, &mut source, &mut report)?;
     Ok((status, report))
 }
 
@@ -57,15 +49,9 @@ fn bytes_of(alloc: Global, text: &[u8]) -> Result<Vec<u8>, Fail> {
 
 fn is_answered(alloc: Global, record: &[u8]) -> Result<bool, Fail> {
     let mut parts = record.split(|b| *b == 1);
-    let Some(line) = parts.next() else {
-        return Ok(false);
-    };
-    let Some(input) = parts.next() else {
-        return Ok(false);
-    };
-    let Some(want) = parts.next() else {
-        return Ok(false);
-    };
+    let line = parts.next().ok_or("words")?;
+    let input = parts.next().ok_or("an input")?;
+    let want = parts.next().ok_or("an answer")?;
     let (status, report) = answer(alloc, line, bytes_of(alloc, input)?, 0, 0)?;
     let mut told = Vec::new(alloc);
     told.push(status.saturating_add(b'0'))?;
@@ -73,19 +59,27 @@ fn is_answered(alloc: Global, record: &[u8]) -> Result<bool, Fail> {
     Ok(told.as_slice() == want)
 }
 
-fn right_ones(alloc: Global, table: &[u8]) -> Result<usize, Fail> {
-    let mut right: usize = 0;
-    for record in table.split(|b| *b == 2) {
-        if is_answered(alloc, record)? {
-            right = right.saturating_add(1);
-        }
+#[test]
+fn each_line_of_words_has_its_answer(rt: HostRuntime) -> Result<(), Fail> {
+    for (row, record) in ANSWERS.split(|b| *b == 2).enumerate() {
+        assert!(rt; is_answered(rt.alloc(), record)?, "row {row}, from 0");
     }
-    Ok(right)
+    Ok(())
 }
 
 #[test]
-fn each_line_of_words_has_its_answer(rt: HostRuntime) -> Result<(), Fail> {
-    assert_eq!(rt; right_ones(rt.alloc(), ANSWERS)?, 14);
+fn the_kinds_of_the_policies_count_as_supported(rt: HostRuntime) -> Result<(), Fail> {
+    let alloc = rt.alloc();
+    let mut boxes: Vec<Box<dyn Policy>> = Vec::new(alloc);
+    boxes.push(Box::new(alloc, PickFirst::new())?)?;
+    let input = bytes_of(alloc, b"{\"loadBalancingConfig\":[{\"round_robin\":{}}]}")?;
+    let mut source = MemSource::new(input, 64, Vec::new(alloc));
+    let mut report = MemSink::new(alloc, 65_536, Vec::new(alloc));
+    assert_eq!(rt;
+        run_with(alloc, b"config", &mut source, &mut report, boxes)?,
+        3
+    );
+    assert_eq!(rt; report.taken(), b"fault config 5 -\n".as_slice());
     Ok(())
 }
 

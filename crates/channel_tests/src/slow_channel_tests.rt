@@ -1,13 +1,20 @@
 // The definitions computed on small texts, with values that were found by hand or by another program.
-use crate::messages::{FoundMessages, MessageFlaw, messages_of};
-use crate::response::{StreamResponse, response_on};
-use crate::said::{SaidItem, SaidList, SaidPart, said_of};
-use crate::sent::{client_said, data_sent, is_complete, joined, opened};
 use attempt_ledger::RowCause;
 use grpc_base::{Code, NoMemory};
+use slow_channel::{
+    FoundMessages, MessageFlaw, SaidItem, SaidList, SaidPart, StreamResponse, client_said,
+    data_sent, is_complete, messages_of, opened, response_on, said_of,
+};
 use std::alloc::Global;
 use std::process::Abort;
 use std::test::Fail;
+
+/// Two texts of bytes, one behind the other.
+fn joined(alloc: Global, first: &[u8], second: &[u8]) -> Result<Vec<u8>, NoMemory> {
+    let mut bytes = Vec::from_slice(alloc, first)?;
+    bytes.extend_from_slice(second)?;
+    Ok(bytes)
+}
 
 /// The messages of some bytes, none longer than 4,194,304 bytes.
 fn found(alloc: Global, bytes: &[u8]) -> Result<FoundMessages, NoMemory> {

@@ -1,0 +1,15 @@
+// Tests of the public calls of the channel: its core, the slow programs of its definitions, and the top call.
+#![tactic(auto)]
+
+#[cfg(test)]
+mod channel_core_tests;
+#[cfg(test)]
+mod channel_top_config_tests;
+#[cfg(test)]
+mod channel_top_script_tests;
+#[cfg(test)]
+mod channel_top_tests;
+#[cfg(test)]
+mod program;
+#[cfg(test)]
+mod slow_channel_tests;
