@@ -1,0 +1,4 @@
+pub mod Places
+pub mod Totals
+pub mod Steps
+pub mod Winning
