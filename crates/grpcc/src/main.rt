@@ -82,6 +82,6 @@ fn main(rt: HostRuntime) -> ExitCode {
     let mut report = StdSink::new(io::writer(&rt));
     match run(alloc, words.as_slice(), &mut script, &mut report) {
         Ok(status) => ExitCode::from(status),
-        Err(NoMemory) => ExitCode::from(NO_MEMORY),
+        Err(_) => ExitCode::from(NO_MEMORY),
     }
 }
