@@ -1,8 +1,10 @@
 pub mod Addresses
+pub mod Authorities
 pub mod Backoff
 pub mod Codes
 pub mod Conns
 pub mod ErrorCodes
+pub mod Hosts
 pub mod Kinds
 pub mod Limits
 pub mod Metadata
