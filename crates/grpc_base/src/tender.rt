@@ -1,5 +1,5 @@
 // What watches over the links that a worker keeps open.
-ghost use Rattle.std.specs.Prelude.{◌≡◌, ◌≤◌, ℕ, Option, Some};
+ghost use Rattle.std.specs.Prelude.{◌≡◌, ◌≤◌, ℕ, Option, Some, None};
 ghost use Rattle.grpc_base.specs.Counts.{one_more};
 ghost use Rattle.grpc_base.specs.Limits.{moment_limit};
 ghost use Rattle.grpc_base.specs.declared.tender.Tend.TheVariants as tend;
@@ -53,13 +53,17 @@ pub trait Tender {
 /// A tender that lets every link be.
 #[derive(Clone, Copy, Debug, Default)]
 pub struct NoTender {
-    turns: u64,
-    last: Option<TendTurn>,
+    /// How many turns there were; the count stands still at its type's end.
+    pub turns: u64,
+    /// The last turn.
+    pub last: Option<TendTurn>,
 }
 
 impl NoTender {
     /// A tender that had no turn.
-    pub fn new() -> NoTender {
+    pub fn new() -> NoTender
+        ensures { result ≡ record { turns = 0; last = None } }
+    {
         NoTender {
             turns: 0,
             last: None,
