@@ -1,14 +1,17 @@
 // Targets of either scheme, and the authority that each names.
-ghost use Rattle.std.specs.Prelude.{◌≡◌, ◌≢◌, ◌↔◌, ◌≤◌, None, Some, Ok, Err, IfOk, IfSome, IsTrue, option_map, drop};
+ghost use Rattle.std.specs.Prelude.{◌≡◌, ◌≢◌, ◌↔◌, ◌≤◌, None, Some, Ok, Err, IfOk, IfNone, IfSome, IsTrue, false, [], ◌∷◌, ◌++◌, decimal, option_map, drop};
 ghost use Rattle.std.specs.Option.{ForSome};
+ghost use Rattle.grpc_base.specs.Addresses.{address_text};
 ghost use Rattle.grpc_base.specs.Authorities.{IsAuthority};
 ghost use Rattle.grpc_base.specs.Hosts.{IsHost};
 ghost use Rattle.resolver_core.specs.AnyTargets.{IsTarget, any_target_of, authority_of, behind_slashes, dns_name_of, dns_target, is_dns, is_host, named};
-ghost use Rattle.resolver_core.specs.Targets.{target_of};
+ghost use Rattle.resolver_core.specs.declared.any_target.Target.TheVariants as TheTargets;
 
 use crate::item::{DEFAULT_PORT, read_port};
 use crate::target::{TargetFault, read_target};
-use grpc_base::{AddressList, DnsName, NoMemory, Text, append_decimal, first_piece, is_host};
+use grpc_base::{
+    Address, AddressList, DnsName, NoMemory, Text, append_decimal, first_piece, is_host,
+};
 use std::alloc::Global;
 
 /// What a channel is made for: addresses, or a name that a lookup turns into some.
@@ -32,7 +35,7 @@ pub fn read_any_target(alloc: Global, text: &[u8]) -> Result<Target, TargetFault
     ensures bad_target { (result ≡ Err TargetFault.BadTarget) ↔ (any_target_of text.now ≡ Err TargetFault.BadTarget) }
     ensures too_many { (result ≡ Err TargetFault.TooMany) ↔ (any_target_of text.now ≡ Err TargetFault.TooMany) }
 {
-    match text.strip_prefix(b"dns:") {
+    match behind_dns(text) {
         Some(name) => match read_name(alloc, name) {
             Ok(name) => Ok(Target::Dns(name)),
             Err(fault) => Err(fault),
@@ -42,6 +45,14 @@ pub fn read_any_target(alloc: Global, text: &[u8]) -> Result<Target, TargetFault
             Err(fault) => Err(fault),
         },
     }
+}
+
+/// What stands behind `dns:`, where a text begins with it.
+fn behind_dns(text: &[u8]) -> Option<&[u8]>
+    ensures some { IfSome result (λ name. IsTrue (is_dns text.now) × (name.now ≡ drop 4 text.now)) }
+    ensures none { IfNone result (is_dns text.now ≡ false) }
+{
+    text.strip_prefix(b"dns:")
 }
 
 /// The name behind `dns:`.
@@ -112,21 +123,45 @@ impl Target {
     pub fn authority(&self, alloc: Global) -> Result<Text, NoMemory>
         requires { IsTarget self.now }
         ensures value { IfOk result (λ t. t ≡ authority_of self.now) }
-        ensures is_authority { IsAuthority (authority_of self.now) }
+        ensures is_authority { IfOk result IsAuthority }
     {
-        let mut text = Vec::new(alloc);
         match self {
-            Target::Ipv4(addresses) => {
-                if let Some(first) = addresses.as_slice().first() {
-                    first.append_to(&mut text)?;
-                }
-            }
-            Target::Dns(name) => {
-                text.extend_from_slice(name.host.as_slice())?;
-                text.push(b':')?;
-                append_decimal(&mut text, name.port as u64)?;
-            }
+            Target::Ipv4(addresses) => first_text(alloc, addresses.as_slice()),
+            Target::Dns(name) => name_text(alloc, name.host.as_slice(), name.port),
         }
-        Ok(Text::of_vec(text))
     }
+}
+
+/// The first address as `a.b.c.d:port`.
+fn first_text(alloc: Global, addresses: &[Address]) -> Result<Text, NoMemory>
+    requires { addresses.now ≢ [] }
+    ensures value { IfOk result (λ t. t ≡ authority_of (TheTargets.Ipv4 addresses.now)) }
+    ensures is_authority { IfOk result IsAuthority }
+{
+    let [first, ..] = addresses else {
+        unreachable!();
+    };
+    address_text(alloc, first.ip, first.port)
+}
+
+/// An address as `a.b.c.d:port`.
+fn address_text(alloc: Global, ip: u32, port: u16) -> Result<Text, NoMemory>
+    ensures value { IfOk result (λ t. t ≡ address_text (record { ip = ip; port = port })) }
+    ensures is_authority { IfOk result IsAuthority }
+{
+    let mut text = Vec::new(alloc);
+    Address { ip, port }.append_to(&mut text)?;
+    Ok(Text::of_vec(text))
+}
+
+/// A host and a port as `host:port`.
+fn name_text(alloc: Global, host: &[u8], port: u16) -> Result<Text, NoMemory>
+    requires { IsHost host.now }
+    ensures value { IfOk result (λ t. t ≡ host.now ++ 58 ∷ decimal port) }
+    ensures is_authority { IfOk result IsAuthority }
+{
+    let mut text = Vec::from_slice(alloc, host)?;
+    text.push(b':')?;
+    append_decimal(&mut text, port as u64)?;
+    Ok(Text::of_vec(text))
 }

@@ -63,9 +63,9 @@ fn read_items(text: &[u8]) -> Result<AddressList, TargetFault>
             over = true;
         } else {
             left -= 1;
-            addresses
-                .push(address)
-                .map_err(|_full| TargetFault::TooMany)?;
+            let Ok(()) = addresses.push(address) else {
+                return Err(TargetFault::TooMany);
+            };
         }
         rest = more;
     }
