@@ -2,6 +2,7 @@
 use Rattle.std.proofs.Common.{◌≡◌, ◌≤◌, ℕ, ◌+◌, Option, List, [], ◌∷◌, ◌++◌, map, ap, sym, subst, inr, arith, ◌∙◌}
 use Rattle.std.specs.Prelude.{max}
 use Rattle.grpc_base.specs.declared.address.Address.{Address}
+use Rattle.grpc_base.specs.Addresses.{address_text}
 use Rattle.grpc_base.specs.declared.event.Entry.{Entry}
 use Rattle.grpc_base.specs.declared.event.Stamped.{Stamped}
 use Rattle.grpc_base.specs.Limits.{moment_limit}
@@ -47,7 +48,7 @@ moved_lines n [] target addresses events entries t event word moment = absurd t
 moved_lines n (text ∷ texts) target addresses events entries t event word moment = moved_of (n + 1) texts events entries 0 t.1 (omega arith) event word moment
 
 -- what a session of a script reports up to each ` = ` is a script again
-pub session_again : (input target : List ℕ) (addresses : List Address) (authority : Address) (events : List Stamped) (journal : Journal) (ledger : Ledger) → IsScript input target addresses events → IsSession authority events journal ledger → IsScriptAgain target addresses (map stamped_of journal.entries)
+pub session_again : (input target : List ℕ) (addresses : List Address) (authority : List ℕ) (events : List Stamped) (journal : Journal) (ledger : Ledger) → IsScript input target addresses events → IsSession authority events journal ledger → IsScriptAgain target addresses (map stamped_of journal.entries)
 session_again input target addresses authority events journal ledger script session = λ short.
     script_again input target addresses events (map stamped_of journal.entries) script
     (moved_lines 1 script.texts target addresses events journal.entries script.lines session.events_are session.words_are session.moments_are)
@@ -79,7 +80,7 @@ report_done left left' target addresses events own authority text read first sam
           first = subst (λ (t : List ℕ). IsFirstCall t events authority) first.target_is first;
           only = subst (λ (t : List ℕ). IsOnlyScript input t addresses events) first.target_is read.only;
           report = report;
-          again = session_again input (target_text authority) addresses authority events report.journal report.ledger script report.session;
+          again = session_again input (target_text authority) addresses (address_text authority) events report.journal report.ledger script report.session;
         },
       );
     }

@@ -1,1 +1,5 @@
+mod AnyTargetLaws
+mod AuthorityLaws
+mod HostLaws
+mod PieceLaws
 pub mod TargetLaws

@@ -1,15 +1,14 @@
 -- Targets read item by item.
-use Rattle.std.proofs.Common.{◌≡◌, ℕ, suc, ◌==◌, ◌+◌, ◌-◌, ◌<◌, Bool, true, false, List, [], ◌∷◌, length, Option, Some, None, Result, Ok, Err, refl, ap, sym, ◌∙◌, arith, nat_le, ◌||◌, if◌then◌else◌, nat_lt, inl, inr}
+use Rattle.std.proofs.Common.{◌≡◌, ℕ, suc, ◌+◌, ◌-◌, ◌<◌, Bool, true, false, List, [], ◌∷◌, length, Option, Some, None, Result, Ok, Err, refl, ap, sym, ◌∙◌, arith, nat_le, ◌||◌, if◌then◌else◌, nat_lt, inl, inr, ◌++◌, ◌≤◌, length-append}
 use Rattle.std.proofs.lemmas.Bool.Decides.{nat_tests}
 use Rattle.std.proofs.lemmas.Bool.{cases_lt}
-use Rattle.std.specs.List.{count_by}
 use Rattle.grpc_base.specs.declared.address.Address.{Address}
-use Rattle.grpc_base.specs.Addresses.{with_address}
+use Rattle.grpc_base.specs.Addresses.{has_address, with_address}
 use Rattle.resolver_core.specs.declared.target.TargetFault.{TargetFault}
 use Rattle.resolver_core.specs.declared.target.TargetFault.TheVariants as fault
 use Rattle.grpc_base.specs.Pieces.{pieces}
-use Rattle.resolver_core.specs.Targets.{address_before, address_from, address_of, ip_from, ip_of, listed_of, with_addresses}
-use Rattle.std.proofs.lemmas.List.Splits.{length-slice_split}
+use Rattle.resolver_core.specs.Targets.{address_before, address_from, address_of, ip_from, ip_of, items_of, listed_of, with_addresses}
+use Rattle.resolver_core.proofs.PieceLaws.{pieces-some}
 
 -- the list that further items give, where this many more may come
 abbrev pub listed_from : List Address → ℕ → Bool → Option (List Address) → Result (List Address) TargetFault
@@ -45,12 +44,26 @@ listed_from-one addresses left false a (Some items) some_left =
     let e : nat_lt (left - 1) (length items) ≡ nat_lt left (length (a ∷ items)) = lt_both (length items) left some_left in
     rw e refl
 
--- each text has a piece
-pieces-some : (separator : ℕ) (text : List ℕ) → pieces separator text ≡ [] → ⊥
-pieces-some separator text e =
-    let some : length (pieces separator text) ≡ count_by (λ b. b == separator) text + 1 = length-slice_split (λ b. b == separator) text in
-    let none : length (pieces separator text) ≡ 0 = ap length e in
-    omega arith
+-- an address more
+longer : (addresses : List Address) (a : Address) → length (with_address addresses a) ≤ length addresses + 1
+longer addresses a = by_test (has_address addresses a)
+  where
+    by_test : (b : Bool) → length (if b then addresses else addresses ++ a ∷ []) ≤ length addresses + 1
+    by_test true = omega arith
+    by_test false = simp length-append (omega arith)
+
+-- the next item is an address, and there is room for it
+pub room_left : (addresses new : List Address) (left : ℕ) (a : Address) → 0 < left → length addresses + left ≤ 64 → new ≡ with_address addresses a → length new + (left - 1) ≤ 64
+room_left addresses new left a some_left room is =
+    let most : length (with_address addresses a) ≤ length addresses + 1 = longer addresses a in
+    rw is (omega arith)
+
+pub items_left : (addresses new : List Address) (left : ℕ) (over : Bool) (a : Address) (item text : List ℕ) (others : List (List ℕ)) → 0 < left → new ≡ with_address addresses a → pieces 44 text ≡ item ∷ others → Some a ≡ address_of item → listed_from new (left - 1) over (items_of others) ≡ listed_from addresses left over (items_of (pieces 44 text))
+items_left addresses new left over a item text others some_left is parted reads =
+    ap (λ (l : List Address). listed_from l (left - 1) over (items_of others)) is
+    ∙ listed_from-one addresses left over a (items_of others) some_left
+    ∙ ap (λ (o : Option Address). listed_from addresses left over (address_before o (items_of others))) reads
+    ∙ ap (λ (ps : List (List ℕ)). listed_from addresses left over (items_of ps)) (sym parted)
 
 -- five parts are no address
 ip_from-five : (a b c d : List ℕ) (more : List (List ℕ)) → (more ≡ [] → ⊥) → ip_from (a ∷ b ∷ c ∷ d ∷ more) ≡ None

@@ -1,1 +1,2 @@
+pub mod AnyTargets
 pub mod Targets

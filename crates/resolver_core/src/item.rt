@@ -6,7 +6,7 @@ ghost use Rattle.resolver_core.specs.Targets.{address_of, begins_plain, ip_of, j
 use grpc_base::{Address, first_piece, read_number};
 
 /// The port of an address that names none.
-const DEFAULT_PORT: u16 = 443;
+pub const DEFAULT_PORT: u16 = 443;
 
 /// The address of a text `a.b.c.d` or `a.b.c.d:port`.
 pub fn read_address(text: &[u8]) -> Option<Address>
@@ -81,8 +81,9 @@ fn joined_parts(
 }
 
 /// A port from 1 to 65,535.
-fn read_port(text: &[u8]) -> Option<u16>
-    ensures { result ≡ port_of text.now }
+pub fn read_port(text: &[u8]) -> Option<u16>
+    ensures value { result ≡ port_of text.now }
+    ensures not_zero { IfSome result (λ p. 1 ≤ p) }
 {
     let port = read_plain(text, 65535)?;
     if port == 0 {
