@@ -1,5 +1,5 @@
 // Passes over the subchannels of a view.
-ghost use Rattle.std.specs.Prelude.{◌≡◌, ◌≤◌, length, map, not, ◌||◌, slice_get};
+ghost use Rattle.std.specs.Prelude.{◌≡◌, ◌<◌, ◌≤◌, length, map, not, ◌||◌, slice_get, IfSome};
 ghost use Rattle.std.specs.List.{list_any, position_from};
 ghost use Rattle.lb_policy.specs.Table.{has_state, is_ready, is_open, is_starting, is_one_of, subs_in, state_of_view, state_by};
 ghost use Rattle.lb_kinds.specs.Seen.{plain, failed_of, marked_by, noted_mark};
@@ -34,7 +34,13 @@ pub fn state_of(subs: &[Marked]) -> Conn
 pub fn lasting_state_of(subs: &[Marked]) -> Conn
     ensures { result ≡ state_by (has_state is_ready (plain subs.now)) (list_any (λ m. not m.failed) subs.now) }
 {
-    state_by_hope(any_ready(subs), subs.iter().any(|marked| !marked.failed))
+    state_by_hope(any_ready(subs), any_unfailed(subs))
+}
+
+fn any_unfailed(subs: &[Marked]) -> bool
+    ensures { result ≡ list_any (λ m. not m.failed) subs.now }
+{
+    subs.iter().any(|marked| !marked.failed)
 }
 
 fn any_ready(subs: &[Marked]) -> bool
@@ -85,7 +91,9 @@ pub fn first_open(subs: &[Marked]) -> Option<u32>
 
 /// The place of the first READY subchannel.
 pub fn place_of_ready(subs: &[Marked]) -> Option<usize>
-    ensures { result ≡ position_from (λ s. is_ready s.state) 0 (plain subs.now) }
+    requires { length subs.now ≤ 64 }
+    ensures place { result ≡ position_from (λ s. is_ready s.state) 0 (plain subs.now) }
+    ensures within { IfSome result (λ place. place < 64) }
 {
     for (place, marked) in subs.iter().enumerate() {
         if conn::is_ready(marked.seen.state) {
@@ -97,7 +105,9 @@ pub fn place_of_ready(subs: &[Marked]) -> Option<usize>
 
 /// The place of the first subchannel that is READY or has not failed.
 pub fn place_of_upholding(subs: &[Marked]) -> Option<usize>
-    ensures { result ≡ position_from (λ m. is_ready m.seen.state || not m.failed) 0 subs.now }
+    requires { length subs.now ≤ 64 }
+    ensures place { result ≡ position_from (λ m. is_ready m.seen.state || not m.failed) 0 subs.now }
+    ensures within { IfSome result (λ place. place < 64) }
 {
     for (place, marked) in subs.iter().enumerate() {
         if conn::is_ready(marked.seen.state) || !marked.failed {
