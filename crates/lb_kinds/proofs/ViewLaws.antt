@@ -1,14 +1,14 @@
 -- A view as marked subchannels.
-use Rattle.std.proofs.Common.{◌≡◌, ℕ, zero, suc, ◌+◌, ◌≤◌, ◌==◌, ◌∙◌, Bool, true, false, not, ◌||◌, ◌&&◌, cond, if◌then◌else◌, Option, Some, List, [], ◌∷◌, length, map, take, drop, refl, ap, sym, subst}
+use Rattle.std.proofs.Common.{◌≡◌, ℕ, zero, suc, ◌+◌, ◌==◌, ◌∙◌, Bool, true, false, not, ◌||◌, ◌&&◌, cond, if◌then◌else◌, Option, Some, List, [], ◌∷◌, length, map, take, drop, refl, ap, sym, subst}
 use Rattle.std.specs.List.{filter, list_any, position_from, refill}
 use Rattle.grpc_base.specs.declared.event.Conn.{Conn}
 use Rattle.grpc_base.specs.declared.event.Conn.TheVariants as conn
 use Rattle.lb_policy.specs.declared.seen.SubSeen.{SubSeen}
-use Rattle.lb_policy.specs.Table.{is_ready, is_one_of, is_among, has_state, state_by, state_of_view, lasting_state, upholds_tier, IsWithoutRepeats}
+use Rattle.lb_policy.specs.Table.{is_ready, is_one_of, is_among, has_state, state_by, state_of_view, upholds_tier, IsWithoutRepeats}
 use Rattle.lb_policy.specs.Steps.{noted_sub, counts_as_failed, failed_in, failed_after}
 use Rattle.lb_policy.proofs.FailedLaws.{Each, each-one, marks-of, once-noted}
 use Rattle.lb_kinds.specs.declared.marked.Marked.{Marked}
-use Rattle.lb_kinds.specs.Seen.{Viewed, IsKept, plain, failed_of, viewed, marked_by, mark_after, noted_mark}
+use Rattle.lb_kinds.specs.Seen.{IsKept, plain, failed_of, viewed, marked_by, mark_after, noted_mark}
 
 -- subchannels that are given their marks
 plain-marked : (before : List ℕ) (subs : List SubSeen) → plain (map (marked_by before) subs) ≡ subs

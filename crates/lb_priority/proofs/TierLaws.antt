@@ -1,11 +1,15 @@
 -- Tiers by places.
-use Rattle.std.proofs.Common.{◌≡◌, ℕ, ◌+◌, ◌*◌, ◌/◌, ◌<◌, ◌∙◌, not, Option, Some, None, List, [], take, drop, refl, ap, sym, subst, arith}
+use Rattle.std.proofs.Common.{◌≡◌, ℕ, ◌+◌, ◌*◌, ◌/◌, ◌<◌, ◌≤◌, ◌∙◌, Option, Some, None, List, [], take, drop, ap, sym, arith}
 use Rattle.std.specs.List.{position_from}
 use Rattle.std.specs.Option.{option_map, option_map_or}
-use Rattle.std.proofs.Math.Nat.{add-mul}
+use Rattle.std.proofs.Math.Nat.{add-mul, div-mul-le_self}
 use Rattle.lb_policy.specs.declared.seen.SubSeen.{SubSeen}
-use Rattle.lb_policy.specs.Table.{is_ready, subs_in, tier, tier_has_failed, upholds_tier, tiers_to_wish, choices_in_tiers}
+use Rattle.lb_policy.specs.Table.{is_ready, subs_in, tier, upholds_tier, tiers_to_wish, choices_in_tiers}
 use Rattle.lb_policy.proofs.TierLaws.{standing-tier, ready-tier}
+
+-- a tier begins at its places, or before
+pub start_within : (i w : ℕ) → i / w * w ≤ i
+start_within i w = div-mul-le_self i w
 
 -- the end of a tier
 next-tier : (w i : ℕ) → (i / w + 1) * w ≡ i / w * w + w

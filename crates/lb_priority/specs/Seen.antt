@@ -1,5 +1,5 @@
 -- A policy of this crate.
-use Rattle.std.specs.Prelude.{ℕ, List, []}
+use Rattle.std.specs.Prelude.{ℕ, []}
 use Rattle.grpc_base.specs.declared.kind.Kind.TheVariants as kind
 use Rattle.lb_policy.specs.Table.{PolicySeen}
 use Rattle.lb_kinds.specs.Seen.{Viewed}

@@ -118,7 +118,7 @@ impl Policy for Priority {
 }
 
 /// The first place of the tier that a place is in.
-#[tactic(auto, using(Rattle::std::proofs::Math::Nat::div-mul-le_self))]
+#[tactic(auto, using(crate::proofs::TierLaws::start_within))]
 fn start_of_tier(place: usize, width: usize) -> usize
     requires { (0 < width) × (place < 64) }
     ensures start { result ≡ place / width * width }
