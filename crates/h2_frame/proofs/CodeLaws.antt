@@ -5,7 +5,7 @@ use Rattle.std.proofs.lemmas.Bool.{false≢true}
 use Rattle.std.proofs.lemmas.List.{length-replicate}
 use Rattle.std.specs.Prelude.{nat_lt, nat_le, ◌&&◌, not, IsTrue, replicate}
 use Rattle.h2_frame.specs.Frames.{FrameSeen, Spells, keeps_protocol, keeps_sizes, number_24, number_31, is_overpadded, is_zero_update, is_of_connection, kind_allows_stream, kind_allows_length, flags_allow_length, payload_limit}
-use Rattle.h2_frame.specs.Readings.{Reading, Whole, Partial, Fault, Breaks, CanKeep, IsCode, reading_of_payload, reading_9, reading_8, reading_7, reading_6, reading_5, reading_4, reading_3, reading_2, reading_of}
+use Rattle.h2_frame.specs.Readings.{Reading, Whole, Partial, Fault, Breaks, CanKeep, IsCode, is_fault, reading_of_payload, reading_9, reading_8, reading_7, reading_6, reading_5, reading_4, reading_3, reading_2, reading_of}
 use Rattle.h2_frame.proofs.FaultLaws.{fault_stays}
 use Rattle.h2_frame.proofs.FrameLaws.{stream_so_far, fits_so_far}
 use Rattle.h2_frame.proofs.PrefixLaws.{AreBytes, suited_bytes, last_of, last_suits, last_grows, not_yet, no_growth_there}
@@ -140,11 +140,6 @@ keep_by t more a b c kind flags bytes e =
       spells = subst Says (sym e) (length-replicate (number_24 a b c) 0, refl);
       kept = zeros_keep a b c kind flags;
     }
-
--- whether a reading is a fault
-abbrev pub is_fault : Reading → Bool
-is_fault (Fault c) = true
-is_fault r = false
 
 fault_seen : (r : Reading) (c : ℕ) → r ≡ Fault c → is_fault r ≡ true
 fault_seen r c e = rw e refl

@@ -4,11 +4,11 @@ use Rattle.std.proofs.lemmas.Bool.{false≢true, cases_lt}
 use Rattle.std.proofs.lemmas.List.{take-append-drop, append-nil, take_all, length-take-le}
 use Rattle.std.proofs.Math.Seq.{take-take}
 use Rattle.h2_frame.specs.Frames.{FrameSeen, IsFrame}
-use Rattle.h2_frame.specs.Readings.{Reading, Whole, Partial, Fault, IsProperPrefix, IsDead, IsFault, reading_of}
+use Rattle.h2_frame.specs.Readings.{Reading, Whole, Partial, Fault, IsProperPrefix, IsDead, IsFault, is_fault, reading_of}
 use Rattle.h2_frame.proofs.FaultLaws.{fault_stays}
 use Rattle.h2_frame.proofs.FrameLaws.{frame_is_read, whole_is_frame}
 use Rattle.h2_frame.proofs.PrefixLaws.{partial_is_prefix}
-use Rattle.h2_frame.proofs.CodeLaws.{is_fault, code_of, one_code}
+use Rattle.h2_frame.proofs.CodeLaws.{code_of, one_code}
 
 -- a frame alone is read as that frame
 pub frame_alone : (t : List ℕ) (f : FrameSeen) → IsFrame t f → reading_of t ≡ Whole f (length t)
@@ -136,7 +136,7 @@ place_is_frame t c fault f n more frame =
     fault.dead [] f (subst P (sym (append-nil (take fault.place t))) all)
 
 -- and what is one is read so
-at_place : (t : List ℕ) (c : ℕ) → (fault : IsFault t c) → (r : Reading) → reading_of (take fault.place t) ≡ r → r ≡ Fault c
+pub at_place : (t : List ℕ) (c : ℕ) → (fault : IsFault t c) → (r : Reading) → reading_of (take fault.place t) ≡ r → r ≡ Fault c
 at_place t c fault (Whole f n) e =
     let front = whole_is_frame (take fault.place t) f n e in
     absurd (elim (cases_lt n fault.place) [

@@ -112,6 +112,10 @@ bytes_24 n = n / 65536 ∷ n / 256 % 256 ∷ n % 256 ∷ []
 abbrev pub bytes_32 : ℕ → List ℕ
 bytes_32 n = n / 16777216 ∷ n / 65536 % 256 ∷ n / 256 % 256 ∷ n % 256 ∷ []
 
--- the bytes that a sender writes for a frame, the reserved bit unset
+-- the nine bytes that a sender writes before a payload of so many bytes, the reserved bit unset
+abbrev pub header_bytes : ℕ → ℕ → ℕ → ℕ → List ℕ
+header_bytes len kind flags stream = bytes_24 len ++ kind ∷ flags ∷ bytes_32 stream
+
+-- the bytes that a sender writes for a frame
 abbrev pub written : FrameSeen → List ℕ
-written f = bytes_24 (length f.payload) ++ f.kind ∷ f.flags ∷ bytes_32 f.stream ++ f.payload
+written f = header_bytes (length f.payload) f.kind f.flags f.stream ++ f.payload

@@ -1,5 +1,5 @@
 -- What some bytes are as frames: a frame in front, a proper prefix of one, or a fault, told at the earliest byte (RFC 9113, sections 4.1 and 4.2).
-use Rattle.std.specs.Prelude.{◌≡◌, ◌<◌, ◌≤◌, ◌⊎◌, ℕ, zero, suc, ◌+◌, ◌*◌, ◌%◌, Bool, Option, Some, None, List, [], ◌∷◌, ◌++◌, length, take, drop, nat_lt, nat_le, ◌&&◌, IsTrue, if◌then◌else◌, MatchOption}
+use Rattle.std.specs.Prelude.{◌≡◌, ◌<◌, ◌≤◌, ◌⊎◌, ℕ, zero, suc, ◌+◌, ◌*◌, ◌%◌, Bool, true, false, Option, Some, None, List, [], ◌∷◌, ◌++◌, length, take, drop, nat_lt, nat_le, ◌&&◌, IsTrue, if◌then◌else◌, MatchOption}
 use Rattle.std.specs.List.{AllByRecursion}
 use Rattle.grpc_base.specs.ErrorCodes.{protocol_error, frame_size_error}
 use Rattle.h2_frame.specs.Frames.{FrameSeen, IsFrame, Spells, keeps_protocol, keeps_sizes, payload_limit, kind_allows_length, flags_allow_length, kind_allows_stream, is_of_connection, is_overpadded, is_zero_update}
@@ -47,6 +47,11 @@ pub data Reading : Type 0 where
   Whole : FrameSeen → ℕ → Reading
   Partial : Reading
   Fault : ℕ → Reading
+
+-- whether it is a fault
+abbrev pub is_fault : Reading → Bool
+is_fault (Fault code) = true
+is_fault _ = false
 
 -- behind nine bytes of header: its payload, and what follows it
 abbrev pub reading_of_payload : ℕ → ℕ → ℕ → ℕ → List ℕ → Reading
@@ -152,3 +157,12 @@ fault_told (Fault code) = Some code
 
 abbrev pub fault_of : List ℕ → Option ℕ
 fault_of bytes = fault_told (reading_of bytes)
+
+-- how many bytes show the fault of these: the fewest of their first bytes that are at fault, or all where none are
+abbrev pub fault_place_from : ℕ → ℕ → List ℕ → ℕ
+fault_place_from zero place bytes = place
+fault_place_from (suc more) place bytes =
+    if is_fault (reading_of (take place bytes)) then place else fault_place_from more (suc place) bytes
+
+abbrev pub fault_place : List ℕ → ℕ
+fault_place bytes = fault_place_from (length bytes) 0 bytes

@@ -1,7 +1,7 @@
 // The frame at the front of some bytes.
 ghost use Rattle.std.specs.Prelude.{◌≡◌, ◌<◌, ◌≤◌, ◌^◌, ◌↔◌, ℕ, IsTrue, length, take};
 ghost use Rattle.h2_frame.specs.Frames.{IsFrame, kind_allows_length, flags_allow_length, kind_allows_stream};
-ghost use Rattle.h2_frame.specs.Readings.{IsProperPrefix, IsFault, reading_of, reading_of_payload};
+ghost use Rattle.h2_frame.specs.Readings.{IsProperPrefix, IsFault, fault_place, is_fault, reading_of, reading_of_payload};
 ghost use Rattle.h2_frame.specs.Steps.{IfGot, seen, told, reading_of_header};
 
 use crate::part::read_part;
@@ -9,10 +9,8 @@ use crate::rules::{
     PAYLOAD_LIMIT, WITHOUT_RESERVED_BIT, flags_allow_length, is_overpadded, is_zero_update,
     kind_allows_length, kind_allows_stream,
 };
-use crate::{Frame, FrameStep};
+use crate::{Frame, FrameStep, HEADER_SIZE};
 use grpc_base::error_code::{FRAME_SIZE_ERROR, PROTOCOL_ERROR};
-
-const HEADER_SIZE: usize = 9;
 
 /// Reads the frame at the front of the bytes; no memory is taken, and the payload lies in the bytes.
 ///
@@ -24,10 +22,33 @@ pub fn next_frame<'a>(bytes: &'a [u8]) -> FrameStep<'a>
     ensures got { IfGot result (λ frame len. (len ≤ length bytes.now) × IsFrame (take len bytes.now) (seen frame)) }
     ensures more { (result ≡ FrameStep.More) ↔ IsProperPrefix bytes.now }
     ensures bad { (code : ℕ) → (result ≡ FrameStep.Bad code) ↔ IsFault bytes.now code }
+    // Less than a frame is at most a header and a payload of 16,384 bytes without its last byte.
+    ensures short { result ≡ FrameStep.More → length bytes.now ≤ 16392 }
     // All three at once, as a function of the bytes.
     ensures exact { told result ≡ reading_of bytes.now }
 {
     read_front(bytes)
+}
+
+/// How many bytes show the fault of these: the fewest of their first bytes for which `next_frame` answers Bad, at most
+/// 13; all of them where they have no fault.
+pub fn fault_place(bytes: &[u8]) -> usize
+    ensures value { result ≡ fault_place bytes.now }
+    // The place of the fault by the grammar.
+    ensures place { (code : ℕ) (fault : IsFault bytes.now code) → result ≡ fault.place }
+{
+    for place in 0..bytes.len() {
+        if is_bad(&next_frame(&bytes[..place])) {
+            return place;
+        }
+    }
+    bytes.len()
+}
+
+fn is_bad(step: &FrameStep) -> bool
+    ensures { result ≡ is_fault (told step.now) }
+{
+    matches!(step, FrameStep::Bad { code: _ })
 }
 
 // The header at once where all of it is there, and else byte by byte.

@@ -20,14 +20,14 @@ fn has_flag(flags: u8, flag: u8) -> bool
     flags & flag != 0
 }
 
-fn is_padded(kind: u8, flags: u8) -> bool
+pub fn is_padded(kind: u8, flags: u8) -> bool
     ensures { result ≡ is_padded kind flags }
 {
     matches!(kind, DATA | HEADERS) && has_flag(flags, flags::PADDED)
 }
 
-// How many bytes the Pad Length and priority fields take.
-fn fields_size(kind: u8, flags: u8) -> u32
+/// How many bytes the Pad Length and priority fields take.
+pub fn fields_size(kind: u8, flags: u8) -> u32
     ensures value { result ≡ fields_size kind flags }
     ensures within { result ≤ 6 }
 {
