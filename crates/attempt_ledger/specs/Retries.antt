@@ -66,11 +66,19 @@ retry_due policy since end =
 abbrev pub is_due : Option ℕ → ℕ → Bool
 is_due due moment = option_map_or (λ at. at == moment) due false
 
--- an end licenses a retry: it is of the number before, and the retry is due at its moment
+-- whether a row of this number has an end that counts
+abbrev pub is_counted_of : ℕ → Row → List Row → Bool
+is_counted_of number row after = (row.number == number) && ended_by (is_counted row after) row
+
+abbrev pub some_counted_of : ℕ → List Row → Bool
+some_counted_of number rows = some_row (λ place row after. is_counted_of number row after) rows
+
+-- an end licenses a retry, which is due at its moment: the last end that counts, of the number before
 abbrev pub is_license_by : CallPlan → Chosen → List Row → Row → Row → List Row → RowEnd → Bool
 is_license_by (plan.Retry policy) chosen rows retry row after end =
     (row.number + 1 == retry.number)
     && licenses chosen row after end
+    && not (some_counted_of row.number after)
     && is_due (retry_due policy (row.number - last_delayed retry.number rows) end) retry.due
 is_license_by _ chosen rows retry row after end = false
 

@@ -40,14 +40,28 @@ impl RowFault {
 }
 
 /// Whether the rows of one call, in the order of their making, keep the laws of attempts under its configuration, as far
-/// as one call's rows show them.
+/// as the rows of one call show them (gRFC A6). An end counts unless the client gave the attempt up or a transparent row
+/// follows it.
 ///
-/// Numbering: the rows that aren't transparent are numbered from 1 in order, up to the plan's maximum, or 1 without a
-/// plan. The first is a First, the others are retries or hedges by the plan. Each row is due at or before its placing,
-/// and placed at or before its end; it has a stream only where it is placed; and where it ended without a placing, a
-/// failed pick ended it, with the code UNAVAILABLE.
+/// - Numbering: the rows that aren't transparent are numbered from 1 in order, up to the plan's maximum, or 1 without a
+///   plan. The first is a First, the others are retries or hedges by the plan. Each row is due at or before its placing,
+///   and placed at or before its end; it has a stream only where it is placed; and where it ended without a placing, a
+///   failed pick ended it, with the code UNAVAILABLE.
+/// - Retries: an end can be tried again where it counts, its code is one of the policy's, the server doesn't forbid it,
+///   more than half of the tokens are left, and one more attempt is allowed. Each retry has such an end of the number
+///   before it, to whose row the call wasn't committed by the entry of that end, and is due when the server's pushback asks,
+///   or else after a wait. An end has a random word just where such a wait is drawn. An end that counts and can't be
+///   tried again commits its row.
+/// - Hedging: each hedge is due the delay after a row before it was placed, when such a row ended, or when its pushback
+///   asks. No end before that moment forbids it, or has another code than the policy's, unless a transparent row follows.
+/// - Transparent retries: each follows the last row of its number before it, is due at its end, and is committed then if
+///   that row was. An end is followed where the request was never sent, and once a call where the peer refused it unseen
+///   while the call wasn't committed; in the entry of a commitment both are allowed.
+/// - Throttling: a count of tokens is at most the start, after a failure at most the start less a token, and after a
+///   success at least the ratio, or the start where that is less.
 ///
-/// The fault has the first row that breaks a law, and the lowest law that it breaks.
+/// The fault has the first row that breaks a law, and the lowest law that it breaks; a law is broken at a row of the whole
+/// list. Rows are compared with each other, so the time grows with the square of their number for each attempt.
 pub fn check_rows(chosen: &Chosen, rows: &[Row]) -> Result<(), RowFault>
     ensures ok { IsOk result ↔ ((law : ℕ) → (place : ℕ) → BreaksAt chosen.now law rows.now place → ⊥) }
     ensures fault { (fault : RowFault) → (result ≡ Err fault) ↔ IsFault chosen.now rows.now fault }

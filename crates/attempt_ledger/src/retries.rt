@@ -1,6 +1,6 @@
 // The law of retries among the rows of a call.
 ghost use Rattle.std.specs.Prelude.{◌≡◌, ◌↔◌, ◌≤◌, ◌+◌, ◌-◌, IsTrue, length, drop};
-ghost use Rattle.attempt_ledger.specs.Retries.{EndsInLaw, KeepsRetries, asks_delay, asks_delay_before, has_retries, is_due, is_license_by, is_licensed, is_licensed_by, is_retry, is_retryable, is_uncommitted, last_delayed, licenses, retry_due};
+ghost use Rattle.attempt_ledger.specs.Retries.{EndsInLaw, KeepsRetries, asks_delay, asks_delay_before, has_retries, is_counted_of, is_due, is_license_by, is_licensed, is_licensed_by, is_retry, is_retryable, is_uncommitted, last_delayed, licenses, retry_due, some_counted_of};
 
 use crate::ends::{delay_of, is_above, is_counted, is_stop, millis_after};
 use crate::waits::retry_wait;
@@ -104,6 +104,7 @@ fn is_licensed_by(chosen: &Chosen, rows: &[Row], retry: &Row, row: &Row, after: 
     }
 }
 
+/// Whether this end licenses a retry: it is the last end that counts, of the number before, and gives the retry's moment.
 fn is_license(
     chosen: &Chosen,
     rows: &[Row],
@@ -117,14 +118,35 @@ fn is_license(
     let CallPlan::Retry(policy) = &chosen.plan else {
         return false;
     };
-    if row.number >= retry.number || retry.number - row.number != 1 {
+    if u64::from(row.number) + 1 != u64::from(retry.number) {
         return false;
     }
-    if !licenses(chosen, row, after, end) {
+    if !licenses(chosen, row, after, end) || some_counted_of(row.number, after) {
         return false;
     }
     let since = row.number - last_delayed(rows, retry.number);
     is_due(retry_due(policy, since, end), retry.due)
+}
+
+/// Whether some row of this number has an end that counts.
+fn some_counted_of(number: u32, rows: &[Row]) -> bool
+    ensures { result ≡ some_counted_of number rows.now }
+{
+    for (place, row) in rows.iter().enumerate() {
+        if is_counted_of(number, row, &rows[place + 1..]) {
+            return true;
+        }
+    }
+    false
+}
+
+fn is_counted_of(number: u32, row: &Row, after: &[Row]) -> bool
+    ensures { result ≡ is_counted_of number row.now after.now }
+{
+    match &row.ended {
+        Some(end) => row.number == number && is_counted(row, after, end),
+        None => false,
+    }
 }
 
 fn is_due(due: Option<u64>, moment: u64) -> bool
