@@ -4,6 +4,8 @@
 #[cfg(test)]
 mod attempt_ledger_tests;
 #[cfg(test)]
+mod check_rows_tests;
+#[cfg(test)]
 mod gate_io_tests;
 #[cfg(test)]
 mod grpc_base_metadata;
