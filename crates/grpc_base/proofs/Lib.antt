@@ -1,3 +1,4 @@
+pub mod HostLaws
 pub mod ListLaws
 pub mod MetaLaws
 pub mod NumberLaws

@@ -18,6 +18,10 @@ capped_wait initial multiplier largest n = min (raw_wait initial multiplier n) l
 abbrev pub draw : ℕ → ℕ → ℕ
 draw word n = word * (n + 1) / 2 ^ 64
 
+-- a wait spread by a fifth to both sides (gRPC, "Connection Backoff Protocol": JITTER 0.2; gRFC A6, "Exponential Backoff")
+abbrev pub spread_wait : ℕ → ℕ → ℕ
+spread_wait wait word = wait - wait / 5 + draw word (2 * (wait / 5))
+
 -- the k-th word of an entry, k from 0
 abbrev pub nth_word : ℕ → ℕ → ℕ
 nth_word word k = (word + k * 0x9E3779B97F4A7C15) % 2 ^ 64
@@ -31,7 +35,7 @@ connect_base n = grown (10 ^ 9) 1600 (120 * 10 ^ 9) (pred n)
 abbrev pub connect_wait : ℕ → ℕ → ℕ
 connect_wait n word =
     if nat_le n 1 then connect_base 1
-    else connect_base n - connect_base n / 5 + draw word (2 * (connect_base n / 5))
+    else spread_wait (connect_base n) word
 
 -- no dial is given up before 20 s
 abbrev pub connect_least : ℕ

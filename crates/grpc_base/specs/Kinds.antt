@@ -7,17 +7,19 @@ use Rattle.grpc_base.specs.declared.kind.Kind.TheVariants as kind
 
 -- all kinds, in the order of their numbers
 abbrev pub each_kind : List Kind
-each_kind = kind.PickFirst ∷ kind.RoundRobin ∷ []
+each_kind = kind.PickFirst ∷ kind.RoundRobin ∷ kind.Priority ∷ []
 
 -- the number of a kind, from 0
 abbrev pub kind_number : Kind → ℕ
 kind_number kind.PickFirst = 0
 kind_number kind.RoundRobin = 1
+kind_number kind.Priority = 2
 
 -- the name of a kind in a service config
 abbrev pub kind_name : Kind → List ℕ
 kind_name kind.PickFirst = codes "pick_first"
 kind_name kind.RoundRobin = codes "round_robin"
+kind_name kind.Priority = codes "priority"
 
 -- the kind of this name, spelled exactly
 abbrev pub kind_named : List ℕ → Option Kind

@@ -1,13 +1,17 @@
 pub mod Addresses
+pub mod Authorities
 pub mod Backoff
 pub mod Codes
 pub mod Conns
+pub mod Counts
 pub mod ErrorCodes
+pub mod Hosts
 pub mod Kinds
 pub mod Limits
 pub mod Metadata
 pub mod Numbers
 pub mod Pieces
+pub mod Posts
 pub mod Refusals
 pub mod Requests
 pub mod Scripts

@@ -9,6 +9,8 @@ use std::marker::Model;
 pub enum Kind {
     PickFirst,
     RoundRobin,
+    /// Tiers of subchannels: a later one is used while every earlier one has failed.
+    Priority,
 }
 
 /// How many kinds there are.
@@ -16,7 +18,7 @@ const KINDS: usize = Kind::ALL.len();
 
 impl Kind {
     /// All kinds, in the order of their numbers.
-    pub const ALL: [Kind; 2] = [Kind::PickFirst, Kind::RoundRobin];
+    pub const ALL: [Kind; 3] = [Kind::PickFirst, Kind::RoundRobin, Kind::Priority];
 
     /// Its number, from 0: its place among all kinds.
     pub fn number(self) -> usize
@@ -25,6 +27,7 @@ impl Kind {
         match self {
             Kind::PickFirst => 0,
             Kind::RoundRobin => 1,
+            Kind::Priority => 2,
         }
     }
 
@@ -35,6 +38,7 @@ impl Kind {
         match self {
             Kind::PickFirst => "pick_first",
             Kind::RoundRobin => "round_robin",
+            Kind::Priority => "priority",
         }
     }
 
