@@ -1,6 +1,6 @@
 -- Going through the rows of a call up to the first that breaks a law.
-use Rattle.std.proofs.Common.{◌≡◌, ℕ, suc, ◌+◌, ◌≤◌, ◌<◌, ◌⊎◌, inl, inr, ◌∙◌, Bool, true, false, cond, not, List, [], ◌∷◌, ◌++◌, length, take, drop, get_or, refl, ap, sym, subst, arith, append_assoc, append-nil, length-append, take-suc, take-append-drop}
-use Rattle.std.proofs.lemmas.List.{get_or_at, length-take-le, take_at}
+use Rattle.std.proofs.Common.{◌≡◌, ℕ, suc, ◌+◌, ◌-◌, ◌≤◌, ◌<◌, inl, inr, ◌∙◌, Bool, true, false, cond, not, List, [], ◌∷◌, ◌++◌, length, take, drop, get_or, refl, ap, sym, subst, arith, append_assoc, append-nil, length-append, take-suc, take-append-drop}
+use Rattle.std.proofs.lemmas.List.{drop_at, get_or_at, length-take-le, take_at}
 use Rattle.std.proofs.lemmas.List.Elements.{filter-append}
 use Rattle.std.proofs.lemmas.Bool.{cases_lt}
 use Rattle.std.specs.Bool.{OnFalse}
@@ -8,9 +8,9 @@ use Rattle.grpc_base.specs.declared.plan.CallPlan.{CallPlan}
 use Rattle.grpc_base.specs.declared.plan.Chosen.{Chosen}
 use Rattle.attempt_ledger.specs.declared.check.RowFault.{RowFault}
 use Rattle.attempt_ledger.specs.declared.row.Row.{Row}
-use Rattle.attempt_ledger.specs.Faults.{Breaks, BreaksAt, IsFault}
+use Rattle.attempt_ledger.specs.Faults.{Breaks, BreaksAt, IsFault, IsLowestBroken}
 use Rattle.attempt_ledger.specs.Numbering.{IsNextAttempt, KeepsNumbering, attempts_of, is_transparent}
-use Rattle.attempt_ledger.specs.TransparentRows.{KeepsTransparent}
+use Rattle.attempt_ledger.proofs.RowLaws.{behind}
 
 -- one row more is taken
 take-more : (rows : List Row) (i : ℕ) (row : Row) → i < length rows → row ≡ get_or rows i row → take (i + 1) rows ≡ take i rows ++ row ∷ []
@@ -24,7 +24,7 @@ around rows i row inside is =
     sym (take-append-drop (i + 1) rows) ∙ ap (λ (front : List Row). front ++ drop (i + 1) rows) (take-more rows i row inside is) ∙ append_assoc (take i rows) (row ∷ []) (drop (i + 1) rows)
 
 -- a law that a row breaks between the others is broken at its place
-broken-here : (chosen : Chosen) (law : ℕ) (rows : List Row) (i : ℕ) (row : Row) → i < length rows → row ≡ get_or rows i row → Breaks chosen law (take i rows) row (drop (i + 1) rows) → BreaksAt chosen law rows (i + 1)
+broken-here : (chosen : Chosen) (law : ℕ) (rows : List Row) (i : ℕ) (row : Row) → i < length rows → row ≡ get_or rows i row → Breaks chosen rows law (take i rows) row (drop (i + 1) rows) → BreaksAt chosen law rows (i + 1)
 broken-here chosen law rows i row inside is broken =
     record {
       before = take i rows;
@@ -35,13 +35,21 @@ broken-here chosen law rows i row inside is broken =
       broken = broken;
     }
 
+-- the rows behind a row between others
+rest-of : (before : List Row) (row : Row) (after : List Row) (i : ℕ) → length before ≡ i → drop (i + 1) (before ++ row ∷ after) ≡ after
+rest-of before row after i at =
+    ap (drop (i + 1)) (sym (append_assoc before (row ∷ []) after)) ∙ drop_at (before ++ row ∷ []) after (i + 1) (length-append before (row ∷ []) ∙ ap (λ (k : ℕ). k + 1) at)
+
 -- and what is broken at its place, it breaks
-what-is-broken : (chosen : Chosen) (law : ℕ) (rows : List Row) (i : ℕ) (row : Row) → row ≡ get_or rows i row → (b : BreaksAt chosen law rows (i + 1)) → Breaks chosen law (take i rows) row b.after
+what-is-broken : (chosen : Chosen) (law : ℕ) (rows : List Row) (i : ℕ) (row : Row) → row ≡ get_or rows i row → BreaksAt chosen law rows (i + 1) → Breaks chosen rows law (take i rows) row (drop (i + 1) rows)
 what-is-broken chosen law rows i row is b =
     let at : length b.before ≡ i = let p = b.place_is in omega arith in
     let front : take i rows ≡ b.before = ap (take i) b.together ∙ take_at b.before (b.row ∷ b.after) i at in
+    let back : drop (i + 1) rows ≡ b.after = ap (drop (i + 1)) b.together ∙ rest-of b.before b.row b.after i at in
     let same : row ≡ b.row = is ∙ ap (λ (rs : List Row). get_or rs i row) b.together ∙ get_or_at b.before b.row b.after row i at in
-    subst (λ (rs : List Row). Breaks chosen law rs row b.after) (sym front) (subst (λ (r : Row). Breaks chosen law b.before r b.after) (sym same) b.broken)
+    subst (λ (rs : List Row). Breaks chosen rows law rs row (drop (i + 1) rows)) (sym front)
+    (subst (λ (r : Row). Breaks chosen rows law b.before r (drop (i + 1) rows)) (sym same)
+    (subst (Breaks chosen rows law b.before b.row) (sym back) b.broken))
 
 -- places are within the list
 inside-of : (chosen : Chosen) (law : ℕ) (rows : List Row) (place : ℕ) → BreaksAt chosen law rows place → place ≤ length rows
@@ -74,15 +82,14 @@ count-with plan count number row false e keeps is =
     let next : IsNextAttempt plan count row = subst (λ (b : Bool). OnFalse b (IsNextAttempt plan count row)) e keeps.attempt in
     is ∙ next.number
 
--- a row that keeps the laws breaks none
-kept : (chosen : Chosen) (law : ℕ) (before : List Row) (row : Row) (after : List Row) → KeepsNumbering chosen.plan (length (attempts_of before)) row → KeepsTransparent before row → Breaks chosen law before row after → ⊥
-kept chosen law before row after numbered transparent broken = elim broken [ inl b ↦ b.1 numbered | inr b ↦ b.1 transparent ]
+-- the rows behind a place, as a slice gives them, keep what is said of them
+pub of-slice : (rows : List Row) (k : ℕ) (P : List Row → Type 0) → P (take (length rows - k) (drop k rows)) → P (drop k rows)
+of-slice rows k P said = subst P (behind rows k) said
 
--- one row more that keeps the laws
-pub passed-more : (chosen : Chosen) (rows : List Row) (count number i : ℕ) (row : Row) → i < length rows → row ≡ get_or rows i row → ArePassed chosen rows count i → KeepsNumbering chosen.plan count row → KeepsTransparent (take i rows) row → number ≡ cond (is_transparent row.kind) count row.number → ArePassed chosen rows number (i + 1)
-passed-more chosen rows count number i row inside is passed numbered transparent next =
+-- one row more that breaks no law
+pub passed-more : (chosen : Chosen) (rows : List Row) (count number i : ℕ) (row : Row) → i < length rows → row ≡ get_or rows i row → ArePassed chosen rows count i → KeepsNumbering chosen.plan count row → ((law : ℕ) → Breaks chosen rows law (take i rows) row (drop (i + 1) rows) → ⊥) → number ≡ cond (is_transparent row.kind) count row.number → ArePassed chosen rows number (i + 1)
+passed-more chosen rows count number i row inside is passed numbered none next =
     let many : count ≡ length (attempts_of (take i rows)) = passed.many in
-    let here : KeepsNumbering chosen.plan (length (attempts_of (take i rows))) row = subst (λ (n : ℕ). KeepsNumbering chosen.plan n row) many numbered in
     record {
       many =
           count-with chosen.plan count number row (is_transparent row.kind) refl numbered next
@@ -96,7 +103,7 @@ passed-more chosen rows count number i row inside is passed numbered transparent
             | inr high ↦
                 let at : place ≡ i + 1 = omega arith in
                 let b2 : BreaksAt chosen law rows (i + 1) = subst (BreaksAt chosen law rows) at b in
-                absurd (kept chosen law (take i rows) row b2.after here transparent (what-is-broken chosen law rows i row is b2))
+                absurd (none law (what-is-broken chosen law rows i row is b2))
           ];
     }
 
@@ -107,28 +114,12 @@ all-passed chosen rows count i end passed law place b =
     let high = inside-of chosen law rows place b in
     omega arith
 
--- the lowest law that a row breaks behind numbered ones
-abbrev pub IsLowestBroken : CallPlan → ℕ → List Row → Row → ℕ → Type 0
-IsLowestBroken plan count before row law =
-    ((law ≡ 8) × (KeepsNumbering plan count row → ⊥))
-    ⊎ ((law ≡ 11) × KeepsNumbering plan count row × (KeepsTransparent before row → ⊥))
-
-breaks-lowest : (chosen : Chosen) (law : ℕ) (before : List Row) (row : Row) (after : List Row) → IsLowestBroken chosen.plan (length (attempts_of before)) before row law → Breaks chosen law before row after
-breaks-lowest chosen law before row after lowest = elim lowest [ inl b ↦ inl (b.0, b.1) | inr b ↦ inr (b.0, b.2) ]
-
-no-lower : (chosen : Chosen) (law other : ℕ) (before : List Row) (row : Row) (after : List Row) → IsLowestBroken chosen.plan (length (attempts_of before)) before row law → Breaks chosen other before row after → law ≤ other
-no-lower chosen law other before row after lowest broken = elim lowest [
-  | inl b ↦ elim broken [ inl x ↦ (let p : law ≡ 8 = b.0 in let q : other ≡ 8 = x.0 in omega arith) | inr x ↦ (let p : law ≡ 8 = b.0 in let q : other ≡ 11 = x.0 in omega arith) ]
-  | inr b ↦ elim broken [ inl x ↦ absurd (x.1 b.1) | inr x ↦ (let p : law ≡ 11 = b.0 in let q : other ≡ 11 = x.0 in omega arith) ]
-]
-
-pub fault-here : (chosen : Chosen) (rows : List Row) (count i law : ℕ) (row : Row) → i < length rows → row ≡ get_or rows i row → ArePassed chosen rows count i → IsLowestBroken chosen.plan count (take i rows) row law → IsFault chosen rows (record { row = i + 1; law = law })
+pub fault-here : (chosen : Chosen) (rows : List Row) (count i law : ℕ) (row : Row) → i < length rows → row ≡ get_or rows i row → ArePassed chosen rows count i → IsLowestBroken chosen rows (take i rows) row (drop (i + 1) rows) law → IsFault chosen rows (record { row = i + 1; law = law })
 fault-here chosen rows count i law row inside is passed lowest =
-    let here : IsLowestBroken chosen.plan (length (attempts_of (take i rows))) (take i rows) row law = subst (λ (n : ℕ). IsLowestBroken chosen.plan n (take i rows) row law) passed.many lowest in
     record {
-      broken = broken-here chosen law rows i row inside is (breaks-lowest chosen law (take i rows) row (drop (i + 1) rows) here);
+      broken = broken-here chosen law rows i row inside is lowest.broken;
       first = λ other place b. let low : i < place = passed.clear other place b in omega arith;
-      lowest = λ other b. no-lower chosen law other (take i rows) row b.after here (what-is-broken chosen other rows i row is b);
+      lowest = λ other b. lowest.lowest other (what-is-broken chosen other rows i row is b);
     }
 
 same-fault : (a b : RowFault) → a.row ≡ b.row → a.law ≡ b.law → a ≡ b

@@ -1,1 +1,3 @@
 pub mod FaultLaws
+pub mod LowestLaws
+pub mod RowLaws

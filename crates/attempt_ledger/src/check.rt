@@ -1,14 +1,16 @@
 // The laws that the rows of one call keep among themselves.
-ghost use Rattle.std.specs.Prelude.{◌≡◌, ◌⊎◌, ◌↔◌, ℕ, IfNone, IfSome, IsOk, length};
+ghost use Rattle.std.specs.Prelude.{◌≡◌, ◌⊎◌, ◌↔◌, ◌<◌, ◌≤◌, ◌+◌, ℕ, IfNone, IfSome, IsOk, length, take, drop};
 ghost use Rattle.attempt_ledger.specs.declared.check.RowFault.{RowFault};
-ghost use Rattle.attempt_ledger.specs.Faults.{BreaksAt, IsFault};
-ghost use Rattle.attempt_ledger.specs.Numbering.{KeepsNumbering};
-ghost use Rattle.attempt_ledger.specs.TransparentRows.{KeepsTransparent};
+ghost use Rattle.attempt_ledger.specs.Faults.{Breaks, BreaksAt, IsFault, IsLowestBroken};
+ghost use Rattle.attempt_ledger.specs.Numbering.{KeepsNumbering, attempts_of};
 
 use crate::Row;
+use crate::hedging::keeps_hedging;
 use crate::numbering::{is_transparent, keeps_numbering};
+use crate::retries::keeps_retries;
+use crate::throttling::keeps_throttling;
 use crate::transparent::keeps_transparent;
-use grpc_base::{CallPlan, Chosen};
+use grpc_base::Chosen;
 
 /// The first row at which the rows of a call break a law, and the lowest law that they break there.
 #[derive(Clone, Copy, Debug, PartialEq, Eq)]
@@ -24,17 +26,26 @@ impl RowFault {
     /// The number of the law of numbering.
     pub const NUMBERING: u8 = 8;
 
+    /// The number of the law of retries.
+    pub const RETRIES: u8 = 9;
+
+    /// The number of the law of hedging.
+    pub const HEDGING: u8 = 10;
+
     /// The number of the law of transparent retries.
     pub const TRANSPARENT: u8 = 11;
+
+    /// The number of the law of throttling.
+    pub const THROTTLING: u8 = 12;
 }
 
-/// Whether the rows of one call, in the order of their making, keep the laws of numbering and of transparent retries
-/// under its configuration.
+/// Whether the rows of one call, in the order of their making, keep the laws of attempts under its configuration, as far
+/// as one call's rows show them.
 ///
 /// Numbering: the rows that aren't transparent are numbered from 1 in order, up to the plan's maximum, or 1 without a
 /// plan. The first is a First, the others are retries or hedges by the plan. Each row is due at or before its placing,
 /// and placed at or before its end; it has a stream only where it is placed; and where it ended without a placing, a
-/// failed pick ended it, with the code UNAVAILABLE. Transparent retries: each has the number of a row before it.
+/// failed pick ended it, with the code UNAVAILABLE.
 ///
 /// The fault has the first row that breaks a law, and the lowest law that it breaks.
 pub fn check_rows(chosen: &Chosen, rows: &[Row]) -> Result<(), RowFault>
@@ -54,7 +65,9 @@ fn first_fault(chosen: &Chosen, rows: &[Row]) -> Option<RowFault>
 {
     let mut count = 0;
     for (place, row) in rows.iter().enumerate() {
-        if let Some(law) = lowest_broken(&chosen.plan, count, &rows[..place], row) {
+        let before = &rows[..place];
+        let after = &rows[place + 1..];
+        if let Some(law) = lowest_broken(chosen, rows, count, before, row, after) {
             return Some(RowFault {
                 row: place as u64 + 1,
                 law,
@@ -67,16 +80,34 @@ fn first_fault(chosen: &Chosen, rows: &[Row]) -> Option<RowFault>
     None
 }
 
-/// The lowest law that a row breaks behind these, of which so many are attempts.
-fn lowest_broken(plan: &CallPlan, count: u32, before: &[Row], row: &Row) -> Option<u8>
-    ensures some { IfSome result (λ law. ((law ≡ 8) × (KeepsNumbering plan.now count row.now → ⊥)) ⊎ ((law ≡ 11) × KeepsNumbering plan.now count row.now × (KeepsTransparent before.now row.now → ⊥))) }
-    ensures none { IfNone result (KeepsNumbering plan.now count row.now × KeepsTransparent before.now row.now) }
+/// The lowest law that a row breaks between these, of which so many before it are attempts.
+fn lowest_broken(
+    chosen: &Chosen,
+    rows: &[Row],
+    count: u32,
+    before: &[Row],
+    row: &Row,
+    after: &[Row],
+) -> Option<u8>
+    requires { count ≡ length (attempts_of before.now) }
+    ensures some { IfSome result (IsLowestBroken chosen.now rows.now before.now row.now after.now) }
+    ensures none { IfNone result ((law : ℕ) → Breaks chosen.now rows.now law before.now row.now after.now → ⊥) }
+    ensures numbered { IfNone result (KeepsNumbering chosen.now.plan count row.now) }
 {
-    if !keeps_numbering(plan, count, row) {
+    if !keeps_numbering(&chosen.plan, count, row) {
         return Some(RowFault::NUMBERING);
     }
-    if !keeps_transparent(before, row) {
+    if !keeps_retries(chosen, rows, row, after) {
+        return Some(RowFault::RETRIES);
+    }
+    if !keeps_hedging(&chosen.plan, rows, before, row) {
+        return Some(RowFault::HEDGING);
+    }
+    if !keeps_transparent(rows, before, row, after) {
         return Some(RowFault::TRANSPARENT);
+    }
+    if !keeps_throttling(chosen, row, after) {
+        return Some(RowFault::THROTTLING);
     }
     None
 }

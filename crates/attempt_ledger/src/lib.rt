@@ -3,12 +3,17 @@
 #![tactic(auto)]
 
 mod check;
+mod ends;
+mod hedging;
 mod journal;
 mod ledger;
 mod news;
 mod numbering;
+mod retries;
 mod row;
+mod throttling;
 mod transparent;
+mod waits;
 
 pub use check::{RowFault, check_rows};
 pub use journal::Journal;
