@@ -6,6 +6,8 @@ mod attempt_ledger_tests;
 #[cfg(test)]
 mod gate_io_tests;
 #[cfg(test)]
+mod gate_link_tests;
+#[cfg(test)]
 mod grpc_base_metadata;
 #[cfg(test)]
 mod grpc_base_values;
