@@ -1,5 +1,7 @@
 -- What reads of a link and dials do to the bytes that are left, and when their counts rise.
 use Rattle.std.specs.Prelude.{◌≡◌, ◌≤◌, ◌<◌, ℕ, Option, Some, None, List, ◌∷◌, take}
+use Rattle.gate_io.specs.declared.link.Dialed.{Dialed}
+use Rattle.gate_io.specs.declared.link.Dialed.TheVariants as dialed
 use Rattle.gate_io.specs.declared.link.LinkRead.{LinkRead}
 use Rattle.gate_io.specs.declared.link.LinkRead.TheVariants as link
 use Rattle.gate_io.specs.Outside.{IsAtEnd, Takes, one_more}
@@ -26,3 +28,13 @@ abbrev pub TakesLink : Option (List (List ℕ)) → Option (List (List ℕ)) →
 TakesLink (Some before) (Some after) (Some bytes) = before ≡ bytes ∷ after
 TakesLink None None left = Unit {0}
 TakesLink _ _ _ = ⊥
+
+-- what a dial did: an open link takes the next bytes that were to come, and a failed dial raises the count of faults by one
+abbrev pub DialGives : {I O : Type 0} → (I → Option (List ℕ)) → Option (List (List ℕ)) → Option (List (List ℕ)) → ℕ → ℕ → Dialed I O → Type 0
+DialGives left coming coming_after faults faults_after (dialed.Open input output) = TakesLink coming coming_after (left input) × (faults_after ≡ faults)
+DialGives left coming coming_after faults faults_after dialed.Failed = (coming_after ≡ coming) × (faults_after ≡ one_more faults)
+
+-- a failed accept raises the count of faults by one, and no other accept changes it
+abbrev pub AcceptCounts : {I O : Type 0} → ℕ → ℕ → Dialed I O → Type 0
+AcceptCounts faults faults_after (dialed.Open input output) = faults_after ≡ faults
+AcceptCounts faults faults_after dialed.Failed = faults_after ≡ one_more faults

@@ -1,8 +1,7 @@
 // Links, and what opens them: what they answer, and what a caller may rest on.
 ghost use Rattle.std.specs.Prelude.{◌≡◌, ◌<◌, List, ℕ, Bool, true, false, Option, length};
 ghost use Rattle.gate_io.specs.Outside.{CountsWrite, Writes, one_more};
-ghost use Rattle.gate_io.specs.Links.{CountsFaults, CountsQuiet, LinkReads, TakesLink};
-ghost use Rattle.gate_io.specs.declared.link.Dialed.TheVariants as dialed;
+ghost use Rattle.gate_io.specs.Links.{AcceptCounts, CountsFaults, CountsQuiet, DialGives, LinkReads};
 
 use crate::WriteAnswer;
 use grpc_base::Address;
@@ -86,8 +85,7 @@ pub trait Dialer: Send + Drop {
 
     /// Dials an address, and gives up at the moment `until`.
     fn dial(&mut self, to: Address, until: u64) -> Dialed<Self::In, Self::Out>
-        ensures open { (i : Self.In) (o : Self.Out) → result ≡ dialed.Open i o → TakesLink (coming self.old) (coming self.new) (Self.In.LinkIn.left i) × (faults self.new ≡ faults self.old) }
-        ensures failed { result ≡ dialed.Failed → (coming self.new ≡ coming self.old) × (faults self.new ≡ one_more (faults self.old)) };
+        ensures { DialGives Self.In.LinkIn.left (coming self.old) (coming self.new) (faults self.old) (faults self.new) result };
 }
 
 /// What accepts links.
@@ -106,6 +104,5 @@ pub trait Listener: Send + Drop {
 
     /// The next link, as soon as there is one.
     fn accept(&mut self) -> Dialed<Self::In, Self::Out>
-        ensures open { (i : Self.In) (o : Self.Out) → result ≡ dialed.Open i o → faults self.new ≡ faults self.old }
-        ensures failed { result ≡ dialed.Failed → faults self.new ≡ one_more (faults self.old) };
+        ensures { AcceptCounts (faults self.old) (faults self.new) result };
 }

@@ -3,7 +3,7 @@ ghost use Rattle.std.specs.Prelude.{◌≡◌, ◌↔◌, ◌⊎◌, ◌∷◌, 
 ghost use Rattle.gate_io.specs.Memory.{FailsNext, LinkInSeen, LinkOutSeen};
 ghost use Rattle.gate_io.specs.MemoryLinks.{lefts_of, opened_of};
 ghost use Rattle.gate_io.specs.Outside.{one_more};
-ghost use Rattle.gate_io.specs.Links.{TakesLink};
+ghost use Rattle.gate_io.specs.Links.{AcceptCounts, DialGives};
 ghost use Rattle.gate_io.specs.declared.link.Dialed.TheVariants as dialed;
 
 use crate::{Dialed, Dialer, Listener, MemLinkIn, MemLinkOut};
@@ -116,8 +116,7 @@ impl Dialer for MemDialer {
     ghost faults = { λ d. d.faults };
 
     fn dial(&mut self, _to: Address, _until: u64) -> Dialed<MemLinkIn, MemLinkOut>
-        ensures open { (i : LinkInSeen) (o : LinkOutSeen) → result ≡ dialed.Open i o → TakesLink (Some (lefts_of self.old.links)) (Some (lefts_of self.new.links)) (Some i.source.left) × (self.new.faults ≡ self.old.faults) }
-        ensures failed { result ≡ dialed.Failed → (Some (lefts_of self.new.links) ≡ Some (lefts_of self.old.links)) × (self.new.faults ≡ one_more self.old.faults) }
+        ensures gives { DialGives (λ (l : LinkInSeen). Some l.source.left) (Some (lefts_of self.old.links)) (Some (lefts_of self.new.links)) self.old.faults self.new.faults result }
         ensures next { (i : LinkInSeen) (o : LinkOutSeen) → result ≡ dialed.Open i o → self.old.links ≡ record { input = i; output = o } ∷ self.new.links }
         ensures same { result ≡ dialed.Failed → self.new.links ≡ self.old.links }
         ensures fails { (result ≡ dialed.Failed) ↔ (FailsNext self.old.failing self.old.calls ⊎ (self.old.links ≡ [])) }
@@ -175,8 +174,7 @@ impl Listener for MemListener {
     }
 
     fn accept(&mut self) -> Dialed<MemLinkIn, MemLinkOut>
-        ensures open { (i : LinkInSeen) (o : LinkOutSeen) → result ≡ dialed.Open i o → self.new.links.faults ≡ self.old.links.faults }
-        ensures failed { result ≡ dialed.Failed → self.new.links.faults ≡ one_more self.old.links.faults }
+        ensures counts { AcceptCounts self.old.links.faults self.new.links.faults result }
         ensures next { (i : LinkInSeen) (o : LinkOutSeen) → result ≡ dialed.Open i o → self.old.links.links ≡ record { input = i; output = o } ∷ self.new.links.links }
         ensures same { result ≡ dialed.Failed → self.new.links.links ≡ self.old.links.links }
         ensures fails { (result ≡ dialed.Failed) ↔ (FailsNext self.old.links.failing self.old.links.calls ⊎ (self.old.links.links ≡ [])) }
