@@ -8,6 +8,8 @@ mod check_rows_tests;
 #[cfg(test)]
 mod gate_io_tests;
 #[cfg(test)]
+mod gate_link_tests;
+#[cfg(test)]
 mod grpc_base_metadata;
 #[cfg(test)]
 mod grpc_base_values;

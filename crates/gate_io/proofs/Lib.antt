@@ -1,2 +1,3 @@
 pub mod AppendLaws
 pub mod ReadLaws
+pub mod WordLaws

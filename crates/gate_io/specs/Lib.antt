@@ -1,2 +1,5 @@
+pub mod Links
 pub mod Memory
+pub mod MemoryLinks
 pub mod Outside
+pub mod Words

@@ -37,3 +37,32 @@ GivesMost before room _ = Unit {0}
 abbrev pub TakesMost : SinkSeen → ℕ → WriteAnswer → Type 0
 TakesMost before size (write.Took n) = n ≡ min size before.most
 TakesMost before size _ = Unit {0}
+
+-- what comes on a link: where its bytes come from, whether the link ends behind them or stays quiet, and how often it was quiet
+pub record LinkInSeen : Type 0 where
+  pub source : SourceSeen
+  pub ends : Bool
+  pub quiet : ℕ
+
+-- what goes on a link: where its bytes go, whether it was closed, and how often a write has failed
+pub record LinkOutSeen : Type 0 where
+  pub sink : SinkSeen
+  pub closed : Bool
+  pub faults : ℕ
+
+-- links that are still to be opened, the calls that are to fail, how many were made, and how often one has failed
+pub record LinksSeen (L : Type 0) : Type 0 where
+  pub links : List L
+  pub failing : List ℕ
+  pub calls : ℕ
+  pub faults : ℕ
+
+-- a listener: the links that it is to accept, and whether it opens
+pub record ListenerSeen (L : Type 0) : Type 0 where
+  pub links : LinksSeen L
+  pub opens : Bool
+
+-- a world in memory: the moments of its clock, and its dialers
+pub record WorldSeen (D : Type 0) : Type 0 where
+  pub clock : List ℕ
+  pub dialers : List D

@@ -1,17 +1,10 @@
 -- What reads and writes do to the bytes that are left and taken, and when a count of faults rises.
-use Rattle.std.specs.Prelude.{◌≡◌, ◌≤◌, ◌<◌, ℕ, ◌+◌, Option, Some, None, List, [], ◌++◌, length, take, min, IfSome}
+use Rattle.std.specs.Prelude.{◌≡◌, ◌≤◌, ◌<◌, ℕ, Option, Some, None, List, [], ◌++◌, length, take, IfSome}
+pub use Rattle.grpc_base.specs.Counts.{one_more, Rises}
 use Rattle.gate_io.specs.declared.world.ReadAnswer.{ReadAnswer}
 use Rattle.gate_io.specs.declared.world.ReadAnswer.TheVariants as read
 use Rattle.gate_io.specs.declared.world.WriteAnswer.{WriteAnswer}
 use Rattle.gate_io.specs.declared.world.WriteAnswer.TheVariants as write
-
--- a count with one more; at the top of a u64 it stands still
-abbrev pub one_more : ℕ → ℕ
-one_more count = min (count + 1) 18446744073709551615
-
--- a count rose; one that stands at the top of a u64 counts as one that rose
-abbrev pub Rises : ℕ → ℕ → Type 0
-Rises before after = one_more before ≤ after
 
 -- these bytes were next, where what is left is told
 abbrev pub Takes : Option (List ℕ) → Option (List ℕ) → List ℕ → Type 0

@@ -1,15 +1,33 @@
-// The environment as the program sees it: where bytes come from and go to, with a count of its faults.
+// The environment as the program sees it: clocks, random words, and where bytes come from and go to, with counts of their faults.
 #![tactic(auto)]
 
+mod clock;
 mod copied;
+mod draws;
+mod link;
 mod memory;
+mod memory_dialer;
+mod memory_link;
+mod setup;
 mod standard;
+mod std_clock;
 mod steady;
+mod tcp;
+mod tcp_dialer;
 mod whole;
 mod world;
 
+pub use clock::{Clock, ListClock};
+pub use draws::{Draws, PcgDraws};
+pub use link::{Dialed, Dialer, LinkIn, LinkOut, LinkRead, Listener};
 pub use memory::{MemSink, MemSource};
+pub use memory_dialer::{MemDialer, MemLink, MemListener};
+pub use memory_link::{MemLinkIn, MemLinkOut};
+pub use setup::{MemWorld, TcpWorld, World};
 pub use standard::{StdSink, StdSource};
+pub use std_clock::StdClock;
 pub use steady::{SteadySink, SteadySource};
+pub use tcp::{TcpIn, TcpOut};
+pub use tcp_dialer::{TcpDialer, TcpListen};
 pub use whole::write_whole;
 pub use world::{ReadAnswer, Sink, Source, WriteAnswer};

@@ -5,7 +5,7 @@ use crate::{ReadAnswer, Sink, Source, WriteAnswer};
 use std::io::{ErrorKind, Read, Write};
 
 /// How often a call that a signal interrupted is made again.
-const TRIES: u32 = 1_000_000;
+pub(crate) const TRIES: u32 = 1_000_000;
 
 /// A source over a reader, as standard input.
 #[derive(Drop)]
@@ -87,7 +87,7 @@ impl<W: Write> Sink for StdSink<W> {
 }
 
 /// One write, made again where a signal interrupted it; None where it failed or took nothing.
-fn write_some<W: Write>(writer: &mut W, piece: &[u8]) -> Option<usize>
+pub(crate) fn write_some<W: Write>(writer: &mut W, piece: &[u8]) -> Option<usize>
     ensures { IfSome result (λ n. (0 < n) × (n ≤ length piece.now)) }
 {
     for _ in 0..TRIES {

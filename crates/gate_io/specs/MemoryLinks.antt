@@ -1,0 +1,15 @@
+-- Links in memory that are to be opened.
+use Rattle.std.specs.Prelude.{ℕ, Option, Some, None, List, map}
+use Rattle.gate_io.specs.declared.link.Dialed.{Dialed}
+use Rattle.gate_io.specs.declared.link.Dialed.TheVariants as dialed
+use Rattle.gate_io.specs.declared.memory_dialer.MemLink.{MemLink}
+use Rattle.gate_io.specs.Memory.{LinkInSeen, LinkOutSeen}
+
+-- the bytes that each of these links has left
+abbrev pub lefts_of : List MemLink → List (List ℕ)
+lefts_of links = map (λ l. l.input.source.left) links
+
+-- the two ends of a link, where there is one
+abbrev pub opened_of : Option MemLink → Dialed LinkInSeen LinkOutSeen
+opened_of (Some l) = dialed.Open l.input l.output
+opened_of None = dialed.Failed

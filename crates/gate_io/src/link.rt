@@ -1,0 +1,108 @@
+// Links, and what opens them: what they answer, and what a caller may rest on.
+ghost use Rattle.std.specs.Prelude.{◌≡◌, ◌<◌, List, ℕ, Bool, true, false, Option, length};
+ghost use Rattle.gate_io.specs.Outside.{CountsWrite, Writes, one_more};
+ghost use Rattle.gate_io.specs.Links.{AcceptCounts, CountsFaults, CountsQuiet, DialGives, LinkReads};
+
+use crate::WriteAnswer;
+use grpc_base::Address;
+
+/// What a read of a link answers.
+#[derive(Clone, Copy, Debug, PartialEq, Eq)]
+pub enum LinkRead {
+    /// So many bytes came, at least one.
+    Got(usize),
+    /// Nothing has come so far.
+    Quiet,
+    /// The peer sends nothing further.
+    End,
+    /// The read failed; what is left is as before.
+    Failed,
+}
+
+/// What a dial or an accept answers.
+#[derive(Debug, Drop)]
+pub enum Dialed<I, O> {
+    /// A link is open: what comes and what goes.
+    Open(I, O),
+    Failed,
+}
+
+/// What comes on a link.
+pub trait LinkIn: Send + Drop {
+    /// The bytes that are left, where the link tells them. Memory does, and a socket does not.
+    ghost left: { Self → Option (List ℕ) };
+
+    /// How often a read has failed.
+    ghost faults: { Self → ℕ };
+
+    /// How often a read was quiet.
+    ghost quiet: { Self → ℕ };
+
+    /// Reads into the front of a buffer that is not empty.
+    fn read(&mut self, buf: &mut [u8]) -> LinkRead
+        requires { 0 < length buf.old }
+        ensures bytes { LinkReads (left self.old) (left self.new) (length buf.old) buf.new result }
+        ensures faults { CountsFaults (faults self.old) (faults self.new) result }
+        ensures quiet { CountsQuiet (quiet self.old) (quiet self.new) result };
+}
+
+/// What goes on a link.
+pub trait LinkOut: Send + Drop {
+    /// The bytes that were taken, where the link tells them. Memory does, and a socket does not.
+    ghost taken: { Self → Option (List ℕ) };
+
+    /// How often a write has failed.
+    ghost faults: { Self → ℕ };
+
+    /// Whether the link was closed.
+    ghost closed: { Self → Bool };
+
+    /// Takes some bytes from the front of a piece that is not empty.
+    fn write(&mut self, piece: &[u8]) -> WriteAnswer
+        requires { 0 < length piece.now }
+        ensures bytes { Writes (taken self.old) (taken self.new) piece.now result }
+        ensures count { CountsWrite (faults self.old) (faults self.new) result }
+        ensures closed { closed self.new ≡ closed self.old };
+
+    /// Closes the link, both ways.
+    fn close(&mut self)
+        ensures closed { closed self.new ≡ true }
+        ensures bytes { taken self.new ≡ taken self.old }
+        ensures count { faults self.new ≡ faults self.old };
+}
+
+/// What opens links to addresses.
+pub trait Dialer: Send + Drop {
+    type In: LinkIn;
+
+    type Out: LinkOut;
+
+    /// The bytes that each link which is still to be opened will have left, in order, where the dialer tells them.
+    ghost coming: { Self → Option (List (List ℕ)) };
+
+    /// How often a dial has failed.
+    ghost faults: { Self → ℕ };
+
+    /// Dials an address, and gives up at the moment `until`.
+    fn dial(&mut self, to: Address, until: u64) -> Dialed<Self::In, Self::Out>
+        ensures { DialGives Self.In.LinkIn.left (coming self.old) (coming self.new) (faults self.old) (faults self.new) result };
+}
+
+/// What accepts links.
+pub trait Listener: Send + Drop {
+    type In: LinkIn;
+
+    type Out: LinkOut;
+
+    /// How often an open or an accept has failed.
+    ghost faults: { Self → ℕ };
+
+    /// Listens at a port, and says whether that is so.
+    fn open(&mut self, port: u16) -> bool
+        ensures open { result ≡ true → faults self.new ≡ faults self.old }
+        ensures failed { result ≡ false → faults self.new ≡ one_more (faults self.old) };
+
+    /// The next link, as soon as there is one.
+    fn accept(&mut self) -> Dialed<Self::In, Self::Out>
+        ensures { AcceptCounts (faults self.old) (faults self.new) result };
+}

@@ -1,0 +1,132 @@
+// A dialer and a listener over TCP.
+ghost use Rattle.std.specs.Prelude.{◌≡◌, None, Some, true, false};
+
+use crate::standard::TRIES;
+use crate::std_clock::nanos_now;
+use crate::tcp::link_over;
+use crate::{Dialed, Dialer, Listener, TcpIn, TcpOut};
+use grpc_base::Address;
+use std::io::ErrorKind;
+use std::net::{Ipv4Addr, Net, SocketAddr, SocketAddrV4, TcpListener, TcpStream};
+use std::time::Duration;
+use std::{io, time};
+
+/// Dials over TCP.
+#[derive(Drop)]
+pub struct TcpDialer<R> {
+    rt: R,
+    faults: u64,
+}
+
+impl<R: Net<Stream = TcpStream> + time::Clock> TcpDialer<R> {
+    /// A dialer of this runtime.
+    pub fn new(rt: R) -> TcpDialer<R> {
+        TcpDialer { rt, faults: 0 }
+    }
+
+    /// A connection to an address by the moment `until`.
+    fn connect(&self, to: Address, until: u64) -> io::Result<(TcpIn, TcpOut)> {
+        let left = until.saturating_sub(nanos_now(&self.rt));
+        if left == 0 {
+            return Err(io::Error::from(ErrorKind::TimedOut));
+        }
+        let addr = SocketAddr::V4(SocketAddrV4::new(Ipv4Addr::from_bits(to.ip), to.port));
+        let stream = TcpStream::connect_timeout(&self.rt, &addr, Duration::from_nanos(left))?;
+        link_over(stream)
+    }
+}
+
+impl<R: Net<Stream = TcpStream> + time::Clock + Send + Drop> Dialer for TcpDialer<R> {
+    type In = TcpIn;
+
+    type Out = TcpOut;
+
+    ghost coming = { λ _. None };
+
+    ghost faults = { λ d. d.faults };
+
+    fn dial(&mut self, to: Address, until: u64) -> Dialed<TcpIn, TcpOut> {
+        match self.connect(to, until) {
+            Ok((input, output)) => Dialed::Open(input, output),
+            Err(_) => {
+                self.faults = self.faults.saturating_add(1);
+                Dialed::Failed
+            }
+        }
+    }
+}
+
+/// Listens over TCP on the loopback address.
+#[derive(Drop)]
+pub struct TcpListen<R> {
+    rt: R,
+    listener: Option<TcpListener>,
+    faults: u64,
+}
+
+impl<R: Net<Stream = TcpStream, Listener = TcpListener>> TcpListen<R> {
+    /// A listener of this runtime that is not open yet.
+    pub fn new(rt: R) -> TcpListen<R> {
+        TcpListen {
+            rt,
+            listener: None,
+            faults: 0,
+        }
+    }
+
+    /// The port at which it listens, where it is open.
+    pub fn port(&self) -> Option<u16> {
+        let listener = self.listener.as_ref()?;
+        let addr = listener.local_addr().ok()?;
+        Some(addr.port())
+    }
+
+    /// The next connection. One that its peer gave up before it was accepted is passed over.
+    fn next_link(&self) -> io::Result<(TcpIn, TcpOut)> {
+        let Some(listener) = &self.listener else {
+            return Err(io::Error::from(ErrorKind::NotConnected));
+        };
+        for _ in 0..TRIES {
+            match listener.accept() {
+                Ok((stream, _)) => return link_over(stream),
+                Err(error) => match error.kind() {
+                    ErrorKind::ConnectionAborted | ErrorKind::Interrupted => {}
+                    _ => return Err(error),
+                },
+            }
+        }
+        Err(io::Error::from(ErrorKind::ConnectionAborted))
+    }
+}
+
+impl<R: Net<Stream = TcpStream, Listener = TcpListener> + Send + Drop> Listener for TcpListen<R> {
+    type In = TcpIn;
+
+    type Out = TcpOut;
+
+    ghost faults = { λ l. l.faults };
+
+    fn open(&mut self, port: u16) -> bool {
+        let addr = SocketAddr::V4(SocketAddrV4::new(Ipv4Addr::LOCALHOST, port));
+        match TcpListener::bind(&self.rt, addr) {
+            Ok(listener) => {
+                self.listener = Some(listener);
+                true
+            }
+            Err(_) => {
+                self.faults = self.faults.saturating_add(1);
+                false
+            }
+        }
+    }
+
+    fn accept(&mut self) -> Dialed<TcpIn, TcpOut> {
+        match self.next_link() {
+            Ok((input, output)) => Dialed::Open(input, output),
+            Err(_) => {
+                self.faults = self.faults.saturating_add(1);
+                Dialed::Failed
+            }
+        }
+    }
+}

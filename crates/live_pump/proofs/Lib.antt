@@ -1,0 +1,3 @@
+pub mod DialLaws
+pub mod HandleLaws
+pub mod PumpLaws

@@ -1,0 +1,12 @@
+// The workers at the edge: they move bytes between a channel and its links, and make calls.
+#![tactic(auto)]
+
+mod dial;
+mod pumped;
+mod pumps;
+mod tick;
+
+pub use dial::{DialTurn, dial_once};
+pub use pumped::Pumped;
+pub use pumps::{pump_in, pump_out};
+pub use tick::tick_if_due;

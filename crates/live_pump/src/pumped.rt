@@ -1,0 +1,42 @@
+// What the pumps answer, and how one event is posted.
+ghost use Rattle.std.specs.Prelude.{◌≡◌};
+ghost use Rattle.live_pump.specs.Pumps.{HandleSeen, PostsTo, answer_of};
+
+use grpc_base::{Event, Post, PostError, Reply};
+
+/// What a pump answers.
+#[derive(Clone, Copy, Debug, PartialEq, Eq)]
+pub enum Pumped {
+    /// The link goes on.
+    Going,
+    /// This call posted LinkLost, and it was not refused.
+    Lost,
+    /// A post of this call was refused with this number.
+    Gone { refusal: u8 },
+    /// A post of this call failed, or the call found no memory itself.
+    Failed(PostError),
+    /// The channel is shut down; a worker alone answers so.
+    Shut,
+}
+
+/// The answer after a post: the refusal, the error, or `done` where it was not refused.
+pub(crate) fn answer_of(done: Pumped, came: &Result<Reply, PostError>) -> Pumped
+    ensures { result ≡ answer_of done came.now }
+{
+    match came {
+        Ok(Reply::Refused { refusal }) => Pumped::Gone {
+            refusal: refusal.number(),
+        },
+        Ok(_) => done,
+        Err(error) => Pumped::Failed(*error),
+    }
+}
+
+/// Posts an event, and answers by what came of it.
+pub(crate) fn post_to<P: Post>(post: &mut P, event: Event, done: Pumped) -> Pumped
+    ensures posted { let before : HandleSeen = record { made = P.made post.old; errors = P.errors post.old; last = P.last_error post.old } in let after : HandleSeen = record { made = P.made post.new; errors = P.errors post.new; last = P.last_error post.new } in PostsTo event done before after result }
+    ensures looks { (P.looks post.new ≡ P.looks post.old) × (P.last_look post.new ≡ P.last_look post.old) }
+{
+    let came = post.post(event);
+    answer_of(done, &came)
+}
