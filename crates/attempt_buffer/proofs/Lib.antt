@@ -1,0 +1,2 @@
+pub mod BufferLaws
+pub mod SpotLaws

@@ -1,0 +1,15 @@
+use Rattle.std.proofs.Common.{◌≡◌, ◌∙◌, ◌≤◌, length, drop, ap, arith, subst, sym, length-drop}
+use Rattle.std.specs.List.{concat}
+use Rattle.attempt_buffer.specs.Buffers.{Buffered, left_of}
+use Rattle.attempt_buffer.specs.Cursors.{seen_state}
+use Rattle.attempt_buffer.proofs.BufferLaws.{left_is, spot_in_text}
+use Rattle.attempt_buffer.proofs.buffer.Buffer.take.Goals as goal
+
+pub copy-behind-requires-clause-within : goal.copy-behind-requires-clause-within
+copy-behind-requires-clause-within c =
+    let s = c.self.inside.state in
+    let t = c.in-Some.spot.taken in
+    let left : left_of c.args.row (seen_state s) ≡ drop t (concat s.messages) = left_is c.args.row t (seen_state s) (sym c.in-Some.ensures.taken) in
+    let P : Buffered → Type 0 = λ b. c.args.len ≤ length (left_of c.args.row b) in
+    let within : c.args.len ≤ length (left_of c.args.row (seen_state s)) = subst P (sym c.self.view_is) c.requires.within in
+    omega (arith, within, ap length left ∙ length-drop t (concat s.messages), spot_in_text s.messages c.in-Some.spot c.in-Some.ensures.spot)
