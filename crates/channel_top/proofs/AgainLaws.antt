@@ -61,14 +61,14 @@ session_again input target value authority events journal ledger script session 
 -- a script has a line
 some_input : (f : Form) (target : List ℕ) (value : Target) (events : List Stamped) (texts records : List (List ℕ)) → pieces 10 [] ≡ (texts ++ records) ++ [] ∷ [] → AreLines f 1 texts (script_reads target value events) → ⊥
 some_input f target value events [] records e t = t
-some_input f target value events (text ∷ texts) records e t = no_snoc (texts ++ records) (one_part text ((texts ++ records) ++ [] ∷ []) e)
+some_input f target value events (text ∷ texts) records e t = no_snoc (texts ++ records) [] (one_part [] text ((texts ++ records) ++ [] ∷ []) e)
   where
-    one_part : (x : List ℕ) (xs : List (List ℕ)) → [] ∷ [] ≡ x ∷ xs → [] ≡ xs
-    one_part x xs e = (cc)
+    one_part : (y x : List ℕ) (xs : List (List ℕ)) → y ∷ [] ≡ x ∷ xs → [] ≡ xs
+    one_part y x xs e = (cc)
 
-    no_snoc : (xs : List (List ℕ)) → [] ≡ xs ++ [] ∷ [] → ⊥
-    no_snoc [] e = absurd ((cc))
-    no_snoc (x ∷ xs) e = absurd ((cc))
+    no_snoc : (xs : List (List ℕ)) (y : List ℕ) → [] ≡ xs ++ y ∷ [] → ⊥
+    no_snoc [] y e = absurd ((cc))
+    no_snoc (x ∷ xs) y e = absurd ((cc))
 
 -- the script of the first call was read, and this is its report
 pub report_done : (left left' : Option (List ℕ)) (target : List ℕ) (value : Target) (events own : List Stamped) (authority : Address) (text : List ℕ) → ReadsScript form.Script left left' target value events → IsFirstCall target events authority → own ≡ events → IsReport authority own text → IsDone left left' text

@@ -36,10 +36,10 @@ sign_found text i here h = sym (h ∙ ap (λ (t : List ℕ). take i text ++ t) (
 pub sign_none : (text : List ℕ) (i : ℕ) → length text ≤ i → before_sign text ≡ take i text ++ before_sign (drop i text) → text ≡ before_sign text
 sign_none text i past h =
     sym (
-      h
-      ∙ ap (λ (t : List ℕ). t ++ before_sign (drop i text)) (take_all i text past)
-      ∙ ap (λ (t : List ℕ). text ++ before_sign t) (drop_all i text past)
-      ∙ append-nil text
+    h
+    ∙ ap (λ (t : List ℕ). t ++ before_sign (drop i text)) (take_all i text past)
+    ∙ ap (λ (t : List ℕ). text ++ before_sign t) (drop_all i text past)
+    ∙ append-nil text
     )
 
 -- the rest of a text is what a slice to its end gives

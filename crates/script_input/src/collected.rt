@@ -85,12 +85,7 @@ impl Collected {
             Ok(read) => read,
             Err(fault) => return Err(fault),
         };
-        keep(
-            &mut self.channel,
-            &mut self.events,
-            &mut self.records,
-            read,
-        )?;
+        keep(&mut self.channel, &mut self.events, &mut self.records, read)?;
         self.line.clear();
         Ok(())
     }

@@ -415,23 +415,25 @@ fn a_write_that_fails_leaves_a_front(rt: HostRuntime) -> Result<(), Fail> {
     Ok(())
 }
 
+/// Appends an event of a script.
+fn push_event(events: &mut Vec<Stamped>, moment: u64, word: u64, event: Event) -> Result<(), Fail> {
+    let moment = Moment::new(moment).ok_or("moment")?;
+    events.push(Stamped {
+        moment,
+        word,
+        event,
+    })?;
+    Ok(())
+}
+
 #[test]
 fn a_script_is_written_whole(rt: HostRuntime) -> Result<(), Fail> {
     let alloc = rt.alloc();
     let target = Text::of_slice(alloc, b"dns:///api.example.com")?;
     let message = Octets::of_slice(alloc, b"hi")?;
     let mut events = Vec::new(alloc);
-    for (moment, word, event) in [
-        (0, 7, Event::Send { call: 2, message }),
-        (9, u64::MAX, Event::Tick),
-    ] {
-        let moment = Moment::new(moment).ok_or("moment")?;
-        events.push(Stamped {
-            moment,
-            word,
-            event,
-        })?;
-    }
+    push_event(&mut events, 0, 7, Event::Send { call: 2, message })?;
+    push_event(&mut events, 9, u64::MAX, Event::Tick)?;
     let mut sink = MemSink::new(alloc, usize::MAX, Vec::new(alloc));
     assert_eq!(rt;
         write_script(alloc, &target, events.as_slice(), &mut sink),

@@ -11,10 +11,13 @@ loop-count-smaller g c =
 
 pub loop-count-preserved : goal.loop-count-preserved
 loop-count-preserved g c =
-    let got = c.in_ok-take_piece-in-Got.ensures.ok c.loop-count.invariant.0 c.loop-count.invariant.2 in
-    (
-      _, Takes-append _ _ _ _ _ c.loop-count.invariant.1 c.in-Got.ensures.bytes.2, got.read, omega (arith, c.loop-count.invariant.3, c.in-Got.ensures.count),
-      got.form ∙ c.loop-count.invariant.4, c.in_ok-take_piece-in-Got.ensures.ready,
+    let got = c.in_ok-take_piece-in-Got.ensures.ok c.loop-count.invariant.0 c.loop-count.invariant.2 in (
+      _,
+      Takes-append _ _ _ _ _ c.loop-count.invariant.1 c.in-Got.ensures.bytes.2,
+      got.read,
+      omega (arith, c.loop-count.invariant.3, c.in-Got.ensures.count),
+      got.form ∙ c.loop-count.invariant.4,
+      c.in_ok-take_piece-in-Got.ensures.ready,
     )
 
 pub returns-in_err-take_piece-in-Got-clause-bad : goal.returns-in_err-take_piece-in-Got-clause-bad
