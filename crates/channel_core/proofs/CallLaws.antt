@@ -50,7 +50,7 @@ abbrev pub journal_with : Call → List ℕ → List (ℕ × ℕ) → List Entry
 journal_with c text stamps = entries_from 0 (events_of c) (replies c text) stamps
 
 -- the journal of a call so far
-abbrev pub journal_of : Address → Call → List (ℕ × ℕ) → List Entry
+abbrev pub journal_of : List ℕ → Call → List (ℕ × ℕ) → List Entry
 journal_of authority c stamps = journal_with c (request_text authority c.request c.message) stamps
 
 -- a call whose value has one byte or two
@@ -58,7 +58,7 @@ abbrev pub call_with : Address → RequestSeen → List ℕ → ℕ → Option �
 call_with address request message first second = record { address = address; request = request; message = message; value = first ∷ option_to_list second }
 
 -- the steps of a channel make these entries
-run_is : (authority address : Address) (request : RequestSeen) (message : List ℕ) (first : ℕ) (second : Option ℕ) (stamps : List (ℕ × ℕ)) → run_from authority [] (stamped_all (events_of (call_with address request message first second)) stamps) ≡ journal_with (call_with address request message first second) (short_request authority request message) stamps
+run_is : (authority : List ℕ) (address : Address) (request : RequestSeen) (message : List ℕ) (first : ℕ) (second : Option ℕ) (stamps : List (ℕ × ℕ)) → run_from authority [] (stamped_all (events_of (call_with address request message first second)) stamps) ≡ journal_with (call_with address request message first second) (short_request authority request message) stamps
 run_is n a r m b v [] = refl
 run_is n a r m b v (x0 ∷ []) = refl
 run_is n a r m b v (x0 ∷ x1 ∷ []) = refl
@@ -74,10 +74,10 @@ run_is n a r m b (Some w) (x0 ∷ x1 ∷ x2 ∷ x3 ∷ x4 ∷ x5 ∷ x6 ∷ x7 �
 run_is n a r m b None (x0 ∷ x1 ∷ x2 ∷ x3 ∷ x4 ∷ x5 ∷ x6 ∷ x7 ∷ x8 ∷ x9 ∷ x10 ∷ rest) = refl
 run_is n a r m b (Some w) (x0 ∷ x1 ∷ x2 ∷ x3 ∷ x4 ∷ x5 ∷ x6 ∷ x7 ∷ x8 ∷ x9 ∷ x10 ∷ rest) = refl
 
-short_is : (authority : Address) (request : RequestSeen) (message : List ℕ) → nat_lt first_message_limit (length message) ≡ false → short_request authority request message ≡ request_text authority request message
+short_is : (authority : List ℕ) (request : RequestSeen) (message : List ℕ) → nat_lt first_message_limit (length message) ≡ false → short_request authority request message ≡ request_text authority request message
 short_is authority request message fits = rw fits refl
 
-pub ran : (authority address : Address) (request : RequestSeen) (message : List ℕ) (first : ℕ) (second : Option ℕ) (stamps : List (ℕ × ℕ)) → nat_lt first_message_limit (length message) ≡ false → run_from authority [] (stamped_all (events_of (call_with address request message first second)) stamps) ≡ journal_of authority (call_with address request message first second) stamps
+pub ran : (authority : List ℕ) (address : Address) (request : RequestSeen) (message : List ℕ) (first : ℕ) (second : Option ℕ) (stamps : List (ℕ × ℕ)) → nat_lt first_message_limit (length message) ≡ false → run_from authority [] (stamped_all (events_of (call_with address request message first second)) stamps) ≡ journal_of authority (call_with address request message first second) stamps
 ran n a r m b v stamps fits = run_is n a r m b v stamps ∙ ap (λ (text : List ℕ). journal_with (call_with a r m b v) text stamps) (short_is n r m fits)
 
 -- moments never fall
@@ -90,7 +90,7 @@ rises last (e ∷ events) [] stamps = tt
 rises last (e ∷ events) (r ∷ told) [] = tt
 rises last (e ∷ events) (r ∷ told) (x ∷ stamps) = (later x.0 last, rises (max x.0 last) events told stamps)
 
-pub states : (authority address : Address) (request : RequestSeen) (message : List ℕ) (first : ℕ) (second : Option ℕ) (stamps : List (ℕ × ℕ)) → map (λ e. e.state) (journal_of authority (call_with address request message first second) stamps) ≡ map (λ n. state_of (take n (journal_of authority (call_with address request message first second) stamps))) (range_with_len 1 (length (journal_of authority (call_with address request message first second) stamps)))
+pub states : (authority : List ℕ) (address : Address) (request : RequestSeen) (message : List ℕ) (first : ℕ) (second : Option ℕ) (stamps : List (ℕ × ℕ)) → map (λ e. e.state) (journal_of authority (call_with address request message first second) stamps) ≡ map (λ n. state_of (take n (journal_of authority (call_with address request message first second) stamps))) (range_with_len 1 (length (journal_of authority (call_with address request message first second) stamps)))
 states n a r m b v [] = refl
 states n a r m b v (x0 ∷ []) = refl
 states n a r m b v (x0 ∷ x1 ∷ []) = refl
@@ -106,7 +106,7 @@ states n a r m b (Some w) (x0 ∷ x1 ∷ x2 ∷ x3 ∷ x4 ∷ x5 ∷ x6 ∷ x7 �
 states n a r m b None (x0 ∷ x1 ∷ x2 ∷ x3 ∷ x4 ∷ x5 ∷ x6 ∷ x7 ∷ x8 ∷ x9 ∷ x10 ∷ rest) = refl
 states n a r m b (Some w) (x0 ∷ x1 ∷ x2 ∷ x3 ∷ x4 ∷ x5 ∷ x6 ∷ x7 ∷ x8 ∷ x9 ∷ x10 ∷ rest) = refl
 
-pub answers : (authority address : Address) (request : RequestSeen) (message : List ℕ) (first : ℕ) (second : Option ℕ) (stamps : List (ℕ × ℕ)) → map (λ e. e.reply) (journal_of authority (call_with address request message first second) stamps) ≡ map (λ e. answer_to authority (journal_of authority (call_with address request message first second) stamps) (ledger_of (journal_of authority (call_with address request message first second) stamps)) e.0 e.1.moment e.1.event) (enumerate_from 1 (journal_of authority (call_with address request message first second) stamps))
+pub answers : (authority : List ℕ) (address : Address) (request : RequestSeen) (message : List ℕ) (first : ℕ) (second : Option ℕ) (stamps : List (ℕ × ℕ)) → map (λ e. e.reply) (journal_of authority (call_with address request message first second) stamps) ≡ map (λ e. answer_to authority (journal_of authority (call_with address request message first second) stamps) (ledger_of (journal_of authority (call_with address request message first second) stamps)) e.0 e.1.moment e.1.event) (enumerate_from 1 (journal_of authority (call_with address request message first second) stamps))
 answers n a r m b v [] = refl
 answers n a r m b v (x0 ∷ []) = refl
 answers n a r m b v (x0 ∷ x1 ∷ []) = refl
@@ -122,7 +122,7 @@ answers n a r m b (Some w) (x0 ∷ x1 ∷ x2 ∷ x3 ∷ x4 ∷ x5 ∷ x6 ∷ x7 
 answers n a r m b None (x0 ∷ x1 ∷ x2 ∷ x3 ∷ x4 ∷ x5 ∷ x6 ∷ x7 ∷ x8 ∷ x9 ∷ x10 ∷ rest) = refl
 answers n a r m b (Some w) (x0 ∷ x1 ∷ x2 ∷ x3 ∷ x4 ∷ x5 ∷ x6 ∷ x7 ∷ x8 ∷ x9 ∷ x10 ∷ rest) = refl
 
-pub entry : (authority address : Address) (request : RequestSeen) (message : List ℕ) (first : ℕ) (second : Option ℕ) (stamps : List (ℕ × ℕ)) → (ledger_of (journal_of authority (call_with address request message first second) stamps)).entry ≡ length (journal_of authority (call_with address request message first second) stamps)
+pub entry : (authority : List ℕ) (address : Address) (request : RequestSeen) (message : List ℕ) (first : ℕ) (second : Option ℕ) (stamps : List (ℕ × ℕ)) → (ledger_of (journal_of authority (call_with address request message first second) stamps)).entry ≡ length (journal_of authority (call_with address request message first second) stamps)
 entry n a r m b v [] = refl
 entry n a r m b v (x0 ∷ []) = refl
 entry n a r m b v (x0 ∷ x1 ∷ []) = refl
@@ -138,7 +138,7 @@ entry n a r m b (Some w) (x0 ∷ x1 ∷ x2 ∷ x3 ∷ x4 ∷ x5 ∷ x6 ∷ x7 �
 entry n a r m b None (x0 ∷ x1 ∷ x2 ∷ x3 ∷ x4 ∷ x5 ∷ x6 ∷ x7 ∷ x8 ∷ x9 ∷ x10 ∷ rest) = refl
 entry n a r m b (Some w) (x0 ∷ x1 ∷ x2 ∷ x3 ∷ x4 ∷ x5 ∷ x6 ∷ x7 ∷ x8 ∷ x9 ∷ x10 ∷ rest) = refl
 
-pub generations : (authority address : Address) (request : RequestSeen) (message : List ℕ) (first : ℕ) (second : Option ℕ) (stamps : List (ℕ × ℕ)) → (ledger_of (journal_of authority (call_with address request message first second) stamps)).generations ≡ map generation_at (entries_where (λ e. gives_addresses e.event) (journal_of authority (call_with address request message first second) stamps))
+pub generations : (authority : List ℕ) (address : Address) (request : RequestSeen) (message : List ℕ) (first : ℕ) (second : Option ℕ) (stamps : List (ℕ × ℕ)) → (ledger_of (journal_of authority (call_with address request message first second) stamps)).generations ≡ map generation_at (entries_where (λ e. gives_addresses e.event) (journal_of authority (call_with address request message first second) stamps))
 generations n a r m b v [] = refl
 generations n a r m b v (x0 ∷ []) = refl
 generations n a r m b v (x0 ∷ x1 ∷ []) = refl
@@ -154,7 +154,7 @@ generations n a r m b (Some w) (x0 ∷ x1 ∷ x2 ∷ x3 ∷ x4 ∷ x5 ∷ x6 ∷
 generations n a r m b None (x0 ∷ x1 ∷ x2 ∷ x3 ∷ x4 ∷ x5 ∷ x6 ∷ x7 ∷ x8 ∷ x9 ∷ x10 ∷ rest) = refl
 generations n a r m b (Some w) (x0 ∷ x1 ∷ x2 ∷ x3 ∷ x4 ∷ x5 ∷ x6 ∷ x7 ∷ x8 ∷ x9 ∷ x10 ∷ rest) = refl
 
-pub links : (authority address : Address) (request : RequestSeen) (message : List ℕ) (first : ℕ) (second : Option ℕ) (stamps : List (ℕ × ℕ)) → (ledger_of (journal_of authority (call_with address request message first second) stamps)).links ≡ links_of (journal_of authority (call_with address request message first second) stamps)
+pub links : (authority : List ℕ) (address : Address) (request : RequestSeen) (message : List ℕ) (first : ℕ) (second : Option ℕ) (stamps : List (ℕ × ℕ)) → (ledger_of (journal_of authority (call_with address request message first second) stamps)).links ≡ links_of (journal_of authority (call_with address request message first second) stamps)
 links n a r m b v [] = refl
 links n a r m b v (x0 ∷ []) = refl
 links n a r m b v (x0 ∷ x1 ∷ []) = refl
@@ -170,7 +170,7 @@ links n a r m b (Some w) (x0 ∷ x1 ∷ x2 ∷ x3 ∷ x4 ∷ x5 ∷ x6 ∷ x7 �
 links n a r m b None (x0 ∷ x1 ∷ x2 ∷ x3 ∷ x4 ∷ x5 ∷ x6 ∷ x7 ∷ x8 ∷ x9 ∷ x10 ∷ rest) = refl
 links n a r m b (Some w) (x0 ∷ x1 ∷ x2 ∷ x3 ∷ x4 ∷ x5 ∷ x6 ∷ x7 ∷ x8 ∷ x9 ∷ x10 ∷ rest) = refl
 
-pub calls : (authority address : Address) (request : RequestSeen) (message : List ℕ) (first : ℕ) (second : Option ℕ) (stamps : List (ℕ × ℕ)) → map beginning_of (ledger_of (journal_of authority (call_with address request message first second) stamps)).calls ≡ map beginning_at (entries_where begins (journal_of authority (call_with address request message first second) stamps))
+pub calls : (authority : List ℕ) (address : Address) (request : RequestSeen) (message : List ℕ) (first : ℕ) (second : Option ℕ) (stamps : List (ℕ × ℕ)) → map beginning_of (ledger_of (journal_of authority (call_with address request message first second) stamps)).calls ≡ map beginning_at (entries_where begins (journal_of authority (call_with address request message first second) stamps))
 calls n a r m b v [] = refl
 calls n a r m b v (x0 ∷ []) = refl
 calls n a r m b v (x0 ∷ x1 ∷ []) = refl
@@ -186,7 +186,7 @@ calls n a r m b (Some w) (x0 ∷ x1 ∷ x2 ∷ x3 ∷ x4 ∷ x5 ∷ x6 ∷ x7 �
 calls n a r m b None (x0 ∷ x1 ∷ x2 ∷ x3 ∷ x4 ∷ x5 ∷ x6 ∷ x7 ∷ x8 ∷ x9 ∷ x10 ∷ rest) = refl
 calls n a r m b (Some w) (x0 ∷ x1 ∷ x2 ∷ x3 ∷ x4 ∷ x5 ∷ x6 ∷ x7 ∷ x8 ∷ x9 ∷ x10 ∷ rest) = refl
 
-pub names : (authority address : Address) (request : RequestSeen) (message : List ℕ) (first : ℕ) (second : Option ℕ) (stamps : List (ℕ × ℕ)) → map name_of (ledger_of (journal_of authority (call_with address request message first second) stamps)).rows ≡ map (first_of_call (journal_of authority (call_with address request message first second) stamps)) (enumerate_from 1 (ledger_of (journal_of authority (call_with address request message first second) stamps)).calls)
+pub names : (authority : List ℕ) (address : Address) (request : RequestSeen) (message : List ℕ) (first : ℕ) (second : Option ℕ) (stamps : List (ℕ × ℕ)) → map name_of (ledger_of (journal_of authority (call_with address request message first second) stamps)).rows ≡ map (first_of_call (journal_of authority (call_with address request message first second) stamps)) (enumerate_from 1 (ledger_of (journal_of authority (call_with address request message first second) stamps)).calls)
 names n a r m b v [] = refl
 names n a r m b v (x0 ∷ []) = refl
 names n a r m b v (x0 ∷ x1 ∷ []) = refl
@@ -202,7 +202,7 @@ names n a r m b (Some w) (x0 ∷ x1 ∷ x2 ∷ x3 ∷ x4 ∷ x5 ∷ x6 ∷ x7 �
 names n a r m b None (x0 ∷ x1 ∷ x2 ∷ x3 ∷ x4 ∷ x5 ∷ x6 ∷ x7 ∷ x8 ∷ x9 ∷ x10 ∷ rest) = refl
 names n a r m b (Some w) (x0 ∷ x1 ∷ x2 ∷ x3 ∷ x4 ∷ x5 ∷ x6 ∷ x7 ∷ x8 ∷ x9 ∷ x10 ∷ rest) = refl
 
-pub asks : (authority address : Address) (request : RequestSeen) (message : List ℕ) (first : ℕ) (second : Option ℕ) (stamps : List (ℕ × ℕ)) → (ledger_of (journal_of authority (call_with address request message first second) stamps)).asks ≡ map ask_of (enumerate_from 1 (ledger_of (journal_of authority (call_with address request message first second) stamps)).calls)
+pub asks : (authority : List ℕ) (address : Address) (request : RequestSeen) (message : List ℕ) (first : ℕ) (second : Option ℕ) (stamps : List (ℕ × ℕ)) → (ledger_of (journal_of authority (call_with address request message first second) stamps)).asks ≡ map ask_of (enumerate_from 1 (ledger_of (journal_of authority (call_with address request message first second) stamps)).calls)
 asks n a r m b v [] = refl
 asks n a r m b v (x0 ∷ []) = refl
 asks n a r m b v (x0 ∷ x1 ∷ []) = refl
@@ -218,7 +218,7 @@ asks n a r m b (Some w) (x0 ∷ x1 ∷ x2 ∷ x3 ∷ x4 ∷ x5 ∷ x6 ∷ x7 ∷
 asks n a r m b None (x0 ∷ x1 ∷ x2 ∷ x3 ∷ x4 ∷ x5 ∷ x6 ∷ x7 ∷ x8 ∷ x9 ∷ x10 ∷ rest) = refl
 asks n a r m b (Some w) (x0 ∷ x1 ∷ x2 ∷ x3 ∷ x4 ∷ x5 ∷ x6 ∷ x7 ∷ x8 ∷ x9 ∷ x10 ∷ rest) = refl
 
-pub places : (authority address : Address) (request : RequestSeen) (message : List ℕ) (first : ℕ) (second : Option ℕ) (stamps : List (ℕ × ℕ)) → map (λ r. r.placed) (ledger_of (journal_of authority (call_with address request message first second) stamps)).rows ≡ map (placed_by (journal_of authority (call_with address request message first second) stamps) (ledger_of (journal_of authority (call_with address request message first second) stamps)).links) (ledger_of (journal_of authority (call_with address request message first second) stamps)).asks
+pub places : (authority : List ℕ) (address : Address) (request : RequestSeen) (message : List ℕ) (first : ℕ) (second : Option ℕ) (stamps : List (ℕ × ℕ)) → map (λ r. r.placed) (ledger_of (journal_of authority (call_with address request message first second) stamps)).rows ≡ map (placed_by (journal_of authority (call_with address request message first second) stamps) (ledger_of (journal_of authority (call_with address request message first second) stamps)).links) (ledger_of (journal_of authority (call_with address request message first second) stamps)).asks
 places n a r m b v [] = refl
 places n a r m b v (x0 ∷ []) = refl
 places n a r m b v (x0 ∷ x1 ∷ []) = refl
@@ -234,7 +234,7 @@ places n a r m b (Some w) (x0 ∷ x1 ∷ x2 ∷ x3 ∷ x4 ∷ x5 ∷ x6 ∷ x7 �
 places n a r m b None (x0 ∷ x1 ∷ x2 ∷ x3 ∷ x4 ∷ x5 ∷ x6 ∷ x7 ∷ x8 ∷ x9 ∷ x10 ∷ rest) = refl
 places n a r m b (Some w) (x0 ∷ x1 ∷ x2 ∷ x3 ∷ x4 ∷ x5 ∷ x6 ∷ x7 ∷ x8 ∷ x9 ∷ x10 ∷ rest) = refl
 
-pub ends : (authority address : Address) (request : RequestSeen) (message : List ℕ) (first : ℕ) (second : Option ℕ) (stamps : List (ℕ × ℕ)) → map (λ r. r.ended) (ledger_of (journal_of authority (call_with address request message first second) stamps)).rows ≡ map (end_of (journal_of authority (call_with address request message first second) stamps)) (ledger_of (journal_of authority (call_with address request message first second) stamps)).rows
+pub ends : (authority : List ℕ) (address : Address) (request : RequestSeen) (message : List ℕ) (first : ℕ) (second : Option ℕ) (stamps : List (ℕ × ℕ)) → map (λ r. r.ended) (ledger_of (journal_of authority (call_with address request message first second) stamps)).rows ≡ map (end_of (journal_of authority (call_with address request message first second) stamps)) (ledger_of (journal_of authority (call_with address request message first second) stamps)).rows
 ends n a r m b v [] = refl
 ends n a r m b v (x0 ∷ []) = refl
 ends n a r m b v (x0 ∷ x1 ∷ []) = refl
@@ -250,7 +250,7 @@ ends n a r m b (Some w) (x0 ∷ x1 ∷ x2 ∷ x3 ∷ x4 ∷ x5 ∷ x6 ∷ x7 ∷
 ends n a r m b None (x0 ∷ x1 ∷ x2 ∷ x3 ∷ x4 ∷ x5 ∷ x6 ∷ x7 ∷ x8 ∷ x9 ∷ x10 ∷ rest) = refl
 ends n a r m b (Some w) (x0 ∷ x1 ∷ x2 ∷ x3 ∷ x4 ∷ x5 ∷ x6 ∷ x7 ∷ x8 ∷ x9 ∷ x10 ∷ rest) = refl
 
-pub commits_are : (authority address : Address) (request : RequestSeen) (message : List ℕ) (first : ℕ) (second : Option ℕ) (stamps : List (ℕ × ℕ)) → map (λ r. r.committed) (ledger_of (journal_of authority (call_with address request message first second) stamps)).rows ≡ map (commit_of (journal_of authority (call_with address request message first second) stamps)) (ledger_of (journal_of authority (call_with address request message first second) stamps)).rows
+pub commits_are : (authority : List ℕ) (address : Address) (request : RequestSeen) (message : List ℕ) (first : ℕ) (second : Option ℕ) (stamps : List (ℕ × ℕ)) → map (λ r. r.committed) (ledger_of (journal_of authority (call_with address request message first second) stamps)).rows ≡ map (commit_of (journal_of authority (call_with address request message first second) stamps)) (ledger_of (journal_of authority (call_with address request message first second) stamps)).rows
 commits_are n a r m b v [] = refl
 commits_are n a r m b v (x0 ∷ []) = refl
 commits_are n a r m b v (x0 ∷ x1 ∷ []) = refl
@@ -266,7 +266,7 @@ commits_are n a r m b (Some w) (x0 ∷ x1 ∷ x2 ∷ x3 ∷ x4 ∷ x5 ∷ x6 ∷
 commits_are n a r m b None (x0 ∷ x1 ∷ x2 ∷ x3 ∷ x4 ∷ x5 ∷ x6 ∷ x7 ∷ x8 ∷ x9 ∷ x10 ∷ rest) = refl
 commits_are n a r m b (Some w) (x0 ∷ x1 ∷ x2 ∷ x3 ∷ x4 ∷ x5 ∷ x6 ∷ x7 ∷ x8 ∷ x9 ∷ x10 ∷ rest) = refl
 
-pub call_ends : (authority address : Address) (request : RequestSeen) (message : List ℕ) (first : ℕ) (second : Option ℕ) (stamps : List (ℕ × ℕ)) → map (λ c. c.end) (ledger_of (journal_of authority (call_with address request message first second) stamps)).calls ≡ map (λ c. call_end_of (journal_of authority (call_with address request message first second) stamps) (ledger_of (journal_of authority (call_with address request message first second) stamps)).rows c.0) (enumerate_from 1 (ledger_of (journal_of authority (call_with address request message first second) stamps)).calls)
+pub call_ends : (authority : List ℕ) (address : Address) (request : RequestSeen) (message : List ℕ) (first : ℕ) (second : Option ℕ) (stamps : List (ℕ × ℕ)) → map (λ c. c.end) (ledger_of (journal_of authority (call_with address request message first second) stamps)).calls ≡ map (λ c. call_end_of (journal_of authority (call_with address request message first second) stamps) (ledger_of (journal_of authority (call_with address request message first second) stamps)).rows c.0) (enumerate_from 1 (ledger_of (journal_of authority (call_with address request message first second) stamps)).calls)
 call_ends n a r m b v [] = refl
 call_ends n a r m b v (x0 ∷ []) = refl
 call_ends n a r m b v (x0 ∷ x1 ∷ []) = refl

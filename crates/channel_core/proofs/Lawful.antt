@@ -8,7 +8,7 @@ use Rattle.grpc_base.specs.declared.event.Entry.{Entry}
 use Rattle.grpc_base.specs.declared.event.Stamped.{Stamped}
 use Rattle.grpc_base.specs.Requests.{RequestSeen}
 use Rattle.attempt_ledger.specs.declared.ledger.Ledger.{Ledger}
-use Rattle.grpc_base.specs.Addresses.{address_text}
+use Rattle.grpc_base.specs.Authorities.{IsAuthority}
 use Rattle.channel_core.specs.Core.{IsRun, entry_made, ledger_made, ledger_of, no_ledger, run_from}
 use Rattle.channel_core.specs.FirstCall.{AreFirstEvents, first_message_limit, stamped_of}
 use Rattle.channel_core.specs.Lawful.{IsLawful}
@@ -20,7 +20,7 @@ use Rattle.channel_core.proofs.WireLaws.{wire}
 use Rattle.channel_core.specs.Wire.{request_text}
 
 -- the laws of a journal of a call so far
-call_lawful : (authority address : Address) (request : RequestSeen) (message : List ℕ) (first : ℕ) (second : Option ℕ) (stamps : List (ℕ × ℕ)) → length (address_text authority) ≤ 21 → IsCall (call_with address request message first second) → IsLawful authority (journal_of authority (call_with address request message first second) stamps) (ledger_of (journal_of authority (call_with address request message first second) stamps))
+call_lawful : (authority : List ℕ) (address : Address) (request : RequestSeen) (message : List ℕ) (first : ℕ) (second : Option ℕ) (stamps : List (ℕ × ℕ)) → IsAuthority authority → IsCall (call_with address request message first second) → IsLawful authority (journal_of authority (call_with address request message first second) stamps) (ledger_of (journal_of authority (call_with address request message first second) stamps))
 call_lawful n a r m b v stamps short is =
     let c : Call = call_with a r m b v in
     let message : length m ≤ first_message_limit = is.message in
@@ -44,11 +44,11 @@ call_lawful n a r m b v stamps short is =
 fits_of : (n : ℕ) → n ≤ first_message_limit → nat_lt first_message_limit n ≡ false
 fits_of n h = grind (arith, nat_tests)
 
-run_lawful : (authority address : Address) (request : RequestSeen) (message : List ℕ) (first : ℕ) (second : Option ℕ) (stamps : List (ℕ × ℕ)) (entries : List Entry) → length (address_text authority) ≤ 21 → IsCall (call_with address request message first second) → entries ≡ run_from authority [] (stamped_all (events_of (call_with address request message first second)) stamps) → IsLawful authority entries (ledger_of entries)
+run_lawful : (authority : List ℕ) (address : Address) (request : RequestSeen) (message : List ℕ) (first : ℕ) (second : Option ℕ) (stamps : List (ℕ × ℕ)) (entries : List Entry) → IsAuthority authority → IsCall (call_with address request message first second) → entries ≡ run_from authority [] (stamped_all (events_of (call_with address request message first second)) stamps) → IsLawful authority entries (ledger_of entries)
 run_lawful n a r m b v stamps entries short is run =
     subst (λ (es : List Entry). IsLawful n es (ledger_of es)) (sym (run ∙ ran n a r m b v stamps (fits_of (length m) is.message))) (call_lawful n a r m b v stamps short is)
 
-by_value : (authority address : Address) (request : RequestSeen) (message value : List ℕ) (stamps : List (ℕ × ℕ)) (entries : List Entry) → length (address_text authority) ≤ 21 → IsCall (record { address = address; request = request; message = message; value = value }) → entries ≡ run_from authority [] (stamped_all (events_of (record { address = address; request = request; message = message; value = value })) stamps) → IsLawful authority entries (ledger_of entries)
+by_value : (authority : List ℕ) (address : Address) (request : RequestSeen) (message value : List ℕ) (stamps : List (ℕ × ℕ)) (entries : List Entry) → IsAuthority authority → IsCall (record { address = address; request = request; message = message; value = value }) → entries ≡ run_from authority [] (stamped_all (events_of (record { address = address; request = request; message = message; value = value })) stamps) → IsLawful authority entries (ledger_of entries)
 by_value n a r m [] stamps entries short is run = let front : 1 ≤ 0 = is.value_front in absurd (omega arith)
 by_value n a r m (b ∷ []) stamps entries short is run = run_lawful n a r m b None stamps entries short is run
 by_value n a r m (b ∷ w ∷ []) stamps entries short is run = run_lawful n a r m b (Some w) stamps entries short is run
@@ -56,7 +56,7 @@ by_value n a r m (b ∷ w ∷ x ∷ rest) stamps entries short is run =
     let back : suc (suc (suc (length rest))) ≤ 2 = is.value_back in absurd (omega arith)
 
 -- a run on first events keeps the laws
-pub lawful : (authority : Address) (entries : List Entry) (ledger : Ledger) → IsRun authority entries ledger → IsLawful authority entries ledger
+pub lawful : (authority : List ℕ) (entries : List Entry) (ledger : Ledger) → IsRun authority entries ledger → IsLawful authority entries ledger
 lawful authority entries ledger run =
     let session : IsSession run.events = session_of run.events run.first in
     let c : Call = session.call in
@@ -65,12 +65,12 @@ lawful authority entries ledger run =
     (by_value authority c.address c.request c.message c.value session.stamps entries run.authority_is session.is_call made)
 
 -- one event more is run last
-run_from-snoc : (authority : Address) (before : List Entry) (events : List Stamped) (s : Stamped) → run_from authority before (events ++ s ∷ []) ≡ run_from authority before events ++ entry_made authority (run_from authority before events) (ledger_of (run_from authority before events)) s ∷ []
+run_from-snoc : (authority : List ℕ) (before : List Entry) (events : List Stamped) (s : Stamped) → run_from authority before (events ++ s ∷ []) ≡ run_from authority before events ++ entry_made authority (run_from authority before events) (ledger_of (run_from authority before events)) s ∷ []
 run_from-snoc authority before [] s = refl
 run_from-snoc authority before (x ∷ events) s = run_from-snoc authority (before ++ entry_made authority before (ledger_of before) x ∷ []) events s
 
 -- a step leads from run to run
-pub run_step : (authority : Address) (before now : List Entry) (ledger new : Ledger) (s : Stamped) → IsRun authority before ledger → AreFirstEvents (map stamped_of before ++ s ∷ []) → now ≡ before ++ entry_made authority before ledger s ∷ [] → new ≡ ledger_made before ledger s → IsRun authority now new
+pub run_step : (authority : List ℕ) (before now : List Entry) (ledger new : Ledger) (s : Stamped) → IsRun authority before ledger → AreFirstEvents (map stamped_of before ++ s ∷ []) → now ≡ before ++ entry_made authority before ledger s ∷ [] → new ≡ ledger_made before ledger s → IsRun authority now new
 run_step authority before now ledger new s run first journal made =
     let same : length (map stamped_of before) ≡ length run.events = length-map before stamped_of ∙ sym run.count in
     let longer : length now ≡ length before + 1 = ap length journal ∙ length-append before (entry_made authority before ledger s ∷ []) in
@@ -90,14 +90,14 @@ run_step authority before now ledger new s run first journal made =
     }
 
 -- and so does what was applied with room made
-pub run_made : (authority : Address) (before reserved now : List Entry) (ledger new : Ledger) (s : Stamped) → IsRun authority before ledger → reserved ≡ before → AreFirstEvents (map stamped_of before ++ s ∷ []) → now ≡ reserved ++ entry_made authority reserved ledger s ∷ [] → new ≡ ledger_made reserved ledger s → IsRun authority now new
+pub run_made : (authority : List ℕ) (before reserved now : List Entry) (ledger new : Ledger) (s : Stamped) → IsRun authority before ledger → reserved ≡ before → AreFirstEvents (map stamped_of before ++ s ∷ []) → now ≡ reserved ++ entry_made authority reserved ledger s ∷ [] → new ≡ ledger_made reserved ledger s → IsRun authority now new
 run_made authority before reserved now ledger new s run same first journal made =
     run_step authority before now ledger new s run first
     (journal ∙ ap (λ (es : List Entry). es ++ entry_made authority es ledger s ∷ []) same)
     (made ∙ ap (λ (es : List Entry). ledger_made es ledger s) same)
 
 -- a new channel has run nothing
-pub run_new : (authority : Address) → length (address_text authority) ≤ 21 → IsRun authority [] no_ledger
+pub run_new : (authority : List ℕ) → IsAuthority authority → IsRun authority [] no_ledger
 run_new authority short = record {
   events = [];
   first = λ k s e. absurd (cc);

@@ -2,13 +2,12 @@
 use Rattle.std.proofs.Common.{◌≡◌, ◌≤◌, ◌<◌, ◌^◌, ℕ, lit<, ◌+◌, ◌-◌, true, false, None, List, [], ◌∷◌, ◌++◌, length, lit≤, append_assoc, refl, ap, ◌∙◌, sym, subst, arith, codes}
 use Rattle.std.specs.Prelude.{IsTrue, Ok, Err, Result}
 use Rattle.std.proofs.lemmas.List.{take_all}
-use Rattle.grpc_base.specs.declared.address.Address.{Address}
 use Rattle.grpc_base.specs.declared.event.Entry.{Entry}
 use Rattle.grpc_base.specs.declared.fields.Field.{Field}
 use Rattle.grpc_base.specs.Metadata.{meta_limit, meta_size}
 use Rattle.grpc_base.specs.Requests.{RequestSeen}
 use Rattle.attempt_ledger.specs.Journals.{accepted, is_finished}
-use Rattle.grpc_base.specs.Addresses.{address_text}
+use Rattle.grpc_base.specs.Authorities.{IsAuthority}
 use Rattle.grpc_meta.specs.RequestFields.{fields_of_request, list_size}
 use Rattle.grpc_meta.proofs.RequestLaws.{list_size-request}
 use Rattle.h2_frame.specs.Frames.{FrameSeen, is_allowed, written}
@@ -66,10 +65,10 @@ said_answer (a ∷ b ∷ []) front back = refl
 said_answer (a ∷ b ∷ c ∷ rest) front back = absurd (omega arith)
 
 -- what the client says with its SETTINGS, the acknowledgement and a request
-abbrev pub head_end : Address → RequestSeen → ℕ
+abbrev pub head_end : List ℕ → RequestSeen → ℕ
 head_end authority r = 30 + 9 + length (head_frame authority r).payload
 
-abbrev pub request_said : Address → RequestSeen → List ℕ → List Said
+abbrev pub request_said : List ℕ → RequestSeen → List ℕ → List Said
 request_said authority r message =
     Other (record { frame = client_settings; end = 21 })
     ∷ Other (record { frame = settings_ack; end = 30 })
@@ -78,15 +77,15 @@ request_said authority r message =
     ∷ []
 
 -- a header list of a request without metadata fits
-request_fits : (authority : Address) (r : RequestSeen) → length (address_text authority) ≤ 21 → length r.path ≤ 1024 → r.meta ≡ [] → table_size (fields_of_request r authority None 1) ≤ 16384
+request_fits : (authority : List ℕ) (r : RequestSeen) → IsAuthority authority → length r.path ≤ 1024 → r.meta ≡ [] → table_size (fields_of_request r authority None 1) ≤ 16384
 request_fits authority r short path meta =
     let none : meta_size r.meta ≤ meta_limit = subst (λ (m : List Field). meta_size m ≤ meta_limit) (sym meta) (lit≤ tt) in
-    let fits : list_size (fields_of_request r authority None 1) ≤ 16384 = list_size-request r authority None 1 path none short (lit< tt) in
+    let fits : list_size (fields_of_request r authority None 1) ≤ 16007 = list_size-request r authority None 1 path none short.within (lit< tt) in
     let same : table_size (fields_of_request r authority None 1) ≡ list_size (fields_of_request r authority None 1) = same_size (fields_of_request r authority None 1) in
     omega arith
 
 -- the frames of a request
-frames_of_request : (authority : Address) (r : RequestSeen) (message : List ℕ) → length (head_frame authority r).payload ≤ 16384 → length message ≤ first_message_limit → frames_of (written client_settings ++ written settings_ack ++ (request_text authority r message ++ [])) ≡ client_settings ∷ settings_ack ∷ head_frame authority r ∷ data_frame message ∷ []
+frames_of_request : (authority : List ℕ) (r : RequestSeen) (message : List ℕ) → length (head_frame authority r).payload ≤ 16384 → length message ≤ first_message_limit → frames_of (written client_settings ++ written settings_ack ++ (request_text authority r message ++ [])) ≡ client_settings ∷ settings_ack ∷ head_frame authority r ∷ data_frame message ∷ []
 unfolding request_text
 frames_of_request authority r message head data_ =
     let p : List ℕ = (head_frame authority r).payload in
@@ -104,7 +103,7 @@ frames_of_request authority r message head data_ =
     ∙ ap (λ (fs : List FrameSeen). settings_ack ∷ fs) (ap frames_of regrouped ∙ third))
 
 -- and what they say
-pub said_request : (authority : Address) (r : RequestSeen) (message : List ℕ) → length (address_text authority) ≤ 21 → length r.path ≤ 1024 → r.meta ≡ [] → length message ≤ first_message_limit → said_of (written client_settings ++ written settings_ack ++ (request_text authority r message ++ [])) ≡ request_said authority r message
+pub said_request : (authority : List ℕ) (r : RequestSeen) (message : List ℕ) → IsAuthority authority → length r.path ≤ 1024 → r.meta ≡ [] → length message ≤ first_message_limit → said_of (written client_settings ++ written settings_ack ++ (request_text authority r message ++ [])) ≡ request_said authority r message
 said_request authority r message short path meta data_ =
     let fields : List Field = fields_of_request r authority None 1 in
     let fits : table_size fields ≤ 16384 = request_fits authority r short path meta in
@@ -119,7 +118,7 @@ said_request authority r message short path meta data_ =
     (block_reads new_table fields fits))
 
 -- its message is sent whole
-pub data_of_request : (authority : Address) (r : RequestSeen) (message : List ℕ) → data_sent 1 (request_said authority r message) ≡ framed_all (message ∷ [])
+pub data_of_request : (authority : List ℕ) (r : RequestSeen) (message : List ℕ) → data_sent 1 (request_said authority r message) ≡ framed_all (message ∷ [])
 data_of_request authority r message =
     let content : content_of (data_frame message) ≡ framed message = take_all (length (framed message) - 0 - 0) (framed message) (omega arith) in
     ap (λ (t : List ℕ). t ++ []) content

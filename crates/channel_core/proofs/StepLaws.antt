@@ -1,6 +1,5 @@
 -- The ledger of a journal with one entry more, and where its event stands in the script.
 use Rattle.std.proofs.Common.{◌≡◌, ℕ, ◌+◌, Bool, false, Some, List, [], ◌∷◌, ◌++◌, map, length, refl, ap, ◌∙◌, sym, arith, slice_get}
-use Rattle.grpc_base.specs.declared.address.Address.{Address}
 use Rattle.grpc_base.specs.declared.event.Entry.{Entry}
 use Rattle.grpc_base.specs.declared.event.Reply.{Reply}
 use Rattle.grpc_base.specs.declared.event.Stamped.{Stamped}
@@ -18,7 +17,7 @@ written_by-snoc ledger n (x ∷ entries) e =
     ∙ ap (λ (k : ℕ). told (written_by (told ledger (next_place n) x.moment x.event) (n + 1) entries) (next_place k) e.moment e.event) (omega arith)
 
 -- the ledger that a step makes is that of its journal
-pub ledger_of-step : (authority : Address) (before now : List Entry) (ledger new : Ledger) (s : Stamped) → ledger ≡ ledger_of before → now ≡ before ++ entry_made authority before ledger s ∷ [] → new ≡ ledger_made before ledger s → new ≡ ledger_of now
+pub ledger_of-step : (authority : List ℕ) (before now : List Entry) (ledger new : Ledger) (s : Stamped) → ledger ≡ ledger_of before → now ≡ before ++ entry_made authority before ledger s ∷ [] → new ≡ ledger_made before ledger s → new ≡ ledger_of now
 ledger_of-step authority before now ledger new s old journal made =
     made
     ∙ ap (λ (l : Ledger). ledger_made before l s) old
@@ -37,7 +36,7 @@ newest_stands entries s events =
     (length (map stamped_of entries) + 2, here.event)
 
 -- what was applied behind the entries, with room made, is a step of the channel
-pub steps_made : (authority : Address) (journal : Journal) (ledger new : Ledger) (spent : Bool) (reserved now : List Entry) (s : Stamped) (r : Reply) → reserved ≡ journal.entries → r ≡ (entry_made authority reserved ledger s).reply → now ≡ reserved ++ entry_made authority reserved ledger s ∷ [] → Gains (record { authority = authority; journal = journal; ledger = ledger; spent = spent }) (record { authority = authority; journal = record { entries = now }; ledger = new; spent = false }) s r
+pub steps_made : (authority : List ℕ) (journal : Journal) (ledger new : Ledger) (spent : Bool) (reserved now : List Entry) (s : Stamped) (r : Reply) → reserved ≡ journal.entries → r ≡ (entry_made authority reserved ledger s).reply → now ≡ reserved ++ entry_made authority reserved ledger s ∷ [] → Gains (record { authority = authority; journal = journal; ledger = ledger; spent = spent }) (record { authority = authority; journal = record { entries = now }; ledger = new; spent = false }) s r
 steps_made authority journal ledger new spent reserved now s r same replied journaled =
     let before : List Entry = journal.entries in
     record {

@@ -1,20 +1,19 @@
 -- The channel as its callers see it, and what one step does.
-use Rattle.std.specs.Prelude.{◌≡◌, ◌≤◌, ℕ, ◌+◌, ◌-◌, Bool, false, List, [], ◌∷◌, ◌++◌, length, max, slice_get}
+use Rattle.std.specs.Prelude.{◌≡◌, ℕ, ◌+◌, ◌-◌, Bool, false, List, [], ◌∷◌, ◌++◌, length, max, slice_get}
 use Rattle.std.specs.Option.{option_map_or}
-use Rattle.grpc_base.specs.declared.address.Address.{Address}
 use Rattle.grpc_base.specs.declared.event.Conn.{Conn}
 use Rattle.grpc_base.specs.declared.event.Entry.{Entry}
 use Rattle.grpc_base.specs.declared.event.Reply.{Reply}
 use Rattle.grpc_base.specs.declared.event.Stamped.{Stamped}
 use Rattle.attempt_ledger.specs.declared.journal.Journal.{Journal}
 use Rattle.attempt_ledger.specs.declared.ledger.Ledger.{Ledger}
-use Rattle.grpc_base.specs.Addresses.{address_text}
+use Rattle.grpc_base.specs.Authorities.{IsAuthority}
 use Rattle.channel_core.specs.FirstCall.{AreFirstEvents}
 use Rattle.channel_core.specs.Steps.{next_place, reply_to, state_after, told}
 
 -- a channel: the authority of its requests, its journal and its ledger, and whether it ran out of memory in mid-step
 pub record CoreSeen : Type 0 where
-  pub authority : Address
+  pub authority : List ℕ
   pub journal : Journal
   pub ledger : Ledger
   pub spent : Bool
@@ -41,7 +40,7 @@ abbrev pub moment_of : List Entry → Stamped → ℕ
 moment_of before s = max s.moment (last_moment before)
 
 -- the entry that a step makes behind these entries, with this ledger
-abbrev pub entry_made : Address → List Entry → Ledger → Stamped → Entry
+abbrev pub entry_made : List ℕ → List Entry → Ledger → Stamped → Entry
 entry_made authority before ledger s = record {
   moment = moment_of before s;
   word = s.word;
@@ -55,18 +54,18 @@ abbrev pub ledger_made : List Entry → Ledger → Stamped → Ledger
 ledger_made before ledger s = told ledger (next_place (length before)) (moment_of before s) s.event
 
 -- the steps of a channel on these events, behind the entries that it has
-abbrev pub run_from : Address → List Entry → List Stamped → List Entry
+abbrev pub run_from : List ℕ → List Entry → List Stamped → List Entry
 run_from authority before [] = before
 run_from authority before (s ∷ events) = run_from authority (before ++ entry_made authority before (ledger_of before) s ∷ []) events
 
 -- what stands in journal and ledger of a channel that is not spent: those of a run on the first events of the first call
-pub record IsRun (authority : Address) (entries : List Entry) (ledger : Ledger) : Type 0 where
+pub record IsRun (authority : List ℕ) (entries : List Entry) (ledger : Ledger) : Type 0 where
   pub events : List Stamped
   pub first : AreFirstEvents events
   pub count : length events ≡ length entries
   pub ran : entries ≡ run_from authority [] events
   pub written : ledger ≡ ledger_of entries
-  pub authority_is : length (address_text authority) ≤ 21
+  pub authority_is : IsAuthority authority
 
 -- what a step adds to the journal: this event with its word, at the later of its moment and the last step's, and its reply
 pub record Gains (old new : CoreSeen) (s : Stamped) (reply : Reply) : Type 0 where
@@ -76,7 +75,7 @@ pub record Gains (old new : CoreSeen) (s : Stamped) (reply : Reply) : Type 0 whe
   pub unspent : new.spent ≡ false
 
 -- a new channel
-pub record IsNew (authority : Address) (core : CoreSeen) : Type 0 where
+pub record IsNew (authority : List ℕ) (core : CoreSeen) : Type 0 where
   pub authority_is : core.authority ≡ authority
   pub journal : core.journal.entries ≡ []
   pub ledger : core.ledger ≡ no_ledger

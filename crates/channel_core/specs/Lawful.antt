@@ -177,10 +177,10 @@ abbrev pub is_on_stream : ℕ → ℕ → Row → Bool
 is_on_stream link stream r = is_on link r && option_map_or (λ s. s == stream) r.stream false
 
 -- the header list that a stream owes to its attempt
-abbrev pub fields_due : Address → List Entry → Row → Option (List Field)
+abbrev pub fields_due : List ℕ → List Entry → Row → Option (List Field)
 fields_due authority entries r = option_map (λ q. fields_of_request q authority None r.number) (request_of r.call entries)
 
-abbrev pub fields_on : Address → List Entry → List Row → ℕ → ℕ → Option (List Field)
+abbrev pub fields_on : List ℕ → List Entry → List Row → ℕ → ℕ → Option (List Field)
 fields_on authority entries rows link stream =
     option_and_then (fields_due authority entries) (find (is_on_stream link stream) rows)
 
@@ -192,12 +192,12 @@ pub record SendsPrefix (entries : List Entry) (call stream : ℕ) (said : List S
 
 -- what was said on a link agrees with the ledger: streams and attempts correspond, each stream has the header list of its
 -- attempt's request, and each attempt sends a prefix
-pub record Agrees (authority : Address) (entries : List Entry) (rows : List Row) (link : ℕ) (said : List Said) : Type 0 where
+pub record Agrees (authority : List ℕ) (entries : List Entry) (rows : List Row) (link : ℕ) (said : List Said) : Type 0 where
   pub heads : map (λ h. Some h.fields) (opened said) ≡ map (λ h. fields_on authority entries rows link h.stream) (opened said)
   pub count : length (opened said) ≡ length (filter (is_on link) rows)
   pub prefixes : AllByRecursion (λ r. SendsPrefix entries r.call (unwrap_or r.stream 0) said) (filter (is_on link) rows)
 
-abbrev pub WireAgrees : Address → List Entry → List Row → ℕ → Type 0
+abbrev pub WireAgrees : List ℕ → List Entry → List Row → ℕ → Type 0
 WireAgrees authority entries rows link = Agrees authority entries rows link (client_said (sent link entries))
 
 -- how many things were told before an entry
@@ -222,7 +222,7 @@ dial_of None moment = reply.NotYet
 dial_of (Some a) moment = reply.Dial 1 a (moment + first_dial)
 
 -- what the entry of this number replies
-abbrev pub answer_to : Address → List Entry → Ledger → ℕ → ℕ → Event → Reply
+abbrev pub answer_to : List ℕ → List Entry → Ledger → ℕ → ℕ → Event → Reply
 answer_to authority entries ledger entry moment (event.Begin r) = reply.Call (count_before begins entries entry + 1)
 answer_to authority entries ledger entry moment (event.LinkUp sub) = reply.Link (count_before brings_link entries entry + 1)
 answer_to authority entries ledger entry moment event.TakeDial =
@@ -233,7 +233,7 @@ answer_to authority entries ledger entry moment (event.Take call) = next_item en
 answer_to authority entries ledger entry moment _ = reply.Done
 
 -- journal and ledger keep the laws
-pub record IsLawful (authority : Address) (entries : List Entry) (ledger : Ledger) : Type 0 where
+pub record IsLawful (authority : List ℕ) (entries : List Entry) (ledger : Ledger) : Type 0 where
   pub moments : Rises 0 entries
   pub states : map (λ e. e.state) entries ≡ map (λ n. state_of (take n entries)) (range_with_len 1 (length entries))
   pub answers : map (λ e. e.reply) entries ≡ map (λ e. answer_to authority entries ledger e.0 e.1.moment e.1.event) (enumerate_from 1 entries)

@@ -73,11 +73,11 @@ abbrev pub drained : List Entry → List ℕ
 drained entries = flat_map (λ e. drained_in e.reply) entries
 
 -- the request with its message, which one DATA frame holds
-abbrev pub short_request : Address → RequestSeen → List ℕ → List ℕ
+abbrev pub short_request : List ℕ → RequestSeen → List ℕ → List ℕ
 short_request authority r message = if nat_lt first_message_limit (length message) then [] else request_text authority r message
 
 -- the request with its message, once the call was finished
-abbrev pub request_so_far : Address → List Entry → List ℕ
+abbrev pub request_so_far : List ℕ → List Entry → List ℕ
 request_so_far authority entries =
     if list_any (λ e. is_finish e.event) entries then
     option_map_or (λ r. option_map_or (λ m. short_request authority r m) (first_of (λ e. message_in e.event) entries) [])
@@ -89,7 +89,7 @@ abbrev pub ack_so_far : List Entry → List ℕ
 ack_so_far entries = if list_any (λ e. is_settings_arrival e.event) entries then written_frame settings_ack else []
 
 -- all that may be drained so far: the preface and SETTINGS, the acknowledgement of the server's SETTINGS, and the request
-abbrev pub all_to_send : Address → List Entry → List ℕ
+abbrev pub all_to_send : List ℕ → List Entry → List ℕ
 all_to_send authority entries = preface ++ written_frame client_settings ++ ack_so_far entries ++ request_so_far authority entries
 
 -- the number behind so many things; it stands still at its type's end
@@ -236,7 +236,7 @@ end_reply None = reply.NotYet
 end_reply (Some e) = reply.End e.code e.text e.meta ending.Row
 
 -- what is replied to an event, before its step wrote anything
-abbrev pub reply_to : Address → List Entry → Ledger → ℕ → Event → Reply
+abbrev pub reply_to : List ℕ → List Entry → Ledger → ℕ → Event → Reply
 reply_to authority before ledger moment event.TakeDial = dial_reply (first_of (λ e. address_in e.event) before) moment
 reply_to authority before ledger moment (event.LinkUp sub) = reply.Link (next_number (length ledger.links))
 reply_to authority before ledger moment (event.Begin r) = reply.Call (next_number (length ledger.calls))

@@ -1,7 +1,6 @@
 -- What the client sends for the first call (RFC 9113, sections 3.4, 6.1, 6.2 and 6.5).
 use Rattle.std.specs.Prelude.{ℕ, None, List, [], ◌∷◌, ◌++◌, if◌then◌else◌, filter, flat_map, slice_get}
 use Rattle.std.specs.Option.{option_map_or}
-use Rattle.grpc_base.specs.declared.address.Address.{Address}
 use Rattle.grpc_base.specs.declared.event.Entry.{Entry}
 use Rattle.grpc_base.specs.Requests.{RequestSeen}
 use Rattle.attempt_ledger.specs.Journals.{accepted, is_finished, received, request_of}
@@ -25,7 +24,7 @@ abbrev pub settings_ack : FrameSeen
 settings_ack = record { kind = settings_type; flags = ack_flag; stream = 0; payload = [] }
 
 -- the head of a first attempt's request on stream 1
-abbrev pub head_frame : Address → RequestSeen → FrameSeen
+abbrev pub head_frame : List ℕ → RequestSeen → FrameSeen
 head_frame authority r = record {
   kind = headers_type;
   flags = end_headers_flag;
@@ -38,7 +37,7 @@ abbrev pub data_frame : List ℕ → FrameSeen
 data_frame message = record { kind = data_type; flags = end_stream_flag; stream = 1; payload = framed message }
 
 -- the bytes of the two
-unfoldable pub request_text : Address → RequestSeen → List ℕ → List ℕ
+unfoldable pub request_text : List ℕ → RequestSeen → List ℕ → List ℕ
 request_text authority r message = written (head_frame authority r) ++ written (data_frame message)
 
 -- the acknowledgements that are due: one for each SETTINGS of the server (section 6.5.3)
@@ -46,12 +45,12 @@ abbrev pub acks_due : List Entry → List ℕ
 acks_due entries = flat_map (λ s. written settings_ack) (filter is_settings (said_of (received 1 entries)))
 
 -- the request with its message, once the call was finished
-abbrev pub request_due : Address → List Entry → List ℕ
+abbrev pub request_due : List ℕ → List Entry → List ℕ
 request_due authority entries =
     if is_finished 1 entries then
     option_map_or (λ r. option_map_or (λ m. request_text authority r m) (slice_get (accepted 1 entries) 0) []) (request_of 1 entries) []
     else []
 
 -- all that may be sent on the link after these entries, in this order
-abbrev pub sendable : Address → List Entry → List ℕ
+abbrev pub sendable : List ℕ → List Entry → List ℕ
 sendable authority entries = preface ++ written client_settings ++ acks_due entries ++ request_due authority entries

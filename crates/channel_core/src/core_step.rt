@@ -4,13 +4,13 @@ ghost use Rattle.channel_core.specs.FirstCall.{AreFirstEvents, StandsAt, stamped
 ghost use Rattle.channel_core.specs.Core.{Gains, IsNew, entry_made, ledger_made};
 ghost use Rattle.channel_core.specs.Lawful.{IsLawful};
 ghost use Rattle.channel_core.specs.Steps.{next_place};
-ghost use Rattle.grpc_base.specs.Addresses.{address_text};
+ghost use Rattle.grpc_base.specs.Authorities.{IsAuthority};
 
 use crate::heard::{state, step_moment};
 use crate::record::write;
 use crate::replies::reply;
 use attempt_ledger::{Journal, Ledger};
-use grpc_base::{Address, Entry, Items, NoMemory, Reply, Stamped};
+use grpc_base::{Entry, Items, NoMemory, Reply, Stamped, Text};
 use std::alloc::Global;
 use std::marker::Model;
 
@@ -38,7 +38,7 @@ impl From<NoMemory> for CoreError {
 #[derive(Debug, Drop)]
 pub struct ChannelCore {
     alloc: Global,
-    authority: Address,
+    authority: Text,
     journal: Journal,
     ledger: Ledger,
     spent: bool,
@@ -57,10 +57,10 @@ impl Model for ChannelCore {
 
 impl ChannelCore {
     /// A channel whose requests have this authority, with an empty journal and ledger.
-    pub fn new(alloc: Global, authority: Address) -> Result<ChannelCore, NoMemory>
+    pub fn new(alloc: Global, authority: Text) -> Result<ChannelCore, NoMemory>
+        requires { IsAuthority authority }
         ensures { IfOk result (IsNew authority) }
     {
-        let authority = address_of(authority.ip, authority.port);
         Ok(ChannelCore {
             alloc,
             authority,
@@ -95,7 +95,7 @@ impl ChannelCore {
         self.spent = true;
         let reply = apply(
             self.alloc,
-            self.authority,
+            &self.authority,
             &mut self.journal.entries,
             &mut self.ledger,
             stamped,
@@ -120,25 +120,18 @@ impl ChannelCore {
     }
 }
 
-/// An address of these parts. Its text is short, which bounds each request's header list.
-fn address_of(ip: u32, port: u16) -> Address
-    ensures same { result ≡ record { ip = ip; port = port } }
-    ensures short { length (address_text result) ≤ 21 }
-{
-    Address { ip, port }
-}
-
 /// Applies an event behind the entries of a journal, and appends its entry.
 fn apply(
     alloc: Global,
-    authority: Address,
+    authority: &Text,
     entries: &mut Items<Entry>,
     ledger: &mut Ledger,
     stamped: Stamped,
 ) -> Result<Reply, NoMemory>
-    requires { (n : ℕ) × StandsAt n stamped.event }
-    ensures replied { IfOk result (λ r. r ≡ (entry_made authority entries.old ledger.old stamped).reply) }
-    ensures journal { OnOk result (entries.new ≡ entries.old ++ entry_made authority entries.old ledger.old stamped ∷ []) }
+    requires authority { IsAuthority authority.now }
+    requires stands { (n : ℕ) × StandsAt n stamped.event }
+    ensures replied { IfOk result (λ r. r ≡ (entry_made authority.now entries.old ledger.old stamped).reply) }
+    ensures journal { OnOk result (entries.new ≡ entries.old ++ entry_made authority.now entries.old ledger.old stamped ∷ []) }
     ensures ledger { OnOk result (ledger.new ≡ ledger_made entries.old ledger.old stamped) }
     ensures err { OnErr result (entries.new ≡ entries.old) }
 {

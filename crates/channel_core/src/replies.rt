@@ -1,5 +1,6 @@
 // What is replied to an event.
 ghost use Rattle.std.specs.Prelude.{◌≡◌, ◌++◌, ℕ, length, drop, IfOk, OnOk};
+ghost use Rattle.grpc_base.specs.Authorities.{IsAuthority};
 ghost use Rattle.channel_core.specs.FirstCall.{StandsAt};
 ghost use Rattle.channel_core.specs.Steps.{ack_so_far, address_in, dial_reply, drained_in, end_reply, first_of, last_end, next_number, reply_to, request_so_far, short_request, all_to_send, drained};
 
@@ -10,20 +11,21 @@ use crate::heard::{
 use crate::wire::{append_ack, append_opening, append_request};
 use attempt_ledger::{Ledger, Row};
 use bytes::BytesMut;
-use grpc_base::{Address, EndCause, Entry, Event, Moment, NoMemory, Octets, Reply, Request};
+use grpc_base::{EndCause, Entry, Event, Moment, NoMemory, Octets, Reply, Request, Text};
 use std::alloc::Global;
 
 /// What is replied to an event, before its step wrote anything.
 pub fn reply(
     alloc: Global,
-    authority: Address,
+    authority: &Text,
     before: &[Entry],
     ledger: &Ledger,
     moment: Moment,
     event: &Event,
 ) -> Result<Reply, NoMemory>
-    requires { (n : ℕ) × StandsAt n event.now }
-    ensures { IfOk result (λ r. r ≡ reply_to authority before.now ledger.now moment event.now) }
+    requires authority { IsAuthority authority.now }
+    requires stands { (n : ℕ) × StandsAt n event.now }
+    ensures { IfOk result (λ r. r ≡ reply_to authority.now before.now ledger.now moment event.now) }
 {
     match event {
         Event::TakeDial => Ok(dial(before, moment)),
@@ -95,8 +97,9 @@ fn end(rows: &[Row]) -> Result<Reply, NoMemory>
 }
 
 /// What may be sent and was not drained.
-fn unsent(alloc: Global, authority: Address, before: &[Entry]) -> Result<Octets, NoMemory>
-    ensures { IfOk result (λ o. o ≡ drop (length (drained before.now)) (all_to_send authority before.now)) }
+fn unsent(alloc: Global, authority: &Text, before: &[Entry]) -> Result<Octets, NoMemory>
+    requires { IsAuthority authority.now }
+    ensures { IfOk result (λ o. o ≡ drop (length (drained before.now)) (all_to_send authority.now before.now)) }
 {
     let text = all_that_may_be_sent(alloc, authority, before)?;
     let mut octets = Octets::of_buffer(text)?;
@@ -119,10 +122,11 @@ fn drained(reply: &Reply) -> usize
 /// The preface and SETTINGS, the acknowledgement of the server's SETTINGS, and the request.
 fn all_that_may_be_sent(
     alloc: Global,
-    authority: Address,
+    authority: &Text,
     before: &[Entry],
 ) -> Result<BytesMut, NoMemory>
-    ensures { IfOk result (λ t. t.items ≡ all_to_send authority before.now) }
+    requires { IsAuthority authority.now }
+    ensures { IfOk result (λ t. t.items ≡ all_to_send authority.now before.now) }
 {
     let mut text = BytesMut::new(alloc);
     append_opening(&mut text)?;
@@ -145,10 +149,11 @@ fn append_due_ack(text: &mut BytesMut, before: &[Entry]) -> Result<(), NoMemory>
 fn append_due_request(
     alloc: Global,
     text: &mut BytesMut,
-    authority: Address,
+    authority: &Text,
     before: &[Entry],
 ) -> Result<(), NoMemory>
-    ensures { OnOk result (text.new.items ≡ text.old.items ++ request_so_far authority before.now) }
+    requires { IsAuthority authority.now }
+    ensures { OnOk result (text.new.items ≡ text.old.items ++ request_so_far authority.now before.now) }
 {
     if !is_finished(before) {
         return Ok(());
@@ -166,11 +171,12 @@ fn append_due_request(
 fn append_short_request(
     alloc: Global,
     text: &mut BytesMut,
-    authority: Address,
+    authority: &Text,
     request: &Request,
     message: &[u8],
 ) -> Result<(), NoMemory>
-    ensures { OnOk result (text.new.items ≡ text.old.items ++ short_request authority request.now message.now) }
+    requires { IsAuthority authority.now }
+    ensures { OnOk result (text.new.items ≡ text.old.items ++ short_request authority.now request.now message.now) }
 {
     if message.len() > MESSAGE_BYTES {
         return Ok(());

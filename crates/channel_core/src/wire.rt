@@ -1,12 +1,13 @@
 // What the client sends for one call.
 ghost use Rattle.std.specs.Prelude.{◌≡◌, ◌≤◌, ◌++◌, OnOk, IfOk, length};
+ghost use Rattle.grpc_base.specs.Authorities.{IsAuthority};
 ghost use Rattle.h2_frame.specs.Frames.{written};
 ghost use Rattle.channel_core.specs.FirstCall.{first_message_limit};
 ghost use Rattle.channel_core.specs.Messages.{framed};
 ghost use Rattle.channel_core.specs.Wire.{client_settings, data_frame, head_frame, preface, request_text, settings_ack};
 
 use bytes::BytesMut;
-use grpc_base::{Address, NoMemory, Request};
+use grpc_base::{NoMemory, Request, Text};
 use grpc_meta::request_fields;
 use h2_frame::{Frame, flags, kinds, write_frame};
 use h2_hpack::encode_fields;
@@ -50,12 +51,13 @@ pub fn append_ack(out: &mut BytesMut) -> Result<(), NoMemory>
 pub fn append_request(
     alloc: Global,
     out: &mut BytesMut,
-    authority: Address,
+    authority: &Text,
     request: &Request,
     message: &[u8],
 ) -> Result<(), NoMemory>
+    requires authority { IsAuthority authority.now }
     requires fits { length message.now ≤ first_message_limit }
-    ensures { OnOk result (out.new.items ≡ out.old.items ++ request_text authority request.now message.now) }
+    ensures { OnOk result (out.new.items ≡ out.old.items ++ request_text authority.now request.now message.now) }
 {
     append_head(alloc, out, authority, request)?;
     append_data(alloc, out, message)?;
@@ -66,10 +68,11 @@ pub fn append_request(
 fn append_head(
     alloc: Global,
     out: &mut BytesMut,
-    authority: Address,
+    authority: &Text,
     request: &Request,
 ) -> Result<(), NoMemory>
-    ensures { OnOk result (out.new.items ≡ out.old.items ++ written (head_frame authority request.now)) }
+    requires { IsAuthority authority.now }
+    ensures { OnOk result (out.new.items ≡ out.old.items ++ written (head_frame authority.now request.now)) }
 {
     let fields = request_fields(alloc, request, authority, None, 1)?;
     let block = encode_fields(alloc, &fields)?;

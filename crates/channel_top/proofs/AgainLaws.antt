@@ -2,6 +2,7 @@
 use Rattle.std.proofs.Common.{◌≡◌, ◌≤◌, ℕ, ◌+◌, Option, List, [], ◌∷◌, ◌++◌, map, ap, sym, subst, inr, arith, refl, ◌∙◌}
 use Rattle.std.specs.Prelude.{max}
 use Rattle.grpc_base.specs.declared.address.Address.{Address}
+use Rattle.grpc_base.specs.Addresses.{address_text}
 use Rattle.grpc_base.specs.declared.event.Entry.{Entry}
 use Rattle.grpc_base.specs.declared.event.Stamped.{Stamped}
 use Rattle.grpc_base.specs.Limits.{moment_limit}
@@ -52,7 +53,7 @@ moved_lines f n [] target value events entries t event word moment = absurd t
 moved_lines f n (text ∷ texts) target value events entries t event word moment = moved_of f (n + 1) texts events entries 0 t.1 (omega arith) event word moment
 
 -- what a session of a script reports up to each ` = ` is a script again
-pub session_again : (input target : List ℕ) (value : Target) (authority : Address) (events : List Stamped) (journal : Journal) (ledger : Ledger) → IsScript form.Script input target value events → IsSession authority events journal ledger → IsScriptAgain target value (map stamped_of journal.entries)
+pub session_again : (input target : List ℕ) (value : Target) (authority : List ℕ) (events : List Stamped) (journal : Journal) (ledger : Ledger) → IsScript form.Script input target value events → IsSession authority events journal ledger → IsScriptAgain target value (map stamped_of journal.entries)
 session_again input target value authority events journal ledger script session = λ short.
     script_again form.Script input target value events (map stamped_of journal.entries) script
     (moved_lines form.Script 1 script.texts target value events journal.entries script.lines session.events_are session.words_are session.moments_are)
@@ -90,7 +91,7 @@ report_done left left' target value events own authority text read first same re
           first = subst (λ (t : List ℕ). IsFirstCall t events authority) first.target_is first;
           only = subst (λ (t : List ℕ). IsOnlyScript form.Script input t value events) first.target_is read.only;
           report = report;
-          again = session_again input (target_text authority) value authority events report.journal report.ledger script report.session;
+          again = session_again input (target_text authority) value (address_text authority) events report.journal report.ledger script report.session;
         },
       );
     }

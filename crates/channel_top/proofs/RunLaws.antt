@@ -6,6 +6,7 @@ use Rattle.std.specs.Option.{option_map_or}
 use Rattle.std.proofs.lemmas.List.{map-append}
 use Rattle.std.proofs.lemmas.Option.{slice_get-map}
 use Rattle.grpc_base.specs.declared.address.Address.{Address}
+use Rattle.grpc_base.specs.Addresses.{address_text}
 use Rattle.grpc_base.specs.declared.event.Conn.{Conn}
 use Rattle.grpc_base.specs.declared.event.Entry.{Entry}
 use Rattle.grpc_base.specs.declared.event.Reply.{Reply}
@@ -77,7 +78,7 @@ told_step f before e x rest same =
     ∙ ap (λ (y : _). map f before ++ y ∷ rest) same
 
 -- the steps of a session so far, with the events that are left
-pub record IsRunning (authority : Address) (all : List Stamped) (core : CoreSeen) (left : List Stamped) : Type 0 where
+pub record IsRunning (authority : List ℕ) (all : List Stamped) (core : CoreSeen) (left : List Stamped) : Type 0 where
   pub same : core.authority ≡ authority
   pub unspent : core.spent ≡ false
   pub events : map (λ e. e.event) core.journal.entries ++ map (λ s. s.event) left ≡ map (λ s. s.event) all
@@ -86,13 +87,13 @@ pub record IsRunning (authority : Address) (all : List Stamped) (core : CoreSeen
   pub first : AreFirstEvents (map stamped_of core.journal.entries ++ left)
 
 -- the events that are left allow the next step
-pub IsRunning-allows : (authority : Address) (all : List Stamped) (core : CoreSeen) (left rest : List Stamped) (s : Stamped) → IsRunning authority all core left → left ≡ s ∷ rest → AreFirstEvents (map stamped_of core.journal.entries ++ s ∷ [])
+pub IsRunning-allows : (authority : List ℕ) (all : List Stamped) (core : CoreSeen) (left rest : List Stamped) (s : Stamped) → IsRunning authority all core left → left ≡ s ∷ rest → AreFirstEvents (map stamped_of core.journal.entries ++ s ∷ [])
 IsRunning-allows authority all core left rest s running e =
     AreFirstEvents-front (map stamped_of core.journal.entries) rest s
     (subst (λ (xs : List Stamped). AreFirstEvents (map stamped_of core.journal.entries ++ xs)) e running.first)
 
 -- and the step leads on
-pub IsRunning-step : (authority : Address) (all : List Stamped) (core new : CoreSeen) (left rest : List Stamped) (s : Stamped) (r : Reply) → IsRunning authority all core left → left ≡ s ∷ rest → Gains core new s r → IsRunning authority all new rest
+pub IsRunning-step : (authority : List ℕ) (all : List Stamped) (core new : CoreSeen) (left rest : List Stamped) (s : Stamped) (r : Reply) → IsRunning authority all core left → left ≡ s ∷ rest → Gains core new s r → IsRunning authority all new rest
 IsRunning-step authority all core new left rest s r running e step =
     let before : List Entry = core.journal.entries in
     let made : Entry = entry_of before s r step.state in
@@ -118,7 +119,7 @@ IsRunning-step authority all core new left rest s r running e step =
     }
 
 -- a new channel has all events left
-pub IsRunning-new : (authority : Address) (all : List Stamped) (core : CoreSeen) → IsNew authority core → AreFirstEvents all → IsRunning authority all core all
+pub IsRunning-new : (authority : List ℕ) (all : List Stamped) (core : CoreSeen) → IsNew authority core → AreFirstEvents all → IsRunning authority all core all
 IsRunning-new authority all core new first = record {
   same = new.authority_is;
   unspent = new.unspent;
@@ -129,7 +130,7 @@ IsRunning-new authority all core new first = record {
 }
 
 -- with no events left the channel has run all
-pub IsRunning-done : (authority : Address) (all : List Stamped) (core : CoreSeen) (left : List Stamped) → IsRunning authority all core left → left ≡ [] → HasRun authority all core
+pub IsRunning-done : (authority : List ℕ) (all : List Stamped) (core : CoreSeen) (left : List Stamped) → IsRunning authority all core left → left ≡ [] → HasRun authority all core
 IsRunning-done authority all core left running none =
     let end : IsRunning authority all core [] = subst (IsRunning authority all core) none running in
     record {
@@ -141,11 +142,11 @@ IsRunning-done authority all core left running none =
     }
 
 -- the report of a channel that has run these events is that of their session
-pub session_report : (authority other : Address) (target : List ℕ) (events : List Stamped) (core : CoreSeen) (journal : Journal) (ledger : Ledger) → other ≡ authority → HasRun other events core → journal ≡ core.journal → ledger ≡ core.ledger → (core.spent ≡ false → IsLawful core.authority core.journal.entries ledger) → target ≡ target_text authority → IsReport authority events (report_of target journal ledger)
+pub session_report : (authority : Address) (other target : List ℕ) (events : List Stamped) (core : CoreSeen) (journal : Journal) (ledger : Ledger) → other ≡ address_text authority → HasRun other events core → journal ≡ core.journal → ledger ≡ core.ledger → (core.spent ≡ false → IsLawful core.authority core.journal.entries ledger) → target ≡ target_text authority → IsReport authority events (report_of target journal ledger)
 session_report authority other target events core journal ledger is run j l lawful same =
-    let laws : IsLawful authority journal.entries ledger =
-    subst (λ (x : Journal). IsLawful authority x.entries ledger) (sym j)
-    (subst (λ (a : Address). IsLawful a core.journal.entries ledger) (run.authority_is ∙ is) (lawful run.unspent)) in
+    let laws : IsLawful (address_text authority) journal.entries ledger =
+    subst (λ (x : Journal). IsLawful (address_text authority) x.entries ledger) (sym j)
+    (subst (λ (a : List ℕ). IsLawful a core.journal.entries ledger) (run.authority_is ∙ is) (lawful run.unspent)) in
     record {
       journal = journal;
       ledger = ledger;

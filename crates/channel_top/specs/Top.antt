@@ -2,6 +2,7 @@
 use Rattle.std.specs.Prelude.{◌≡◌, ◌≤◌, ◌⊎◌, ℕ, Option, List, [], ◌∷◌, ◌++◌, length, map, max, codes, decimal, All}
 use Rattle.grpc_base.specs.declared.address.Address.{Address}
 use Rattle.grpc_base.specs.declared.event.Stamped.{Stamped}
+use Rattle.grpc_base.specs.Addresses.{address_text}
 use Rattle.grpc_base.specs.Limits.{line_limit}
 use Rattle.attempt_ledger.specs.Journals.{stamped_of}
 use Rattle.attempt_ledger.specs.declared.journal.Journal.{Journal}
@@ -27,7 +28,7 @@ highest_so_far last (m ∷ moments) = max m last ∷ highest_so_far (max m last)
 
 -- a session: a new channel was given these events in order and nothing else, each with its word and at the later of its moment
 -- and the last step's; journal and ledger keep the laws
-pub record IsSession (authority : Address) (events : List Stamped) (journal : Journal) (ledger : Ledger) : Type 0 where
+pub record IsSession (authority : List ℕ) (events : List Stamped) (journal : Journal) (ledger : Ledger) : Type 0 where
   pub events_are : map (λ e. e.event) journal.entries ≡ map (λ s. s.event) events
   pub words_are : map (λ e. e.word) journal.entries ≡ map (λ s. s.word) events
   pub moments_are : map (λ e. e.moment) journal.entries ≡ highest_so_far 0 (map (λ s. s.moment) events)
@@ -38,11 +39,11 @@ abbrev pub IsScriptAgain : List ℕ → Target → List Stamped → Type 0
 IsScriptAgain target value events =
     All (λ s. length (stamped_text s) ≤ line_limit) events → IsScript form.Script (script_of target events) target value events
 
--- the text is the report of a session
+-- the text is the report of a session, whose requests have the address of the target for their authority
 pub record IsReport (authority : Address) (events : List Stamped) (text : List ℕ) : Type 0 where
   pub journal : Journal
   pub ledger : Ledger
-  pub session : IsSession authority events journal ledger
+  pub session : IsSession (address_text authority) events journal ledger
   pub text_is : text ≡ report_of (target_text authority) journal ledger
 
 -- the bytes spell one script, of the first call, and the text is the report of its session; the report's lines of entries are, up

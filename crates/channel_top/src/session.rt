@@ -1,6 +1,8 @@
 // A script that is run and reported.
-ghost use Rattle.std.specs.Prelude.{◌≡◌, Vec, Err, OnErr, OnOk};
+ghost use Rattle.std.specs.Prelude.{◌≡◌, Vec, Err, IfOk, OnErr, OnOk};
 ghost use Rattle.gate_io.specs.Outside.{Rises};
+ghost use Rattle.grpc_base.specs.Addresses.{address_text};
+ghost use Rattle.grpc_base.specs.Authorities.{IsAuthority};
 ghost use Rattle.channel_core.specs.FirstCall.{AreFirstEvents};
 ghost use Rattle.channel_top.specs.Shape.{target_text};
 ghost use Rattle.channel_top.specs.Top.{IsReport};
@@ -10,6 +12,8 @@ use crate::run::run_events;
 use crate::shape::FirstCall;
 use channel_core::{ChannelCore, CoreError};
 use gate_io::Sink;
+use grpc_base::{Address, AddressList, NoMemory, Text};
+use resolver_core::Target;
 use script_text::{ReportFault, write_report};
 use std::alloc::Global;
 
@@ -30,6 +34,7 @@ pub fn report_session<K: Sink>(
         target,
         events,
     } = script;
+    let authority = authority_of(alloc, authority)?;
     let mut core = ChannelCore::new(alloc, authority)?;
     match run_events(&mut core, events) {
         Ok(()) => write_report(alloc, core.journal(), core.ledger(), &target, report),
@@ -37,4 +42,16 @@ pub fn report_session<K: Sink>(
             CoreError::NoMemory { spent: _ } => Err(ReportFault::NoMemory),
         },
     }
+}
+
+/// The authority of a target of one address.
+fn authority_of(alloc: Global, address: Address) -> Result<Text, NoMemory>
+    ensures text { IfOk result (λ t. t ≡ address_text address) }
+    ensures is_authority { IfOk result IsAuthority }
+{
+    let mut addresses = AddressList::new();
+    let Ok(()) = addresses.push(address) else {
+        unreachable!();
+    };
+    Target::Ipv4(addresses).authority(alloc)
 }

@@ -1,5 +1,5 @@
 -- The fields of a request, and how long they are.
-use Rattle.std.proofs.Common.{◌≡◌, ℕ, ◌+◌, ◌-◌, ◌*◌, ◌/◌, ◌%◌, ◌^◌, ◌<◌, ◌≤◌, Bool, true, false, cond, Option, Some, None, List, [], ◌∷◌, ◌++◌, codes, map, length, refl, arith, nat_le, find, if◌then◌else◌, lit≤, length-append}
+use Rattle.std.proofs.Common.{◌≡◌, ℕ, ◌+◌, ◌-◌, ◌*◌, ◌/◌, ◌^◌, ◌<◌, ◌≤◌, Bool, true, false, cond, Option, Some, None, List, [], ◌∷◌, ◌++◌, codes, map, length, refl, arith, nat_le, find, if◌then◌else◌, lit≤, length-append}
 use Rattle.std.proofs.lemmas.Bool.Decides.{nat_tests}
 use Rattle.std.specs.List.{AllByRecursion}
 use Rattle.std.specs.Int.{div_ceil}
@@ -9,14 +9,12 @@ use Rattle.std.proofs.lemmas.Bool.{leb-true}
 use Rattle.std.specs.Fmt.{decimal}
 use Rattle.std.proofs.lemmas.Fmt.{length-decimal-le}
 use Rattle.std.proofs.lemmas.List.Sums.{sum_by-append, sum_by-cons}
-use Rattle.grpc_base.specs.declared.address.Address.{Address}
-use Rattle.grpc_base.specs.Addresses.{address_text}
 use Rattle.grpc_base.specs.declared.fields.Field.{Field}
 use Rattle.grpc_base.specs.Limits.{path_limit}
 use Rattle.grpc_base.specs.Metadata.{is_binary_name, meta_limit, meta_size, pair_size}
 use Rattle.grpc_base.specs.Requests.{RequestSeen}
 use Rattle.grpc_meta.specs.Base64.{base64_of, symbols}
-use Rattle.grpc_meta.specs.RequestFields.{attempt_fields, field, field_size, fields_of_request, list_limit, list_size, sent, timeout_fields}
+use Rattle.grpc_meta.specs.RequestFields.{attempt_fields, field, field_size, fields_of_request, greatest_list, list_size, sent, timeout_fields}
 use Rattle.grpc_meta.specs.Timeouts.{text_in, timeout_of, units}
 
 -- from the second attempt on there is a field
@@ -25,28 +23,12 @@ attempt_fields-later number text later is =
     let second : nat_le number 1 ≡ false = grind (arith, nat_tests) in
     rw (second, is) refl
 
--- a number below 256, a port, an attempt and eight digits
-three : (n : ℕ) → n < 256 → length (decimal n) ≤ 3
-three n small = length-decimal-le 3 n (omega arith) (omega arith) (omega arith)
-
-five : (n : ℕ) → n < 65536 → length (decimal n) ≤ 5
-five n small = length-decimal-le 5 n (omega arith) (omega arith) (omega arith)
-
+-- eight digits, and an attempt
 eight : (n : ℕ) → n ≤ 99999999 → length (decimal n) ≤ 8
 eight n small = length-decimal-le 8 n (omega arith) (omega arith) (omega arith)
 
 ten : (n : ℕ) → n < 2 ^ 32 → length (decimal n) ≤ 10
 ten n small = length-decimal-le 10 n (omega arith) (omega arith) (omega arith)
-
--- `255.255.255.255:65535` is the longest authority
-pub length-address_text : (a : Address) → a.ip < 2 ^ 32 → a.port < 2 ^ 16 → length (address_text a) ≤ 21
-length-address_text a ip port =
-    let d1 = three (a.ip / 2 ^ 24) (omega arith) in
-    let d2 = three (a.ip / 2 ^ 16 % 256) (omega arith) in
-    let d3 = three (a.ip / 2 ^ 8 % 256) (omega arith) in
-    let d4 = three (a.ip % 256) (omega arith) in
-    let d5 = five a.port (omega arith) in
-    simp length-append (omega (arith, d1, d2, d3, d4, d5))
 
 -- the time in a unit of one letter has nine bytes at most
 text_if : (t : ℕ) (u : ℕ × List ℕ) (rest : Option (ℕ × List ℕ)) (b : Bool) → nat_le (div_ceil t u.0) 99999999 ≡ b → length u.1 ≤ 1 → length (text_in t rest) ≤ 9 → length (text_in t (cond b (Some u) rest)) ≤ 9
@@ -86,13 +68,13 @@ attempt_size : (number : ℕ) → number < 2 ^ 32 → list_size (attempt_fields 
 attempt_size number small = attempt_if number (nat_le number 1) small
 
 -- the fields in front
-front : RequestSeen → Address → List Field
-front r a = field (codes ":method") (codes "POST") ∷ field (codes ":scheme") (codes "http") ∷ field (codes ":path") r.path ∷ field (codes ":authority") (address_text a) ∷ []
+front : RequestSeen → List ℕ → List Field
+front r a = field (codes ":method") (codes "POST") ∷ field (codes ":scheme") (codes "http") ∷ field (codes ":path") r.path ∷ field (codes ":authority") a ∷ []
 
 kind : List Field
 kind = field (codes "te") (codes "trailers") ∷ field (codes "content-type") (codes "application/grpc") ∷ []
 
-front_size : (r : RequestSeen) (a : Address) → length r.path ≤ path_limit → length (address_text a) ≤ 21 → list_size (front r a) ≤ 1210
+front_size : (r : RequestSeen) (a : List ℕ) → length r.path ≤ path_limit → length a ≤ 259 → list_size (front r a) ≤ 1448
 unfolding front
 front_size r a path authority = omega arith
 
@@ -105,11 +87,11 @@ joined_size : (f t k n m : List Field) → list_size (f ++ t ++ k ++ n ++ m) ≡
 joined_size f t k n m = simp (sum_by-append field_size)
 
 -- the parts together
-sum_fits : (f t k n m p q : ℕ) → f ≤ 1210 → t ≤ 53 → k ≤ 102 → n ≤ 68 → m ≡ p → p ≤ meta_limit → q ≡ f + t + k + n + m → q ≤ list_limit
+sum_fits : (f t k n m p q : ℕ) → f ≤ 1448 → t ≤ 53 → k ≤ 102 → n ≤ 68 → m ≡ p → p ≤ meta_limit → q ≡ f + t + k + n + m → q ≤ greatest_list
 sum_fits f t k n m p q hf ht hk hn hm hp hq = omega arith
 
--- a request that keeps its rules has a list that fits
-pub list_size-request : (r : RequestSeen) (a : Address) (left : Option ℕ) (number : ℕ) → length r.path ≤ path_limit → meta_size r.meta ≤ meta_limit → length (address_text a) ≤ 21 → number < 2 ^ 32 → list_size (fields_of_request r a left number) ≤ list_limit
+-- a request that keeps its rules has a list no greater than the greatest
+pub list_size-request : (r : RequestSeen) (a : List ℕ) (left : Option ℕ) (number : ℕ) → length r.path ≤ path_limit → meta_size r.meta ≤ meta_limit → length a ≤ 259 → number < 2 ^ 32 → list_size (fields_of_request r a left number) ≤ greatest_list
 unfolding front kind
 list_size-request r a left number path meta authority small =
     let whole : list_size (fields_of_request r a left number) ≡ list_size (front r a) + list_size (timeout_fields left) + list_size kind + list_size (attempt_fields number) + list_size (map sent r.meta) = joined_size (front r a) (timeout_fields left) kind (attempt_fields number) (map sent r.meta) in

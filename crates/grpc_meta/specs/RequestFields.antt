@@ -2,8 +2,6 @@
 use Rattle.std.specs.Prelude.{ℕ, ◌+◌, ◌-◌, Option, Some, None, List, [], ◌∷◌, ◌++◌, codes, map, length, nat_le, if◌then◌else◌}
 use Rattle.std.specs.List.{sum_by}
 use Rattle.std.specs.Fmt.{decimal}
-use Rattle.grpc_base.specs.declared.address.Address.{Address}
-use Rattle.grpc_base.specs.Addresses.{address_text}
 use Rattle.grpc_base.specs.declared.fields.Field.{Field}
 use Rattle.grpc_base.specs.Metadata.{is_binary_name}
 use Rattle.grpc_base.specs.Requests.{RequestSeen}
@@ -29,10 +27,10 @@ abbrev pub sent : Field → Field
 sent f = if is_binary_name f.name then field f.name (base64_of f.value) else f
 
 -- the header list of one attempt
-abbrev pub fields_of_request : RequestSeen → Address → Option ℕ → ℕ → List Field
+abbrev pub fields_of_request : RequestSeen → List ℕ → Option ℕ → ℕ → List Field
 fields_of_request request authority left number =
     (field (codes ":method") (codes "POST") ∷ field (codes ":scheme") (codes "http") ∷ field (codes ":path") request.path
-    ∷ field (codes ":authority") (address_text authority) ∷ [])
+    ∷ field (codes ":authority") authority ∷ [])
     ++ timeout_fields left
     ++ (field (codes "te") (codes "trailers") ∷ field (codes "content-type") (codes "application/grpc") ∷ [])
     ++ attempt_fields number
@@ -49,3 +47,8 @@ list_size fields = sum_by field_size fields
 -- the size up to which a header list fits one frame
 abbrev pub list_limit : ℕ
 list_limit = 16384
+
+-- the size of the greatest header list: 1448 for method, scheme, a path of 1024 and an authority of 259 bytes, 53 for a time left
+-- of nine, 102 for `te` and the content type, 68 for ten digits of earlier attempts, and 14336 for the metadata
+abbrev pub greatest_list : ℕ
+greatest_list = 16007

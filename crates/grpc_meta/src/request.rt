@@ -1,34 +1,38 @@
 // The header list of a request.
-ghost use Rattle.std.specs.Prelude.{◌≡◌, ◌≤◌, ◌++◌, ◌∷◌, [], codes, length, map, IfOk, IfSome, OnOk};
-ghost use Rattle.grpc_base.specs.Addresses.{address_text};
+ghost use Rattle.std.specs.Prelude.{◌≡◌, ◌≤◌, ◌++◌, ◌∷◌, [], map, IfOk, IfSome, OnOk};
+ghost use Rattle.grpc_base.specs.Authorities.{IsAuthority};
 ghost use Rattle.grpc_base.specs.Limits.{duration_limit};
-ghost use Rattle.grpc_meta.specs.RequestFields.{attempt_fields, field, fields_of_request, list_limit, list_size, sent, timeout_fields};
+ghost use Rattle.grpc_meta.specs.RequestFields.{attempt_fields, field, fields_of_request, greatest_list, list_limit, list_size, sent, timeout_fields};
 
 use crate::binary::sent;
 use crate::timeout::timeout_text;
-use grpc_base::{Address, Field, Fields, Metadata, NoMemory, Octets, Request};
+use grpc_base::{Field, Fields, Metadata, NoMemory, Octets, Request, Text};
 use itoa::Buffer;
 use std::alloc::Global;
 
-/// The header list of an attempt's request (gRPC over HTTP/2, "Requests"). `left` is the time that the call has
-/// left in nanoseconds, and `number` counts its attempts from 1.
+/// The header list of an attempt's request (gRPC over HTTP/2, "Requests"). `authority` is that of the channel's target, `left` the
+/// time that the call has left in nanoseconds, and `number` counts its attempts from 1.
+///
+/// Its size is at most that of the longest path, authority, time left and metadata, and of the greatest attempt number.
 pub fn request_fields(
     alloc: Global,
     request: &Request,
-    authority: Address,
+    authority: &Text,
     left: Option<u64>,
     number: u32,
 ) -> Result<Fields, NoMemory>
+    requires authority { IsAuthority authority.now }
     requires left { IfSome left (λ t. (1 ≤ t) × (t ≤ duration_limit)) }
     requires number { 1 ≤ number }
-    ensures list { IfOk result (λ fields. fields ≡ fields_of_request request.now authority left number) }
+    ensures list { IfOk result (λ fields. fields ≡ fields_of_request request.now authority.now left number) }
+    ensures greatest { IfOk result (λ fields. list_size fields ≤ greatest_list) }
     ensures fits { IfOk result (λ fields. list_size fields ≤ list_limit) }
 {
     let mut fields = Fields::new(alloc);
     push(alloc, &mut fields, b":method", b"POST")?;
     push(alloc, &mut fields, b":scheme", b"http")?;
     push(alloc, &mut fields, b":path", request.path().as_slice())?;
-    push_authority(alloc, &mut fields, authority)?;
+    push(alloc, &mut fields, b":authority", authority.as_slice())?;
     push_timeout(alloc, &mut fields, left)?;
     push(alloc, &mut fields, b"te", b"trailers")?;
     push(alloc, &mut fields, b"content-type", b"application/grpc")?;
@@ -44,25 +48,6 @@ fn push(alloc: Global, fields: &mut Fields, name: &[u8], value: &[u8]) -> Result
     let name = Octets::of_slice(alloc, name)?;
     let value = Octets::of_slice(alloc, value)?;
     fields.push(Field { name, value })
-}
-
-/// Appends the authority.
-fn push_authority(alloc: Global, fields: &mut Fields, authority: Address) -> Result<(), NoMemory>
-    ensures field { OnOk result (fields.new ≡ fields.old ++ field (codes ":authority") (address_text authority) ∷ []) }
-    ensures short { length (address_text authority) ≤ 21 }
-{
-    let text = authority_text(alloc, authority.ip, authority.port)?;
-    push(alloc, fields, b":authority", &text)
-}
-
-/// An address as `a.b.c.d:port`.
-fn authority_text(alloc: Global, ip: u32, port: u16) -> Result<Vec<u8>, NoMemory>
-    ensures text { IfOk result (λ v. v.items ≡ address_text (record { ip = ip; port = port })) }
-    ensures short { length (address_text (record { ip = ip; port = port })) ≤ 21 }
-{
-    let mut text = Vec::new(alloc);
-    Address { ip, port }.append_to(&mut text)?;
-    Ok(text)
 }
 
 /// Appends the time left, where there is a deadline.

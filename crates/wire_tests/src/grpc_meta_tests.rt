@@ -1,8 +1,11 @@
 // Values of an independent model, rules at their bounds, worked examples, and the greatest lists.
 ghost use Rattle.std.specs.Prelude.{IfOk};
+ghost use Rattle.grpc_base.specs.Authorities.{IsAuthority};
 ghost use Rattle.grpc_base.specs.Metadata.{IsRequestMetadata};
 
-use grpc_base::{Address, Field, Fields, MetaFault, Metadata, Octets, Pushback, Request, Text};
+use grpc_base::{
+    Field, Fields, MetaFault, Metadata, Octets, Pushback, Request, Text, is_authority,
+};
 use grpc_meta::{pushback, request_fields, shown, timeout_text};
 use std::alloc::Global;
 use std::test::Fail;
@@ -287,6 +290,18 @@ fn text_of(alloc: Global, fields: &Fields) -> Result<Vec<u8>, Fail> {
     Ok(text)
 }
 
+/// An authority of this text.
+fn authority_of(alloc: Global, text: &[u8]) -> Result<Text, Fail>
+    ensures { IfOk result IsAuthority }
+{
+    let text = Text::of_slice(alloc, text)?;
+    if is_authority(text.as_slice()) {
+        Ok(text)
+    } else {
+        Err("an authority".into())
+    }
+}
+
 #[test]
 fn requests_have_their_fields(rt: HostRuntime) -> Result<(), Fail> {
     let alloc = rt.alloc();
@@ -297,20 +312,21 @@ fn requests_have_their_fields(rt: HostRuntime) -> Result<(), Fail> {
     let request = Request::new(path, meta, None, None)
         .ok()
         .ok_or("a request")?;
-    let authority = Address {
-        ip: 0x0a01_02ff,
-        port: 443,
-    };
-    let first = text_of(alloc, &request_fields(alloc, &request, authority, None, 1)?)?;
+    let authority = authority_of(alloc, b"10.1.2.255:443")?;
+    let first = text_of(
+        alloc,
+        &request_fields(alloc, &request, &authority, None, 1)?,
+    )?;
     let want =
         ":method POST\n:scheme http\n:path /s/m\n:authority 10.1.2.255:443\nte trailers\ncontent-type application/grpc\nk-bin AP8\nk a b\n";
     assert_eq!(rt; first.as_slice(), want.as_bytes());
+    let authority = authority_of(alloc, b"Api-1.Example.com:8443")?;
     let fifth = text_of(
         alloc,
-        &request_fields(alloc, &request, authority, Some(100_000_000), 5)?,
+        &request_fields(alloc, &request, &authority, Some(100_000_000), 5)?,
     )?;
     let want =
-        ":method POST\n:scheme http\n:path /s/m\n:authority 10.1.2.255:443\ngrpc-timeout 100000u\nte trailers\ncontent-type application/grpc\ngrpc-previous-rpc-attempts 4\nk-bin AP8\nk a b\n";
+        ":method POST\n:scheme http\n:path /s/m\n:authority Api-1.Example.com:8443\ngrpc-timeout 100000u\nte trailers\ncontent-type application/grpc\ngrpc-previous-rpc-attempts 4\nk-bin AP8\nk a b\n";
     assert_eq!(rt; fifth.as_slice(), want.as_bytes());
     Ok(())
 }
@@ -338,19 +354,28 @@ fn the_greatest_request_has_its_fields(rt: HostRuntime) -> Result<(), Fail> {
     let request = Request::new(path, meta, None, None)
         .ok()
         .ok_or("a request")?;
-    let authority = Address {
-        ip: u32::MAX,
-        port: u16::MAX,
-    };
+    let mut host = [b'a'; 259];
+    for place in (1..253usize).step_by(2) {
+        host[place] = b'.';
+    }
+    host[253..].copy_from_slice(b":65535");
+    let authority = authority_of(alloc, &host)?;
     let longest = 1_000_000_000_000_000_000;
-    let fields = request_fields(alloc, &request, authority, Some(longest), u32::MAX)?;
+    let fields = request_fields(alloc, &request, &authority, Some(longest), u32::MAX)?;
     assert_eq!(rt; fields.len(), 8 + 434);
+    let mut size = 0u64;
+    for field in fields.as_slice() {
+        size = size.wrapping_add(field.name.len() as u64 + field.value.len() as u64 + 32);
+    }
+    assert_eq!(rt; size, 16_007);
     let text = text_of(alloc, &fields)?;
-    let behind_path =
-        b"\n:authority 255.255.255.255:65535\ngrpc-timeout 16666667M\nte trailers\ncontent-type application/grpc\ngrpc-previous-rpc-attempts 4294967294\na \na \n";
     let place = b":method POST\n:scheme http\n:path ".len() + 1_024;
     let behind = text.get(place..).ok_or("a path")?;
-    assert!(rt; behind.starts_with(behind_path));
+    assert!(rt; behind.starts_with(b"\n:authority a.a.a."));
+    let behind_host =
+        b":65535\ngrpc-timeout 16666667M\nte trailers\ncontent-type application/grpc\ngrpc-previous-rpc-attempts 4294967294\na \na \n";
+    let behind = text.get(place + 12 + 253..).ok_or("a host")?;
+    assert!(rt; behind.starts_with(behind_host));
     assert!(rt; behind.ends_with(b"a \nk-bin AAECAwQFBg\n"));
     Ok(())
 }

@@ -4,7 +4,7 @@ use grpc_base::{Address, Stamped, Text};
 /// The script of the first call.
 #[derive(Debug, Drop)]
 pub struct FirstCall {
-    /// The one address of the target.
+    /// The one address of the target, whose text is the authority of each request.
     pub authority: Address,
     /// The target as the channel line has it.
     pub target: Text,

@@ -1,4 +1,4 @@
-use Rattle.std.proofs.Common.{List, ℕ, inr}
+use Rattle.std.proofs.Common.{List, ℕ, inr, ◌∙◌}
 use Rattle.script_text.specs.Report.{report_of}
 use Rattle.channel_top.specs.Top.{IsReport}
 use Rattle.channel_top.proofs.RunLaws.{session_report}
@@ -10,7 +10,7 @@ returns-in-Ok g c =
     let text : List ℕ = report_of c.args.script.target c.journal.result.now c.ledger.result.now in
     let report : IsReport c.args.script.authority c.args.script.events.items text =
     session_report c.args.script.authority c.in_ok-core.core.authority _ c.args.script.events.items c.run_events.new.core _ _
-    c.in_ok-core.ensures.authority_is c.in-Ok.ensures.run
+    (c.in_ok-core.ensures.authority_is ∙ c.in_ok-authority.ensures.text) c.in-Ok.ensures.run
     c.journal.ensures c.ledger.ensures.ledger c.ledger.ensures.lawful c.requires.target in
     record {
       ok = on_ok_as c.write_report.result (λ all. (text, report, all)) c.write_report.ensures.ok;

@@ -7,6 +7,5 @@ use Rattle.channel_core.proofs.core_step.ChannelCore.new.Goals as goal
 
 pub invariant_of-result : goal.invariant_of-result
 invariant_of-result c = λ same.
-    subst (λ (l : Ledger). IsRun c.address_of-authority.result c.new.result.entries l) (sym c.new-2.ensures)
-    (subst (λ (j : Journal). IsRun c.address_of-authority.result j.entries no_ledger) (sym c.new.ensures)
-    (run_new c.address_of-authority.result c.address_of-authority.ensures.short))
+    subst (λ (l : Ledger). IsRun c.args.authority c.new.result.entries l) (sym c.new-2.ensures)
+    (subst (λ (j : Journal). IsRun c.args.authority j.entries no_ledger) (sym c.new.ensures) (run_new c.args.authority c.requires))

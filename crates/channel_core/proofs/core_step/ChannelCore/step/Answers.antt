@@ -5,8 +5,11 @@ use Rattle.channel_core.proofs.Lawful.{lawful, run_made}
 use Rattle.channel_core.proofs.StepLaws.{newest_stands, steps_made}
 use Rattle.channel_core.proofs.core_step.ChannelCore.step.Goals as goal
 
-pub apply-requires : goal.apply-requires
-apply-requires c = newest_stands c.args.self.now.journal.entries c.args.stamped c.requires
+pub apply-requires-clause-authority : goal.apply-requires-clause-authority
+apply-requires-clause-authority c = (c.self.invariant c.if-self.false).authority_is
+
+pub apply-requires-clause-stands : goal.apply-requires-clause-stands
+apply-requires-clause-stands c = newest_stands c.args.self.now.journal.entries c.args.stamped c.requires
 
 pub invariant_of-self-2 : goal.invariant_of-self-2
 invariant_of-self-2 c = λ same.
