@@ -94,8 +94,41 @@ fn a_status_that_is_no_number_is_unknown(rt: HostRuntime) -> Result<(), Fail> {
     let (status, report) = answer(rt.alloc(), &of_parts("replay", FRONT, ODD, TAKE))?;
     assert_eq!(rt; status, 0);
     let want =
-        b"4 0 take 1 = end 2 - - row\nrow 1 1 first 2 6 1 1 1 1 10 2 - 78 status 10\nend 11 1 1 1\n".as_slice();
+        b"4 0 take 1 = end 2 - - row\nrow 1 1 first 2 6 1 1 1 1 10 2 - 78 status 10 - -\nend 11 1 1 1\n".as_slice();
     assert!(rt; report.taken().ends_with(want));
+    Ok(())
+}
+
+/// The report of the first call, as version 1 has it, and its script in version 2.
+const OLD_REPORT: &str =
+    "channel 1 ipv4:127.0.0.1:50051\n0 0 resolved 127.0.0.1:50051 - = done\n0 0 dial = dial 1 127.0.0.1:50051 20000000000\n4 0 take 1 = end 0 - - row\nrow 1 1 first 2 6 1 1 1 1 10 0 - 77 status 10\nend 11 1 1 1\n";
+
+const NEW_SCRIPT: &str =
+    "channel 2 ipv4:127.0.0.1:50051\n0 0 resolved 127.0.0.1:50051 -\n0 0 dial\n4 0 take 1\n";
+
+#[test]
+fn a_report_is_migrated(rt: HostRuntime) -> Result<(), Fail> {
+    let alloc = rt.alloc();
+    let line = "channel 2 dns:localhost\n";
+    let written = "channel 2 dns:localhost\n3 9 tick\n";
+    for (a, b, c, status, text) in [
+        ("", "", "", 0, ""),
+        (OLD_REPORT, "", "", 0, NEW_SCRIPT),
+        (NEW_SCRIPT, "", "", 0, NEW_SCRIPT),
+        (line, "3 9 tick = done\n", "fault x\n", 0, written),
+        (line, "", "", 0, line),
+        (OLD_REPORT, TAKE, "", 3, "fault line 7 cause 5\n"),
+        (line, "0 0 dial\n", "end", 3, "fault line 3 cause 3\n"),
+        ("row 1\n", "", "", 3, "fault line 1 cause 1\n"),
+    ] {
+        expect(&rt, alloc, of_parts("migrate", a, b, c), status, text)?;
+    }
+    let mut read = of_parts("migrate", OLD_REPORT, "", "");
+    read.piece = 64;
+    read.failed_read = 2;
+    let (status, report) = answer(alloc, &read)?;
+    assert_eq!(rt; status, 4);
+    assert!(rt; report.taken().is_empty());
     Ok(())
 }
 

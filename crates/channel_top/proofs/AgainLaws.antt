@@ -1,5 +1,5 @@
 -- The events of a session that a script gave are a script again, at the moments of their steps.
-use Rattle.std.proofs.Common.{◌≡◌, ◌≤◌, ℕ, ◌+◌, Option, List, [], ◌∷◌, ◌++◌, map, ap, sym, subst, inr, arith, ◌∙◌}
+use Rattle.std.proofs.Common.{◌≡◌, ◌≤◌, ℕ, ◌+◌, Option, List, [], ◌∷◌, ◌++◌, map, ap, sym, subst, inr, arith, refl, ◌∙◌}
 use Rattle.std.specs.Prelude.{max}
 use Rattle.grpc_base.specs.declared.address.Address.{Address}
 use Rattle.grpc_base.specs.Addresses.{address_text}
@@ -14,7 +14,12 @@ use Rattle.script_fields.specs.Spelling.{fields}
 use Rattle.script_lines.specs.declared.line.ScriptLine.TheVariants as line
 use Rattle.script_lines.specs.Lines.{IsStampedText}
 use Rattle.script_input.specs.Reading.{ReadsScript}
-use Rattle.script_input.specs.Scripts.{AreLines, IsOnlyScript, IsScript, script_reads}
+use Rattle.script_input.specs.declared.form.Form.{Form}
+use Rattle.script_input.specs.declared.form.Form.TheVariants as form
+use Rattle.resolver_core.specs.declared.any_target.Target.{Target}
+use Rattle.script_input.specs.Scripts.{AreLines, IsOnlyScript, IsScript, read_part, script_reads}
+use Rattle.script_lines.specs.Spelling.{script_of}
+use Rattle.channel_top.specs.Migrate.{IsMigrated}
 use Rattle.script_input.proofs.ScriptLaws.{AreMoved, script_again}
 use Rattle.channel_top.specs.Shape.{IsFirstCall, target_text}
 use Rattle.channel_top.specs.Top.{IsDone, IsReport, IsScriptAgain, IsSession, highest_so_far}
@@ -25,13 +30,13 @@ moment_within [] s t = absurd t
 moment_within (moment ∷ []) s t = absurd t
 
 -- each entry has its event and word, at a moment within the limit
-moved_of : (n : ℕ) (texts : List (List ℕ)) (events : List Stamped) (entries : List Entry) (last : ℕ) → AreLines n texts (map (λ s. line.Event s) events) → last ≤ moment_limit → map (λ e. e.event) entries ≡ map (λ s. s.event) events → map (λ e. e.word) entries ≡ map (λ s. s.word) events → map (λ e. e.moment) entries ≡ highest_so_far last (map (λ s. s.moment) events) → AreMoved events (map stamped_of entries)
-moved_of n texts [] [] last t within event word moment = tt
-moved_of n texts [] (e ∷ entries) last t within event word moment = absurd ((cc))
-moved_of n texts (s ∷ events) [] last t within event word moment = absurd ((cc))
-moved_of n [] (s ∷ events) (e ∷ entries) last t within event word moment = absurd t
-moved_of n (text ∷ texts) (s ∷ events) (e ∷ entries) last t within event word moment =
-    let own : s.moment ≤ moment_limit = moment_within (fields text) s t.0.1.1 in
+moved_of : (f : Form) (n : ℕ) (texts : List (List ℕ)) (events : List Stamped) (entries : List Entry) (last : ℕ) → AreLines f n texts (map (λ s. line.Event s) events) → last ≤ moment_limit → map (λ e. e.event) entries ≡ map (λ s. s.event) events → map (λ e. e.word) entries ≡ map (λ s. s.word) events → map (λ e. e.moment) entries ≡ highest_so_far last (map (λ s. s.moment) events) → AreMoved events (map stamped_of entries)
+moved_of f n texts [] [] last t within event word moment = tt
+moved_of f n texts [] (e ∷ entries) last t within event word moment = absurd ((cc))
+moved_of f n texts (s ∷ events) [] last t within event word moment = absurd ((cc))
+moved_of f n [] (s ∷ events) (e ∷ entries) last t within event word moment = absurd t
+moved_of f n (text ∷ texts) (s ∷ events) (e ∷ entries) last t within event word moment =
+    let own : s.moment ≤ moment_limit = moment_within (fields (read_part f n text)) s t.0.2.1 in
     let same_event : e.event ≡ s.event = (cc) in
     let same_word : e.word ≡ s.word = (cc) in
     let same_moment : e.moment ≡ max s.moment last = (cc) in
@@ -40,47 +45,84 @@ moved_of n (text ∷ texts) (s ∷ events) (e ∷ entries) last t within event w
     let moments_rest : map (λ e. e.moment) entries ≡ highest_so_far (max s.moment last) (map (λ s. s.moment) events) = (cc) in (
       (λ i. record { moment = e.moment; word = same_word i; event = same_event i }),
       omega (arith, same_moment, own, within),
-      moved_of (n + 1) texts events entries (max s.moment last) t.1 (omega (arith, own, within)) events_rest words_rest moments_rest,
+      moved_of f (n + 1) texts events entries (max s.moment last) t.1 (omega (arith, own, within)) events_rest words_rest moments_rest,
     )
 
-moved_lines : (n : ℕ) (texts : List (List ℕ)) (target : List ℕ) (addresses : List Address) (events : List Stamped) (entries : List Entry) → AreLines n texts (script_reads target addresses events) → map (λ e. e.event) entries ≡ map (λ s. s.event) events → map (λ e. e.word) entries ≡ map (λ s. s.word) events → map (λ e. e.moment) entries ≡ highest_so_far 0 (map (λ s. s.moment) events) → AreMoved events (map stamped_of entries)
-moved_lines n [] target addresses events entries t event word moment = absurd t
-moved_lines n (text ∷ texts) target addresses events entries t event word moment = moved_of (n + 1) texts events entries 0 t.1 (omega arith) event word moment
+moved_lines : (f : Form) (n : ℕ) (texts : List (List ℕ)) (target : List ℕ) (value : Target) (events : List Stamped) (entries : List Entry) → AreLines f n texts (script_reads target value events) → map (λ e. e.event) entries ≡ map (λ s. s.event) events → map (λ e. e.word) entries ≡ map (λ s. s.word) events → map (λ e. e.moment) entries ≡ highest_so_far 0 (map (λ s. s.moment) events) → AreMoved events (map stamped_of entries)
+moved_lines f n [] target value events entries t event word moment = absurd t
+moved_lines f n (text ∷ texts) target value events entries t event word moment = moved_of f (n + 1) texts events entries 0 t.1 (omega arith) event word moment
 
 -- what a session of a script reports up to each ` = ` is a script again
-pub session_again : (input target : List ℕ) (addresses : List Address) (authority : List ℕ) (events : List Stamped) (journal : Journal) (ledger : Ledger) → IsScript input target addresses events → IsSession authority events journal ledger → IsScriptAgain target addresses (map stamped_of journal.entries)
-session_again input target addresses authority events journal ledger script session = λ short.
-    script_again input target addresses events (map stamped_of journal.entries) script
-    (moved_lines 1 script.texts target addresses events journal.entries script.lines session.events_are session.words_are session.moments_are)
+pub session_again : (input target : List ℕ) (value : Target) (authority : List ℕ) (events : List Stamped) (journal : Journal) (ledger : Ledger) → IsScript form.Script input target value events → IsSession authority events journal ledger → IsScriptAgain target value (map stamped_of journal.entries)
+session_again input target value authority events journal ledger script session = λ short.
+    script_again form.Script input target value events (map stamped_of journal.entries) script
+    (moved_lines form.Script 1 script.texts target value events journal.entries script.lines session.events_are session.words_are session.moments_are)
     short
 
 -- a script has a line
-some_input : (target : List ℕ) (addresses : List Address) (events : List Stamped) (texts : List (List ℕ)) → pieces 10 [] ≡ texts ++ [] ∷ [] → AreLines 1 texts (script_reads target addresses events) → ⊥
-some_input target addresses events [] e t = t
-some_input target addresses events (text ∷ []) e t = (let bad : ◌≡◌ {A = List (List ℕ)} [] ([] ∷ []) = (cc) in absurd ((cc)))
-some_input target addresses events (text ∷ (next ∷ texts)) e t = (let bad : [] ≡ next ∷ (texts ++ [] ∷ []) = (cc) in absurd ((cc)))
+some_input : (f : Form) (target : List ℕ) (value : Target) (events : List Stamped) (texts records : List (List ℕ)) → pieces 10 [] ≡ (texts ++ records) ++ [] ∷ [] → AreLines f 1 texts (script_reads target value events) → ⊥
+some_input f target value events [] records e t = t
+some_input f target value events (text ∷ texts) records e t = no_snoc (texts ++ records) [] (one_part [] text ((texts ++ records) ++ [] ∷ []) e)
+  where
+    one_part : (y x : List ℕ) (xs : List (List ℕ)) → y ∷ [] ≡ x ∷ xs → [] ≡ xs
+    one_part y x xs e = (cc)
+
+    no_snoc : (xs : List (List ℕ)) (y : List ℕ) → [] ≡ xs ++ y ∷ [] → ⊥
+    no_snoc [] y e = absurd ((cc))
+    no_snoc (x ∷ xs) y e = absurd ((cc))
 
 -- the script of the first call was read, and this is its report
-pub report_done : (left left' : Option (List ℕ)) (target : List ℕ) (addresses : List Address) (events own : List Stamped) (authority : Address) (text : List ℕ) → ReadsScript left left' target addresses events → IsFirstCall target events authority → own ≡ events → IsReport authority own text → IsDone left left' text
-report_done left left' target addresses events own authority text read first same report_own =
+pub report_done : (left left' : Option (List ℕ)) (target : List ℕ) (value : Target) (events own : List Stamped) (authority : Address) (text : List ℕ) → ReadsScript form.Script left left' target value events → IsFirstCall target events authority → own ≡ events → IsReport authority own text → IsDone left left' text
+report_done left left' target value events own authority text read first same report_own =
     let input : List ℕ = read.input in
-    let script : IsScript input (target_text authority) addresses events = subst (λ (t : List ℕ). IsScript input t addresses events) first.target_is read.script in
+    let script : IsScript form.Script input (target_text authority) value events = subst (λ (t : List ℕ). IsScript form.Script input t value events) first.target_is read.script in
     let report : IsReport authority events text = subst (λ (es : List Stamped). IsReport authority es text) same report_own in
     record {
       input = input;
       read = read.read;
       at_end = read.at_end;
       done = inr (
-        (λ none. some_input target addresses events read.script.texts (ap (pieces 10) (sym none) ∙ read.script.parts) read.script.lines),
+        (λ none. some_input form.Script target value events read.script.texts read.script.records (ap (pieces 10) (sym none) ∙ read.script.parts) read.script.lines),
         record {
           authority = authority;
-          addresses = addresses;
+          value = value;
           events = events;
           script = script;
           first = subst (λ (t : List ℕ). IsFirstCall t events authority) first.target_is first;
-          only = subst (λ (t : List ℕ). IsOnlyScript input t addresses events) first.target_is read.only;
+          only = subst (λ (t : List ℕ). IsOnlyScript form.Script input t value events) first.target_is read.only;
           report = report;
-          again = session_again input (target_text authority) addresses (address_text authority) events report.journal report.ledger script report.session;
+          again = session_again input (target_text authority) value (address_text authority) events report.journal report.ledger script report.session;
         },
       );
     }
+
+-- ---- a script that is written as it was read
+
+-- events at their own moments
+own_moments : (f : Form) (n : ℕ) (texts : List (List ℕ)) (events : List Stamped) → AreLines f n texts (map (λ s. line.Event s) events) → AreMoved events events
+own_moments f n texts [] t = tt
+own_moments f n [] (s ∷ events) t = absurd t
+own_moments f n (text ∷ texts) (s ∷ events) t = (refl, moment_within (fields (read_part f n text)) s t.0.2.1, own_moments f (n + 1) texts events t.1)
+
+own_lines : (f : Form) (texts : List (List ℕ)) (target : List ℕ) (value : Target) (events : List Stamped) → AreLines f 1 texts (script_reads target value events) → AreMoved events events
+own_lines f [] target value events t = absurd t
+own_lines f (text ∷ texts) target value events t = own_moments f 2 texts events t.1
+
+pub migrated : (left left' : Option (List ℕ)) (target : List ℕ) (value : Target) (events : List Stamped) → ReadsScript form.Report left left' target value events → IsMigrated left left' (script_of target events)
+migrated left left' target value events read = record {
+  input = read.input;
+  read = read.read;
+  at_end = read.at_end;
+  done = inr (
+    (λ none. some_input form.Report target value events read.script.texts read.script.records (ap (pieces 10) (sym none) ∙ read.script.parts) read.script.lines),
+    record {
+      target = target;
+      value = value;
+      events = events;
+      script = read.script;
+      only = read.only;
+      text_is = refl;
+      again = λ short. script_again form.Report read.input target value events events read.script (own_lines form.Report read.script.texts target value events read.script.lines) short;
+    },
+  );
+}

@@ -20,6 +20,7 @@ pub is_free : (m : Option Mode) → is_simple_and_free (app_for m) ≡ true
 unfolding clap_on_literals app_for
 is_free (Some mode.Replay) = refl
 is_free (Some mode.Config) = refl
+is_free (Some mode.Migrate) = refl
 is_free None = refl
 
 -- the words of a mode are taken
@@ -27,15 +28,18 @@ taken_alone : (m : Mode) → kinds_at (Some m) (mode_name m ∷ []) ≡ []
 unfolding clap_on_literals app_for kinds_at
 taken_alone mode.Replay = refl
 taken_alone mode.Config = refl
+taken_alone mode.Migrate = refl
 
 taken_dashes : (m : Mode) → kinds_at (Some m) (mode_name m ∷ dashes ∷ []) ≡ []
 unfolding clap_on_literals app_for kinds_at
 taken_dashes mode.Replay = refl
 taken_dashes mode.Config = refl
+taken_dashes mode.Migrate = refl
 
 named : (m : Mode) (rest : List (List ℕ)) → mode_of (mode_name m ∷ rest) ≡ Some m
 named mode.Replay rest = refl
 named mode.Config rest = refl
+named mode.Migrate rest = refl
 
 taken_of : (m : Mode) (rest : List (List ℕ)) → kinds_at (Some m) (mode_name m ∷ rest) ≡ [] → kinds_of (mode_name m ∷ rest) ≡ []
 taken_of m rest e = ap (λ (o : Option Mode). kinds_at o (mode_name m ∷ rest)) (named m rest) ∙ e
@@ -65,6 +69,10 @@ ask_behind mode.Config word (inl e) = inl (ap (λ (w : List ℕ). kinds_of (code
 ask_behind mode.Config word (inr (inl e)) = inl (ap (λ (w : List ℕ). kinds_of (codes "config" ∷ w ∷ [])) e ∙ refl)
 ask_behind mode.Config word (inr (inr (inl e))) = inr (ap (λ (w : List ℕ). kinds_of (codes "config" ∷ w ∷ [])) e ∙ refl)
 ask_behind mode.Config word (inr (inr (inr e))) = inr (ap (λ (w : List ℕ). kinds_of (codes "config" ∷ w ∷ [])) e ∙ refl)
+ask_behind mode.Migrate word (inl e) = inl (ap (λ (w : List ℕ). kinds_of (codes "migrate" ∷ w ∷ [])) e ∙ refl)
+ask_behind mode.Migrate word (inr (inl e)) = inl (ap (λ (w : List ℕ). kinds_of (codes "migrate" ∷ w ∷ [])) e ∙ refl)
+ask_behind mode.Migrate word (inr (inr (inl e))) = inr (ap (λ (w : List ℕ). kinds_of (codes "migrate" ∷ w ∷ [])) e ∙ refl)
+ask_behind mode.Migrate word (inr (inr (inr e))) = inr (ap (λ (w : List ℕ). kinds_of (codes "migrate" ∷ w ∷ [])) e ∙ refl)
 
 by_place : (words : List (List ℕ)) (word : List ℕ) → IsAskWord word → (words ≡ word ∷ []) ⊎ ((m : Mode) × (words ≡ mode_name m ∷ word ∷ [])) → IsText (kinds_of words)
 by_place words word is (inl e) = subst (λ (ws : List (List ℕ)). IsText (kinds_of ws)) (sym e) (ask_alone word is)
@@ -110,14 +118,21 @@ wrong_of_refused words k memory help version has = (
 named_is : (word : List ℕ) (m : Mode) → mode_named word ≡ Some m → word ≡ mode_name m
 named_is word m e = first (bytes_eq word (codes "replay")) refl e
   where
-    second : (b : Bool) → bytes_eq word (codes "config") ≡ b → (if b then Some mode.Config else None) ≡ Some m → word ≡ mode_name m
+    third : (b : Bool) → bytes_eq word (codes "migrate") ≡ b → (if b then Some mode.Migrate else None) ≡ Some m → word ≡ mode_name m
+    third true is e = (bytes_eq-Decides word (codes "migrate")).0 is ∙ ap mode_name (the_some mode.Migrate m e)
+      where
+        the_some : (x y : Mode) → Some x ≡ Some y → x ≡ y
+        the_some x y e = (cc)
+    third false is e = absurd (cc)
+
+    second : (b : Bool) → bytes_eq word (codes "config") ≡ b → (if b then Some mode.Config else (if bytes_eq word (codes "migrate") then Some mode.Migrate else None)) ≡ Some m → word ≡ mode_name m
     second true is e = (bytes_eq-Decides word (codes "config")).0 is ∙ ap mode_name (the_some mode.Config m e)
       where
         the_some : (x y : Mode) → Some x ≡ Some y → x ≡ y
         the_some x y e = (cc)
-    second false is e = absurd (cc)
+    second false is e = third (bytes_eq word (codes "migrate")) refl e
 
-    first : (b : Bool) → bytes_eq word (codes "replay") ≡ b → (if b then Some mode.Replay else (if bytes_eq word (codes "config") then Some mode.Config else None)) ≡ Some m → word ≡ mode_name m
+    first : (b : Bool) → bytes_eq word (codes "replay") ≡ b → (if b then Some mode.Replay else (if bytes_eq word (codes "config") then Some mode.Config else (if bytes_eq word (codes "migrate") then Some mode.Migrate else None))) ≡ Some m → word ≡ mode_name m
     first true is e = (bytes_eq-Decides word (codes "replay")).0 is ∙ ap mode_name (the_some mode.Replay m e)
       where
         the_some : (x y : Mode) → Some x ≡ Some y → x ≡ y

@@ -30,6 +30,8 @@ output_of kinds mode.Replay words left left' runs text (inl done) = inl (inl (mo
 output_of kinds mode.Replay words left left' runs text (inr fault) = inr (inr (mode.Replay, runs, fault))
 output_of kinds mode.Config words left left' runs text (inl done) = inl (inl (mode.Config, runs, done))
 output_of kinds mode.Config words left left' runs text (inr fault) = inr (inr (mode.Config, runs, fault))
+output_of kinds mode.Migrate words left left' runs text (inl done) = inl (inl (mode.Migrate, runs, done))
+output_of kinds mode.Migrate words left left' runs text (inr fault) = inr (inr (mode.Migrate, runs, fault))
 
 -- what holds where a call succeeded, or where it failed, holds of what follows from it
 pub on_ok_as : {T E P Q : Type 0} → (r : Result T E) → (P → Q) → OnOk r P → OnOk r Q

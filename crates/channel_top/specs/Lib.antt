@@ -1,5 +1,6 @@
 pub mod ConfigMode
 pub mod Ending
+pub mod Migrate
 pub mod Modes
 pub mod Runs
 pub mod Shape

@@ -3,6 +3,7 @@ use Rattle.std.specs.Prelude.{◌≡◌, ◌⊎◌, ℕ, Option, List, [], ◌�
 use Rattle.grpc_base.specs.Kinds.{KindsSeen}
 use Rattle.channel_top.specs.Top.{IsDone, IsReplayText, StopsAtRead, TellsBadLine}
 use Rattle.channel_top.specs.ConfigMode.{IsConfigDone, IsConfigText, StopsInConfig, TellsConfigFault}
+use Rattle.channel_top.specs.Migrate.{IsMigrateText, IsMigrated, StopsInReport, TellsBadReport}
 use Rattle.channel_top.specs.Words.{AreWrong, AskForText, Runs}
 use Rattle.channel_top.specs.declared.words.Mode.{Mode}
 use Rattle.channel_top.specs.declared.words.Mode.TheVariants as mode
@@ -11,21 +12,25 @@ use Rattle.channel_top.specs.declared.words.Mode.TheVariants as mode
 abbrev pub IsDoneIn : KindsSeen → Mode → Option (List ℕ) → Option (List ℕ) → List ℕ → Type 0
 IsDoneIn kinds mode.Replay left left' text = IsDone left left' text
 IsDoneIn kinds mode.Config left left' text = IsConfigDone kinds left left' text
+IsDoneIn kinds mode.Migrate left left' text = IsMigrated left left' text
 
 -- this text of a mode tells the fault of its input
 abbrev pub TellsFaultIn : KindsSeen → Mode → Option (List ℕ) → Option (List ℕ) → List ℕ → Type 0
 TellsFaultIn kinds mode.Replay left left' text = TellsBadLine left left' text
 TellsFaultIn kinds mode.Config left left' text = TellsConfigFault kinds left left' text
+TellsFaultIn kinds mode.Migrate left left' text = TellsBadReport left left' text
 
 -- a read failed in a mode
 abbrev pub StopsIn : Mode → Option (List ℕ) → Option (List ℕ) → Option (List ℕ) → Option (List ℕ) → ℕ → ℕ → Type 0
 StopsIn mode.Replay left left' taken taken' faults faults' = StopsAtRead left left' taken taken' faults faults'
 StopsIn mode.Config left left' taken taken' faults faults' = StopsInConfig left left' taken taken' faults faults'
+StopsIn mode.Migrate left left' taken taken' faults faults' = StopsInReport left left' taken taken' faults faults'
 
 -- the output of a mode, by what it read
 abbrev pub IsOutputIn : KindsSeen → Mode → Option (List ℕ) → Option (List ℕ) → List ℕ → Type 0
 IsOutputIn kinds mode.Replay left left' text = IsReplayText left left' text
 IsOutputIn kinds mode.Config left left' text = IsConfigText kinds left left' text
+IsOutputIn kinds mode.Migrate left left' text = IsMigrateText left left' text
 
 -- the line that tells wrong words
 abbrev pub words_fault_text : List ℕ

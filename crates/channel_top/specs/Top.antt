@@ -11,7 +11,9 @@ use Rattle.gate_io.specs.Outside.{IsAtEnd, Takes}
 use Rattle.channel_core.specs.Lawful.{IsLawful}
 use Rattle.script_input.specs.Reading.{FindsBad, ReadsScript, StopsReading}
 use Rattle.script_input.specs.Scripts.{IsOnlyScript, IsScript}
-use Rattle.script_lines.specs.Spelling.{channel_text, lines_text, stamped_text}
+use Rattle.script_input.specs.declared.form.Form.TheVariants as form
+use Rattle.resolver_core.specs.declared.any_target.Target.{Target}
+use Rattle.script_lines.specs.Spelling.{script_of, stamped_text}
 use Rattle.script_text.specs.Report.{report_of}
 use Rattle.channel_top.specs.Shape.{IsFirstCall, IsFirstOutOfShape, target_text}
 
@@ -32,14 +34,10 @@ pub record IsSession (authority : List ℕ) (events : List Stamped) (journal : J
   pub moments_are : map (λ e. e.moment) journal.entries ≡ highest_so_far 0 (map (λ s. s.moment) events)
   pub lawful : IsLawful authority journal.entries ledger
 
--- the script of these events, in its own spelling
-abbrev pub script_of : List ℕ → List Stamped → List ℕ
-script_of target events = lines_text (channel_text target ∷ map stamped_text events)
-
--- it is read as these events, where none of its lines is too long for a script
-abbrev pub IsScriptAgain : List ℕ → List Address → List Stamped → Type 0
-IsScriptAgain target addresses events =
-    All (λ s. length (stamped_text s) ≤ line_limit) events → IsScript (script_of target events) target addresses events
+-- the script of these events is read as them, where none of its lines is too long for a script
+abbrev pub IsScriptAgain : List ℕ → Target → List Stamped → Type 0
+IsScriptAgain target value events =
+    All (λ s. length (stamped_text s) ≤ line_limit) events → IsScript form.Script (script_of target events) target value events
 
 -- the text is the report of a session, whose requests have the address of the target for their authority
 pub record IsReport (authority : Address) (events : List Stamped) (text : List ℕ) : Type 0 where
@@ -52,13 +50,13 @@ pub record IsReport (authority : Address) (events : List Stamped) (text : List �
 -- to each ` = `, a script again
 pub record Reports (input text : List ℕ) : Type 0 where
   pub authority : Address
-  pub addresses : List Address
+  pub value : Target
   pub events : List Stamped
-  pub script : IsScript input (target_text authority) addresses events
+  pub script : IsScript form.Script input (target_text authority) value events
   pub first : IsFirstCall (target_text authority) events authority
-  pub only : IsOnlyScript input (target_text authority) addresses events
+  pub only : IsOnlyScript form.Script input (target_text authority) value events
   pub report : IsReport authority events text
-  pub again : IsScriptAgain (target_text authority) addresses (map stamped_of report.journal.entries)
+  pub again : IsScriptAgain (target_text authority) value (map stamped_of report.journal.entries)
 
 -- status 0: the input was read to its end; no bytes give no text, and any others are a script and give its report
 pub record IsDone (left left' : Option (List ℕ)) (text : List ℕ) : Type 0 where
@@ -74,16 +72,16 @@ out_of_shape = 13
 -- the input was read to its end and is a script, and this is its first line that is not in the shape of the first call
 pub record FindsOutOfShape (left left' : Option (List ℕ)) (n : ℕ) : Type 0 where
   pub target : List ℕ
-  pub addresses : List Address
+  pub value : Target
   pub events : List Stamped
-  pub script : ReadsScript left left' target addresses events
+  pub script : ReadsScript form.Script left left' target value events
   pub first : IsFirstOutOfShape target events n
 
 -- status 3: the text tells the first bad line; of a script that has none, the first line out of shape
 pub record TellsBadLine (left left' : Option (List ℕ)) (text : List ℕ) : Type 0 where
   pub line : ℕ
   pub cause : ℕ
-  pub bad : FindsBad left left' line cause ⊎ ((cause ≡ out_of_shape) × FindsOutOfShape left left' line)
+  pub bad : FindsBad form.Script left left' line cause ⊎ ((cause ≡ out_of_shape) × FindsOutOfShape left left' line)
   pub text_is : text ≡ line_fault_text line cause
 
 -- the output of the mode
@@ -92,5 +90,5 @@ IsReplayText left left' text = IsDone left left' text ⊎ TellsBadLine left left
 
 -- status 4: a read failed before the input's end and before its first bad line; nothing was written
 pub record StopsAtRead (left left' taken taken' : Option (List ℕ)) (faults faults' : ℕ) : Type 0 where
-  pub stops : StopsReading left left' faults faults'
+  pub stops : StopsReading form.Script left left' faults faults'
   pub written : taken' ≡ taken

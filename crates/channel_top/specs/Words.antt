@@ -15,11 +15,13 @@ use Rattle.channel_top.specs.declared.words.WordsFault.TheVariants as fault
 abbrev pub mode_name : Mode → List ℕ
 mode_name mode.Replay = codes "replay"
 mode_name mode.Config = codes "config"
+mode_name mode.Migrate = codes "migrate"
 
 abbrev pub mode_named : List ℕ → Option Mode
 mode_named word =
     if bytes_eq word (mode_name mode.Replay) then Some mode.Replay
     else if bytes_eq word (mode_name mode.Config) then Some mode.Config
+    else if bytes_eq word (mode_name mode.Migrate) then Some mode.Migrate
     else None
 
 -- the mode of the first word, if it is a mode's name
@@ -50,6 +52,7 @@ app_named name = record (new_app name) { top = record (new_app name).top { has_v
 unfoldable pub app_for : Option Mode → App
 app_for (Some mode.Replay) = app_named (codes "grpcc replay")
 app_for (Some mode.Config) = app_named (codes "grpcc config")
+app_for (Some mode.Migrate) = app_named (codes "grpcc migrate")
 app_for None = record (app_named (codes "grpcc")) { top = record (app_named (codes "grpcc")).top { no_binary_name = true } }
 
 -- the kinds of error that clap gives for the words at such a command, by clap's own definitions; none where it takes them

@@ -3,6 +3,7 @@
 
 mod config_mode;
 mod input;
+mod migrate;
 mod replay;
 mod run;
 mod session;

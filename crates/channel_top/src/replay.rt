@@ -1,13 +1,13 @@
 // The mode `replay`.
 ghost use Rattle.std.specs.Prelude.{◌≡◌, ◌⊎◌};
-ghost use Rattle.gate_io.specs.Outside.{Appends, AppendsFront, Rises};
-ghost use Rattle.channel_top.specs.Top.{IsDone, IsReplayText, IsReport, StopsAtRead, TellsBadLine, line_fault_text};
+ghost use Rattle.gate_io.specs.Outside.{Rises};
+ghost use Rattle.channel_top.specs.Top.{IsDone, IsReplayText, IsReport, StopsAtRead, TellsBadLine};
 ghost use Rattle.channel_top.specs.Shape.{AreFirstEvents, target_text};
 ghost use Rattle.channel_top.specs.Writing.{WritesAll, WritesFront, WritesSome};
 
 use crate::session::report_session;
 use crate::shape::{FirstCall, first_call};
-use crate::tell::{tell_line, unwritten};
+use crate::tell::{tell_bad, unwritten};
 use gate_io::{Sink, Source};
 use script_input::{InputFault, read_replay};
 use std::alloc::Global;
@@ -49,19 +49,6 @@ fn report_first<K: Sink>(alloc: Global, first: FirstCall, report: &mut K) -> u8
 {
     match report_session(alloc, first, report) {
         Ok(()) => 0,
-        Err(fault) => unwritten(fault),
-    }
-}
-
-/// Tells a bad line and its cause.
-fn tell_bad<K: Sink>(alloc: Global, line: u64, cause: u8, report: &mut K) -> u8
-    ensures told { result ≡ 3 → Appends (K.taken report.old) (K.taken report.new) (line_fault_text line cause) }
-    ensures writing { result ≡ 5 → Rises (K.faults report.old) (K.faults report.new) }
-    ensures front { (result ≡ 5) ⊎ (result ≡ 6) → AppendsFront (K.taken report.old) (K.taken report.new) (line_fault_text line cause) }
-    ensures known { (result ≡ 3) ⊎ (result ≡ 5) ⊎ (result ≡ 6) }
-{
-    match tell_line(alloc, report, line, cause) {
-        Ok(()) => 3,
         Err(fault) => unwritten(fault),
     }
 }

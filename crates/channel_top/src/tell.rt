@@ -36,9 +36,22 @@ pub fn write_text<K: Sink>(report: &mut K, text: &[u8]) -> Result<(), ReportFaul
     Err(ReportFault::Write)
 }
 
+/// Tells the first bad line of an input and its cause, and gives the status of the program.
+pub fn tell_bad<K: Sink>(alloc: Global, line: u64, cause: u8, report: &mut K) -> u8
+    ensures told { result ≡ 3 → Appends (K.taken report.old) (K.taken report.new) (line_fault_text line cause) }
+    ensures writing { result ≡ 5 → Rises (K.faults report.old) (K.faults report.new) }
+    ensures front { (result ≡ 5) ⊎ (result ≡ 6) → AppendsFront (K.taken report.old) (K.taken report.new) (line_fault_text line cause) }
+    ensures known { (result ≡ 3) ⊎ (result ≡ 5) ⊎ (result ≡ 6) }
+{
+    match tell_line(alloc, report, line, cause) {
+        Ok(()) => 3,
+        Err(fault) => unwritten(fault),
+    }
+}
+
 /// Tells the first bad line of a script.
 #[tactic(auto, using(crate::proofs::WrittenLaws::none_written))]
-pub fn tell_line<K: Sink>(
+fn tell_line<K: Sink>(
     alloc: Global,
     report: &mut K,
     line: u64,

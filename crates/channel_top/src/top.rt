@@ -6,6 +6,7 @@ ghost use Rattle.channel_top.specs.Writing.{WritesAll, WritesFront, WritesSome};
 ghost use Rattle.policy_rack.specs.Kinds.{are_ready, kinds_of};
 
 use crate::config_mode::run_config;
+use crate::migrate::run_migrate;
 use crate::replay::run_replay;
 use crate::tell::WORDS_FAULT;
 use crate::words::{Asked, Mode, WordsFault, read_words};
@@ -21,13 +22,14 @@ use std::alloc::Global;
 /// |---|---|
 /// | `replay` | reads a script, runs it and writes the report |
 /// | `config` | reads a service config and writes its reading; the kinds of the policies count as supported |
+/// | `migrate` | reads a script or a report of either version and writes the script of version 2 |
 /// | `--help`, `--version`, alone or behind a mode | writes that text, and reads nothing |
 ///
 /// | Status | When | Written |
 /// |---|---|---|
-/// | 0 | done | the whole output of the mode; nothing for a script of no bytes |
+/// | 0 | done | the whole output of the mode; nothing for a script or a report of no bytes |
 /// | 2 | there is no first word, it is no mode, or `clap` refuses the words behind it | `fault words` |
-/// | 3 | a line of the script is bad or not in the shape of the first call, or the config has a fault | `fault line <n> cause <c>`, or `fault config <n> <detail>` |
+/// | 3 | a line of the script or report is bad, one of a script is not in the shape of the first call, or the config has a fault | `fault line <n> cause <c>`, or `fault config <n> <detail>` |
 /// | 4 | a read failed before the input's end and its first fault | nothing |
 /// | 5 | a write failed | a front of the output of status 0, 2 or 3 |
 /// | 6 | out of memory | nothing, or such a front |
@@ -107,6 +109,7 @@ fn run_mode<S: Source, K: Sink>(
     match mode {
         Mode::Replay => run_replay(alloc, script, report),
         Mode::Config => run_config(alloc, kinds, script, report),
+        Mode::Migrate => run_migrate(alloc, script, report),
     }
 }
 

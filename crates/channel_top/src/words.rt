@@ -16,6 +16,8 @@ pub enum Mode {
     Replay,
     /// Reads a service config and writes its reading.
     Config,
+    /// Reads a script or a report and writes the script of version 2.
+    Migrate,
 }
 
 /// What the words ask for.
@@ -43,6 +45,9 @@ fn mode_named(word: &[u8]) -> Option<Mode>
     }
     if word == b"config".as_slice() {
         return Some(Mode::Config);
+    }
+    if word == b"migrate".as_slice() {
+        return Some(Mode::Migrate);
     }
     None
 }
@@ -94,10 +99,16 @@ fn command<'a>(alloc: Global, mode: Option<Mode>) -> Command<'a>
             .version(VERSION)
             .about("Reads a service config (JSON) and writes its reading.")
             .override_usage("grpcc config < CONFIG"),
+        Some(Mode::Migrate) => Command::new(alloc, "grpcc migrate")
+            .version(VERSION)
+            .about(
+                "Reads a script or a report of either version and writes the script of version 2.",
+            )
+            .override_usage("grpcc migrate < REPORT"),
         None => Command::new(alloc, "grpcc")
             .version(VERSION)
             .about(
-                "A gRPC client channel. Modes:\n  replay  reads a script, runs it and writes the report\n  config  reads a service config and writes its reading",
+                "A gRPC client channel. Modes:\n  replay   reads a script, runs it and writes the report\n  config   reads a service config and writes its reading\n  migrate  reads a script or a report and writes the script of version 2",
             )
             .override_usage("grpcc MODE < INPUT")
             .no_binary_name(true),

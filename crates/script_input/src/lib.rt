@@ -1,11 +1,14 @@
-// A replay script, read from a source to its end or its first bad line.
+// A replay script, read from a source to its end or its first bad line; also the script of a report.
 #![tactic(auto)]
 
 mod collected;
 mod fault;
+mod form;
 mod read;
+mod record;
 mod script;
 
 pub use fault::InputFault;
-pub use read::read_replay;
+pub use form::Form;
+pub use read::{read_replay, read_report};
 pub use script::Script;

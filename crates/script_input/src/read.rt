@@ -4,6 +4,7 @@ ghost use Rattle.script_input.specs.Reading.{GivesNone, ReadsScript};
 
 use crate::collected::Collected;
 use crate::fault::InputFault;
+use crate::form::Form;
 use crate::script::Script;
 use gate_io::{ReadAnswer, Source};
 use std::alloc::Global;
@@ -11,11 +12,30 @@ use std::alloc::Global;
 /// Reads a replay script to the input's end. It stops before it where a line is bad or a read fails, whichever comes
 /// first; more than the bytes of one read may then have been taken behind that line.
 pub fn read_replay<S: Source>(alloc: Global, source: &mut S) -> Result<Script, InputFault>
-    ensures ok { IfOk result (λ s. ReadsScript (S.left source.old) (S.left source.new) s.target s.addresses s.events.items) }
-    ensures bad { IfErr result (GivesNone (S.left source.old) (S.left source.new) (S.faults source.old) (S.faults source.new)) }
+    ensures ok { IfOk result (λ s. ReadsScript Form.Script (S.left source.old) (S.left source.new) s.target s.value s.events.items) }
+    ensures bad { IfErr result (GivesNone Form.Script (S.left source.old) (S.left source.new) (S.faults source.old) (S.faults source.new)) }
     ensures count { S.faults source.old ≤ S.faults source.new }
 {
-    let mut collected = Collected::new(alloc);
+    read_form(alloc, Form::Script, source)
+}
+
+/// Reads the script of a report, or a script, as `read_replay` does: of each line behind the first what stands before the
+/// first ` = `, up to the lines of rows.
+pub fn read_report<S: Source>(alloc: Global, source: &mut S) -> Result<Script, InputFault>
+    ensures ok { IfOk result (λ s. ReadsScript Form.Report (S.left source.old) (S.left source.new) s.target s.value s.events.items) }
+    ensures bad { IfErr result (GivesNone Form.Report (S.left source.old) (S.left source.new) (S.faults source.old) (S.faults source.new)) }
+    ensures count { S.faults source.old ≤ S.faults source.new }
+{
+    read_form(alloc, Form::Report, source)
+}
+
+/// Reads an input of this form.
+fn read_form<S: Source>(alloc: Global, form: Form, source: &mut S) -> Result<Script, InputFault>
+    ensures ok { IfOk result (λ s. ReadsScript form (S.left source.old) (S.left source.new) s.target s.value s.events.items) }
+    ensures bad { IfErr result (GivesNone form (S.left source.old) (S.left source.new) (S.faults source.old) (S.faults source.new)) }
+    ensures count { S.faults source.old ≤ S.faults source.new }
+{
+    let mut collected = Collected::new(alloc, form);
     let mut buf = [0u8; 16_384];
     loop {
         match source.read(&mut buf) {

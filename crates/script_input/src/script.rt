@@ -1,13 +1,14 @@
 // A script that was read whole.
-use grpc_base::{AddressList, Stamped, Text};
+use grpc_base::{Stamped, Text};
+use resolver_core::Target;
 
 /// A replay script.
 #[derive(Debug, Drop)]
 pub struct Script {
     /// The target as the channel line has it.
     pub target: Text,
-    /// The addresses that the target names.
-    pub addresses: AddressList,
+    /// What the target says.
+    pub value: Target,
     /// The events of the other lines, in their order.
     pub events: Vec<Stamped>,
 }

@@ -1,18 +1,20 @@
 -- What a line says is read again from its own spelling.
-use Rattle.std.proofs.Common.{◌≡◌, ◌≢◌, ◌≤◌, ◌<◌, ◌^◌, ℕ, ◌+◌, Bool, true, List, [], ◌∷◌, ◌++◌, length, All, Option, Some, None, refl, ap, sym, subst, arith, ◌∙◌}
+use Rattle.std.proofs.Common.{◌≡◌, ◌≢◌, ◌≤◌, ◌<◌, ◌^◌, ℕ, ◌+◌, Bool, true, List, [], ◌∷◌, ◌++◌, length, All, Option, Some, None, refl, ap, inl, inr, length-append, sym, subst, arith, ◌∙◌}
 use Rattle.std.specs.List.{AllByRecursion, join_with_byte, list_all}
-use Rattle.std.specs.Prelude.{IfSome, decimal, nat_le, ◌&&◌}
+use Rattle.std.specs.Prelude.{IfSome, codes, decimal, nat_le, ◌&&◌}
 use Rattle.std.proofs.lemmas.Bool.{and_parts}
 use Rattle.std.proofs.lemmas.Bool.Decides.{nat_tests}
-use Rattle.std.proofs.lemmas.List.Elements.{All-from_recursion}
+use Rattle.std.proofs.lemmas.List.Elements.{All-from_recursion, recursion_from_All}
 use Rattle.grpc_base.specs.declared.address.Address.{Address}
 use Rattle.grpc_base.specs.declared.event.Event.{Event}
 use Rattle.grpc_base.specs.declared.event.Event.TheVariants as event
 use Rattle.grpc_base.specs.declared.event.Stamped.{Stamped}
 use Rattle.grpc_base.specs.Limits.{duration_limit, moment_limit}
 use Rattle.grpc_base.specs.Requests.{IsPath, RequestSeen}
+use Rattle.grpc_base.proofs.PieceLaws.{pieces-parted}
 use Rattle.script_fields.specs.Reading.{SpellsNumberOrDash, listed}
 use Rattle.script_fields.specs.Spelling.{addresses_text, config_hex, fields, hex_digits, hex_or_dash, meta_text, number_or_dash, wait_text, word_bytes, words}
+use Rattle.resolver_core.specs.declared.any_target.Target.{Target}
 use Rattle.script_fields.specs.Values.{IsAddress}
 use Rattle.script_fields.proofs.PartLaws.{joined-pieces, pieces-joined}
 use Rattle.script_fields.proofs.VisibleLaws.{IsVisible, addresses_visible, config_visible, hex_or_dash_visible, listed_addresses, listed_again, listed_short, meta_visible, number_or_dash_visible, number_visible, path_visible, wait_visible, word_visible}
@@ -25,7 +27,7 @@ use Rattle.script_lines.specs.declared.reader.ScriptKind.TheVariants as script
 use Rattle.script_lines.specs.Answers.{Answered}
 use Rattle.script_lines.specs.Events.{IsEventText, name_text}
 use Rattle.script_lines.specs.Fields.{AreAddresses, IsConfigOrDash, IsNumber, IsPiece, IsRequestText, number_limit}
-use Rattle.script_lines.specs.Lines.{IsChannelText, IsLiveLine, IsLiveText, IsReplayLine, IsStampedText, channel_words}
+use Rattle.script_lines.specs.Lines.{IsChannelText, IsLiveLine, IsLiveText, IsRawLine, IsReplayLine, IsStampedText, IsVersion, channel_words}
 use Rattle.script_lines.specs.Reader.{IsKindLine, IsLine, ReaderSeen}
 use Rattle.script_lines.specs.Spelling.{IsReadAgain, IsSpelled, at_moment, channel_text, event_words, stamped_text}
 
@@ -183,43 +185,103 @@ stamped_again (first ∷ (word ∷ others)) s moment within t =
 stamped_again [] s moment within t = absurd t
 stamped_again (first ∷ []) s moment within t = absurd t
 
--- a channel line is its own spelling
-pub channel_is : (text target : List ℕ) → fields text ≡ channel_words target → text ≡ channel_text target
-channel_is text target e = sym (joined-pieces 32 text) ∙ ap words e
+-- ---- channel lines, of either version
 
-channel_again : (text target : List ℕ) (addresses : List Address) → IsChannelText (fields text) target addresses → IsChannelText (fields (channel_text target)) target addresses
-channel_again text target addresses t = (ap fields (sym (channel_is text target t.0)) ∙ t.0, t.1)
+abbrev IsNoSpace : ℕ → Type 0
+IsNoSpace d = d ≢ 32
 
-replay_again : (n : ℕ) (text : List ℕ) (read : ScriptLine) → IsReplayLine n (fields text) read → IsReadAgain read
-replay_again n text (line.Channel target addresses) t = channel_again text target addresses t.1
-replay_again n text (line.Event s) t = λ moment within. stamped_again (fields text) s moment within t.1
-replay_again n text (line.Config config) t = tt
-replay_again n text (line.Call worker call) t = tt
-replay_again n text (line.Answer answer) t = tt
+channel_tested : AllByRecursion IsVisible (codes "channel")
+channel_tested = tested (codes "channel") refl
+
+version_visible : (version : List ℕ) → IsVersion version → AllByRecursion IsVisible version
+version_visible version (inl e) = subst (AllByRecursion IsVisible) (sym e) (tested (codes "1") refl)
+version_visible version (inr e) = subst (AllByRecursion IsVisible) (sym e) (tested (codes "2") refl)
+
+version_long : (version : List ℕ) → IsVersion version → length version ≡ 1
+version_long version (inl e) = ap length e
+version_long version (inr e) = ap length e
+
+-- behind the word and the version stand the fields of the target
+version_parted : (version target : List ℕ) → IsVersion version → fields (words (channel_words version target)) ≡ codes "channel" ∷ version ∷ fields target
+version_parted version target is =
+    pieces-parted 32 (words (channel_words version target)) (codes "channel") (version ++ 32 ∷ target) refl (All-from_recursion IsNoSpace (codes "channel") (no_space (codes "channel") channel_tested))
+    ∙ ap (λ (t : List (List ℕ)). codes "channel" ∷ t) (pieces-parted 32 (version ++ 32 ∷ target) version target refl (All-from_recursion IsNoSpace version (no_space version (version_visible version is))))
+
+-- a channel line is the spelling of its words
+channel_is : (version text target : List ℕ) → fields text ≡ channel_words version target → text ≡ words (channel_words version target)
+channel_is version text target e = sym (joined-pieces 32 text) ∙ ap words e
+
+one_tail : (version target : List ℕ) (others : List (List ℕ)) → codes "channel" ∷ version ∷ others ≡ channel_words version target → others ≡ target ∷ []
+one_tail version target others e = (cc)
+
+-- its target is one field
+target_alone : (version text target : List ℕ) → IsVersion version → fields text ≡ channel_words version target → fields target ≡ target ∷ []
+target_alone version text target is e =
+    one_tail version target (fields target) (sym (version_parted version target is) ∙ ap fields (sym (channel_is version text target e)) ∙ e)
+
+printable_behind : (w rest : List ℕ) → AllByRecursion IsPrintable (w ++ rest) → AllByRecursion IsPrintable rest
+printable_behind [] rest p = p
+printable_behind (b ∷ w) rest p = printable_behind w rest p.1
+
+-- so it is printable and no longer in version 2
+channel_raw : (n : ℕ) (version text target : List ℕ) (closed : Bool) → IsVersion version → text ≡ words (channel_words version target) → IsRawLine n text closed → IsRawLine 1 (channel_text target) true
+channel_raw n version text target closed is e t =
+    let whole : AllByRecursion IsPrintable (codes "channel" ++ 32 ∷ (version ++ 32 ∷ target)) =
+    recursion_from_All IsPrintable (words (channel_words version target)) (subst (All IsPrintable) e t.2.0) in
+    let behind : AllByRecursion IsPrintable (version ++ 32 ∷ target) = (printable_behind (codes "channel") (32 ∷ (version ++ 32 ∷ target)) whole).1 in
+    let last : AllByRecursion IsPrintable (32 ∷ target) = printable_behind version (32 ∷ target) behind in
+    let made : AllByRecursion IsPrintable (codes "channel" ++ 32 ∷ (codes "2" ++ 32 ∷ target)) =
+    printable_before (codes "channel") (32 ∷ (codes "2" ++ 32 ∷ target)) channel_tested ((omega arith, omega arith), printable_before (codes "2") (32 ∷ target) (tested (codes "2") refl) last) in
+    let size : length (channel_text target) ≡ length text =
+    spelled_long (codes "2") target refl ∙ sym (spelled_long version target (version_long version is)) ∙ ap length (sym e) in
+    (omega arith, omega (arith, size, t.1), (All-from_recursion IsPrintable (channel_text target) made, refl))
+  where
+    spelled_long : (v target : List ℕ) → length v ≡ 1 → length (words (channel_words v target)) ≡ 10 + length target
+    spelled_long v target one =
+        let a : length (codes "channel" ++ 32 ∷ (v ++ 32 ∷ target)) ≡ 7 + length (32 ∷ (v ++ 32 ∷ target)) = length-append (codes "channel") (32 ∷ (v ++ 32 ∷ target)) in
+        let b : length (v ++ 32 ∷ target) ≡ length v + length (32 ∷ target) = length-append v (32 ∷ target) in
+        omega (arith, a, b, one)
+
+-- a channel line of either version is read again from the spelling of version 2
+pub channel_again : (n : ℕ) (text target : List ℕ) (value : Target) (closed : Bool) → IsRawLine n text closed → IsChannelText (fields text) target value → IsReadAgain (line.Channel target value)
+channel_again n text target value closed raw t =
+    let e : text ≡ words (channel_words t.0 target) = channel_is t.0 text target t.2 in
+    let again : fields (channel_text target) ≡ channel_words (codes "2") target =
+    version_parted (codes "2") target (inr refl) ∙ ap (λ (ts : List (List ℕ)). codes "channel" ∷ codes "2" ∷ ts) (target_alone t.0 text target t.1 t.2) in
+    (channel_raw n t.0 text target closed t.1 e raw, (codes "2", inr refl, again, t.3))
+
+-- ---- lines of each kind
+
+replay_again : (n : ℕ) (text : List ℕ) (closed : Bool) (read : ScriptLine) → IsRawLine n text closed → IsReplayLine n (fields text) read → IsReadAgain read
+replay_again n text closed (line.Channel target value) raw t = channel_again n text target value closed raw t.1
+replay_again n text closed (line.Event s) raw t = λ moment within. stamped_again (fields text) s moment within t.1
+replay_again n text closed (line.Config config) raw t = tt
+replay_again n text closed (line.Call worker call) raw t = tt
+replay_again n text closed (line.Answer answer) raw t = tt
 
 no_live_event : (n : ℕ) (texts : List (List ℕ)) (s : Stamped) → IsLiveText n texts (line.Event s) → ⊥
 no_live_event n [] s t = t
 no_live_event n (name ∷ others) s t = t
 
-live_again : (n : ℕ) (text : List ℕ) (read : ScriptLine) → IsLiveLine n (fields text) read → IsReadAgain read
-live_again n text (line.Channel target addresses) t = channel_again text target addresses t.1
-live_again n text (line.Event s) t = absurd (no_live_event n (fields text) s t.1)
-live_again n text (line.Config config) t = tt
-live_again n text (line.Call worker call) t = tt
-live_again n text (line.Answer answer) t = tt
+live_again : (n : ℕ) (text : List ℕ) (closed : Bool) (read : ScriptLine) → IsRawLine n text closed → IsLiveLine n (fields text) read → IsReadAgain read
+live_again n text closed (line.Channel target value) raw t = channel_again n text target value closed raw t.1
+live_again n text closed (line.Event s) raw t = absurd (no_live_event n (fields text) s t.1)
+live_again n text closed (line.Config config) raw t = tt
+live_again n text closed (line.Call worker call) raw t = tt
+live_again n text closed (line.Answer answer) raw t = tt
 
 server_again : (n : ℕ) (answered : Answered) (texts : List (List ℕ)) (read : ScriptLine) → IsKindLine script.Server n answered texts read → IsReadAgain read
-server_again n answered texts (line.Channel target addresses) t = absurd t
+server_again n answered texts (line.Channel target value) t = absurd t
 server_again n answered texts (line.Event s) t = absurd t
 server_again n answered texts (line.Config config) t = tt
 server_again n answered texts (line.Call worker call) t = tt
 server_again n answered texts (line.Answer answer) t = tt
 
-kind_again : (k : ScriptKind) (n : ℕ) (answered : Answered) (text : List ℕ) (read : ScriptLine) → IsKindLine k n answered (fields text) read → IsReadAgain read
-kind_again script.Replay n answered text read t = replay_again n text read t
-kind_again script.Live n answered text read t = live_again n text read t
-kind_again script.Server n answered text read t = server_again n answered (fields text) read t
+kind_again : (k : ScriptKind) (n : ℕ) (answered : Answered) (text : List ℕ) (closed : Bool) (read : ScriptLine) → IsRawLine n text closed → IsKindLine k n answered (fields text) read → IsReadAgain read
+kind_again script.Replay n answered text closed read raw t = replay_again n text closed read raw t
+kind_again script.Live n answered text closed read raw t = live_again n text closed read raw t
+kind_again script.Server n answered text closed read raw t = server_again n answered (fields text) read t
 
 -- what a line says is read again from its own spelling
 pub line_again : (r : ReaderSeen) (text : List ℕ) (closed : Bool) (read : ScriptLine) → IsLine r text closed read → IsReadAgain read
-line_again r text closed read t = kind_again r.kind (r.lines + 1) r.answered text read t.1
+line_again r text closed read t = kind_again r.kind (r.lines + 1) r.answered text closed read t.0 t.1

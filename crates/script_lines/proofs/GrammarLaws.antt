@@ -13,9 +13,9 @@ use Rattle.script_lines.specs.Fields.{AreArgumentsFault, AreFieldsFault, AreMess
 use Rattle.script_lines.specs.Lines.{IsCallFault, IsCallText, IsChannelFault, IsChannelText, IsLiveFault, IsLiveLine, IsLiveText, IsLiveTextFault, IsReplayFault, IsReplayLine, IsStampedFault, IsStampedText, channel_words}
 use Rattle.script_lines.specs.declared.line.ScriptLine.{ScriptLine}
 use Rattle.script_lines.specs.declared.line.ScriptLine.TheVariants as line
-use Rattle.grpc_base.specs.declared.address.Address.{Address}
 use Rattle.grpc_base.specs.declared.script.CallLine.{CallLine}
-use Rattle.resolver_core.specs.Targets.{target_of}
+use Rattle.resolver_core.specs.AnyTargets.{any_target_of}
+use Rattle.resolver_core.specs.declared.any_target.Target.{Target}
 
 -- a value within its limit has the form
 pub good_form : (kind : FieldKind) (text : List ℕ) → IsGood kind text → HasForm kind text
@@ -159,21 +159,20 @@ read_stamped (m ∷ (w ∷ (n ∷ others))) s c t (inr h) = behind h.1
     behind (inl f) = good_field word_field w c (s.word, t.1) f
     behind (inr f) = read_event (n ∷ others) s.event c t.2 f.1
 
-pub one_target : (x y : List ℕ) → channel_words x ≡ channel_words y → x ≡ y
-one_target x y e = (cc)
+pub one_target : (v w x y : List ℕ) → channel_words v x ≡ channel_words w y → x ≡ y
+one_target v w x y e = (cc)
 
 -- a channel line has no fault
-pub read_channel : (texts : List (List ℕ)) (target : List ℕ) (addresses : List Address) (c : ℕ) → IsChannelText texts target addresses → IsChannelFault texts c → ⊥
-read_channel texts target addresses c t (inl f) = f.0 target t.0
-read_channel texts target addresses c t (inr f) =
-    let words : channel_words f.0 ≡ channel_words target = sym f.1 ∙ t.0 in
-    let same : f.0 ≡ target = one_target f.0 target words in
-    f.2 addresses (ap target_of same ∙ t.1)
+pub read_channel : (texts : List (List ℕ)) (target : List ℕ) (value : Target) (c : ℕ) → IsChannelText texts target value → IsChannelFault texts c → ⊥
+read_channel texts target value c t (inl f) = f.0 t.0 target t.1 t.2
+read_channel texts target value c t (inr f) =
+    let same : f.1 ≡ target = one_target f.0 t.0 f.1 target (sym f.3 ∙ t.2) in
+    f.4 value (ap any_target_of same ∙ t.3)
 
 -- a line of a replay script has no fault
 pub read_replay : (n : ℕ) (texts : List (List ℕ)) (read : ScriptLine) (c : ℕ) → IsReplayLine n texts read → IsReplayFault n texts c → ⊥
-read_replay n texts (line.Channel target addresses) c t (inl f) = read_channel texts target addresses c t.1 f.1
-read_replay n texts (line.Channel target addresses) c t (inr f) = f.0 t.0
+read_replay n texts (line.Channel target value) c t (inl f) = read_channel texts target value c t.1 f.1
+read_replay n texts (line.Channel target value) c t (inr f) = f.0 t.0
 read_replay n texts (line.Event s) c t (inl f) = t.0 f.0
 read_replay n texts (line.Event s) c t (inr f) = read_stamped texts s c t.1 f.1
 read_replay n texts read c t f = t
@@ -207,7 +206,7 @@ read_live_text n texts read c t f = t
 
 -- a line of a live script has no fault
 pub read_live : (n : ℕ) (texts : List (List ℕ)) (read : ScriptLine) (c : ℕ) → IsLiveLine n texts read → IsLiveFault n texts c → ⊥
-read_live n texts (line.Channel target addresses) c t (inl f) = read_channel texts target addresses c t.1 f.1
-read_live n texts (line.Channel target addresses) c t (inr f) = f.0 t.0
+read_live n texts (line.Channel target value) c t (inl f) = read_channel texts target value c t.1 f.1
+read_live n texts (line.Channel target value) c t (inr f) = f.0 t.0
 read_live n texts read c t (inl f) = t.0 f.0
 read_live n texts read c t (inr f) = read_live_text n texts read c t.1 f.1

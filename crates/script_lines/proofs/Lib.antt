@@ -9,3 +9,4 @@ pub mod OneEvent
 pub mod OneLine
 pub mod PartLaws
 pub mod ReaderLaws
+pub mod TargetLaws

@@ -1,13 +1,13 @@
 -- No text spells two lines.
 use Rattle.std.proofs.Common.{◌≡◌, ◌≢◌, ℕ, ◌+◌, Bool, false, List, [], ◌∷◌, Result, Ok, refl, ap, sym, subst, inl, inr, ◌⊎◌, arith, ◌∙◌}
 use Rattle.std.specs.Prelude.{◌||◌}
-use Rattle.grpc_base.specs.declared.address.Address.{Address}
 use Rattle.grpc_base.specs.declared.script.AnswerLine.{AnswerLine}
 use Rattle.grpc_base.specs.declared.script.AnswerPart.{AnswerPart}
 use Rattle.grpc_base.specs.declared.script.AnswerPart.TheVariants as part
 use Rattle.grpc_base.specs.declared.script.CallLine.{CallLine}
 use Rattle.resolver_core.specs.declared.target.TargetFault.{TargetFault}
-use Rattle.resolver_core.specs.Targets.{target_of}
+use Rattle.resolver_core.specs.AnyTargets.{any_target_of}
+use Rattle.resolver_core.specs.declared.any_target.Target.{Target}
 use Rattle.grpc_base.specs.Pieces.{pieces}
 use Rattle.script_fields.specs.Spelling.{fields}
 use Rattle.script_fields.proofs.TextLaws.{bytes_from, hex_one}
@@ -118,21 +118,21 @@ call_line_one (worker ∷ (path ∷ (wait ∷ (timeout ∷ (meta ∷ messages)))
     λ i. line.Call (same_worker i) (record { request = same_request i; messages = same_messages i })
 call_line_one texts n m a b t u = absurd t
 
-same_addresses : (r : Result (List Address) TargetFault) (xs ys : List Address) → r ≡ Ok xs → r ≡ Ok ys → xs ≡ ys
-same_addresses r xs ys p q = (cc)
+same_value : (r : Result Target TargetFault) (x y : Target) → r ≡ Ok x → r ≡ Ok y → x ≡ y
+same_value r x y p q = (cc)
 
-channel_one : (texts : List (List ℕ)) (target other : List ℕ) (xs ys : List Address) → IsChannelText texts target xs → IsChannelText texts other ys → line.Channel target xs ≡ line.Channel other ys
-channel_one texts target other xs ys t u =
-    let same : target ≡ other = one_target target other (sym t.0 ∙ u.0) in
-    let list : xs ≡ ys = same_addresses (target_of target) xs ys t.1 (ap target_of same ∙ u.1) in
-    λ i. line.Channel (same i) (list i)
+channel_one : (texts : List (List ℕ)) (target other : List ℕ) (x y : Target) → IsChannelText texts target x → IsChannelText texts other y → line.Channel target x ≡ line.Channel other y
+channel_one texts target other x y t u =
+    let same : target ≡ other = one_target t.0 u.0 target other (sym t.2 ∙ u.2) in
+    let value : x ≡ y = same_value (any_target_of target) x y t.3 (ap any_target_of same ∙ u.3) in
+    λ i. line.Channel (same i) (value i)
 
 -- ---- the three kinds of script
 
 pub replay_one : (n : ℕ) (texts : List (List ℕ)) (read other : ScriptLine) → IsReplayLine n texts read → IsReplayLine n texts other → other ≡ read
-replay_one n texts (line.Channel target xs) (line.Channel other ys) t u = channel_one texts other target ys xs u.1 t.1
-replay_one n texts (line.Channel target xs) (line.Event s) t u = absurd (u.0 t.0)
-replay_one n texts (line.Event s) (line.Channel target xs) t u = absurd (t.0 u.0)
+replay_one n texts (line.Channel target x) (line.Channel other y) t u = channel_one texts other target y x u.1 t.1
+replay_one n texts (line.Channel target x) (line.Event s) t u = absurd (u.0 t.0)
+replay_one n texts (line.Event s) (line.Channel target x) t u = absurd (t.0 u.0)
 replay_one n texts (line.Event s) (line.Event r) t u = ap line.Event (stamped_one texts r s u.1 t.1)
 replay_one n texts (line.Config config) other t u = absurd t
 replay_one n texts (line.Call worker call) other t u = absurd t
@@ -155,16 +155,16 @@ live_text_one n (name ∷ others) (line.Config v) (line.Config w) t u = ap line.
 live_text_one n (name ∷ others) (line.Config v) (line.Call worker call) t u = absurd (other_names (sym t.0 ∙ u.0))
 live_text_one n (name ∷ others) (line.Call worker call) (line.Config v) t u = absurd (other_names (sym u.0 ∙ t.0))
 live_text_one n (name ∷ others) (line.Call worker call) (line.Call k other) t u = call_line_one others k worker other call u.1 t.1
-live_text_one n (name ∷ others) (line.Channel target xs) other t u = absurd t
+live_text_one n (name ∷ others) (line.Channel target x) other t u = absurd t
 live_text_one n (name ∷ others) (line.Event s) other t u = absurd t
 live_text_one n (name ∷ others) (line.Answer answer) other t u = absurd t
-live_text_one n (name ∷ others) read (line.Channel target xs) t u = absurd u
+live_text_one n (name ∷ others) read (line.Channel target x) t u = absurd u
 live_text_one n (name ∷ others) read (line.Event s) t u = absurd u
 live_text_one n (name ∷ others) read (line.Answer answer) t u = absurd u
 
 -- a channel line, or a line behind the first
-live_parts : (n : ℕ) (texts : List (List ℕ)) (read : ScriptLine) → IsLiveLine n texts read → ((target : List ℕ) × (xs : List Address) × (read ≡ line.Channel target xs) × (n ≡ 1) × IsChannelText texts target xs) ⊎ ((n ≢ 1) × IsLiveText n texts read)
-live_parts n texts (line.Channel target xs) t = inl (target, xs, refl, t.0, t.1)
+live_parts : (n : ℕ) (texts : List (List ℕ)) (read : ScriptLine) → IsLiveLine n texts read → ((target : List ℕ) × (x : Target) × (read ≡ line.Channel target x) × (n ≡ 1) × IsChannelText texts target x) ⊎ ((n ≢ 1) × IsLiveText n texts read)
+live_parts n texts (line.Channel target x) t = inl (target, x, refl, t.0, t.1)
 live_parts n texts (line.Event s) t = inr t
 live_parts n texts (line.Config config) t = inr t
 live_parts n texts (line.Call worker call) t = inr t
@@ -187,11 +187,11 @@ kind_one : (k : ScriptKind) (n : ℕ) (answered : Answered) (texts : List (List 
 kind_one script.Replay n answered texts read other t u = replay_one n texts read other t u
 kind_one script.Live n answered texts read other t u = live_one n texts read other t u
 kind_one script.Server n answered texts (line.Answer a) (line.Answer b) t u = ap line.Answer (answer_one answered texts b a u t)
-kind_one script.Server n answered texts (line.Channel target xs) other t u = absurd t
+kind_one script.Server n answered texts (line.Channel target x) other t u = absurd t
 kind_one script.Server n answered texts (line.Event s) other t u = absurd t
 kind_one script.Server n answered texts (line.Config config) other t u = absurd t
 kind_one script.Server n answered texts (line.Call worker call) other t u = absurd t
-kind_one script.Server n answered texts read (line.Channel target xs) t u = absurd u
+kind_one script.Server n answered texts read (line.Channel target x) t u = absurd u
 kind_one script.Server n answered texts read (line.Event s) t u = absurd u
 kind_one script.Server n answered texts read (line.Config config) t u = absurd u
 kind_one script.Server n answered texts read (line.Call worker call) t u = absurd u

@@ -15,7 +15,7 @@ use Rattle.script_lines.specs.Reader.{IsBadLine, IsKindFault, IsKindLine, IsLine
 use Rattle.script_lines.proofs.AnswerLaws.{read_answer}
 use Rattle.script_lines.proofs.GrammarLaws.{read_live, read_replay}
 
-read_raw : (n : ℕ) (text : List ℕ) (closed : Bool) (c : ℕ) → IsRawLine n text closed → IsRawFault n text closed c → ⊥
+pub read_raw : (n : ℕ) (text : List ℕ) (closed : Bool) (c : ℕ) → IsRawLine n text closed → IsRawFault n text closed c → ⊥
 read_raw n text closed c t (inl f) = f.0 t.0
 read_raw n text closed c t (inr f) = long f.1
   where

@@ -1,11 +1,11 @@
 -- The lines of a script.
 use Rattle.std.specs.Prelude.{◌≡◌, ◌≢◌, ◌≤◌, ◌⊎◌, ℕ, Bool, true, Option, Ok, List, [], ◌∷◌, ◌++◌, length, map, codes, All}
 use Rattle.grpc_base.specs.declared.event.Stamped.{Stamped}
-use Rattle.grpc_base.specs.declared.address.Address.{Address}
 use Rattle.grpc_base.specs.declared.script.CallLine.{CallLine}
 use Rattle.grpc_base.specs.Limits.{line_limit, moment_limit}
 use Rattle.grpc_base.specs.Pieces.{pieces_of_rest}
-use Rattle.resolver_core.specs.Targets.{target_of}
+use Rattle.resolver_core.specs.AnyTargets.{any_target_of}
+use Rattle.resolver_core.specs.declared.any_target.Target.{Target}
 use Rattle.script_fields.specs.Spelling.{fields}
 use Rattle.script_lines.specs.declared.cause.LineFault.{LineFault}
 use Rattle.script_lines.specs.declared.cause.LineFault.TheVariants as fault
@@ -52,21 +52,27 @@ abbrev pub IsRawFault : ℕ → List ℕ → Bool → ℕ → Type 0
 IsRawFault n text closed c =
     Before (n ≤ script_limit) too_many c (Before (length text ≤ line_limit) too_long c (Before (IsTextLine text closed) not_text c ⊥))
 
--- the first line of a replay or live script, and its first fault
-abbrev pub channel_words : List ℕ → List (List ℕ)
-channel_words target = codes "channel" ∷ codes "1" ∷ target ∷ []
+-- a version of the format; both are read alike
+abbrev pub IsVersion : List ℕ → Type 0
+IsVersion version = (version ≡ codes "1") ⊎ (version ≡ codes "2")
 
-abbrev pub IsChannelText : List (List ℕ) → List ℕ → List Address → Type 0
-IsChannelText texts target addresses = (texts ≡ channel_words target) × (target_of target ≡ Ok addresses)
+-- the first line of a replay or live script: the target as it is written, and what it says; and its first fault
+abbrev pub channel_words : List ℕ → List ℕ → List (List ℕ)
+channel_words version target = codes "channel" ∷ version ∷ target ∷ []
+
+abbrev pub IsChannelText : List (List ℕ) → List ℕ → Target → Type 0
+IsChannelText texts target value =
+    (version : List ℕ) × IsVersion version × (texts ≡ channel_words version target) × (any_target_of target ≡ Ok value)
 
 abbrev pub IsChannelFault : List (List ℕ) → ℕ → Type 0
 IsChannelFault texts c =
-    (((target : List ℕ) → texts ≢ channel_words target) × (c ≡ no_channel))
-    ⊎ ((target : List ℕ) × (texts ≡ channel_words target) × ((addresses : List Address) → target_of target ≢ Ok addresses) × (c ≡ bad_address))
+    (((version target : List ℕ) → IsVersion version → texts ≢ channel_words version target) × (c ≡ no_channel))
+    ⊎ ((version target : List ℕ) × IsVersion version × (texts ≡ channel_words version target) × ((value : Target) → any_target_of target ≢ Ok value)
+    × (c ≡ bad_address))
 
 -- a line of a replay script by its number, and its first fault
 abbrev pub IsReplayLine : ℕ → List (List ℕ) → ScriptLine → Type 0
-IsReplayLine n texts (line.Channel target addresses) = (n ≡ 1) × IsChannelText texts target addresses
+IsReplayLine n texts (line.Channel target value) = (n ≡ 1) × IsChannelText texts target value
 IsReplayLine n texts (line.Event s) = (n ≢ 1) × IsStampedText texts s
 IsReplayLine n texts read = ⊥
 
@@ -103,7 +109,7 @@ IsLiveTextFault n [] c = ⊥
 
 -- a line of a live script by its number, and its first fault
 abbrev pub IsLiveLine : ℕ → List (List ℕ) → ScriptLine → Type 0
-IsLiveLine n texts (line.Channel target addresses) = (n ≡ 1) × IsChannelText texts target addresses
+IsLiveLine n texts (line.Channel target value) = (n ≡ 1) × IsChannelText texts target value
 IsLiveLine n texts read = (n ≢ 1) × IsLiveText n texts read
 
 abbrev pub IsLiveFault : ℕ → List (List ℕ) → ℕ → Type 0

@@ -20,5 +20,7 @@ mod request;
 mod split;
 mod stamped;
 
+pub use cause::{LineFault, UNKNOWN_KIND};
 pub use line::ScriptLine;
+pub use raw::test_line;
 pub use reader::{BadLine, ScriptKind, ScriptReader};

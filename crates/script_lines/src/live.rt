@@ -20,8 +20,8 @@ pub fn live_line(alloc: Global, number: u64, text: &[u8]) -> Result<ScriptLine, 
     ensures bad { IfErr result (IsToldBy (IsLiveFault number (fields text.now))) }
 {
     if number == 1 {
-        let (target, addresses) = channel_of(alloc, text)?;
-        return Ok(ScriptLine::Channel { target, addresses });
+        let (target, value) = channel_of(alloc, text)?;
+        return Ok(ScriptLine::Channel { target, value });
     }
     let (name, rest) = first_field(text);
     if name == b"call".as_slice() {

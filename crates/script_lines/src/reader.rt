@@ -1,5 +1,5 @@
 // A script, line by line.
-ghost use Rattle.std.specs.Prelude.{◌≡◌, ◌+◌, ℕ, List, IfOk, IfErr, OnErr};
+ghost use Rattle.std.specs.Prelude.{◌≡◌, ◌≤◌, ◌+◌, ℕ, List, IfOk, IfErr, OnErr};
 ghost use Rattle.script_fields.specs.Spelling.{fields};
 ghost use Rattle.script_lines.specs.Answers.{count_of};
 ghost use Rattle.script_lines.specs.Lines.{IsRawLine, IsToldBy};
@@ -71,10 +71,18 @@ impl ScriptReader {
         }
     }
 
+    /// How many lines it has read, at most 1,048,578.
+    pub fn lines(&self) -> u64
+        ensures value { result ≡ self.now.lines }
+        ensures limit { result ≤ 1048578 }
+    {
+        self.lines
+    }
+
     /// Reads the next line: its bytes without the line feed, and whether one ended it. What it says is the one thing
-    /// that they spell; a channel line and an event are read again from their own spelling, and an answer keeps the
-    /// rules of a server script. BadLine names the line and
-    /// the first cause in the order of the tests. The reader is as before where it answers an error.
+    /// that they spell. A channel line is read again from its spelling in version 2, be it of version 1 or 2, and an event from
+    /// its own; an answer keeps the rules of a server script. BadLine names the line and the first cause in the order of the
+    /// tests. The reader is as before where it answers an error.
     pub fn line(&mut self, text: &[u8], closed: bool) -> Result<ScriptLine, BadLine>
         ensures ok { IfOk result (IsLine self.old text.now closed) }
         ensures bad { IfErr result (IsBadLine self.old text.now closed) }

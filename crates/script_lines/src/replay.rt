@@ -15,8 +15,8 @@ pub fn replay_line(alloc: Global, number: u64, text: &[u8]) -> Result<ScriptLine
     ensures bad { IfErr result (IsToldBy (IsReplayFault number (fields text.now))) }
 {
     if number == 1 {
-        let (target, addresses) = channel_of(alloc, text)?;
-        return Ok(ScriptLine::Channel { target, addresses });
+        let (target, value) = channel_of(alloc, text)?;
+        return Ok(ScriptLine::Channel { target, value });
     }
     let stamped = stamped_of(alloc, text)?;
     Ok(ScriptLine::Event { stamped })

@@ -1,6 +1,7 @@
 // Scripts from memory: read in pieces of any size, their first bad lines, and reads that fail.
 use gate_io::MemSource;
-use script_input::{InputFault, read_replay};
+use resolver_core::Target;
+use script_input::{InputFault, read_replay, read_report};
 use std::alloc::Global;
 use std::process::Abort;
 use std::test::Fail;
@@ -30,6 +31,14 @@ fn fault(
     }
 }
 
+/// Whether a target names so many addresses.
+fn is_of(target: &Target, count: usize) -> bool {
+    match target {
+        Target::Ipv4(addresses) => addresses.as_slice().len() == count,
+        Target::Dns(_) => false,
+    }
+}
+
 /// A script read in pieces of at most so many bytes.
 fn expect_script(rt: &impl Abort, alloc: Global, piece: usize) -> Result<(), Fail> {
     let piece = piece.max(1);
@@ -40,7 +49,7 @@ fn expect_script(rt: &impl Abort, alloc: Global, piece: usize) -> Result<(), Fai
                 script.target.as_slice(),
                 b"ipv4:127.0.0.1:50051,127.0.0.2".as_slice()
             );
-            assert_eq!(rt; script.addresses.as_slice().len(), 2);
+            assert!(rt; is_of(&script.value, 2));
             assert_eq!(rt; script.events.len(), 3);
         }
         Err(_) => assert!(rt; false),
@@ -62,9 +71,9 @@ fn the_first_bad_line_is_told(rt: HostRuntime) -> Result<(), Fail> {
     let long = vec![in alloc; 97u8; 8_400_001]?;
     let rows: [(&str, &[u8], &[u8], usize, (u64, u8)); 7] = [
         (
-            "a version that is not 1",
+            "a version that is neither 1 nor 2",
             b"",
-            b"channel 2 ipv4:127.0.0.1:50051\n",
+            b"channel 3 ipv4:127.0.0.1:50051\n",
             5,
             (1, 1),
         ),
@@ -146,6 +155,53 @@ fn what_comes_first_is_told(rt: HostRuntime) -> Result<(), Fail> {
             Some(want),
             "{name}"
         );
+    }
+    Ok(())
+}
+
+/// How many events a report of version 1 with this text behind its channel line has, or its first bad line and the cause.
+fn report_of(alloc: Global, text: &[u8]) -> Result<Result<usize, (u64, u8)>, Fail> {
+    let mut bytes = CHANNEL.to_vec(alloc)?;
+    bytes.extend_from_slice(text)?;
+    let mut source = MemSource::new(bytes, 5, Vec::new(alloc));
+    match read_report(alloc, &mut source) {
+        Ok(script) => Ok(Ok(script.events.len())),
+        Err(InputFault::BadLine { line, cause }) => Ok(Err((line, cause))),
+        Err(_) => Err("a report".into()),
+    }
+}
+
+#[test]
+fn a_report_is_read_up_to_its_rows(rt: HostRuntime) -> Result<(), Fail> {
+    let rows: [(&str, &[u8], Result<usize, (u64, u8)>); 13] = [
+        ("no events", b"", Ok(0)),
+        ("a script", b"0 0 dial\n0 0 tick\n", Ok(2)),
+        (
+            "a report",
+            b"0 0 dial = notyet\n0 0 tick = done\nrow 1\nend 2 0 0 0\n",
+            Ok(2),
+        ),
+        ("the first sign", b"0 0 dial = x = y\n", Ok(1)),
+        ("a sign cut short", b"0 0 dial =\n", Err((2, 6))),
+        ("nothing before the sign", b" = done\n", Err((2, 6))),
+        (
+            "an event behind a row",
+            b"0 0 dial = notyet\nrow 1\n0 0 tick = done\n",
+            Err((4, 5)),
+        ),
+        ("a row and no space", b"0 0 dial\nrow\n", Err((3, 6))),
+        (
+            "a fault and a row",
+            b"fault line 2 cause 13\nrow x\nend\n",
+            Err((4, 5)),
+        ),
+        ("an end alone", b"end \n", Ok(0)),
+        ("a bad byte of a row", b"row 1\x7f\n", Err((2, 3))),
+        ("an end that is not ended", b"0 0 dial\nend 1", Err((3, 3))),
+        ("a bad part", b"0 0 arrived 1 0G = done\n", Err((2, 7))),
+    ];
+    for (name, text, want) in rows {
+        assert_eq!(rt; report_of(rt.alloc(), text)?, want, "{name}");
     }
     Ok(())
 }

@@ -1,6 +1,6 @@
 // Limits of many bytes and of many lines.
 use grpc_base::{AnswerPart, Event};
-use script_lines::{BadLine, ScriptKind, ScriptLine, ScriptReader};
+use script_lines::{BadLine, LineFault, ScriptKind, ScriptLine, ScriptReader, test_line};
 use std::alloc::{AllocError, Global};
 use std::test::Fail;
 
@@ -269,5 +269,9 @@ fn a_script_has_1048578_lines(rt: HostRuntime) -> Result<(), Fail> {
     for (name, text, closed, want) in rows {
         assert_eq!(rt; told(&mut reader, text, closed), want, "{name}");
     }
+    assert_eq!(rt; reader.lines(), 1_048_578);
+    assert_eq!(rt; test_line(1_048_578, b"row 1", true), Ok(()));
+    let many = LineFault::Bad { cause: 12 };
+    assert_eq!(rt; test_line(1_048_579, b"row 1", true), Err(many));
     Ok(())
 }

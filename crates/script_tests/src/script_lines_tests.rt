@@ -42,7 +42,7 @@ static MODEL: &str = "\
 07Rchannel 1 ipv4:1.2.3.4|0 0 arrived 1 0\n\
 09Rchannel 1 ipv4:1.2.3.4|0 0 begin /a/b - - a\n\
 10Rchannel 1 ipv4:1.2.3.4|0 0 resolved 1.2.3.4 7b7d\n\
-10Rchannel 1 dns:x\n\
+10Rchannel 1 dns:-x\n\
 04Rchannel 1 ipv4:1.2.3.4|0 0 begin /a/b - 01 -\n\
 07Rchannel 1 ipv4:1.2.3.4|0 0 send 1 \n\
 01Rchannel 2 ipv4:\n\
@@ -175,7 +175,13 @@ static CASES: &str = "\
 01Rchannel 1 x y\n\
 01Rchannel 01 ipv4:1.2.3.4\n\
 10Rchannel 1 \n\
-10Rchannel 1 dns:localhost\n\
+00Rchannel 1 dns:localhost\n\
+00Rchannel 2 dns:///a-1.example.com:50051|0 0 tick\n\
+00Rchannel 2 ipv4:1.2.3.4|0 0 tick\n\
+01Rchannel 3 ipv4:1.2.3.4\n\
+01Rchannel 02 ipv4:1.2.3.4\n\
+10Rchannel 2 dns:a..b\n\
+10Rchannel 2 DNS:x\n\
 00Rchannel 1 ipv4:1.2.3.4|0 0 resolved 1.2.3.4:1{,1.2.3.4:1*63} -\n\
 11Rchannel 1 ipv4:1.2.3.4|0 0 resolved 1.2.3.4:1{,1.2.3.4:1*64} -\n\
 10Rchannel 1 ipv4:1.2.3.4|0 0 resolved 1.2.3.4:1{,1.2.3.4:1*64},1.2.3.4 -\n\
@@ -240,6 +246,7 @@ static CASES: &str = "\
 09Lchannel 1 ipv4:1.2.3.4|call 1 /a/b - - K x\n\
 07Lchannel 1 ipv4:1.2.3.4|call 1 /a/b - - - - x\n\
 01Lconfig 7b7d\n\
+00Lchannel 2 dns:localhost:1|call 1 /a/b - - -\n\
 10Lchannel 1 ipv4:\n\
 00Lchannel 1 ipv4:1.2.3.4|config {00000000*16384}\n\
 11Lchannel 1 ipv4:1.2.3.4|config {00000000*16384}00\n\

@@ -4,14 +4,14 @@ use gate_io::MemSink;
 use grpc_base::{
     Address, AddressList, BoxedAddresses, Code, ConfigFault, Conn, EndCause, Entry, Event, Field,
     Items, JsonFault, KindSet, Metadata, Moment, NoMemory, Octets, Pushback, Refusal, Reply,
-    Request, Text,
+    Request, Stamped, Text,
 };
-use script_text::{ReportFault, write_config, write_report};
+use script_text::{ReportFault, write_config, write_report, write_script};
 use service_config::read_config;
 use std::alloc::Global;
 use std::test::Fail;
 
-const LINES: &[u8] = b"channel 1 ipv4:127.0.0.1:50051
+const LINES: &[u8] = b"channel 2 ipv4:127.0.0.1:50051
 0 0 begin /a.B/C yes 1000 - = call 1
 1 18446744073709551615 send 1 6869 = done
 1 0 send 1 - = full 65536
@@ -42,10 +42,10 @@ const LINES: &[u8] = b"channel 1 ipv4:127.0.0.1:50051
 1 0 tick = badconfig 1 5:65536
 1 0 tick = badconfig 3 methodConfig[0]
 1 0 tick = badconfig 4 methodConfig[1].name[0]
-row 1 1 first 2 6 1 1 1 1 10 0 - 77 status 10
-row 1 2 retry 18446744073709551615 - - - - - - - - - - -
-row 2 1 hedge 3 6 2 3 4 5 9 14 250 78 cut -
-row 2 1 transparent 3 6 2 3 4 - 9 16 stop 0 unsent 11
+row 1 1 first 2 6 1 1 1 1 10 0 - 77 status 10 - -
+row 1 2 retry 18446744073709551615 - - - - - - - - - - - - -
+row 2 1 hedge 3 6 2 3 4 5 9 14 250 78 cut - 9500 -
+row 2 1 transparent 3 6 2 3 4 - 9 16 stop 0 unsent 11 0 18446744073709551615
 end 30 2 4 3
 ";
 
@@ -304,7 +304,7 @@ fn push_first_rows(alloc: Global, rows: &mut Items<Row>) -> Result<(), Fail> {
 
 fn push_hedge(alloc: Global, rows: &mut Items<Row>) -> Result<(), Fail> {
     let hedge = placed(2, 3, 4)?;
-    let end = ended(
+    let mut end = ended(
         alloc,
         9,
         Code::Unavailable,
@@ -312,6 +312,7 @@ fn push_hedge(alloc: Global, rows: &mut Items<Row>) -> Result<(), Fail> {
         78,
         RowCause::Cut,
     )?;
+    end.tokens = Some(9500);
     rows.push(Row {
         call: 2,
         number: 1,
@@ -327,7 +328,7 @@ fn push_hedge(alloc: Global, rows: &mut Items<Row>) -> Result<(), Fail> {
 
 fn push_transparent(alloc: Global, rows: &mut Items<Row>) -> Result<(), Fail> {
     let again = placed(2, 3, 4)?;
-    let end = ended(
+    let mut end = ended(
         alloc,
         9,
         Code::Unauthenticated,
@@ -335,6 +336,8 @@ fn push_transparent(alloc: Global, rows: &mut Items<Row>) -> Result<(), Fail> {
         0,
         RowCause::Unsent,
     )?;
+    end.tokens = Some(0);
+    end.word = Some(u64::MAX);
     rows.push(Row {
         call: 2,
         number: 1,
@@ -401,14 +404,49 @@ fn a_write_that_fails_leaves_a_front(rt: HostRuntime) -> Result<(), Fail> {
     let target = Text::of_slice(alloc, b"ipv4:127.0.0.1:50051")?;
     for (failing, front) in [
         (1, b"".as_slice()),
-        (2, b"channel 1 "),
-        (3, b"channel 1 ipv4:127.0"),
+        (2, b"channel 2 "),
+        (3, b"channel 2 ipv4:127.0"),
     ] {
         let mut sink = MemSink::new(alloc, 10, vec![in alloc; failing]?);
         let answer = write_report(alloc, &journal, &ledger, &target, &mut sink);
         assert_eq!(rt; answer, Err(ReportFault::Write), "write {failing}");
         assert_eq!(rt; sink.taken(), front, "write {failing}");
     }
+    Ok(())
+}
+
+/// Appends an event of a script.
+fn push_event(events: &mut Vec<Stamped>, moment: u64, word: u64, event: Event) -> Result<(), Fail> {
+    let moment = Moment::new(moment).ok_or("moment")?;
+    events.push(Stamped {
+        moment,
+        word,
+        event,
+    })?;
+    Ok(())
+}
+
+#[test]
+fn a_script_is_written_whole(rt: HostRuntime) -> Result<(), Fail> {
+    let alloc = rt.alloc();
+    let target = Text::of_slice(alloc, b"dns:///api.example.com")?;
+    let message = Octets::of_slice(alloc, b"hi")?;
+    let mut events = Vec::new(alloc);
+    push_event(&mut events, 0, 7, Event::Send { call: 2, message })?;
+    push_event(&mut events, 9, u64::MAX, Event::Tick)?;
+    let mut sink = MemSink::new(alloc, usize::MAX, Vec::new(alloc));
+    assert_eq!(rt;
+        write_script(alloc, &target, events.as_slice(), &mut sink),
+        Ok(())
+    );
+    let lines = b"channel 2 dns:///api.example.com\n0 7 send 2 6869\n9 18446744073709551615 tick\n";
+    assert_eq!(rt; sink.taken(), lines.as_slice());
+    let mut failing = MemSink::new(alloc, 7, vec![in alloc; 2]?);
+    assert_eq!(rt;
+        write_script(alloc, &target, events.as_slice(), &mut failing),
+        Err(ReportFault::Write)
+    );
+    assert_eq!(rt; failing.taken(), b"channel".as_slice());
     Ok(())
 }
 

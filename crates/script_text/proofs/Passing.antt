@@ -80,6 +80,12 @@ AppendsFront-behind a b c x y t u p h =
           (sym (take-behind p.front (y ++ u) h.0)),
     )
 
+-- the same where nothing more comes
+pub AppendsFront-last : (a b c : Option (List ℕ)) (x y t : List ℕ) → Passes a x b y t → AppendsFront b c y → AppendsFront a c (x ++ t)
+AppendsFront-last a b c x y t p h =
+    subst (λ (v : List ℕ). AppendsFront a c (x ++ v)) (append-nil t)
+    (AppendsFront-behind a b c x y t [] p (subst (λ (v : List ℕ). AppendsFront b c v) (sym (append-nil y)) h))
+
 -- ---- a loop over the values of a list, a line for each
 
 pub passed_one : {X : Type 0} (f : X → List ℕ) (xs : List X) (i : ℕ) (d : X) (a b c : Option (List ℕ)) (x y s z : List ℕ) → i < length xs → Passes a x b y (lines_text (map f (take i xs))) → s ≡ y ++ f (get_or xs i d) ++ 10 ∷ [] → Passes b s c z [] → Passes a x c z (lines_text (map f (take (i + 1) xs)))

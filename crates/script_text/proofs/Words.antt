@@ -9,13 +9,14 @@ use Rattle.grpc_base.specs.Codes.{code_number}
 use Rattle.grpc_base.specs.Refusals.{refusal_number}
 use Rattle.grpc_base.specs.declared.event.ConfigFault.{ConfigFault}
 use Rattle.grpc_base.specs.declared.event.Entry.{Entry}
+use Rattle.grpc_base.specs.declared.event.Stamped.{Stamped}
 use Rattle.grpc_base.specs.declared.event.Reply.{Reply}
 use Rattle.grpc_base.specs.declared.event.Reply.TheVariants as reply
 use Rattle.attempt_ledger.specs.declared.ledger.Ledger.{Ledger}
 use Rattle.service_config.specs.Text.{spaced as spaced_words_of}
 use Rattle.script_text.specs.Output.{spaced}
 use Rattle.script_text.specs.Report.{channel_text, entry_text, row_text, end_text, lines_text, report_of}
-use Rattle.script_text.specs.Spelling.{address_text, cause_text, config_fault_words, hex_or_dash, meta_text, percent_text, reply_words, words}
+use Rattle.script_text.specs.Spelling.{address_text, cause_text, config_fault_words, event_words, hex_or_dash, meta_text, percent_text, reply_words, script_of, stamped_text, words}
 
 -- words
 pub words_are : (w : List ℕ) (ws : List (List ℕ)) → words (w ∷ ws) ≡ w ++ spaced ws
@@ -71,15 +72,26 @@ entry_parts moment word event r =
     ∙ ap (λ t. (moment ++ spaced (word ∷ event)) ++ t) (equals_sign (words (reply_words r)) ∙ ap (λ t. 32 ∷ codes "=" ++ t) (sym (spaced_reply r)))
     ∙ simp append_assoc refl
 
+-- the line of an event
+pub stamp_line : (s : Stamped) (out text line : List ℕ) → text ≡ out ++ decimal s.moment ++ spaced (decimal s.word ∷ event_words s.event) → line ≡ text ++ 10 ∷ [] → line ≡ out ++ stamped_text s ++ 10 ∷ []
+stamp_line s out text line e f =
+    f
+    ∙ ap (λ (t : List ℕ). t ++ 10 ∷ []) (e ∙ append_assoc out (decimal s.moment) (spaced (decimal s.word ∷ event_words s.event)))
+    ∙ ap (λ (t : List ℕ). (out ++ t) ++ 10 ∷ []) (sym (words_are (decimal s.moment) (decimal s.word ∷ event_words s.event)))
+
+-- a script, part by part
+pub script_is : (target : List ℕ) (events : List Stamped) (none channel : List ℕ) → none ≡ [] → channel ≡ none ++ channel_text target ++ 10 ∷ [] → script_of target events ≡ channel ++ lines_text (map stamped_text events)
+script_is target events none channel e c =
+    let first : channel ≡ channel_text target ++ 10 ∷ [] = c ∙ ap (λ (t : List ℕ). t ++ channel_text target ++ 10 ∷ []) e in
+    ap (λ (t : List ℕ). t ++ lines_text (map stamped_text events)) (sym first)
+
 -- the words of a row
-pub row_parts : (call number kind due : List ℕ) (placed : List (List ℕ)) (stream : List ℕ) (ended : List (List ℕ)) (committed : List ℕ) → words (codes "row" ∷ call ∷ number ∷ kind ∷ due ∷ placed ++ stream ∷ ended ++ committed ∷ []) ≡ codes "row" ++ 32 ∷ call ++ 32 ∷ number ++ 32 ∷ kind ++ 32 ∷ due ++ spaced placed ++ 32 ∷ stream ++ spaced ended ++ 32 ∷ committed
-row_parts call number kind due placed stream ended committed =
-    let last : spaced (committed ∷ []) ≡ 32 ∷ committed = append-nil (32 ∷ committed) in
-    let rest : spaced (placed ++ stream ∷ ended ++ committed ∷ []) ≡ spaced placed ++ spaced (stream ∷ ended) ++ 32 ∷ committed =
-    spaced-append (placed ++ stream ∷ ended) (committed ∷ [])
-    ∙ ap (λ t. t ++ spaced (committed ∷ [])) (spaced-append placed (stream ∷ ended))
-    ∙ ap (λ t. spaced placed ++ spaced (stream ∷ ended) ++ t) last in
-    words_are (codes "row") (call ∷ number ∷ kind ∷ due ∷ placed ++ stream ∷ ended ++ committed ∷ [])
+pub row_parts : (call number kind due : List ℕ) (placed : List (List ℕ)) (stream : List ℕ) (ended : List (List ℕ)) (committed : List ℕ) (drawn : List (List ℕ)) → words (codes "row" ∷ call ∷ number ∷ kind ∷ due ∷ placed ++ stream ∷ ended ++ committed ∷ drawn) ≡ codes "row" ++ 32 ∷ call ++ 32 ∷ number ++ 32 ∷ kind ++ 32 ∷ due ++ spaced placed ++ 32 ∷ stream ++ spaced ended ++ 32 ∷ committed ++ spaced drawn
+row_parts call number kind due placed stream ended committed drawn =
+    let rest : spaced (placed ++ stream ∷ ended ++ committed ∷ drawn) ≡ spaced placed ++ spaced (stream ∷ ended) ++ spaced (committed ∷ drawn) =
+    spaced-append (placed ++ stream ∷ ended) (committed ∷ drawn)
+    ∙ ap (λ t. t ++ spaced (committed ∷ drawn)) (spaced-append placed (stream ∷ ended)) in
+    words_are (codes "row") (call ∷ number ∷ kind ∷ due ∷ placed ++ stream ∷ ended ++ committed ∷ drawn)
     ∙ ap (λ t. codes "row" ++ (32 ∷ call ++ (32 ∷ number ++ (32 ∷ kind ++ (32 ∷ due ++ t))))) rest
     ∙ simp append_assoc refl
 

@@ -1,4 +1,4 @@
--- The report of a session: the channel line, a line for each entry, a line for each row, and the end line.
+-- The report of a session, of version 2: the channel line, a line for each entry, a line for each row, and the end line.
 use Rattle.std.specs.Prelude.{ℕ, Option, Some, None, List, [], ◌∷◌, ◌++◌, map, length, codes, decimal}
 use Rattle.grpc_base.specs.declared.event.Entry.{Entry}
 use Rattle.grpc_base.specs.declared.plan.Pushback.{Pushback}
@@ -56,11 +56,16 @@ abbrev pub ended_words : Option RowEnd → List (List ℕ)
 ended_words None = dash ∷ dash ∷ dash ∷ dash ∷ dash ∷ []
 ended_words (Some e) = decimal e.entry ∷ decimal (code_number e.code) ∷ pushback_text e.pushback ∷ decimal e.seen ∷ row_cause_text e.cause ∷ []
 
+-- the tokens after its end, where its call has throttling, and the random word of the wait before its retry, where one was drawn
+abbrev pub drawn_words : Option RowEnd → List (List ℕ)
+drawn_words None = dash ∷ dash ∷ []
+drawn_words (Some e) = number_or_dash e.tokens ∷ number_or_dash e.word ∷ []
+
 -- a row
 abbrev pub row_text : Row → List ℕ
 row_text r =
     words (codes "row" ∷ decimal r.call ∷ decimal r.number ∷ kind_text r.kind ∷ decimal r.due
-    ∷ placed_words r.placed ++ number_or_dash r.stream ∷ ended_words r.ended ++ number_or_dash r.committed ∷ [])
+    ∷ placed_words r.placed ++ number_or_dash r.stream ∷ ended_words r.ended ++ number_or_dash r.committed ∷ drawn_words r.ended)
 
 -- the end line: how many entries, calls, rows and links there are
 abbrev pub end_text : Journal → Ledger → List ℕ

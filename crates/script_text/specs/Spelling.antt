@@ -2,7 +2,7 @@
 use Rattle.std.specs.Prelude.{ℕ, List, [], ◌∷◌, codes, decimal}
 pub use Rattle.script_fields.specs.Spelling.{address_text, words, fields, dash, number_or_dash, lower_digit, upper_digit, hex_digits, hex_or_dash, word_bytes, percent_byte, percent_text, addresses_text, pair_text, meta_text, wait_text, config_hex}
 pub use Rattle.service_config.specs.Text.{config_fault_words}
-pub use Rattle.script_lines.specs.Spelling.{channel_text, event_words, lines_text, stamped_text}
+pub use Rattle.script_lines.specs.Spelling.{channel_text, event_words, lines_text, script_of, stamped_text}
 use Rattle.grpc_base.specs.declared.event.Reply.{Reply}
 use Rattle.grpc_base.specs.declared.event.Reply.TheVariants as reply
 use Rattle.grpc_base.specs.declared.event.EndCause.{EndCause}

@@ -4,12 +4,27 @@ ghost use Rattle.grpc_base.specs.declared.event.Event.TheVariants as event;
 ghost use Rattle.script_text.specs.Output.{spaced};
 ghost use Rattle.script_text.specs.Spelling.{event_words, hex_or_dash, hex_digits, word_bytes, addresses_text, config_hex};
 
-use grpc_base::{AddressList, Event, NoMemory, Octets, Request};
+use grpc_base::{AddressList, Event, Moment, NoMemory, Octets, Request, append_decimal};
 use script_fields::{
     append_addresses, append_config, append_hex_of_word, append_hex_word, append_meta,
     append_number, append_number_or_dash, append_wait, append_word,
 };
 use std::alloc::Global;
+
+/// Appends the words of a line of a script: the moment, the random word and the event.
+pub fn append_stamp(
+    alloc: Global,
+    out: &mut Vec<u8>,
+    moment: Moment,
+    word: u64,
+    event: &Event,
+) -> Result<(), NoMemory>
+    ensures { OnOk result (out.new.items ≡ out.old.items ++ decimal moment ++ spaced (decimal word ∷ event_words event.now)) }
+{
+    append_decimal(out, moment.nanos())?;
+    append_number(out, word)?;
+    append_event(alloc, out, event)
+}
 
 /// Appends an event's words.
 pub fn append_event(alloc: Global, out: &mut Vec<u8>, event: &Event) -> Result<(), NoMemory>

@@ -7,7 +7,9 @@ mod output;
 mod replies;
 mod report;
 mod rows;
+mod script;
 
 pub use config::write_config;
 pub use report::{ReportFault, write_report};
+pub use script::write_script;
 pub use script_lines::{BadLine, ScriptKind, ScriptLine, ScriptReader};

@@ -4,13 +4,13 @@ ghost use Rattle.gate_io.specs.Outside.{Appends, AppendsFront, Rises};
 ghost use Rattle.script_text.specs.Output.{Passes};
 ghost use Rattle.script_text.specs.Report.{channel_text, entry_text, row_text, end_text, lines_text, report_of};
 
-use crate::events::append_event;
+use crate::events::append_stamp;
 use crate::output::{write_chunk, write_out};
 use crate::replies::append_reply;
 use crate::rows::append_row;
 use attempt_ledger::{Journal, Ledger, Row};
 use gate_io::Sink;
-use grpc_base::{Entry, NoMemory, Text, append_decimal};
+use grpc_base::{Entry, NoMemory, Text};
 use script_fields::{append_number, append_word};
 use std::alloc::Global;
 
@@ -55,11 +55,11 @@ pub fn write_report<K: Sink>(
     write_out(&mut out, sink)
 }
 
-/// Appends the channel line.
-fn append_channel(out: &mut Vec<u8>, target: &Text) -> Result<(), NoMemory>
+/// Appends the channel line, of version 2.
+pub fn append_channel(out: &mut Vec<u8>, target: &Text) -> Result<(), NoMemory>
     ensures { OnOk result (out.new.items ≡ out.old.items ++ channel_text target.now ++ 10 ∷ []) }
 {
-    out.extend_from_slice(b"channel 1")?;
+    out.extend_from_slice(b"channel 2")?;
     append_word(out, target.as_slice())?;
     out.push(b'\n')?;
     Ok(())
@@ -69,9 +69,7 @@ fn append_channel(out: &mut Vec<u8>, target: &Text) -> Result<(), NoMemory>
 fn append_entry(alloc: Global, out: &mut Vec<u8>, entry: &Entry) -> Result<(), NoMemory>
     ensures { OnOk result (out.new.items ≡ out.old.items ++ entry_text entry.now ++ 10 ∷ []) }
 {
-    append_decimal(out, entry.moment.nanos())?;
-    append_number(out, entry.word)?;
-    append_event(alloc, out, &entry.event)?;
+    append_stamp(alloc, out, entry.moment, entry.word, &entry.event)?;
     append_word(out, b"=")?;
     append_reply(alloc, out, &entry.reply)?;
     out.push(b'\n')?;

@@ -2,7 +2,7 @@
 ghost use Rattle.std.specs.Prelude.{◌≡◌, ◌++◌, ◌∷◌, [], OnOk};
 ghost use Rattle.script_text.specs.Output.{spaced};
 ghost use Rattle.script_text.specs.Spelling.{number_or_dash};
-ghost use Rattle.script_text.specs.Report.{kind_text, row_cause_text, pushback_text, placed_words, ended_words, row_text};
+ghost use Rattle.script_text.specs.Report.{kind_text, row_cause_text, pushback_text, placed_words, ended_words, drawn_words, row_text};
 
 use attempt_ledger::{Placed, Row, RowCause, RowEnd, RowKind};
 use grpc_base::{NoMemory, Pushback};
@@ -18,9 +18,10 @@ pub fn append_row(out: &mut Vec<u8>, row: &Row) -> Result<(), NoMemory>
     append_word(out, kind_bytes(row.kind))?;
     append_number(out, row.due)?;
     append_placed(out, &row.placed)?;
-    append_stream(out, row.stream)?;
+    append_small(out, row.stream)?;
     append_ended(out, &row.ended)?;
     append_number_or_dash(out, row.committed)?;
+    append_drawn(out, &row.ended)?;
     out.push(b'\n')?;
     Ok(())
 }
@@ -54,12 +55,12 @@ fn row_cause_bytes(cause: RowCause) -> &'static [u8]
     }
 }
 
-/// Appends a stream behind a space, or a dash.
-fn append_stream(out: &mut Vec<u8>, stream: Option<u32>) -> Result<(), NoMemory>
-    ensures { OnOk result (out.new.items ≡ out.old.items ++ 32 ∷ number_or_dash stream) }
+/// Appends a number of 32 bits behind a space, or a dash.
+fn append_small(out: &mut Vec<u8>, number: Option<u32>) -> Result<(), NoMemory>
+    ensures { OnOk result (out.new.items ≡ out.old.items ++ 32 ∷ number_or_dash number) }
 {
-    match stream {
-        Some(stream) => append_number(out, stream as u64),
+    match number {
+        Some(number) => append_number(out, number as u64),
         None => append_word(out, b"-"),
     }
 }
@@ -96,6 +97,22 @@ fn append_ended(out: &mut Vec<u8>, ended: &Option<RowEnd>) -> Result<(), NoMemor
         }
         None => {
             out.extend_from_slice(b" - - - - -")?;
+            Ok(())
+        }
+    }
+}
+
+/// Appends the tokens after the end of an attempt, and the random word of the wait before its retry.
+fn append_drawn(out: &mut Vec<u8>, ended: &Option<RowEnd>) -> Result<(), NoMemory>
+    ensures { OnOk result (out.new.items ≡ out.old.items ++ spaced (drawn_words ended.now)) }
+{
+    match ended {
+        Some(ended) => {
+            append_small(out, ended.tokens)?;
+            append_number_or_dash(out, ended.word)
+        }
+        None => {
+            out.extend_from_slice(b" - -")?;
             Ok(())
         }
     }

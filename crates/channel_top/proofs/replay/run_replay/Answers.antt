@@ -14,7 +14,7 @@ returns-in-Err-first_call g c =
         refl,
         record {
           target = c.in-Ok.read.target;
-          addresses = c.in-Ok.read.addresses;
+          value = c.in-Ok.read.value;
           events = c.in-Ok.read.events.items;
           script = c.in-Ok.ensures.ok;
           first = c.in-Err-first_call.ensures.out;
@@ -34,7 +34,7 @@ returns-in-Err-first_call g c =
 pub returns-in-Ok-first_call : goal.returns-in-Ok-first_call
 returns-in-Ok-first_call g c =
     let done : (text : List ℕ) → _ → IsDone (g.S.Source.left c.args.script.now) (g.S.Source.left c.read_replay.new.source) text = λ text is.
-    report_done _ _ c.in-Ok.read.target c.in-Ok.read.addresses c.in-Ok.read.events.items c.in-Ok-first_call.first.events.items c.in-Ok-first_call.first.authority text
+    report_done _ _ c.in-Ok.read.target c.in-Ok.read.value c.in-Ok.read.events.items c.in-Ok-first_call.first.events.items c.in-Ok-first_call.first.authority text
     c.in-Ok.ensures.ok c.in-Ok-first_call.ensures.ok.0 (ap (λ v. v.items) c.in-Ok-first_call.ensures.ok.2) is in
     record {
       done = λ zero. all_as _ _ _ _ done (c.report_first.ensures.done zero);

@@ -1,6 +1,7 @@
-use Rattle.std.proofs.Common.{inr, refl, ◌∙◌}
+use Rattle.script_fields.specs.Spelling.{fields}
+use Rattle.script_lines.proofs.TargetLaws.{refused_target}
 use Rattle.script_lines.proofs.channel.channel_of.Goals as goal
 
-pub returns-in_default-read_target-clause-bad : goal.returns-in_default-read_target-clause-bad
-returns-in_default-read_target-clause-bad c =
-    rw c.bad-in_default-read_target.ensures (inr (c.in-Some.target.now, c.in-Some.ensures.some, (λ addresses e. c.in_default-read_target.not-Ok addresses (c.read_target.ensures.value ∙ e)), refl))
+pub returns-in_err-value-clause-bad : goal.returns-in_err-value-clause-bad
+returns-in_err-value-clause-bad c =
+    refused_target c.from_residual.result (fields c.args.text.now) c.in-Some.ensures.some.0 c.in-Some.target.now c.in_err-value.field-0.0 c.in-Some.ensures.some.1 c.in-Some.ensures.some.2 c.from_residual.ensures.1 c.in_err-value.ensures.bad

@@ -23,7 +23,7 @@ loop-text-preserved c =
       front ++ line,
       (c.loop-text.invariant.1 ∙ ap (λ (r : List ℕ). front ++ r) (cut ∙ sym (append_assoc c.in-Some.text.now (10 ∷ []) c.in-Some.behind.now)) ∙ sym (append_assoc front line c.in-Some.behind.now)),
       leads_on _ _ _ front line c.loop-text.invariant.2 c.in_ok-take_line.ensures.ok,
-      c.in_ok-take_line.ensures.replay,
+      c.in_ok-take_line.ensures.ready,
     )
 
 pub returns-in_err-take_front-clause-bad : goal.returns-in_err-take_front-clause-bad

@@ -1,11 +1,10 @@
 use Rattle.std.proofs.Common.{◌≡◌, ◌++◌, ℕ, List, length}
-use Rattle.script_lines.specs.declared.reader.ScriptKind.TheVariants as script
-use Rattle.script_input.specs.Collecting.{Leads}
+use Rattle.script_input.specs.Collecting.{IsReady, Leads}
 use Rattle.script_input.proofs.collected.Collected.take_piece.Given as goal
 
 -- the bytes before the rest were taken
 abbrev pub invariant-loop-text : goal.invariant-loop-text
-invariant-loop-text l = (front : List ℕ) × (l.piece ≡ front ++ l.rest) × Leads l.fn.self l.self front × (l.self.reader.kind ≡ script.Replay)
+invariant-loop-text l = (front : List ℕ) × (l.piece ≡ front ++ l.rest) × Leads l.fn.self l.self front × IsReady l.self
 
 abbrev pub decreases-loop-text : goal.decreases-loop-text
 decreases-loop-text l = length l.rest
