@@ -83,6 +83,16 @@ fn the_kinds_of_the_policies_count_as_supported(rt: HostRuntime) -> Result<(), F
     Ok(())
 }
 
+#[test]
+fn priority_counts_as_supported(rt: HostRuntime) -> Result<(), Fail> {
+    let alloc = rt.alloc();
+    let input = bytes_of(alloc, b"{\"loadBalancingConfig\":[{\"priority\":{}}]}")?;
+    let (status, report) = answer(alloc, b"config", input, 0, 0)?;
+    assert_eq!(rt; status, 0);
+    assert!(rt; report.taken().starts_with(b"policy priority\n".as_slice()));
+    Ok(())
+}
+
 fn prints_help(alloc: Global, line: &[u8]) -> Result<bool, Fail> {
     let (status, report) = answer(alloc, line, Vec::new(alloc), 0, 0)?;
     Ok(status == 0 && report.taken().ends_with(OPTIONS))

@@ -3,6 +3,7 @@ use channel_top::run_channel;
 use gate_io::{MemSink, MemSource, Sink, Source};
 use lb_kinds::{PickFirst, RoundRobin};
 use lb_policy::Policy;
+use lb_priority::Priority;
 use policy_rack::boxes_ready;
 use std::alloc::Global;
 use std::test::Fail;
@@ -12,6 +13,7 @@ pub fn each_policy(alloc: Global) -> Result<Vec<Box<dyn Policy>>, Fail> {
     let mut boxes: Vec<Box<dyn Policy>> = Vec::new(alloc);
     boxes.push(Box::new(alloc, PickFirst::new())?)?;
     boxes.push(Box::new(alloc, RoundRobin::new())?)?;
+    boxes.push(Box::new(alloc, Priority::new(8).unwrap())?)?;
     Ok(boxes)
 }
 

@@ -6,6 +6,7 @@ use gate_io::{Sink, Source, StdSink, StdSource};
 use grpc_base::NoMemory;
 use lb_kinds::{PickFirst, RoundRobin};
 use lb_policy::Policy;
+use lb_priority::Priority;
 use policy_rack::boxes_ready;
 use std::alloc::Global;
 use std::env::args;
@@ -15,6 +16,9 @@ use std::rt::Env;
 
 /// The status where memory is wanting.
 const NO_MEMORY: u8 = 6;
+
+/// How many addresses a tier of the policy `priority` has.
+const TIER_WIDTH: u32 = 8;
 
 /// Why the words of the command are not known.
 enum NoWords {
@@ -68,6 +72,7 @@ fn run<S: Source, K: Sink>(
     let mut boxes: Vec<Box<dyn Policy>> = Vec::new(alloc);
     boxes.push(Box::new(alloc, PickFirst::new())?)?;
     boxes.push(Box::new(alloc, RoundRobin::new())?)?;
+    boxes.push(Box::new(alloc, Priority::new(TIER_WIDTH).unwrap())?)?;
     Ok(run_with(alloc, words, script, report, boxes))
 }
 

@@ -1,1 +1,2 @@
 mod ScanLaws
+mod ViewLaws

@@ -11,7 +11,8 @@ use lb_policy::{Policy, SubSeen};
 use std::marker::Model;
 
 /// Connects one subchannel after the other until one is READY, and gives each pick request the first READY one
-/// ("Load Balancing in gRPC", pick_first).
+/// ("Load Balancing in gRPC", pick_first). Once each of them has failed it is in TRANSIENT_FAILURE until one is READY,
+/// and goes on connecting.
 #[derive(Debug, Drop)]
 pub struct PickFirst {
     view: View,
@@ -29,7 +30,7 @@ impl Model for PickFirst {
 impl PickFirst {
     /// A policy with the empty view and no turn.
     pub fn new() -> PickFirst
-        ensures { result ≡ record { view = []; turns = 0 } }
+        ensures { result ≡ record { view = record { subs = []; failed = [] }; turns = 0 } }
     {
         PickFirst {
             view: View::new(),
@@ -70,14 +71,14 @@ impl Policy for PickFirst {
     }
 
     fn state(&self) -> Conn {
-        self.view.state()
+        self.view.lasting_state()
     }
 
     fn pick(&mut self) -> Pick {
         self.turns += 1;
         match self.view.first_ready() {
             Some(sub) => Pick::Place(sub),
-            None => pick_without(self.view.state()),
+            None => pick_without(self.view.lasting_state()),
         }
     }
 }

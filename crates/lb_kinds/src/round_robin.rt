@@ -3,7 +3,7 @@ ghost use Rattle.std.specs.Prelude.{◌≡◌, []};
 ghost use Rattle.grpc_base.specs.declared.kind.Kind.TheVariants as kind;
 ghost use Rattle.lb_kinds.specs.Seen.{of_kind};
 
-use crate::conn::pick_without;
+use crate::turn::pick_in_turn;
 use crate::view::View;
 use arrayvec::ArrayVec;
 use grpc_base::{Conn, Kind, Pick};
@@ -29,7 +29,7 @@ impl Model for RoundRobin {
 impl RoundRobin {
     /// A policy with the empty view and no turn.
     pub fn new() -> RoundRobin
-        ensures { result ≡ record { view = []; turns = 0 } }
+        ensures { result ≡ record { view = record { subs = []; failed = [] }; turns = 0 } }
     {
         RoundRobin {
             view: View::new(),
@@ -70,10 +70,6 @@ impl Policy for RoundRobin {
         let turns = self.turns;
         self.turns = turns + 1;
         let ready = self.view.all_ready();
-        if ready.is_empty() {
-            return pick_without(self.view.state());
-        }
-        let place = turns % ready.len() as u64;
-        Pick::Place(ready[place as usize])
+        pick_in_turn(ready.as_slice(), turns, self.view.state())
     }
 }

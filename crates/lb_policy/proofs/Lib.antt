@@ -1,2 +1,4 @@
+pub mod FailedLaws
 pub mod NoteLaws
 mod TableLaws
+pub mod TierLaws

@@ -1,5 +1,6 @@
 -- The laws of the table.
-use Rattle.std.proofs.Common.{◌≡◌, ℕ, zero, suc, ◌<◌, Bool, true, false, ◌||◌, cond, if◌then◌else◌, Option, Some, List, [], ◌∷◌, length, map, filter, take, slice_get, refl, ap, sym, subst, arith}
+use Rattle.std.proofs.Common.{◌≡◌, ℕ, zero, suc, ◌+◌, ◌*◌, ◌%◌, ◌<◌, ◌∙◌, Bool, true, false, not, ◌||◌, is_some, cond, if◌then◌else◌, Option, Some, None, List, [], ◌∷◌, length, map, take, drop, get_or, slice_get, refl, ap, sym, subst, arith}
+use Rattle.std.specs.List.{filter, position_from, range_with_len}
 use Rattle.std.specs.Option.{option_map_or}
 use Rattle.std.proofs.lemmas.Option.{none-some, same_Some, slice_get-get_or}
 use Rattle.std.proofs.Math.Nat.{add-mod_right, mod-lt}
@@ -9,7 +10,7 @@ use Rattle.grpc_base.specs.declared.kind.Kind.{Kind}
 use Rattle.grpc_base.specs.declared.kind.Kind.TheVariants as kind
 use Rattle.grpc_base.specs.declared.kind.Pick.TheVariants as pick
 use Rattle.lb_policy.specs.declared.seen.SubSeen.{SubSeen}
-use Rattle.lb_policy.specs.Table.{is_ready, is_open, is_starting, subs_in, has_state, state_of_view, place_by, pick_by, pick_without}
+use Rattle.lb_policy.specs.Table.{is_ready, is_open, is_starting, subs_in, has_state, tier, first_tier, tier_is_ready, tier_has_failed, state_by, state_of_view, state_of_kind, wish_by, pick_at, pick_by, pick_without}
 use Rattle.lb_policy.specs.Laws.{IsIn, FitsState, PicksFollowState, WishesAreInView, RoundRobinGoesRound}
 
 -- a subchannel of a view, in such a state and with this number
@@ -48,14 +49,41 @@ pub none-in : (test : Conn → Bool) (view : List SubSeen) → has_state test vi
 none-in test [] h = refl
 none-in test (s ∷ view) h = none-step test s view (test s.state) h (none-in test view)
 
-pub place-within : (k : Kind) (turns count : ℕ) → 0 < count → place_by k turns count < count
-place-within kind.PickFirst turns count h = h
-place-within kind.RoundRobin turns count h = mod-lt turns h
+-- a part of a list
+pub taken-in : (m : ℕ) (view : List SubSeen) (i : ℕ) (s : SubSeen) → slice_get (take m view) i ≡ Some s → (i < m) × (slice_get view i ≡ Some s)
+taken-in zero view i s e = absurd (none-some s e)
+taken-in (suc m) [] i s e = absurd (none-some s e)
+taken-in (suc m) (t ∷ view) zero s e = (omega arith, e)
+taken-in (suc m) (t ∷ view) (suc i) s e =
+    let h : (i < m) × (slice_get view i ≡ Some s) = taken-in m view i s e in
+    let within : i < m = h.0 in
+    (omega (arith, within), h.1)
 
--- a READY subchannel is picked
-answer-ready : (k : Kind) (turns : ℕ) (view : List SubSeen) (n : ℕ) → slice_get (subs_in is_ready view) (place_by k turns (length (subs_in is_ready view))) ≡ Some n → pick_by k turns view ≡ pick.Place n
-answer-ready k turns view n e = ap (λ (o : Option ℕ). option_map_or pick.Place o (pick_without (state_of_view view))) e
+pub dropped-in : (d : ℕ) (view : List SubSeen) (i : ℕ) (s : SubSeen) → slice_get (drop d view) i ≡ Some s → slice_get view (d + i) ≡ Some s
+dropped-in zero view i s e = let h : i ≡ 0 + i = omega arith in subst (λ (k : ℕ). slice_get view k ≡ Some s) h e
+dropped-in (suc d) [] i s e = absurd (none-some s e)
+dropped-in (suc d) (t ∷ view) i s e =
+    let h : suc (d + i) ≡ suc d + i = omega arith in
+    subst (λ (k : ℕ). slice_get (t ∷ view) k ≡ Some s) h (dropped-in d view i s e)
 
+found-taken : (test : Conn → Bool) (m : ℕ) (view : List SubSeen) (n : ℕ) → Found test (take m view) n → Found test view n
+found-taken test m view n h = (h.0, record { place = h.1.place; at = (taken-in m view h.1.place h.0 h.1.at).1 }, h.2, h.3)
+
+found-tier : (test : Conn → Bool) (w t : ℕ) (view : List SubSeen) (n : ℕ) → Found test (tier w view t) n → Found test view n
+found-tier test w t view n h =
+    let g : Found test (drop (t * w) view) n = found-taken test w (drop (t * w) view) n h in
+    (g.0, record { place = t * w + g.1.place; at = dropped-in (t * w) view g.1.place g.0 g.1.at }, g.2, g.3)
+
+-- the first tier that passes a test passes it
+passes-step : (test : List SubSeen → Bool) (f : ℕ → List SubSeen) (k t : ℕ) (b : Bool) (rest : Option ℕ) → test (f k) ≡ b → cond b (Some k) rest ≡ Some t → (rest ≡ Some t → test (f t) ≡ true) → test (f t) ≡ true
+passes-step test f k t true rest h e next = subst (λ (j : ℕ). test (f j) ≡ true) (same_Some k t e) h
+passes-step test f k t false rest h e next = next e
+
+passes : (test : List SubSeen → Bool) (f : ℕ → List SubSeen) (n k t : ℕ) → position_from test k (map f (range_with_len k n)) ≡ Some t → test (f t) ≡ true
+passes test f zero k t e = absurd (none-some t e)
+passes test f (suc n) k t e = passes-step test f k t (test (f k)) _ refl e (passes test f n (k + 1) t)
+
+-- a READY subchannel is picked where there is one, and else what the state says
 ready-state : (s : Conn) → is_ready s ≡ true → s ≡ conn.Ready
 ready-state conn.Ready e = refl
 ready-state conn.Idle e = search
@@ -63,30 +91,48 @@ ready-state conn.Connecting e = search
 ready-state conn.Failure e = search
 ready-state conn.Shutdown e = search
 
-picks-ready : (k : Kind) (turns : ℕ) (view : List SubSeen) (n : ℕ) → slice_get (subs_in is_ready view) (place_by k turns (length (subs_in is_ready view))) ≡ Some n → FitsState view conn.Ready (pick_by k turns view)
-picks-ready k turns view n e =
-    let h : Found is_ready view n = found is_ready view _ n e in
-    (h.0, h.1, ready-state h.0.state h.2, subst (λ (m : ℕ). pick_by k turns view ≡ pick.Place m) (sym h.3) (answer-ready k turns view n e))
+abbrev AreReady : List SubSeen → List ℕ → Type 0
+AreReady view choices = (i n : ℕ) → slice_get choices i ≡ Some n → Found is_ready view n
 
-abbrev pub state_by : Bool → Bool → Conn
-state_by ready open_too = if ready then conn.Ready else (if open_too then conn.Connecting else conn.Failure)
+fits-ready : (view : List SubSeen) (choices : List ℕ) (place n : ℕ) (state : Conn) → Found is_ready view n → slice_get choices place ≡ Some n → FitsState view conn.Ready (pick_at choices place state)
+fits-ready view choices place n state h e =
+    (h.0, h.1, ready-state h.0.state h.2, ap (λ (o : Option ℕ). option_map_or pick.Place o (pick_without state)) e ∙ ap pick.Place (sym h.3))
 
-without : (view : List SubSeen) (o : Bool) → FitsState view (state_by false o) (pick_without (state_by false o))
+without : (view : List SubSeen) (hope : Bool) → FitsState view (state_by false hope) (pick_without (state_by false hope))
 without view true = refl
 without view false = refl
 
-picks-without : (k : Kind) (turns : ℕ) (view : List SubSeen) (s : Conn) (ns : List ℕ) → ns ≡ [] → FitsState view s (pick_without s) → FitsState view s (option_map_or pick.Place (slice_get ns (place_by k turns (length ns))) (pick_without s))
-picks-without k turns view s ns e h = subst (λ (xs : List ℕ). FitsState view s (option_map_or pick.Place (slice_get xs (place_by k turns (length xs))) (pick_without s))) (sym e) h
+fits : (view : List SubSeen) (ready hope : Bool) (choices : List ℕ) (place : ℕ) → AreReady view choices → (ready ≡ true → place < length choices) → (ready ≡ false → choices ≡ []) → FitsState view (state_by ready hope) (pick_at choices place (state_by ready hope))
+fits view true hope choices place from some none =
+    let e : slice_get choices place ≡ Some (get_or choices place 0) = slice_get-get_or choices place 0 (some refl) in
+    fits-ready view choices place (get_or choices place 0) conn.Ready (from place (get_or choices place 0) e) e
+fits view false hope choices place from some none =
+    subst (λ (ns : List ℕ). FitsState view (state_by false hope) (pick_at ns place (state_by false hope))) (sym (none refl)) (without view hope)
 
-picks-by : (k : Kind) (turns : ℕ) (view : List SubSeen) (r : Bool) → has_state is_ready view ≡ r → FitsState view (state_of_view view) (pick_by k turns view)
-picks-by k turns view true e =
-    let within : place_by k turns (length (subs_in is_ready view)) < length (subs_in is_ready view) = place-within k turns _ (some-in is_ready view e) in
-    subst (λ (b : Bool). FitsState view (state_by b (has_state is_open view)) (pick_by k turns view)) (sym e) (picks-ready k turns view _ (slice_get-get_or (subs_in is_ready view) (place_by k turns (length (subs_in is_ready view))) 0 within))
-picks-by k turns view false e =
-    picks-without k turns view (state_of_view view) (subs_in is_ready view) (none-in is_ready view e) (subst (λ (b : Bool). FitsState view (state_by b (has_state is_open view)) (pick_without (state_by b (has_state is_open view)))) (sym e) (without view (has_state is_open view)))
+ready-choices : (view : List SubSeen) → AreReady view (subs_in is_ready view)
+ready-choices view i n e = found is_ready view i n e
+
+abbrev pub choices_of : ℕ → List SubSeen → Option ℕ → List ℕ
+choices_of w view o = option_map_or (λ t. subs_in is_ready (tier w view t)) o []
+
+abbrev ArePassed : ℕ → List SubSeen → Option ℕ → Type 0
+ArePassed w view o = (t : ℕ) → o ≡ Some t → tier_is_ready (tier w view t) ≡ true
+
+fits-tiers : (w : ℕ) (view : List SubSeen) (turns : ℕ) (hope : Bool) (o : Option ℕ) → ArePassed w view o → FitsState view (state_by (is_some o) hope) (pick_at (choices_of w view o) (turns % length (choices_of w view o)) (state_by (is_some o) hope))
+fits-tiers w view turns hope None passed = without view hope
+fits-tiers w view turns hope (Some t) passed =
+    fits view true hope (choices_of w view (Some t)) _ (λ i n e. found-tier is_ready w t view n (found is_ready (tier w view t) i n e)) (λ e. mod-lt turns (some-in is_ready (tier w view t) (passed t refl))) (λ e. no-case _ (sym e))
+
+follow : (k : Kind) (w : ℕ) (failed : List ℕ) (view : List SubSeen) (turns : ℕ) → FitsState view (state_of_kind k w failed view) (pick_by k w failed view turns)
+follow kind.PickFirst w failed view turns =
+    fits view (has_state is_ready view) _ (subs_in is_ready view) 0 (ready-choices view) (some-in is_ready view) (none-in is_ready view)
+follow kind.RoundRobin w failed view turns =
+    fits view (has_state is_ready view) _ (subs_in is_ready view) _ (ready-choices view) (λ e. mod-lt turns (some-in is_ready view e)) (none-in is_ready view)
+follow kind.Priority w failed view turns =
+    fits-tiers w view turns _ (first_tier tier_is_ready w view) (λ t e. passes tier_is_ready (tier w view) (length view) 0 t e)
 
 pub picks-follow : PicksFollowState
-picks-follow k turns view = picks-by k turns view (has_state is_ready view) refl
+picks-follow p = follow p.kind p.width p.failed p.view p.turns
 
 -- what is wished is in the view
 abbrev InView : List SubSeen → ℕ → Type 0
@@ -104,10 +150,23 @@ wishes-first : (view : List SubSeen) (r : Bool) (i n : ℕ) → slice_get (if r 
 wishes-first view true i n e = absurd (none-some n e)
 wishes-first view false i n e = found-in is_open view n (found is_open view i n (first-only (subs_in is_open view) i n e))
 
+wishes-tiers : (w : ℕ) (view : List SubSeen) (o : Option ℕ) (i n : ℕ) → slice_get (subs_in is_starting (option_map_or (λ k. take ((k + 1) * w) view) o view)) i ≡ Some n → InView view n
+wishes-tiers w view None i n e = found-in is_starting view n (found is_starting view i n e)
+wishes-tiers w view (Some k) i n e =
+    found-in is_starting view n (found-taken is_starting ((k + 1) * w) view n (found is_starting (take ((k + 1) * w) view) i n e))
+
+wishes-by : (k : Kind) (w : ℕ) (failed : List ℕ) (view : List SubSeen) (i n : ℕ) → slice_get (wish_by k w failed view) i ≡ Some n → InView view n
+wishes-by kind.PickFirst w failed view i n e = wishes-first view (has_state is_ready view) i n e
+wishes-by kind.RoundRobin w failed view i n e = found-in is_starting view n (found is_starting view i n e)
+wishes-by kind.Priority w failed view i n e = wishes-tiers w view (first_tier (λ t. not (tier_has_failed failed t)) w view) i n e
+
 pub wishes-in : WishesAreInView
-wishes-in kind.PickFirst view i n e = wishes-first view (has_state is_ready view) i n e
-wishes-in kind.RoundRobin view i n e = found-in is_starting view n (found is_starting view i n e)
+wishes-in p i n e = wishes-by p.kind p.width p.failed p.view i n e
+
+round-by : (w : ℕ) (failed : List ℕ) (view : List SubSeen) (turns : ℕ) → pick_by kind.RoundRobin w failed view (turns + length (subs_in is_ready view)) ≡ pick_by kind.RoundRobin w failed view turns
+round-by w failed view turns =
+    ap (λ (place : ℕ). pick_at (subs_in is_ready view) place (state_of_view view)) (add-mod_right turns (length (subs_in is_ready view)))
 
 pub goes-round : RoundRobinGoesRound
-goes-round turns view =
-    ap (λ (place : ℕ). option_map_or pick.Place (slice_get (subs_in is_ready view) place) (pick_without (state_of_view view))) (add-mod_right turns (length (subs_in is_ready view)))
+goes-round p e =
+    subst (λ (k : Kind). pick_by k p.width p.failed p.view (p.turns + length (subs_in is_ready p.view)) ≡ pick_by k p.width p.failed p.view p.turns) (sym e) (round-by p.width p.failed p.view p.turns)

@@ -12,20 +12,22 @@ use grpc_base::{Conn, Kind, Pick};
 pub trait Balancer: Drop {
     ghost seen: { Self → PolicySeen };
 
-    /// Its kind, which never changes.
+    /// Its kind, which never changes; nor does the width of its tiers.
     fn kind(&self) -> Kind
         ensures { result ≡ (seen self.now).kind };
 
-    /// Forgets its view and its turns.
+    /// Forgets its view, which of it have failed, and its turns.
     fn reset(&mut self)
         ensures { seen self.new ≡ emptied (seen self.old) };
 
-    /// Takes a new view, and keeps its turns.
+    /// Takes a new view, and keeps its turns. Those of the view have failed that are in TRANSIENT_FAILURE, or had failed
+    /// before and are not READY.
     fn accept(&mut self, subs: &[SubSeen])
         requires { IsView subs.now }
         ensures { seen self.new ≡ given subs.now (seen self.old) };
 
-    /// Notes the state of a subchannel; one that is not in the view changes nothing.
+    /// Notes the state of a subchannel; one that is not in the view changes nothing. In TRANSIENT_FAILURE it has failed,
+    /// until it is READY.
     fn note(&mut self, sub: u32, state: Conn)
         ensures { seen self.new ≡ noted sub state (seen self.old) };
 

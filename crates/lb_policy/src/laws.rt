@@ -1,5 +1,6 @@
-// What the table says of all kinds together.
-ghost use Rattle.lb_policy.specs.Laws.{PicksFollowState, WishesAreInView, RoundRobinGoesRound, NotingAgainChangesNothing};
+// What the table says of all kinds together, and of tiers.
+ghost use Rattle.lb_policy.specs.Laws.{PicksFollowState, WishesAreInView, RoundRobinGoesRound, NotingAgainChangesNothing, NoPickPassesAReadyTier, NoWishPassesATierThatHasNotFailed, ARecoveredTierIsUsed};
+ghost use Rattle.lb_policy.specs.Runs.{FailedStaysOfTheView};
 
 /// The laws of the table: a pick is a READY subchannel of the view exactly where the state is READY, fails exactly
 /// where it is TRANSIENT_FAILURE, and waits otherwise; what is wished is in the view; and `round_robin` picks the
@@ -9,4 +10,18 @@ pub fn laws_of_the_table()
     ensures wishes { WishesAreInView }
     ensures round { RoundRobinGoesRound }
     ensures noting { NotingAgainChangesNothing }
+{}
+
+/// The laws of `priority`: no pick names a tier while an earlier one is ready; a later tier is wished only where every
+/// earlier one has failed; and a tier that recovers while no earlier one is ready is used at the next pick.
+pub fn laws_of_tiers()
+    ensures picks { NoPickPassesAReadyTier }
+    ensures wishes { NoWishPassesATierThatHasNotFailed }
+    ensures recovery { ARecoveredTierIsUsed }
+{}
+
+/// Whatever calls are made of a policy, the failed subchannels are some of the view, in its order: each one that is in
+/// TRANSIENT_FAILURE, none that is READY, and of the others those that failed and have not been READY since.
+pub fn law_of_failed()
+    ensures { FailedStaysOfTheView }
 {}

@@ -7,6 +7,6 @@ mod policy;
 mod seen;
 
 pub use balancer::Balancer;
-pub use laws::laws_of_the_table;
+pub use laws::{law_of_failed, laws_of_the_table, laws_of_tiers};
 pub use policy::Policy;
 pub use seen::SubSeen;

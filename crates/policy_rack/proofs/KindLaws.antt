@@ -32,13 +32,18 @@ map-same : (f g : Kind → Bool) → ((k : Kind) → f k ≡ g k) → (ks : List
 map-same f g same [] = refl
 map-same f g same (k ∷ ks) = ap (λ (b : Bool). b ∷ map f ks) (same k) ∙ ap (λ (bs : List Bool). g k ∷ bs) (map-same f g same ks)
 
-two : (a b c d : Bool) → a ≡ c → b ≡ d → a ∷ b ∷ [] ≡ c ∷ d ∷ []
-two a b c d e h = ap (λ (x : Bool). x ∷ b ∷ []) e ∙ ap (λ (x : Bool). c ∷ x ∷ []) h
+three : (a b c d e f : Bool) → a ≡ d → b ≡ e → c ≡ f → a ∷ b ∷ c ∷ [] ≡ d ∷ e ∷ f ∷ []
+three a b c d e f g h i =
+    ap (λ (x : Bool). x ∷ b ∷ c ∷ []) g ∙ ap (λ (x : Bool). d ∷ x ∷ c ∷ []) h ∙ ap (λ (x : Bool). d ∷ e ∷ x ∷ []) i
 
 -- a set with one kind more
 set-more : (test : Kind → Bool) (j : Kind) → with_kind (set_by test) j ≡ set_by (λ k. test k || same_kind j k)
-set-more test kind.PickFirst = two true (test kind.RoundRobin) (test kind.PickFirst || true) (test kind.RoundRobin || false) (or-true (test kind.PickFirst)) (or-false (test kind.RoundRobin))
-set-more test kind.RoundRobin = two (test kind.PickFirst) true (test kind.PickFirst || false) (test kind.RoundRobin || true) (or-false (test kind.PickFirst)) (or-true (test kind.RoundRobin))
+set-more test kind.PickFirst =
+    three true (test kind.RoundRobin) (test kind.Priority) (test kind.PickFirst || true) (test kind.RoundRobin || false) (test kind.Priority || false) (or-true (test kind.PickFirst)) (or-false (test kind.RoundRobin)) (or-false (test kind.Priority))
+set-more test kind.RoundRobin =
+    three (test kind.PickFirst) true (test kind.Priority) (test kind.PickFirst || false) (test kind.RoundRobin || true) (test kind.Priority || false) (or-false (test kind.PickFirst)) (or-true (test kind.RoundRobin)) (or-false (test kind.Priority))
+set-more test kind.Priority =
+    three (test kind.PickFirst) (test kind.RoundRobin) true (test kind.PickFirst || false) (test kind.RoundRobin || false) (test kind.Priority || true) (or-false (test kind.PickFirst)) (or-false (test kind.RoundRobin)) (or-true (test kind.Priority))
 
 set-with : (test : Kind → Bool) (ps : List PolicySeen) → kinds_with (set_by test) ps ≡ set_by (λ k. test k || has_policy k ps)
 set-with test [] = map-same test (λ k. test k || false) (λ k. or-false (test k)) each_kind
@@ -52,6 +57,7 @@ kinds_gathered ps = set-with (λ k. false) ps
 has-kind : (k : Kind) (ps : List PolicySeen) → has_kind (kinds_of ps) k ≡ has_policy k ps
 has-kind kind.PickFirst ps = refl
 has-kind kind.RoundRobin ps = refl
+has-kind kind.Priority ps = refl
 
 some-or : (b r : Bool) (n : ℕ) (o : Option ℕ) → is_some o ≡ r → is_some (cond b (Some n) o) ≡ (b || r)
 some-or true r n o e = refl

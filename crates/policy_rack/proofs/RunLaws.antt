@@ -18,9 +18,9 @@ other-place f (p ∷ ps) zero (suc i) h = refl
 other-place f (p ∷ ps) (suc j) zero h = refl
 other-place f (p ∷ ps) (suc j) (suc i) h = other-place f ps j i (λ e. h (ap suc e))
 
-same-place : (ps : List PolicySeen) (i : ℕ) (q : PolicySeen) → slice_get (changed emptied ps i) i ≡ Some q → (q.view ≡ []) × (q.turns ≡ 0)
+same-place : (ps : List PolicySeen) (i : ℕ) (q : PolicySeen) → slice_get (changed emptied ps i) i ≡ Some q → (q.view ≡ []) × (q.failed ≡ []) × (q.turns ≡ 0)
 same-place [] i q e = absurd (none-some q e)
-same-place (p ∷ ps) zero q e = let s : emptied p ≡ q = same_Some _ _ e in (sym (ap (λ (x : PolicySeen). x.view) s), sym (ap (λ (x : PolicySeen). x.turns) s))
+same-place (p ∷ ps) zero q e = let s : emptied p ≡ q = same_Some _ _ e in (sym (ap (λ (x : PolicySeen). x.view) s), sym (ap (λ (x : PolicySeen). x.failed) s), sym (ap (λ (x : PolicySeen). x.turns) s))
 same-place (p ∷ ps) (suc i) q e = same-place ps i q e
 
 -- a policy that is in use may change
@@ -36,7 +36,7 @@ kept-pending f ps c None spare = spare
 kept-pending f ps c (Some l) spare = kept-at f ps c (Some l) l.place (λ i hc hn. eqb-false l.place i hn) spare
 
 -- one that is reset is spare
-reset-at : (ps : List PolicySeen) (c : Option Live) (l : Live) → SparesAreEmpty ps c (Some l) → (i : ℕ) (p : PolicySeen) (b : Bool) → (l.place == i) ≡ b → slice_get (changed emptied ps l.place) i ≡ Some p → is_at i c ≡ false → (p.view ≡ []) × (p.turns ≡ 0)
+reset-at : (ps : List PolicySeen) (c : Option Live) (l : Live) → SparesAreEmpty ps c (Some l) → (i : ℕ) (p : PolicySeen) (b : Bool) → (l.place == i) ≡ b → slice_get (changed emptied ps l.place) i ≡ Some p → is_at i c ≡ false → (p.view ≡ []) × (p.failed ≡ []) × (p.turns ≡ 0)
 reset-at ps c l spare i p true h e hc = same-place ps i p (subst (λ (j : ℕ). slice_get (changed emptied ps j) i ≡ Some p) (eqb-true l.place i h) e)
 reset-at ps c l spare i p false h e hc = spare i p (sym (other-place emptied ps l.place i (eqb-false l.place i h)) ∙ e) hc h
 
@@ -132,9 +132,9 @@ keeps-calls : (calls : List RackCall) (r : RackSeen) → IsKept r → IsKept (af
 keeps-calls [] r k = k
 keeps-calls (call ∷ calls) r k = keeps-calls calls (after_call call r) (keeps-call call r k)
 
-new-spare : (ps : List PolicySeen) (i : ℕ) (q : PolicySeen) → slice_get (map emptied ps) i ≡ Some q → (q.view ≡ []) × (q.turns ≡ 0)
+new-spare : (ps : List PolicySeen) (i : ℕ) (q : PolicySeen) → slice_get (map emptied ps) i ≡ Some q → (q.view ≡ []) × (q.failed ≡ []) × (q.turns ≡ 0)
 new-spare [] i q e = absurd (none-some q e)
-new-spare (p ∷ ps) zero q e = let s : emptied p ≡ q = same_Some _ _ e in (sym (ap (λ (x : PolicySeen). x.view) s), sym (ap (λ (x : PolicySeen). x.turns) s))
+new-spare (p ∷ ps) zero q e = let s : emptied p ≡ q = same_Some _ _ e in (sym (ap (λ (x : PolicySeen). x.view) s), sym (ap (λ (x : PolicySeen). x.failed) s), sym (ap (λ (x : PolicySeen). x.turns) s))
 new-spare (p ∷ ps) (suc i) q e = new-spare ps i q e
 
 pub rack-keeps : RackKeeps

@@ -34,10 +34,10 @@ AreLive None (Some later) made = ⊥
 AreLive (Some live) None made = live.generation ≤ made
 AreLive (Some live) (Some later) made = ((live.place ≡ later.place) → ⊥) × (live.generation < later.generation) × (later.generation ≤ made)
 
--- a policy that no live generation uses has the empty view and no turn
+-- a policy that no live generation uses has the empty view, none that failed and no turn
 abbrev pub SparesAreEmpty : List PolicySeen → Option Live → Option Live → Type 0
 SparesAreEmpty policies current pending =
-    (place : ℕ) (p : PolicySeen) → slice_get policies place ≡ Some p → is_at place current ≡ false → is_at place pending ≡ false → (p.view ≡ []) × (p.turns ≡ 0)
+    (place : ℕ) (p : PolicySeen) → slice_get policies place ≡ Some p → is_at place current ≡ false → is_at place pending ≡ false → (p.view ≡ []) × (p.failed ≡ []) × (p.turns ≡ 0)
 
 pub record IsKept (r : RackSeen) : Type 0 where
   pub live : AreLive r.current r.pending r.made

@@ -13,7 +13,7 @@ use std::marker::Model;
 /// The policies that a channel was handed, one of each kind, and the generations that use them.
 ///
 /// Pick requests go to the current generation alone. A pending one takes its place when it may; a generation that
-/// is retired leaves a policy that is reset, and so has the empty view and no turn. No call takes memory.
+/// is retired leaves a policy that is reset, and so has the empty view, none that failed and no turn. No call takes memory.
 #[derive(Drop)]
 pub struct Rack<P: Balancer> {
     policies: Vec<P>,

@@ -6,7 +6,7 @@ use grpc_base::{Conn, Kind, Pick};
 use lb_kinds::{PickFirst, RoundRobin};
 use lb_policy::{Policy, SubSeen};
 
-fn state_of(digit: u32) -> Conn {
+pub fn state_of(digit: u32) -> Conn {
     match digit {
         0 => Conn::Idle,
         1 => Conn::Connecting,
@@ -16,7 +16,7 @@ fn state_of(digit: u32) -> Conn {
 }
 
 /// Subchannels 1 to 4 in these states.
-fn view_of(states: [Conn; 4]) -> [SubSeen; 4]
+pub fn view_of(states: [Conn; 4]) -> [SubSeen; 4]
     ensures { IsView result }
 {
     let [first, second, third, fourth] = states;
@@ -41,7 +41,7 @@ fn view_of(states: [Conn; 4]) -> [SubSeen; 4]
 }
 
 /// Hands a policy the first so many of the subchannels 1 to 4, in these states.
-fn give<P: Policy>(policy: &mut P, states: [Conn; 4], count: u32)
+pub fn give<P: Policy>(policy: &mut P, states: [Conn; 4], count: u32)
     ensures { (P.seen policy.new).turns ≡ (P.seen policy.old).turns }
 {
     let [first, second, third, fourth] = view_of(states);
@@ -90,7 +90,7 @@ fn with_digit(number: u32, digit: u32) -> u32 {
 }
 
 /// The subchannels that a policy wishes connected, as decimal digits in their order.
-fn wish_of<P: Policy>(policy: &P) -> u32 {
+pub fn wish_of<P: Policy>(policy: &P) -> u32 {
     let mut wish = 0;
     for sub in policy.wish().as_slice() {
         wish = with_digit(wish, *sub);

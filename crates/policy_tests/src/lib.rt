@@ -9,3 +9,5 @@ mod lb_kinds_tests;
 mod policy_rack_tests;
 #[cfg(test)]
 mod subchannel_tests;
+#[cfg(test)]
+mod tiers_tests;

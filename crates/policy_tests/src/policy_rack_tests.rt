@@ -3,11 +3,13 @@ ghost use Rattle.std.specs.Prelude.{◌≡◌, map, true};
 ghost use Rattle.policy_rack.specs.Kinds.{are_ready};
 ghost use Rattle.grpc_base.specs.declared.kind.Kind.TheVariants as kind;
 ghost use Rattle.lb_kinds.specs.Seen.{of_kind};
+ghost use Rattle.lb_priority.specs.Seen.{of_tiers};
 
 use arrayvec::ArrayVec;
 use grpc_base::{Conn, Kind, Pick};
 use lb_kinds::{PickFirst, RoundRobin};
 use lb_policy::{Balancer, Policy, SubSeen};
+use lb_priority::Priority;
 use policy_rack::{Rack, boxes_ready, policies_ready};
 use std::alloc::Global;
 use std::test::Fail;
@@ -17,17 +19,19 @@ use std::test::Fail;
 enum Plain {
     First(PickFirst),
     Round(RoundRobin),
+    Tiers(Priority),
 }
 
 impl Balancer for Plain {
     ghost use Rattle.policy_tests.specs.declared.policy_rack_tests.Plain.TheVariants as plain;
 
-    ghost seen = { λ p. elim p [ plain.First policy ↦ of_kind kind.PickFirst policy | plain.Round policy ↦ of_kind kind.RoundRobin policy ] };
+    ghost seen = { λ p. elim p [ plain.First policy ↦ of_kind kind.PickFirst policy | plain.Round policy ↦ of_kind kind.RoundRobin policy | plain.Tiers policy ↦ of_tiers policy ] };
 
     fn kind(&self) -> Kind {
         match self {
             Plain::First(policy) => policy.kind(),
             Plain::Round(policy) => policy.kind(),
+            Plain::Tiers(policy) => policy.kind(),
         }
     }
 
@@ -35,6 +39,7 @@ impl Balancer for Plain {
         match self {
             Plain::First(policy) => policy.reset(),
             Plain::Round(policy) => policy.reset(),
+            Plain::Tiers(policy) => policy.reset(),
         }
     }
 
@@ -42,6 +47,7 @@ impl Balancer for Plain {
         match self {
             Plain::First(policy) => policy.accept(subs),
             Plain::Round(policy) => policy.accept(subs),
+            Plain::Tiers(policy) => policy.accept(subs),
         }
     }
 
@@ -49,6 +55,7 @@ impl Balancer for Plain {
         match self {
             Plain::First(policy) => policy.note(sub, state),
             Plain::Round(policy) => policy.note(sub, state),
+            Plain::Tiers(policy) => policy.note(sub, state),
         }
     }
 
@@ -56,6 +63,7 @@ impl Balancer for Plain {
         match self {
             Plain::First(policy) => policy.wish(),
             Plain::Round(policy) => policy.wish(),
+            Plain::Tiers(policy) => policy.wish(),
         }
     }
 
@@ -63,6 +71,7 @@ impl Balancer for Plain {
         match self {
             Plain::First(policy) => policy.state(),
             Plain::Round(policy) => policy.state(),
+            Plain::Tiers(policy) => policy.state(),
         }
     }
 
@@ -70,6 +79,7 @@ impl Balancer for Plain {
         match self {
             Plain::First(policy) => policy.pick(),
             Plain::Round(policy) => policy.pick(),
+            Plain::Tiers(policy) => policy.pick(),
         }
     }
 }
@@ -130,6 +140,21 @@ fn takes_over<P: Balancer>(policies: Vec<P>) -> bool
     !early && late && rack.current() == Some((2, Kind::RoundRobin))
 }
 
+/// Whether a generation of tiers that has failed takes over, and is in TRANSIENT_FAILURE while it dials again.
+fn keeps_failing<P: Balancer>(policies: Vec<P>) -> bool
+    requires { are_ready (map P.seen policies.items) ≡ true }
+{
+    let mut rack = Rack::new(policies);
+    let _first = adopted(&mut rack, Kind::RoundRobin, 1, Conn::Ready);
+    let _second = adopted(&mut rack, Kind::Priority, 2, Conn::Connecting);
+    rack.note(2, Conn::Failure);
+    rack.note(2, Conn::Idle);
+    let taken = rack.take_over();
+    let failing = rack.state() == Some(Conn::Failure) && rack.wished(2);
+    rack.note(2, Conn::Ready);
+    taken && failing && rack.state() == Some(Conn::Ready)
+}
+
 /// What the first pick request gets after a result of one READY subchannel.
 fn first_pick<P: Balancer>(policies: Vec<P>) -> Option<(u32, Pick)>
     requires { are_ready (map P.seen policies.items) ≡ true }
@@ -146,19 +171,21 @@ fn first_pick<P: Balancer>(policies: Vec<P>) -> Option<(u32, Pick)>
     Some(rack.ask())
 }
 
-/// The two policies of the channel, each in a box.
+/// The three policies of the channel, each in a box.
 fn in_boxes(alloc: Global) -> Result<Vec<Box<dyn Policy>>, Fail> {
     let mut policies: Vec<Box<dyn Policy>> = Vec::new(alloc);
+    policies.push(Box::new(alloc, Priority::new(8).unwrap())?)?;
     policies.push(Box::new(alloc, RoundRobin::new())?)?;
     policies.push(Box::new(alloc, PickFirst::new())?)?;
     Ok(policies)
 }
 
-/// The same two, in no box and in the other order.
+/// The same three, in no box and in the other order.
 fn in_no_box(alloc: Global) -> Result<Vec<Plain>, Fail> {
     let mut policies = Vec::new(alloc);
     policies.push(Plain::First(PickFirst::new()))?;
     policies.push(Plain::Round(RoundRobin::new()))?;
+    policies.push(Plain::Tiers(Priority::new(8).unwrap()))?;
     Ok(policies)
 }
 
@@ -195,6 +222,17 @@ fn lets_a_ready_generation_take_over(rt: HostRuntime) -> Result<(), Fail> {
     let plain = in_no_box(rt.alloc())?;
     assert!(rt; policies_ready(plain.as_slice()));
     assert!(rt; takes_over(plain));
+    Ok(())
+}
+
+#[test]
+fn lets_a_failed_generation_take_over(rt: HostRuntime) -> Result<(), Fail> {
+    let boxes = in_boxes(rt.alloc())?;
+    assert!(rt; boxes_ready(&boxes));
+    assert!(rt; keeps_failing(boxes));
+    let plain = in_no_box(rt.alloc())?;
+    assert!(rt; policies_ready(plain.as_slice()));
+    assert!(rt; keeps_failing(plain));
     Ok(())
 }
 

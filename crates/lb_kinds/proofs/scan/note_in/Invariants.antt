@@ -1,7 +1,7 @@
 use Rattle.std.proofs.Common.{◌≡◌, ◌++◌, map, take, drop}
-use Rattle.lb_policy.specs.Steps.{noted_sub}
+use Rattle.lb_kinds.specs.Seen.{noted_mark}
 use Rattle.lb_kinds.proofs.scan.note_in.Given as goal
 
 -- those in front are noted, the others are as before
-abbrev pub invariant-loop-seen : goal.invariant-loop-seen
-invariant-loop-seen l = l.subs ≡ map (noted_sub l.sub l.state) (take l.seen-index l.fn.subs) ++ drop l.seen-index l.fn.subs
+abbrev pub invariant-loop-marked : goal.invariant-loop-marked
+invariant-loop-marked l = l.subs ≡ map (noted_mark l.sub l.state) (take l.marked-index l.fn.subs) ++ drop l.marked-index l.fn.subs

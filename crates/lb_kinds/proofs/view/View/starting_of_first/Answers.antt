@@ -1,0 +1,11 @@
+use Rattle.std.proofs.Common.{◌≡◌, ◌∙◌, List, take, drop, ap}
+use Rattle.lb_policy.specs.Table.{is_starting, subs_in}
+use Rattle.lb_kinds.specs.declared.marked.Marked.{Marked}
+use Rattle.lb_kinds.specs.Seen.{Viewed, plain, viewed}
+use Rattle.lb_kinds.proofs.ViewLaws.{plain-part}
+use Rattle.lb_kinds.proofs.view.View.starting_of_first.Goals as goal
+
+pub returns : goal.returns
+returns c =
+    let view : viewed c.self.inside.subs.items ≡ c.args.self.now = (cc) in
+    c.all_starting.ensures ∙ ap (λ (ms : List Marked). subs_in is_starting (plain ms)) (c.part.ensures ∙ ap (λ (ms : List Marked). take c.args.count (drop 0 ms)) c.as_slice.ensures.value) ∙ ap (subs_in is_starting) (plain-part c.args.count 0 c.self.inside.subs.items) ∙ ap (λ (v : Viewed). subs_in is_starting (take c.args.count v.subs)) view
