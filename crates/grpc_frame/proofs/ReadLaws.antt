@@ -1,6 +1,6 @@
 -- Messages of a rest and a piece, as the reader finds them.
-use Rattle.std.proofs.Common.{◌≡◌, ℕ, ◌+◌, ◌-◌, ◌≤◌, Option, Some, None, List, [], ◌∷◌, ◌++◌, length, take, drop, refl, ap, sym, ◌∙◌, subst, arith, append_assoc, length-append, length-drop}
-use Rattle.std.proofs.lemmas.List.{append-nil, take-append-drop, take_all, drop-append-le, take-append-le}
+use Rattle.std.proofs.Common.{◌≡◌, ℕ, ◌+◌, ◌-◌, ◌≤◌, Some, None, List, [], ◌∷◌, ◌++◌, length, take, drop, ap, sym, ◌∙◌, subst, arith, append_assoc, length-drop}
+use Rattle.std.proofs.lemmas.List.{take-append-drop, take_all, drop-append-le}
 use Rattle.std.proofs.lemmas.List.{drop-drop}
 use Rattle.std.proofs.Math.Seq.{take-add, take-append_seam, drop-append_seam}
 use Rattle.std.specs.Prelude.{slice_range}

@@ -1,7 +1,7 @@
 // Frames and faults from outside: an independent model's, and the bounds of RFC 9113 by hand.
 use bytes::BytesMut;
 use h2_frame::kinds::{DATA, GOAWAY, PING, SETTINGS, WINDOW_UPDATE};
-use h2_frame::{Frame, FrameStep, next_frame, write_frame};
+use h2_frame::{Frame, FrameStep, fault_place, next_frame, write_frame};
 use std::process::Abort;
 use std::test::Fail;
 
@@ -98,7 +98,10 @@ fn check_prefixes(rt: &impl Abort, bytes: &[u8], want: Want) {
                 _ => panic!(rt; "no frame in {bytes:?}"),
             },
             Want::Bad(wanted, place) if place <= count => match step {
-                FrameStep::Bad { code } => assert_eq!(rt; code, wanted, "in {bytes:?}"),
+                FrameStep::Bad { code } => {
+                    let told = (code, fault_place(&bytes[..count]));
+                    assert_eq!(rt; told, (wanted, place), "in {bytes:?}");
+                }
                 _ => panic!(rt; "no fault in {count} of {bytes:?}"),
             },
             _ => assert!(rt; matches!(step, FrameStep::More), "at {count} of {bytes:?}"),

@@ -217,3 +217,17 @@ fn a_side_that_has_ended_sends_and_takes_no_more(rt: HostRuntime) -> Result<(), 
     assert_eq!(rt; stream.state(), StreamState::Closed);
     Ok(())
 }
+
+#[test]
+fn a_reset_closes_a_stream(rt: HostRuntime) -> Result<(), Fail> {
+    let mut stream = Stream::new(10, 10);
+    stream.on_headers(false)?;
+    stream.reset();
+    assert_eq!(rt; stream.state(), StreamState::Closed);
+    assert_eq!(rt; stream.may_send(), 0);
+    stream.on_data(11, true)?;
+    stream.on_window(0)?;
+    stream.on_headers(false)?;
+    assert_eq!(rt; stream.state(), StreamState::Closed);
+    Ok(())
+}

@@ -2,9 +2,13 @@
 #![tactic(auto)]
 
 #[cfg(test)]
+mod grpc_frame_tests;
+#[cfg(test)]
 mod grpc_meta_tests;
 #[cfg(test)]
 mod grpc_status_tests;
+#[cfg(test)]
+mod h2_frame_payload_tests;
 #[cfg(test)]
 mod h2_frame_tests;
 #[cfg(test)]
