@@ -1,3 +1,4 @@
 pub mod Dials
 pub mod Pumps
 pub mod Ticks
+pub mod Workers

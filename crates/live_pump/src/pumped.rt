@@ -1,6 +1,7 @@
 // What the pumps answer, and how one event is posted.
-ghost use Rattle.std.specs.Prelude.{◌≡◌};
+ghost use Rattle.std.specs.Prelude.{◌≡◌, true};
 ghost use Rattle.live_pump.specs.Pumps.{HandleSeen, PostsTo, answer_of};
+ghost use Rattle.live_pump.specs.Workers.{Tells, is_quiet};
 
 use grpc_base::{Event, Post, PostError, Reply};
 
@@ -36,6 +37,7 @@ pub(crate) fn answer_of(done: Pumped, came: &Result<Reply, PostError>) -> Pumped
 pub(crate) fn post_to<P: Post>(post: &mut P, event: Event, done: Pumped) -> Pumped
     ensures posted { let before : HandleSeen = record { made = P.made post.old; errors = P.errors post.old; last = P.last_error post.old } in let after : HandleSeen = record { made = P.made post.new; errors = P.errors post.new; last = P.last_error post.new } in PostsTo event done before after result }
     ensures looks { (P.looks post.new ≡ P.looks post.old) × (P.last_look post.new ≡ P.last_look post.old) }
+    ensures tells { let before : HandleSeen = record { made = P.made post.old; errors = P.errors post.old; last = P.last_error post.old } in let after : HandleSeen = record { made = P.made post.new; errors = P.errors post.new; last = P.last_error post.new } in is_quiet done ≡ true → Tells before after result }
 {
     let came = post.post(event);
     answer_of(done, &came)

@@ -3,6 +3,7 @@ ghost use Rattle.std.specs.Prelude.{◌≡◌, ◌≤◌, Bool, true, false, Som
 ghost use Rattle.grpc_base.specs.Counts.{one_more};
 ghost use Rattle.grpc_base.specs.declared.post.Look.TheVariants as look;
 ghost use Rattle.gate_io.specs.Outside.{Appends, AppendsFront};
+ghost use Rattle.live_pump.specs.Workers.{Tells};
 ghost use Rattle.live_pump.specs.Pumps.{Arrives, HandleSeen, InSeen, OutSeen, PumpsIn, PumpsOut, WritesOut, drained_of};
 
 use crate::Pumped;
@@ -21,6 +22,7 @@ const DRAIN_ROOM: u32 = 65_536;
 fn arrived<P: Post>(alloc: Global, post: &mut P, link: u32, piece: &[u8]) -> Pumped
     ensures posted { let before : HandleSeen = record { made = P.made post.old; errors = P.errors post.old; last = P.last_error post.old } in let after : HandleSeen = record { made = P.made post.new; errors = P.errors post.new; last = P.last_error post.new } in Arrives link piece.now before after result }
     ensures looks { (P.looks post.new ≡ P.looks post.old) × (P.last_look post.new ≡ P.last_look post.old) }
+    ensures tells { let before : HandleSeen = record { made = P.made post.old; errors = P.errors post.old; last = P.last_error post.old } in let after : HandleSeen = record { made = P.made post.new; errors = P.errors post.new; last = P.last_error post.new } in Tells before after result }
 {
     match Octets::of_slice(alloc, piece) {
         Ok(piece) => post_to(post, Event::Arrived { link, piece }, Pumped::Going),
@@ -37,6 +39,7 @@ pub(crate) fn pump_read<P: Post, I: LinkIn>(
 ) -> (Pumped, bool)
     ensures posted { let before : HandleSeen = record { made = P.made post.old; errors = P.errors post.old; last = P.last_error post.old } in let after : HandleSeen = record { made = P.made post.new; errors = P.errors post.new; last = P.last_error post.new } in PumpsIn link (record { left = I.left input.old; faults = I.faults input.old; quiet = I.quiet input.old }) (record { left = I.left input.new; faults = I.faults input.new; quiet = I.quiet input.new }) before after result.0 }
     ensures looks { (P.looks post.new ≡ P.looks post.old) × (P.last_look post.new ≡ P.last_look post.old) }
+    ensures tells { let before : HandleSeen = record { made = P.made post.old; errors = P.errors post.old; last = P.last_error post.old } in let after : HandleSeen = record { made = P.made post.new; errors = P.errors post.new; last = P.last_error post.new } in Tells before after result.0 }
 {
     let mut piece = [0u8; READ_BYTES];
     match input.read(&mut piece) {
@@ -53,6 +56,7 @@ pub(crate) fn pump_read<P: Post, I: LinkIn>(
 pub fn pump_in<P: Post, I: LinkIn>(alloc: Global, post: &mut P, input: &mut I, link: u32) -> Pumped
     ensures posted { let before : HandleSeen = record { made = P.made post.old; errors = P.errors post.old; last = P.last_error post.old } in let after : HandleSeen = record { made = P.made post.new; errors = P.errors post.new; last = P.last_error post.new } in PumpsIn link (record { left = I.left input.old; faults = I.faults input.old; quiet = I.quiet input.old }) (record { left = I.left input.new; faults = I.faults input.new; quiet = I.quiet input.new }) before after result }
     ensures looks { (P.looks post.new ≡ P.looks post.old) × (P.last_look post.new ≡ P.last_look post.old) }
+    ensures tells { let before : HandleSeen = record { made = P.made post.old; errors = P.errors post.old; last = P.last_error post.old } in let after : HandleSeen = record { made = P.made post.new; errors = P.errors post.new; last = P.last_error post.new } in Tells before after result }
 {
     pump_read(alloc, post, input, link).0
 }
@@ -81,6 +85,7 @@ fn write_out<P: Post, O: LinkOut>(post: &mut P, output: &mut O, link: u32, piece
     ensures posted { let before : HandleSeen = record { made = P.made post.old; errors = P.errors post.old; last = P.last_error post.old } in let after : HandleSeen = record { made = P.made post.new; errors = P.errors post.new; last = P.last_error post.new } in WritesOut link piece.now (record { taken = O.taken output.old; faults = O.faults output.old }) (record { taken = O.taken output.new; faults = O.faults output.new }) before after result }
     ensures looks { (P.looks post.new ≡ P.looks post.old) × (P.last_look post.new ≡ P.last_look post.old) }
     ensures closed { O.closed output.new ≡ O.closed output.old }
+    ensures tells { let before : HandleSeen = record { made = P.made post.old; errors = P.errors post.old; last = P.last_error post.old } in let after : HandleSeen = record { made = P.made post.new; errors = P.errors post.new; last = P.last_error post.new } in Tells before after result }
 {
     if write_link(output, piece) {
         return Pumped::Going;
@@ -103,6 +108,7 @@ fn drain_out<P: Post, O: LinkOut>(post: &mut P, output: &mut O, link: u32) -> Pu
     ensures posted { let before : HandleSeen = record { made = P.made post.old; errors = P.errors post.old; last = P.last_error post.old } in let after : HandleSeen = record { made = P.made post.new; errors = P.errors post.new; last = P.last_error post.new } in PumpsOut link true (record { taken = O.taken output.old; faults = O.faults output.old }) (record { taken = O.taken output.new; faults = O.faults output.new }) before after result }
     ensures looks { (P.looks post.new ≡ P.looks post.old) × (P.last_look post.new ≡ P.last_look post.old) }
     ensures closed { O.closed output.new ≡ O.closed output.old }
+    ensures tells { let before : HandleSeen = record { made = P.made post.old; errors = P.errors post.old; last = P.last_error post.old } in let after : HandleSeen = record { made = P.made post.new; errors = P.errors post.new; last = P.last_error post.new } in Tells before after result }
 {
     let room = DRAIN_ROOM;
     let came = post.post(Event::Drain { link, room });
@@ -118,6 +124,7 @@ pub fn pump_out<P: Post + Glance, O: LinkOut>(post: &mut P, output: &mut O, link
     ensures posted { let before : HandleSeen = record { made = P.made post.old; errors = P.errors post.old; last = P.last_error post.old } in let after : HandleSeen = record { made = P.made post.new; errors = P.errors post.new; last = P.last_error post.new } in (can : Bool) × (P.last_look post.new ≡ Some (look.CanDrain link can)) × PumpsOut link can (record { taken = O.taken output.old; faults = O.faults output.old }) (record { taken = O.taken output.new; faults = O.faults output.new }) before after result }
     ensures looks { P.looks post.new ≡ one_more (P.looks post.old) }
     ensures closed { O.closed output.new ≡ O.closed output.old }
+    ensures tells { let before : HandleSeen = record { made = P.made post.old; errors = P.errors post.old; last = P.last_error post.old } in let after : HandleSeen = record { made = P.made post.new; errors = P.errors post.new; last = P.last_error post.new } in Tells before after result }
 {
     if !post.can_drain(link) {
         return Pumped::Going;

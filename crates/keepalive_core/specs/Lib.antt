@@ -1,0 +1,3 @@
+pub mod Keepalive
+pub mod Table
+pub mod TableSeen

@@ -1,0 +1,12 @@
+// Keepalive: finding links on which nothing comes any more.
+#![tactic(auto)]
+
+mod check;
+mod keepalive;
+mod rule;
+mod table;
+
+pub use check::{KeepLogFault, check_keep};
+pub use keepalive::Keepalive;
+pub use rule::{KeepEntry, KeepFault, KeepKind, KeepRule, KeepTurn};
+pub use table::{KeepTable, KeptLink};

@@ -1,0 +1,101 @@
+// One turn of one link that a worker keeps open.
+ghost use Rattle.std.specs.Prelude.{◌≡◌, ◌≤◌, [], ℕ, true, false, Some};
+ghost use Rattle.grpc_base.specs.Counts.{one_more};
+ghost use Rattle.grpc_base.specs.declared.tender.Tend.{Tend};
+ghost use Rattle.live_pump.specs.Pumps.{HandleSeen};
+ghost use Rattle.live_pump.specs.Workers.{HasNotFallen, Tells, TendsTo, is_going};
+
+use crate::Pumped;
+use crate::pumped::post_to;
+use crate::pumps::{pump_out, pump_read};
+use gate_io::{Clock, LinkIn, LinkOut};
+use grpc_base::{Event, Glance, Post, Tend, Tender};
+use std::alloc::Global;
+
+/// A link that a worker keeps open.
+#[derive(Debug, Drop)]
+pub(crate) struct OpenLink<I, O> {
+    pub link: u32,
+    pub input: I,
+    pub output: O,
+}
+
+/// Asks the tender once about a link, and posts a Ping or LinkLost exactly where it says so.
+fn tend_link<P: Post, C: Clock, T: Tender>(
+    post: &mut P,
+    clock: &C,
+    tender: &mut T,
+    link: u32,
+) -> Pumped
+    ensures posted { let before : HandleSeen = record { made = P.made post.old; errors = P.errors post.old; last = P.last_error post.old } in let after : HandleSeen = record { made = P.made post.new; errors = P.errors post.new; last = P.last_error post.new } in (moment : ℕ) × (answer : Tend) × C.may_give clock.now moment × (T.last_turn tender.new ≡ Some (record { link = link; moment = moment; answer = answer })) × TendsTo link answer before after result }
+    ensures turns { T.turns tender.new ≡ one_more (T.turns tender.old) }
+    ensures looks { (P.looks post.new ≡ P.looks post.old) × (P.last_look post.new ≡ P.last_look post.old) }
+    ensures tells { let before : HandleSeen = record { made = P.made post.old; errors = P.errors post.old; last = P.last_error post.old } in let after : HandleSeen = record { made = P.made post.new; errors = P.errors post.new; last = P.last_error post.new } in Tells before after result }
+{
+    match tender.turn(link, clock.now()) {
+        Tend::Nothing => Pumped::Going,
+        Tend::Ping { word } => post_to(post, Event::Ping { link, word }, Pumped::Going),
+        Tend::Lost => post_to(post, Event::LinkLost { link }, Pumped::Lost),
+    }
+}
+
+/// Writes what the channel has for a link, reads it once, tells the tender of bytes that came, and asks it.
+fn pump_link<P: Post + Glance, I: LinkIn, O: LinkOut, C: Clock, T: Tender>(
+    alloc: Global,
+    post: &mut P,
+    clock: &C,
+    tender: &mut T,
+    kept: &mut OpenLink<I, O>,
+) -> Pumped
+    ensures looks { HasNotFallen (P.looks post.old) (P.looks post.new) }
+    ensures tells { let before : HandleSeen = record { made = P.made post.old; errors = P.errors post.old; last = P.last_error post.old } in let after : HandleSeen = record { made = P.made post.new; errors = P.errors post.new; last = P.last_error post.new } in Tells before after result }
+{
+    let link = kept.link;
+    let wrote = pump_out(post, &mut kept.output, link);
+    if wrote != Pumped::Going {
+        return wrote;
+    }
+    let (read, came) = pump_read(alloc, post, &mut kept.input, link);
+    if came {
+        tender.heard(link, clock.now());
+    }
+    if read != Pumped::Going {
+        return read;
+    }
+    tend_link(post, clock, tender, link)
+}
+
+/// A turn of a link. Unless the link goes on, it is closed.
+pub(crate) fn turn_link<P: Post + Glance, I: LinkIn, O: LinkOut, C: Clock, T: Tender>(
+    alloc: Global,
+    post: &mut P,
+    clock: &C,
+    tender: &mut T,
+    kept: &mut OpenLink<I, O>,
+) -> Pumped
+    ensures looks { HasNotFallen (P.looks post.old) (P.looks post.new) }
+    ensures tells { let before : HandleSeen = record { made = P.made post.old; errors = P.errors post.old; last = P.last_error post.old } in let after : HandleSeen = record { made = P.made post.new; errors = P.errors post.new; last = P.last_error post.new } in Tells before after result }
+    ensures closed { is_going result ≡ false → O.closed kept.new.output ≡ true }
+{
+    let answer = pump_link(alloc, post, clock, tender, kept);
+    if answer != Pumped::Going {
+        kept.output.close();
+    }
+    answer
+}
+
+/// Closes a link.
+fn close_link<I: LinkIn, O: LinkOut>(kept: &mut OpenLink<I, O>)
+    ensures { O.closed kept.new.output ≡ true }
+{
+    kept.output.close();
+}
+
+/// Closes the links that are left.
+pub(crate) fn close_links<I: LinkIn, O: LinkOut>(links: &mut Vec<OpenLink<I, O>>)
+    ensures { links.new.items ≡ [] }
+{
+    while let Some(mut kept) = links.pop() {
+        close_link(&mut kept);
+    }
+}
