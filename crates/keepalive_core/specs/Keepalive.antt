@@ -1,5 +1,5 @@
 -- Keepalive of a link (gRPC, "Keepalive"), over the list of all that was done on it, newest first.
-use Rattle.std.specs.Prelude.{◌≡◌, ◌≤◌, ℕ, ◌+◌, Bool, true, false, ◌==◌, ◌||◌, nat_le, if◌then◌else◌, max, Option, Some, None, List, [], ◌∷◌, length}
+use Rattle.std.specs.Prelude.{◌≤◌, ℕ, ◌+◌, Bool, true, false, ◌==◌, ◌||◌, nat_le, if◌then◌else◌, max, Option, Some, None, List, [], ◌∷◌, length}
 use Rattle.keepalive_core.specs.declared.rule.KeepEntry.{KeepEntry}
 use Rattle.keepalive_core.specs.declared.rule.KeepKind.{KeepKind}
 use Rattle.keepalive_core.specs.declared.rule.KeepKind.TheVariants as kind
@@ -132,9 +132,14 @@ next_due k = due_at k k.lost
 abbrev pub stands_after : KeepSeen → KeepKind → ℕ → Option ℕ → KeepSeen
 stands_after k done moment (Some lost) = k
 stands_after k done moment None =
-    record { rule = k.rule; moment = max k.moment moment; heard = heard_by (max k.moment moment) k.heard done;
-      pings = if is_ping done then k.pings + 1 else k.pings; sent = open_by (max k.moment moment) k.sent done;
-      lost = if is_lost done then Some (max k.moment moment) else None }
+    record {
+      rule = k.rule;
+      moment = max k.moment moment;
+      heard = heard_by (max k.moment moment) k.heard done;
+      pings = if is_ping done then k.pings + 1 else k.pings;
+      sent = open_by (max k.moment moment) k.sent done;
+      lost = if is_lost done then Some (max k.moment moment) else None;
+    }
 
 abbrev pub stand_next : KeepSeen → KeepKind → ℕ → KeepSeen
 stand_next k done moment = stands_after k done moment k.lost

@@ -2,8 +2,6 @@
 use Rattle.std.specs.Prelude.{ℕ, ◌+◌, ◌==◌, if◌then◌else◌, Option, Some, None, List, [], ◌∷◌, slice_get}
 use Rattle.grpc_base.specs.declared.tender.Tend.{Tend}
 use Rattle.grpc_base.specs.declared.tender.Tend.TheVariants as tend
-use Rattle.grpc_base.specs.declared.tender.TendTurn.{TendTurn}
-use Rattle.keepalive_core.specs.declared.rule.KeepRule.{KeepRule}
 use Rattle.keepalive_core.specs.declared.rule.KeepTurn.{KeepTurn}
 use Rattle.keepalive_core.specs.declared.rule.KeepTurn.TheVariants as turn
 use Rattle.keepalive_core.specs.declared.table.KeptLink.{KeptLink}

@@ -1,3 +1,4 @@
+pub mod CallLaws
 pub mod DialLaws
 pub mod HandleLaws
 pub mod PumpLaws

@@ -1,3 +1,4 @@
+pub mod Calls
 pub mod Dials
 pub mod Pumps
 pub mod Ticks

@@ -1,6 +1,5 @@
-use Rattle.std.proofs.Common.{rules, ◌≡◌, ◌≤◌, ◌∷◌, ◌+◌, true, All, List, length, ap, subst, ◌∙◌, arith}
+use Rattle.std.proofs.Common.{rules, ◌≡◌, ◌∷◌, true, List, length, ap, ◌∙◌, arith}
 use Rattle.std.proofs.lemmas.Grind.{common_steps}
-use Rattle.grpc_base.specs.Limits.{moment_limit}
 use Rattle.keepalive_core.specs.Keepalive.{first_fault, is_next, stand_next}
 use Rattle.keepalive_core.specs.declared.rule.KeepEntry.{KeepEntry}
 use Rattle.keepalive_core.proofs.KeepLaws.{count_next, fault_later, moments_next, stand_law}
@@ -19,5 +18,5 @@ loop-entry-preserved c =
       count = count_next c.loop-entry.rest.now c.in-Some.entry.now c.in-Some.later.now c.loop-entry.place (length c.args.log.now) whole on.count;
       moments = moments_next c.loop-entry.rest.now c.in-Some.entry.now c.in-Some.later.now whole on.moments;
       fault = on.fault ∙ ap (λ (r : List KeepEntry). first_fault c.args.rule c.args.start on.older r) whole
-        ∙ fault_later c.args.rule c.args.start on.older c.in-Some.entry.now c.in-Some.later.now c.loop-entry.keep on.stand kept;
+          ∙ fault_later c.args.rule c.args.start on.older c.in-Some.entry.now c.in-Some.later.now c.loop-entry.keep on.stand kept;
     }
