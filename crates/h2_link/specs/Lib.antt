@@ -1,0 +1,9 @@
+pub mod Wire
+pub mod Queues
+pub mod Status
+pub mod LinkErrors
+pub mod StreamErrors
+pub mod Settings
+pub mod Steps
+pub mod Outcomes
+pub mod Heard
