@@ -6,3 +6,4 @@ pub mod CodeLaws
 pub mod PlaceLaws
 pub mod TextLaws
 pub mod StepLaws
+pub mod PayloadLaws

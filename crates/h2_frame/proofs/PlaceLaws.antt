@@ -136,7 +136,7 @@ place_is_frame t c fault f n more frame =
     fault.dead [] f (subst P (sym (append-nil (take fault.place t))) all)
 
 -- and what is one is read so
-at_place : (t : List ℕ) (c : ℕ) → (fault : IsFault t c) → (r : Reading) → reading_of (take fault.place t) ≡ r → r ≡ Fault c
+pub at_place : (t : List ℕ) (c : ℕ) → (fault : IsFault t c) → (r : Reading) → reading_of (take fault.place t) ≡ r → r ≡ Fault c
 at_place t c fault (Whole f n) e =
     let front = whole_is_frame (take fault.place t) f n e in
     absurd (elim (cases_lt n fault.place) [

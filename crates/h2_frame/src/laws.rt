@@ -1,10 +1,14 @@
 // What holds of every text of frames; nothing runs.
-ghost use Rattle.std.specs.Prelude.{◌≡◌, ◌≤◌, ◌<◌, ◌^◌, ◌↔◌, ◌++◌, ℕ, List, Option, IsTrue, length, take};
+ghost use Rattle.std.specs.Prelude.{◌≡◌, ◌≢◌, ◌≤◌, ◌<◌, ◌^◌, ◌↔◌, ◌++◌, ℕ, Bool, List, Option, IsTrue, length, take};
+ghost use Rattle.std.specs.List.{AllByRecursion};
+ghost use Rattle.h2_frame.specs.declared.payload.Setting.{Setting};
 ghost use Rattle.h2_frame.specs.declared.kinds.TheConstants as kinds;
 ghost use Rattle.h2_frame.specs.declared.flags.TheConstants as flags;
 ghost use Rattle.h2_frame.specs.declared.rules.TheConstants.{PAYLOAD_LIMIT};
 ghost use Rattle.h2_frame.specs.Frames.{FrameSeen, IsFrame, is_allowed, payload_limit, written};
 ghost use Rattle.h2_frame.specs.Numbers.{data_type, headers_type, priority_type, rst_stream_type, settings_type, push_promise_type, ping_type, goaway_type, window_update_type, continuation_type, end_stream_flag, ack_flag, end_headers_flag, padded_flag, priority_flag};
+ghost use Rattle.h2_frame.specs.Payloads.{bytes_64, ping_word};
+ghost use Rattle.h2_frame.specs.Sent.{data_frame, headers_frame, ping_ack, ping_frame, rst_stream_frame, settings_ack, settings_frame, window_update_frame};
 ghost use Rattle.h2_frame.specs.Readings.{Whole, Partial, Fault, IsProperPrefix, IsFault, IsReading, reading_of, frames_of, rest_of, fault_of};
 
 /// The table, byte by byte, says what the grammar says of whole frames.
@@ -37,6 +41,24 @@ pub fn pieces_join()
         IsReading (front ++ piece) (frames ++ others) end fault }
     ensures stay { (front piece : List ℕ) (frames : List FrameSeen) (rest : List ℕ) (code : ℕ) →
         IsReading front frames rest (Some code) → IsReading (front ++ piece) frames (rest ++ piece) (Some code) }
+{}
+
+/// The word of a PING is its eight bytes, which are written back for it.
+pub fn words_are_written_back()
+    ensures { (payload : List ℕ) → length payload ≡ 8 → AllByRecursion (λ b. b < 256) payload → bytes_64 (ping_word payload) ≡ payload }
+{}
+
+/// What a client sends is a frame of the grammar each time: of a stream that is not 0, at most 16,384 bytes of
+/// payload, and an increment that is not 0 on the connection.
+pub fn sent_frames_are_frames()
+    ensures data { (stream : ℕ) (content : List ℕ) (ends : Bool) → stream ≢ 0 → length content ≤ 16384 → IsTrue (is_allowed (data_frame stream content ends)) }
+    ensures headers { (stream : ℕ) (block : List ℕ) → stream ≢ 0 → length block ≤ 16384 → IsTrue (is_allowed (headers_frame stream block)) }
+    ensures rst_stream { (stream code : ℕ) → stream ≢ 0 → IsTrue (is_allowed (rst_stream_frame stream code)) }
+    ensures settings { (settings : List Setting) → length settings ≤ 2730 → IsTrue (is_allowed (settings_frame settings)) }
+    ensures settings_ack { IsTrue (is_allowed settings_ack) }
+    ensures ping { (word : ℕ) → IsTrue (is_allowed (ping_frame word)) }
+    ensures ping_ack { (word : ℕ) → IsTrue (is_allowed (ping_ack word)) }
+    ensures window_update { (stream by : ℕ) → 0 < by → by < 2 ^ 31 → IsTrue (is_allowed (window_update_frame stream by)) }
 {}
 
 /// The constants of `kinds` and `flags` are the numbers that RFC 9113 gives them (section 6), and the limit is that of

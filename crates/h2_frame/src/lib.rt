@@ -16,7 +16,8 @@ mod write;
 pub use frame::{Frame, FrameStep};
 pub use grpc_base::error_code;
 pub use laws::{
-    numbers_are_the_standards, one_reading, pieces_join, table_is_grammar, written_is_read_again,
+    numbers_are_the_standards, one_reading, pieces_join, sent_frames_are_frames, table_is_grammar,
+    words_are_written_back, written_is_read_again,
 };
 pub use payload::{Setting, next_setting};
 pub use read::{fault_place, next_frame};

@@ -1,7 +1,7 @@
 // What the payload of a frame says (RFC 9113, section 6).
 ghost use Rattle.std.specs.Prelude.{◌≡◌, ◌∷◌, ◌<◌, ◌≤◌, ◌+◌, [], IfNone, IfSome, length};
 ghost use Rattle.h2_frame.specs.Numbers.{goaway_type, ping_type, rst_stream_type, window_update_type};
-ghost use Rattle.h2_frame.specs.Payloads.{bytes_64, content_of, goaway_code, increment, last_stream, number_at, ping_word, reset_code, settings_in};
+ghost use Rattle.h2_frame.specs.Payloads.{content_of, goaway_code, increment, last_stream, number_at, ping_word, reset_code, settings_in};
 ghost use Rattle.h2_frame.specs.Steps.{seen};
 
 use crate::Frame;
@@ -18,8 +18,8 @@ pub struct Setting {
 impl<'a> Frame<'a> {
     /// The payload without its Pad Length, its priority fields and its padding (sections 6.1 and 6.2): the bytes of
     /// messages in DATA, of a header block in HEADERS and CONTINUATION.
-    pub fn content(self) -> &'a [u8]
-        ensures { result.now ≡ content_of (seen self) }
+    pub fn content(&self) -> &'a [u8]
+        ensures { result.now ≡ content_of (seen self.now) }
     {
         let fields = fields_size(self.kind, self.flags) as usize;
         let content = &self.payload[fields..];
@@ -32,42 +32,42 @@ impl<'a> Frame<'a> {
     }
 
     /// The error code of RST_STREAM (section 6.4).
-    pub fn reset_code(self) -> u32
-        requires { self.kind ≡ rst_stream_type }
-        ensures { result ≡ reset_code self.payload.now }
+    pub fn reset_code(&self) -> u32
+        requires { self.now.kind ≡ rst_stream_type }
+        ensures { result ≡ reset_code self.now.payload.now }
     {
         number_at(self.payload, 0)
     }
 
     /// The eight bytes of PING as a number, the highest first (section 6.7).
-    pub fn ping_word(self) -> u64
-        requires { self.kind ≡ ping_type }
-        ensures value { result ≡ ping_word self.payload.now }
-        ensures bytes { bytes_64 result ≡ self.payload.now }
+    pub fn ping_word(&self) -> u64
+        requires { self.now.kind ≡ ping_type }
+        ensures { result ≡ ping_word self.now.payload.now }
     {
-        u64::from(number_at(self.payload, 0)) * 0x1_0000_0000 + u64::from(number_at(self.payload, 4))
+        u64::from(number_at(self.payload, 0)) * 0x1_0000_0000
+            + u64::from(number_at(self.payload, 4))
     }
 
     /// The greatest stream that the sender of GOAWAY may have acted on (section 6.8).
-    pub fn last_stream(self) -> u32
-        requires { self.kind ≡ goaway_type }
-        ensures { result ≡ last_stream self.payload.now }
+    pub fn last_stream(&self) -> u32
+        requires { self.now.kind ≡ goaway_type }
+        ensures { result ≡ last_stream self.now.payload.now }
     {
         number_at(self.payload, 0) & WITHOUT_RESERVED_BIT
     }
 
     /// The error code of GOAWAY (section 6.8).
-    pub fn goaway_code(self) -> u32
-        requires { self.kind ≡ goaway_type }
-        ensures { result ≡ goaway_code self.payload.now }
+    pub fn goaway_code(&self) -> u32
+        requires { self.now.kind ≡ goaway_type }
+        ensures { result ≡ goaway_code self.now.payload.now }
     {
         number_at(self.payload, 4)
     }
 
     /// How many bytes more WINDOW_UPDATE lets through (section 6.9); 0 is a fault of the stream that it names.
-    pub fn increment(self) -> u32
-        requires { self.kind ≡ window_update_type }
-        ensures { result ≡ increment self.payload.now }
+    pub fn increment(&self) -> u32
+        requires { self.now.kind ≡ window_update_type }
+        ensures { result ≡ increment self.now.payload.now }
     {
         number_at(self.payload, 0) & WITHOUT_RESERVED_BIT
     }

@@ -1,7 +1,7 @@
 // The frame at the front of some bytes.
 ghost use Rattle.std.specs.Prelude.{◌≡◌, ◌<◌, ◌≤◌, ◌^◌, ◌↔◌, ℕ, IsTrue, length, take};
 ghost use Rattle.h2_frame.specs.Frames.{IsFrame, kind_allows_length, flags_allow_length, kind_allows_stream};
-ghost use Rattle.h2_frame.specs.Readings.{IsProperPrefix, IsFault, fault_place, reading_of, reading_of_payload};
+ghost use Rattle.h2_frame.specs.Readings.{IsProperPrefix, IsFault, fault_place, is_fault, reading_of, reading_of_payload};
 ghost use Rattle.h2_frame.specs.Steps.{IfGot, seen, told, reading_of_header};
 
 use crate::part::read_part;
@@ -38,11 +38,17 @@ pub fn fault_place(bytes: &[u8]) -> usize
     ensures place { (code : ℕ) (fault : IsFault bytes.now code) → result ≡ fault.place }
 {
     for place in 0..bytes.len() {
-        if let FrameStep::Bad { code: _ } = next_frame(&bytes[..place]) {
+        if is_bad(&next_frame(&bytes[..place])) {
             return place;
         }
     }
     bytes.len()
+}
+
+fn is_bad(step: &FrameStep) -> bool
+    ensures { result ≡ is_fault (told step.now) }
+{
+    matches!(step, FrameStep::Bad { code: _ })
 }
 
 // The header at once where all of it is there, and else byte by byte.

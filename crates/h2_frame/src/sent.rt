@@ -11,7 +11,12 @@ use grpc_base::NoMemory;
 const SETTING_SIZE: usize = 6;
 
 /// Appends DATA with these bytes of messages, unpadded (RFC 9113, section 6.1).
-pub fn write_data(out: &mut BytesMut, stream: u32, content: &[u8], ends: bool) -> Result<(), NoMemory>
+pub fn write_data(
+    out: &mut BytesMut,
+    stream: u32,
+    content: &[u8],
+    ends: bool,
+) -> Result<(), NoMemory>
     requires stream { (0 < stream) × (stream < 2 ^ 31) }
     requires size { length content.now ≤ 16384 }
     ensures ok { OnOk result (out.new.items ≡ out.old.items ++ written (data_frame stream content.now ends)) }
@@ -75,7 +80,7 @@ pub fn write_settings(out: &mut BytesMut, settings: &[Setting]) -> Result<(), No
     out.reserve(HEADER_SIZE + settings.len() * SETTING_SIZE)?;
     write_header(out, header)?;
     for setting in settings {
-        out.extend_from_slice(&bytes_of(setting))?;
+        out.extend_from_slice(&bytes_of(*setting))?;
     }
     Ok(())
 }
@@ -142,8 +147,8 @@ pub fn write_window_update(out: &mut BytesMut, stream: u32, by: u32) -> Result<(
     write_frame(out, &update)
 }
 
-fn bytes_of(setting: &Setting) -> [u8; 6]
-    ensures { result ≡ setting_bytes setting.now }
+fn bytes_of(setting: Setting) -> [u8; 6]
+    ensures { result ≡ setting_bytes setting }
 {
     let [a, b] = setting.identifier.to_be_bytes();
     let [c, d, e, f] = setting.value.to_be_bytes();

@@ -5,7 +5,7 @@ use Rattle.std.proofs.lemmas.List.Sums.{sum_by-cons}
 use Rattle.std.specs.Prelude.{int_lt, not, ◌&&◌}
 use Rattle.h2_stream.specs.State.{is_closed_locally, is_closed_remotely}
 use Rattle.h2_stream.specs.Stream.{StreamView, sendable, or_zero}
-use Rattle.h2_stream.specs.Runs.{Event, Headers, Data, WindowUpdate, Shift, Sent, Granted, after, run, is_taken, taken, credit, credit_in, sent_by, sent_in, received_by, received_in, granted_by, granted_in}
+use Rattle.h2_stream.specs.Runs.{Event, Headers, Data, WindowUpdate, Shift, Sent, Granted, Reset, after, run, is_taken, taken, credit, credit_in, sent_by, sent_in, received_by, received_in, granted_by, granted_in}
 use Rattle.h2_stream.proofs.Choices.{if_kept, if_same}
 
 after_headers-send : (s : StreamView) (end : Bool) → (after s (Headers end)).send ≡ s.send
@@ -31,6 +31,7 @@ after-send s (WindowUpdate by) = grind (arith, ints)
 after-send s (Shift by) = grind (arith, ints)
 after-send s (Sent len end) = grind (arith, ints)
 after-send s (Granted by) = grind (arith, ints)
+after-send s Reset = grind (arith, ints)
 
 -- what one call does to the receive window
 after-receive : (s : StreamView) (e : Event) → (after s e).receive ≡ (s.receive +ℤ pos (granted_by e)) -ℤ pos (if is_taken s e then received_by e else 0)
@@ -40,6 +41,7 @@ after-receive s (WindowUpdate by) = grind (arith, ints)
 after-receive s (Shift by) = grind (arith, ints)
 after-receive s (Sent len end) = grind (arith, ints)
 after-receive s (Granted by) = grind (arith, ints)
+after-receive s Reset = grind (arith, ints)
 
 credit_in-if : (c : Bool) (e : Event) (rest : List Event) → credit_in (if c then e ∷ rest else rest) ≡ (if c then credit e else pos 0) +ℤ credit_in rest
 credit_in-if true e rest = refl

@@ -8,7 +8,7 @@ use Rattle.h2_stream.specs.declared.state.StreamState.TheVariants.{Open, HalfClo
 use Rattle.h2_stream.specs.Steps.{after_sent}
 use Rattle.h2_stream.specs.State.{is_closed, is_closed_remotely}
 use Rattle.h2_stream.specs.Stream.{StreamView}
-use Rattle.h2_stream.specs.Runs.{Event, Headers, Data, WindowUpdate, Shift, Sent, Granted, after, is_taken, taken, is_content, is_from_peer, granted_by, granted_in, sent_by, sent_in, TakesNoContent, TakesNothing}
+use Rattle.h2_stream.specs.Runs.{Event, Headers, Data, WindowUpdate, Shift, Sent, Granted, Reset, after, is_taken, taken, is_content, is_from_peer, granted_by, granted_in, sent_by, sent_in, TakesNoContent, TakesNothing}
 use Rattle.h2_stream.proofs.Choices.{if_same}
 
 -- one call on a stream that the peer has ended
@@ -18,6 +18,10 @@ record KeepsEnd (s : StreamView) (e : Event) : Type 0 where
   head : (after s e).head ≡ s.head
   receive : (after s e).receive ≡ s.receive +ℤ pos (granted_by e)
 
+no_content : (taken : Bool) → (taken && false) ≡ false
+no_content true = refl
+no_content false = refl
+
 keeps_end : (s : StreamView) (e : Event) → is_closed_remotely s.state ≡ true → KeepsEnd s e
 keeps_end s (Headers end) h = grind (arith, ints)
 keeps_end s (Data len end) h = grind (arith, ints)
@@ -25,6 +29,7 @@ keeps_end s (WindowUpdate by) h = grind (arith, ints)
 keeps_end s (Shift by) h = grind (arith, ints)
 keeps_end s (Sent len end) h = grind (arith, ints)
 keeps_end s (Granted by) h = grind (arith, ints)
+keeps_end s Reset h = record { taken_is = no_content (is_taken s Reset); state = refl; head = refl; receive = omega (arith, ints) }
 
 list_any-if : (p : Event → Bool) (c : Bool) (e : Event) (rest : List Event) → (c && p e) ≡ false → list_any p rest ≡ false → list_any p (if c then e ∷ rest else rest) ≡ false
 list_any-if p true e rest here later = rw here later
@@ -61,6 +66,12 @@ after_sent-closed HalfClosedLocal end h = absurd (cc)
 after_sent-closed HalfClosedRemote end h = absurd (cc)
 after_sent-closed Closed end h = if_same Closed end
 
+closed_is : (state : StreamState) → is_closed state ≡ true → Closed ≡ state
+closed_is Open h = absurd (cc)
+closed_is HalfClosedLocal h = absurd (cc)
+closed_is HalfClosedRemote h = absurd (cc)
+closed_is Closed h = refl
+
 keeps_closed : (s : StreamView) (e : Event) → is_closed s.state ≡ true → is_closed_remotely s.state ≡ true → KeepsClosed s e
 keeps_closed s (Headers end) h k = grind (arith, ints)
 keeps_closed s (Data len end) h k = grind (arith, ints)
@@ -68,6 +79,7 @@ keeps_closed s (WindowUpdate by) h k = grind (arith, ints)
 keeps_closed s (Shift by) h k = grind (arith, ints)
 keeps_closed s (Sent len end) h k = record { taken_is = refl; state = after_sent-closed s.state end h; send = refl }
 keeps_closed s (Granted by) h k = grind (arith, ints)
+keeps_closed s Reset h k = record { taken_is = rw h refl; state = closed_is s.state h; send = omega (arith, ints) }
 
 pub takes_nothing : (s : StreamView) (es : List Event) → is_closed s.state ≡ true → TakesNothing s es
 takes_nothing s [] h = record { taken_is = refl; state = refl; send = omega (arith, ints) }

@@ -5,9 +5,9 @@ use Rattle.std.specs.Result.{result_unwrap_or}
 use Rattle.h2_stream.specs.declared.fault.StreamFault.{StreamFault}
 use Rattle.h2_stream.specs.State.{is_closed, is_closed_remotely}
 use Rattle.h2_stream.specs.Stream.{StreamView, largest_window, sendable}
-use Rattle.h2_stream.specs.Steps.{headers_step, data_step, window_step, shift_step, sent_step, granted_step}
+use Rattle.h2_stream.specs.Steps.{headers_step, data_step, window_step, shift_step, sent_step, granted_step, reset_step}
 
--- a call: on_headers, on_data, on_window, shift, sent, granted
+-- a call: on_headers, on_data, on_window, shift, sent, granted, reset
 pub data Event : Type 0 where
   Headers : Bool → Event
   Data : ℕ → Bool → Event
@@ -15,6 +15,7 @@ pub data Event : Type 0 where
   Shift : ℤ → Event
   Sent : ℕ → Bool → Event
   Granted : ℕ → Event
+  Reset : Event
 
 abbrev pub step : StreamView → Event → Result StreamView StreamFault
 step s (Headers end) = headers_step s end
@@ -23,6 +24,7 @@ step s (WindowUpdate by) = window_step s by
 step s (Shift by) = shift_step s by
 step s (Sent len end) = Ok (sent_step s len end)
 step s (Granted by) = Ok (granted_step s by)
+step s Reset = Ok (reset_step s)
 
 -- a fault changes nothing
 abbrev pub after : StreamView → Event → StreamView
@@ -38,6 +40,7 @@ is_passed_over s (Headers end) = is_closed_remotely s.state
 is_passed_over s (Data len end) = is_closed_remotely s.state
 is_passed_over s (WindowUpdate by) = is_closed s.state
 is_passed_over s (Shift by) = is_closed s.state
+is_passed_over s Reset = is_closed s.state
 is_passed_over s _ = false
 
 -- it is neither refused nor passed over
@@ -89,7 +92,7 @@ is_content (Headers end) = true
 is_content (Data len end) = true
 is_content _ = false
 
--- what the peer does
+-- what the peer does; a reset is of either side
 abbrev pub is_from_peer : Event → Bool
 is_from_peer (Sent len end) = false
 is_from_peer (Granted by) = false

@@ -2,6 +2,7 @@
 use Rattle.std.specs.Prelude.{ℕ, nat_eq, ℤ, pos, ◌+ℤ◌, ◌-ℤ◌, int_lt, Bool, true, not, ◌&&◌, if◌then◌else◌, Result, Ok, Err}
 use Rattle.grpc_base.specs.ErrorCodes.{protocol_error, flow_control_error}
 use Rattle.h2_stream.specs.declared.state.StreamState.{StreamState}
+use Rattle.h2_stream.specs.declared.state.StreamState.TheVariants.{Closed}
 use Rattle.h2_stream.specs.declared.fault.StreamFault.{StreamFault}
 use Rattle.h2_stream.specs.declared.fault.StreamFault.TheVariants as fault
 use Rattle.h2_stream.specs.State.{after_local_end, after_remote_end, is_closed, is_closed_remotely}
@@ -61,3 +62,7 @@ sent_step s len end = record s { send = s.send -ℤ pos len; state = after_sent 
 -- a WINDOW_UPDATE that this side queues
 abbrev pub granted_step : StreamView → ℕ → StreamView
 granted_step s by = record s { receive = s.receive +ℤ pos by }
+
+-- RST_STREAM of the peer's or of this side's: the arrows of the diagram for "send R" and "recv R" (sections 5.1 and 6.4)
+abbrev pub reset_step : StreamView → StreamView
+reset_step s = record s { state = Closed }

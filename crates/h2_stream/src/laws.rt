@@ -3,6 +3,7 @@
 ghost use Rattle.std.specs.Prelude.{◌≡◌, ◌<◌, ◌≤◌, ℕ, ◌+◌, ℤ, pos, ◌+ℤ◌, ◌-ℤ◌, ◌≤ℤ◌, Bool, true, false, List};
 ghost use Rattle.h2_stream.specs.State.{is_closed, is_closed_remotely};
 ghost use Rattle.h2_stream.specs.Stream.{StreamView, IsWindow, opened, sendable};
+ghost use Rattle.h2_stream.specs.Steps.{reset_step};
 ghost use Rattle.h2_stream.specs.Runs.{Event, Data, Shift, run, after, is_taken, taken, credit_in, sent_in, received_in, granted_in, IsAllowed, is_shift, HasRoom, TakesNoContent, TakesNothing};
 
 /// The send window is always the first one and all increments and shifts, less what was sent. So whenever octets are
@@ -23,11 +24,13 @@ pub fn receives_within_grants()
         pos (received_in (taken s events) + len) ≤ℤ (s.receive +ℤ pos (granted_in events)) }
 {}
 
-/// Once the peer has ended a stream, no header block and no DATA of it has any effect, and once both sides have, nothing
-/// that the peer does has any (RFC 9113, section 5.1).
+/// Once the peer has ended a stream, no header block and no DATA of it has any effect, and once both sides have, or one of
+/// them has reset it, nothing that the peer does has any (RFC 9113, section 5.1).
 pub fn ended_takes_nothing_more()
     ensures content { (s : StreamView) (events : List Event) → is_closed_remotely s.state ≡ true → TakesNoContent s events }
     ensures closed { (s : StreamView) (events : List Event) → is_closed s.state ≡ true → TakesNothing s events }
+    ensures reset { (s : StreamView) (events : List Event) → TakesNothing (reset_step s) events }
+    ensures sends_nothing { (s : StreamView) → sendable (reset_step s) ≡ 0 }
 {}
 
 /// A stream that begins with the peer's initial window size, and is told each change of it until it is closed, always

@@ -1,6 +1,6 @@
 ghost use Rattle.std.specs.Prelude.{◌≡◌, ◌≤◌, pos, neg_ℤ, ◌+ℤ◌, ◌≤ℤ◌, OnOk, OnErr, IfErr};
 ghost use Rattle.h2_stream.specs.Stream.{largest_window, opened, sendable, IsWindow, IsWithinBounds};
-ghost use Rattle.h2_stream.specs.Steps.{headers_step, data_step, window_step, shift_step, sent_step, granted_step};
+ghost use Rattle.h2_stream.specs.Steps.{headers_step, data_step, window_step, shift_step, sent_step, granted_step, reset_step};
 
 use crate::fault::StreamFault;
 use crate::state::StreamState;
@@ -14,7 +14,7 @@ const LARGEST_WINDOW: i64 = 0x7fff_ffff;
 ///
 /// What comes of the peer too late to mean anything is passed over: it is answered Ok and changes nothing. That is a
 /// header block or DATA after the peer's END_STREAM, and WINDOW_UPDATE or a change of the initial window size once both
-/// sides have ended the stream. A fault changes nothing either.
+/// sides have ended the stream, by END_STREAM or by a reset. A fault changes nothing either.
 #[derive(Debug, Drop)]
 pub struct Stream {
     state: StreamState,
@@ -194,5 +194,13 @@ impl Stream {
         ensures bounds { IsWithinBounds self.new }
     {
         self.receive += i64::from(by);
+    }
+
+    /// RST_STREAM was queued for the peer, or came of it: both sides have ended the stream (RFC 9113, section 6.4).
+    pub fn reset(&mut self)
+        ensures reset { self.new ≡ reset_step self.old }
+        ensures bounds { IsWithinBounds self.new }
+    {
+        self.state = StreamState::Closed;
     }
 }

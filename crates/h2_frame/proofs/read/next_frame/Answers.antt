@@ -1,3 +1,4 @@
+use Rattle.h2_frame.proofs.PayloadLaws.{prefix_size}
 use Rattle.h2_frame.proofs.StepLaws.{got_is, more_is, bad_is}
 use Rattle.h2_frame.proofs.read.next_frame.Goals as goal
 
@@ -9,3 +10,6 @@ returns-clause-more c = more_is c.read_front.result c.args.bytes.now c.read_fron
 
 pub returns-clause-bad : goal.returns-clause-bad
 returns-clause-bad c = bad_is c.read_front.result c.args.bytes.now c.read_front.ensures
+
+pub returns-clause-short : goal.returns-clause-short
+returns-clause-short c e = prefix_size c.args.bytes.now ((more_is c.read_front.result c.args.bytes.now c.read_front.ensures).0 e)
