@@ -5,5 +5,7 @@ pub mod LinkErrors
 pub mod StreamErrors
 pub mod Settings
 pub mod Steps
+pub mod Feeds
+pub mod Drains
 pub mod Outcomes
 pub mod Heard

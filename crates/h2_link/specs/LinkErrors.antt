@@ -8,9 +8,8 @@ use Rattle.h2_frame.specs.Numbers.{data_type, headers_type, rst_stream_type, set
 use Rattle.h2_frame.specs.Payloads.{settings_in, increment}
 use Rattle.h2_hpack.specs.declared.fault.HpackFault.{HpackFault}
 use Rattle.h2_hpack.specs.declared.fault.HpackFault.TheVariants.{TooLong}
-use Rattle.h2_link.specs.declared.block.OpenBlock.{OpenBlock}
 use Rattle.h2_link.specs.declared.live.LiveStream.{LiveStream}
-use Rattle.h2_link.specs.Wire.{Wire, largest_window}
+use Rattle.h2_link.specs.Wire.{Block, Wire, largest_window}
 
 -- the settings that a frame gives; an acknowledgement has none
 abbrev pub settings_of : FrameSeen → List Setting
@@ -27,7 +26,7 @@ is_bad_setting s =
     || ((s.identifier == 5) && not (nat_le 16384 s.value && nat_le s.value 16777215))
 
 -- CONTINUATION outside a header block, or in one of another stream; any other frame in one (section 6.10)
-abbrev pub is_misplaced : Option OpenBlock → FrameSeen → Bool
+abbrev pub is_misplaced : Option Block → FrameSeen → Bool
 is_misplaced None f = f.kind == continuation_type
 is_misplaced (Some block) f = not ((f.kind == continuation_type) && (f.stream == block.number))
 
@@ -47,14 +46,14 @@ abbrev pub overflows_link : ℕ → FrameSeen → Bool
 overflows_link window f = (f.kind == window_update_type) && (f.stream == 0) && nat_lt largest_window (window + increment f.payload)
 
 -- the send window of a stream, under this initial size (section 6.9.2)
-abbrev pub send_window : ℤ → LiveStream → ℤ
-send_window initial s = initial +ℤ s.credit
+abbrev pub send_window : ℕ → LiveStream → ℤ
+send_window initial s = pos initial +ℤ s.credit
 
 -- SETTINGS_INITIAL_WINDOW_SIZE (4) above the largest window, or that lifts the window of a stream above it (section 6.9.2)
 abbrev pub overflows_streams : List LiveStream → Setting → Bool
 overflows_streams live s =
     (s.identifier == 4)
-    && (nat_lt largest_window s.value || list_any (λ x. int_lt (pos largest_window) (send_window (pos s.value) x)) live)
+    && (nat_lt largest_window s.value || list_any (λ x. int_lt (pos largest_window) (send_window s.value x)) live)
 
 -- the error of a frame, before any header block is decoded
 abbrev pub link_error : Wire → FrameSeen → Option ℕ

@@ -1,5 +1,6 @@
 -- Nobody has to believe these steps: what the code does at a frame and at a call, one definition for each function.
-use Rattle.std.specs.Prelude.{ℕ, suc, ◌+◌, ◌==◌, Bool, true, false, nat_lt, not, ◌&&◌, ◌||◌, if◌then◌else◌, min, Option, Some, None, is_some, List, [], ◌∷◌, ◌++◌, length, map, filter, slice_set, ℤ, pos, ◌+ℤ◌, Result, Ok, Err, nat_cmp}
+use Rattle.std.specs.Prelude.{ℕ, suc, ◌+◌, ◌==◌, Bool, true, false, nat_lt, not, ◌&&◌, ◌||◌, if◌then◌else◌, min, Option, Some, None, is_some, List, [], ◌∷◌, ◌++◌, length, map, filter, slice_set, ℤ, pos, ◌+ℤ◌, Result, Ok, Err}
+use Rattle.std.specs.Ordering.{nat_cmp}
 use Rattle.std.specs.List.{remove}
 use Rattle.std.specs.BTreeSet.{insert_key}
 use Rattle.std.specs.Set.{remove_key}
@@ -12,7 +13,6 @@ use Rattle.h2_frame.specs.Payloads.{content_of, settings_in, increment, last_str
 use Rattle.h2_hpack.specs.Blocks as hpack
 use Rattle.h2_hpack.specs.Blocks.{decoded, fields_in, table_in}
 use Rattle.h2_hpack.specs.declared.fault.HpackFault.{HpackFault}
-use Rattle.h2_link.specs.declared.block.OpenBlock.{OpenBlock}
 use Rattle.h2_link.specs.declared.control.Control.TheVariants.{SettingsAck, Ping, PingAck, LinkUpdate, StreamUpdate}
 use Rattle.h2_link.specs.declared.effect.Effect.{Effect}
 use Rattle.h2_link.specs.declared.effect.Effect.TheVariants.{Goes, Ends, Faults}
@@ -25,7 +25,7 @@ use Rattle.h2_link.specs.Queues.{Queue, queued, sealed, reset_queued}
 use Rattle.h2_link.specs.Settings.{with_settings}
 use Rattle.h2_link.specs.Status.{http_status, is_interim}
 use Rattle.h2_link.specs.StreamErrors.{headers_error, data_error, window_error}
-use Rattle.h2_link.specs.Wire.{Wire, Told, blank}
+use Rattle.h2_link.specs.Wire.{Block, Wire, Told, blank}
 
 -- the first stream that passes a test, with its place
 abbrev pub found_from : (LiveStream → Bool) → ℕ → List LiveStream → Option (ℕ × LiveStream)
@@ -55,7 +55,7 @@ headers_effect s status end =
 abbrev pub data_effect : LiveStream → Bool → Effect
 data_effect s end = unless (data_error s) (if end then Ends (reset_owed s) else Goes s)
 
-abbrev pub window_effect : ℤ → LiveStream → ℕ → Effect
+abbrev pub window_effect : ℕ → LiveStream → ℕ → Effect
 window_effect initial s by = unless (window_error initial s by) (Goes (record s { credit = s.credit +ℤ pos by }))
 
 -- the streams and the queue after it
@@ -91,32 +91,36 @@ listed w fields end seen (Some x) =
       news = news.Fields x.1.tag fields end seen ∷ fault_news x.1.tag seen e;
     }
 
-abbrev pub list_read : Wire → OpenBlock → ℕ → hpack.State → Result (List Field) HpackFault → Result Told ℕ
+abbrev pub list_read : Wire → Block → ℕ → hpack.State → Result (List Field) HpackFault → Result Told ℕ
 list_read w block seen table (Err e) = Err (hpack_error e)
 list_read w block seen table (Ok fields) =
     if is_long block.bytes then Err enhance_your_calm
     else Ok (listed (record w { table = table }) fields block.ends seen (found_from (is_numbered block.number) 0 w.live))
 
 -- a whole header block
-abbrev pub block_read : Wire → OpenBlock → ℕ → Result Told ℕ
+abbrev pub block_read : Wire → Block → ℕ → Result Told ℕ
 block_read w block seen =
     list_read w block seen (table_in (decoded w.table block.bytes)) (fields_in (decoded w.table block.bytes))
 
-abbrev pub opened_by : FrameSeen → OpenBlock
+abbrev pub opened_by : FrameSeen → Block
 opened_by f = record { number = f.stream; ends = has_flag f.flags end_stream_flag; bytes = content_of f }
+
+-- a header block that CONTINUATION is to complete
+abbrev pub block_held : Wire → Block → Result Told ℕ
+block_held w block =
+    if is_long block.bytes then Err enhance_your_calm
+    else Ok (record { wire = record w { block = Some block }; news = [] })
 
 abbrev pub headers_told : Wire → FrameSeen → ℕ → Result Told ℕ
 headers_told w f seen =
-    if has_flag f.flags end_headers_flag then block_read w (opened_by f) seen
-    else Ok (record { wire = record w { block = Some (opened_by f) }; news = [] })
+    if has_flag f.flags end_headers_flag then block_read w (opened_by f) seen else block_held w (opened_by f)
 
-abbrev pub continuation_told : Wire → FrameSeen → ℕ → Option OpenBlock → Result Told ℕ
+abbrev pub continuation_told : Wire → FrameSeen → ℕ → Option Block → Result Told ℕ
 continuation_told w f seen None = Ok (record { wire = w; news = [] })
 continuation_told w f seen (Some b) =
-    let block : OpenBlock = record b { bytes = b.bytes ++ f.payload } in
+    let block : Block = record b { bytes = b.bytes ++ f.payload } in
     if has_flag f.flags end_headers_flag then block_read (record w { block = None }) block seen
-    else if is_long block.bytes then Err enhance_your_calm
-    else Ok (record { wire = record w { block = Some block }; news = [] })
+    else block_held (record w { block = None }) block
 
 -- DATA that counts so many bytes: both windows are given back at once
 abbrev pub link_updated : ℕ → Queue → Queue

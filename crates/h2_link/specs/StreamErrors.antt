@@ -20,7 +20,7 @@ abbrev pub data_error : LiveStream → Option ℕ
 data_error s = if s.head then None else Some protocol_error
 
 -- WINDOW_UPDATE of 0, or one that lifts the send window above the largest (section 6.9)
-abbrev pub window_error : ℤ → LiveStream → ℕ → Option ℕ
+abbrev pub window_error : ℕ → LiveStream → ℕ → Option ℕ
 window_error initial s by =
     if by == 0 then Some protocol_error
     else if int_lt (pos largest_window) (send_window initial s +ℤ pos by) then Some flow_control_error

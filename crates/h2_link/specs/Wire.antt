@@ -1,13 +1,18 @@
 -- What a link is to its callers.
-use Rattle.std.specs.Prelude.{◌≡◌, ◌≢◌, ℕ, ◌+◌, ℤ, pos, Bool, false, Option, None, Some, List, [], ◌∷◌, length, Result, Ok}
+use Rattle.std.specs.Prelude.{◌≡◌, ◌≢◌, ℕ, ◌+◌, Bool, false, Option, None, Some, List, [], ◌∷◌, length, Result, Ok}
 use Rattle.std.specs.List.{AllByRecursion}
 use Rattle.h2_hpack.specs.Blocks as hpack
 use Rattle.h2_hpack.specs.Tables.{new_table}
-use Rattle.h2_link.specs.declared.block.OpenBlock.{OpenBlock}
 use Rattle.h2_link.specs.declared.control.Control.TheVariants.{Preface}
 use Rattle.h2_link.specs.declared.live.LiveStream.{LiveStream}
 use Rattle.h2_link.specs.declared.news.LinkNews.{LinkNews}
 use Rattle.h2_link.specs.Queues.{Queue, new_queue, queued}
+
+-- what came of a header block: the stream of its HEADERS, whether they had END_STREAM, and its bytes so far
+pub record Block : Type 0 where
+  pub number : ℕ
+  pub ends : Bool
+  pub bytes : List ℕ
 
 -- a link after whole frames and calls
 pub record Wire : Type 0 where
@@ -26,14 +31,14 @@ pub record Wire : Type 0 where
   pub opened : ℕ
   -- the peer's SETTINGS_MAX_CONCURRENT_STREAMS and SETTINGS_INITIAL_WINDOW_SIZE (RFC 9113, section 6.5.2)
   pub limit : Option ℕ
-  pub initial : ℤ
+  pub initial : ℕ
   -- how many bytes of DATA the peer still takes on the whole connection
   pub window : ℕ
   pub queue : Queue
   -- whether the next header block is to begin with a dynamic table size update
   pub resizes : Bool
   -- the header block that CONTINUATION is to complete
-  pub block : Option OpenBlock
+  pub block : Option Block
   -- the table of the peer's header blocks
   pub table : hpack.State
 
@@ -61,7 +66,7 @@ blank read broken = record {
   live = [];
   opened = 0;
   limit = None;
-  initial = pos first_window;
+  initial = first_window;
   window = first_window;
   queue = new_queue;
   resizes = false;
@@ -84,7 +89,7 @@ pub record IsFresh (tag : ℕ) (w : Wire) : Type 0 where
   pub lives : AllByRecursion (λ (s : LiveStream). s.tag ≢ tag) w.live
 
 -- how many bytes of input a link holds
-abbrev pub block_bytes : Option OpenBlock → ℕ
+abbrev pub block_bytes : Option Block → ℕ
 block_bytes None = 0
 block_bytes (Some block) = length block.bytes
 

@@ -4,12 +4,9 @@ ghost use Rattle.h2_link.specs.StreamErrors.{headers_error, data_error, window_e
 ghost use Rattle.h2_link.specs.Status.{is_interim};
 ghost use Rattle.h2_link.specs.Steps.{headers_effect, data_effect, window_effect, reset_owed};
 
-use crate::live::LiveStream;
+use crate::live::{LARGEST_WINDOW, LiveStream, WindowSize};
 use crate::status::is_interim;
 use grpc_base::error_code::{CANCEL, FLOW_CONTROL_ERROR, PROTOCOL_ERROR};
-
-/// No window may pass this (RFC 9113, section 6.9.1).
-pub(crate) const LARGEST_WINDOW: u32 = 0x7fff_ffff;
 
 /// What becomes of a stream.
 #[derive(Clone, Copy, Debug)]
@@ -73,14 +70,13 @@ pub(crate) fn data_effect(stream: &LiveStream, end: bool) -> Effect
 }
 
 /// WINDOW_UPDATE under this initial window size.
-pub(crate) fn window_effect(initial: i32, stream: &LiveStream, by: u32) -> Effect
-    requires { by < 2147483648 }
-    ensures { result ≡ window_effect initial stream.now by }
+pub(crate) fn window_effect(initial: &WindowSize, stream: &LiveStream, by: u32) -> Effect
+    ensures { result ≡ window_effect initial.now stream.now by }
 {
     if by == 0 {
         return Effect::Faults(PROTOCOL_ERROR);
     }
-    let raised = i64::from(initial) + i64::from(stream.credit) + i64::from(by);
+    let raised = i64::from(initial.get()) + i64::from(stream.credit) + i64::from(by);
     if raised > i64::from(LARGEST_WINDOW) {
         return Effect::Faults(FLOW_CONTROL_ERROR);
     }

@@ -6,8 +6,7 @@ ghost use Rattle.h2_frame.specs.Steps.{seen};
 ghost use Rattle.h2_link.specs.LinkErrors.{link_error, settings_of, is_preface, is_bad_setting, is_misplaced, was_opened, is_of_opened, is_unopened, overflows_link, overflows_streams};
 
 use crate::block::OpenBlock;
-use crate::effect::LARGEST_WINDOW;
-use crate::live::LiveStream;
+use crate::live::{LARGEST_WINDOW, LiveStream};
 use crate::state::State;
 use grpc_base::error_code::{FLOW_CONTROL_ERROR, PROTOCOL_ERROR};
 use h2_frame::settings::{ENABLE_PUSH, INITIAL_WINDOW_SIZE, MAX_FRAME_SIZE};
@@ -15,7 +14,7 @@ use h2_frame::{Frame, Setting, flags, kinds, next_setting};
 
 /// The error of a frame, before any header block is decoded.
 pub(crate) fn link_error(state: &State, frame: Frame) -> Option<u32>
-    ensures { result ≡ link_error state.now (seen frame) }
+    ensures { result ≡ link_error state.now (seen frame.entry) }
 {
     if !state.ready && !is_preface(frame) {
         return Some(PROTOCOL_ERROR);
@@ -32,19 +31,15 @@ pub(crate) fn link_error(state: &State, frame: Frame) -> Option<u32>
     None
 }
 
-fn has_flag(frame: Frame, flag: u8) -> bool {
-    frame.flags & flag != 0
-}
-
 /// SETTINGS without ACK.
 fn is_preface(frame: Frame) -> bool
-    ensures { result ≡ is_preface (seen frame) }
+    ensures { result ≡ is_preface (seen frame.entry) }
 {
     frame.kind == kinds::SETTINGS && frame.flags & flags::ACK == 0
 }
 
 fn settings_of<'a>(frame: Frame<'a>) -> &'a [u8]
-    ensures { settings_in result.now ≡ settings_of (seen frame) }
+    ensures { settings_in result.now ≡ settings_of (seen frame.entry) }
 {
     if frame.kind == kinds::SETTINGS {
         frame.payload
@@ -64,7 +59,7 @@ fn is_bad_setting(setting: Setting) -> bool
 }
 
 fn has_bad_setting(frame: Frame) -> bool
-    ensures { result ≡ list_any is_bad_setting (settings_of (seen frame)) }
+    ensures { result ≡ list_any is_bad_setting (settings_of (seen frame.entry)) }
 {
     let mut rest = settings_of(frame);
     while let Some((setting, behind)) = next_setting(rest) {
@@ -78,7 +73,7 @@ fn has_bad_setting(frame: Frame) -> bool
 
 /// CONTINUATION outside a header block, or any other frame in one.
 fn is_misplaced(block: &Option<OpenBlock>, frame: Frame) -> bool
-    ensures { result ≡ is_misplaced block.now (seen frame) }
+    ensures { result ≡ is_misplaced block.now (seen frame.entry) }
 {
     match block {
         None => frame.kind == kinds::CONTINUATION,
@@ -103,14 +98,14 @@ fn is_of_opened(kind: u8) -> bool
 
 /// A frame of a stream that was never opened.
 fn is_unopened(opened: u32, frame: Frame) -> bool
-    ensures { result ≡ is_unopened opened (seen frame) }
+    ensures { result ≡ is_unopened opened (seen frame.entry) }
 {
     is_of_opened(frame.kind) && frame.stream != 0 && !was_opened(opened, frame.stream)
 }
 
 /// WINDOW_UPDATE that lifts the link's send window above the largest.
 fn overflows_link(window: u32, frame: Frame) -> bool
-    ensures { result ≡ overflows_link window (seen frame) }
+    ensures { result ≡ overflows_link window (seen frame.entry) }
 {
     if frame.kind != kinds::WINDOW_UPDATE || frame.stream != 0 {
         return false;
@@ -128,15 +123,16 @@ fn overflows_streams(live: &[LiveStream], setting: Setting) -> bool
     if setting.value > LARGEST_WINDOW {
         return true;
     }
-    live.iter().any(|stream| overflows(setting.value, stream))
-}
-
-fn overflows(initial: u32, stream: &LiveStream) -> bool {
-    i64::from(initial) + i64::from(stream.credit) > i64::from(LARGEST_WINDOW)
+    for stream in live {
+        if i64::from(setting.value) + i64::from(stream.credit) > i64::from(LARGEST_WINDOW) {
+            return true;
+        }
+    }
+    false
 }
 
 fn has_overflow(live: &[LiveStream], frame: Frame) -> bool
-    ensures { result ≡ list_any (overflows_streams live.now) (settings_of (seen frame)) }
+    ensures { result ≡ list_any (overflows_streams live.now) (settings_of (seen frame.entry)) }
 {
     let mut rest = settings_of(frame);
     while let Some((setting, behind)) = next_setting(rest) {

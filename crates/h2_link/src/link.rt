@@ -1,8 +1,7 @@
 // A link: what it is to its callers, and the calls that take bytes.
-ghost use Rattle.std.specs.Prelude.{◌≡◌, ◌<◌, ◌≤◌, ◌+◌, ◌^◌, ◌↔◌, ◌||◌, [], true, IsTrue, length, is_some, IfOk, OnOk, OnErr, None, Err};
+ghost use Rattle.std.specs.Prelude.{◌≡◌, ◌<◌, ◌≤◌, ◌+◌, ◌^◌, ◌↔◌, ◌||◌, ◌++◌, [], true, IsTrue, length, is_some, IfOk, OnOk, OnErr, None, Err};
 ghost use Rattle.h2_frame.specs.Readings.{reading_of, Partial};
-ghost use Rattle.h2_link.specs.Heard.{heard, front_of};
-ghost use Rattle.h2_link.specs.Outcomes.{hearing_of};
+ghost use Rattle.h2_link.specs.Heard.{heard};
 ghost use Rattle.h2_link.specs.Steps.{placed, cut, pinged, sealed_wire};
 ghost use Rattle.h2_link.specs.Wire.{Wire, IsFresh, fresh_wire, kept_bytes};
 
@@ -10,7 +9,6 @@ use crate::fault::{LinkFault, PlaceFault};
 use crate::news::{Arrival, LinkNews};
 use crate::state::State;
 use grpc_base::{Items, NoMemory};
-use h2_frame::{FrameStep, fault_place, next_frame};
 use std::alloc::Global;
 use std::marker::Model;
 use std::mem;
@@ -22,8 +20,8 @@ pub(crate) const FRAME_BYTES: usize = 16_393;
 /// of an open header block and the table of the header blocks, and nothing else.
 #[derive(Debug, Drop)]
 pub struct Link {
-    alloc: Global,
-    state: State,
+    pub(crate) alloc: Global,
+    pub(crate) state: State,
     rest: Vec<u8>,
 }
 
@@ -78,9 +76,6 @@ impl Link {
     pub fn ping(&mut self, word: u64) -> Result<(), NoMemory>
         ensures { OnOk result (self.new ≡ record self.old { wire = pinged self.old.wire word }) }
     {
-        if self.state.broken.is_some() {
-            return Ok(());
-        }
         self.state.ping(word)
     }
 
@@ -95,13 +90,12 @@ impl Link {
 
     /// How many bytes of input the link holds: those of the next frame, and those of an open header block.
     pub fn kept(&self) -> u64
-        ensures { result ≡ kept_bytes self.now }
+        ensures value { result ≡ kept_bytes self.now }
+        ensures within { result ≤ 16392 + 65536 }
     {
-        let block = match &self.state.block {
-            Some(block) => block.bytes.len(),
-            None => 0,
-        };
-        self.rest.len() as u64 + block as u64
+        let block = self.state.block_len();
+        let rest = self.rest.len();
+        rest as u64 + block as u64
     }
 
     /// Takes a piece up to the byte that ends a frame or shows a fault, or else all of it, and tells the news of that
@@ -122,17 +116,10 @@ impl Link {
         if self.state.broken.is_some() {
             return Err(LinkFault::Gone);
         }
-        let front = if self.rest.is_empty() {
-            self.state.hear(self.alloc, piece)?
+        let (taken, news) = if self.rest.is_empty() {
+            self.hear_first(piece)?
         } else {
             self.hear_behind(piece)?
-        };
-        let (taken, news) = match front {
-            Some((shown, news)) => (shown, news),
-            None => {
-                self.rest.extend_from_slice(piece)?;
-                (piece.len(), Items::new(self.alloc))
-            }
         };
         Ok(Arrival {
             taken,
@@ -140,4 +127,54 @@ impl Link {
             news,
         })
     }
+
+    /// A piece on a link that holds no bytes: a frame in it is not copied.
+    fn hear_first(&mut self, piece: &[u8]) -> Result<(usize, Items<LinkNews>), NoMemory>
+        requires some { 0 < length piece.now }
+        requires none { self.old.rest ≡ [] }
+        requires room { self.old.wire.read + length piece.now ≤ 2 ^ 62 }
+        ensures heard { IfOk result (λ a. record { taken = a.0; link = self.new; news = a.1 } ≡ heard self.old piece.now) }
+        ensures within { IfOk result (λ a. (1 ≤ a.0) × (a.0 ≤ length piece.now)) }
+    {
+        let alloc = self.alloc;
+        match self.state.hear(alloc, piece)? {
+            Some(front) => Ok(front),
+            None => {
+                extend(&mut self.rest, piece)?;
+                Ok((piece.len(), Items::new(alloc)))
+            }
+        }
+    }
+
+    /// A piece behind the bytes that the link holds. Of the piece no more is copied than the longest frame needs.
+    fn hear_behind(&mut self, piece: &[u8]) -> Result<(usize, Items<LinkNews>), NoMemory>
+        requires some { 0 < length piece.now }
+        requires room { self.old.wire.read + length self.old.rest + length piece.now ≤ 2 ^ 62 }
+        ensures heard { IfOk result (λ a. record { taken = a.0; link = self.new; news = a.1 } ≡ heard self.old piece.now) }
+        ensures within { IfOk result (λ a. (1 ≤ a.0) × (a.0 ≤ length piece.now)) }
+    {
+        let alloc = self.alloc;
+        let mut joined = mem::replace(&mut self.rest, Vec::new(alloc));
+        let held = joined.len();
+        let more = piece.len().min(FRAME_BYTES - held);
+        extend(&mut joined, &piece[..more])?;
+        match self.state.hear(alloc, joined.as_slice())? {
+            Some((shown, news)) => {
+                joined.clear();
+                self.rest = joined;
+                Ok((shown - held, news))
+            }
+            None => {
+                self.rest = joined;
+                Ok((piece.len(), Items::new(alloc)))
+            }
+        }
+    }
+}
+
+fn extend(bytes: &mut Vec<u8>, more: &[u8]) -> Result<(), NoMemory>
+    ensures { OnOk result (bytes.new.items ≡ bytes.old.items ++ more.now) }
+{
+    bytes.extend_from_slice(more)?;
+    Ok(())
 }

@@ -1,11 +1,14 @@
 // A stream whose attempt has not ended.
-ghost use Rattle.std.specs.Prelude.{◌≡◌, ◌<◌, ◌^◌, ◌+◌, ◌*◌, ◌++◌, ◌∷◌, [], length, filter, slice_set, IfSome, IfOk, OnOk, OnErr};
+ghost use Rattle.std.specs.Prelude.{◌≡◌, ◌<◌, ◌≤◌, ◌^◌, ◌+◌, ◌*◌, ◌++◌, ◌∷◌, [], length, filter, map, drop, slice_set, nat_le, if◌then◌else◌, Some, None, IfSome, IfOk, OnOk, OnErr};
 ghost use Rattle.std.specs.List.{remove};
 ghost use Rattle.h2_link.specs.Steps.{found_from, is_numbered, is_tagged, is_above, is_within};
 
 use grpc_base::NoMemory;
 use std::alloc::Global;
 use std::marker::Model;
+
+/// No window may pass this (RFC 9113, section 6.9.1).
+pub(crate) const LARGEST_WINDOW: u32 = 0x7fff_ffff;
 
 /// The number of a stream that a client opens (RFC 9113, section 5.1.1).
 #[derive(Clone, Copy, Debug, PartialEq, Eq)]
@@ -42,6 +45,51 @@ impl StreamNumber {
         ensures within { result < 2 ^ 31 }
     {
         self.number
+    }
+}
+
+/// The size of a window at first (RFC 9113, section 6.5.2).
+#[derive(Clone, Copy, Debug, PartialEq, Eq)]
+pub struct WindowSize {
+    size: u32,
+}
+
+impl Model for WindowSize {
+    ghost use Rattle.std.specs.Prelude.{ℕ, ◌≤◌};
+
+    ghost Value = { ℕ };
+
+    ghost view = { λ w. w.size };
+
+    ghost invariant = { λ w. w.size ≤ 2147483647 };
+
+    ghost inverse = { λ n. record { size = n } };
+}
+
+impl WindowSize {
+    /// None exactly above the largest window.
+    pub(crate) fn new(size: u32) -> Option<WindowSize>
+        ensures { result ≡ (if nat_le size 2147483647 then Some size else None) }
+    {
+        if size <= LARGEST_WINDOW {
+            Some(WindowSize { size })
+        } else {
+            None
+        }
+    }
+
+    /// The size before any SETTINGS.
+    pub(crate) fn first() -> WindowSize
+        ensures { result ≡ 65535 }
+    {
+        WindowSize { size: 65_535 }
+    }
+
+    pub(crate) fn get(&self) -> u32
+        ensures value { result ≡ self.now }
+        ensures within { result ≤ 2147483647 }
+    {
+        self.size
     }
 }
 

@@ -3,7 +3,7 @@ ghost use Rattle.std.specs.Prelude.{◌≡◌, false, length};
 ghost use Rattle.h2_frame.specs.Payloads.{settings_in};
 ghost use Rattle.h2_link.specs.Settings.{with_setting, with_settings};
 
-use crate::effect::LARGEST_WINDOW;
+use crate::live::WindowSize;
 use h2_frame::settings::{HEADER_TABLE_SIZE, INITIAL_WINDOW_SIZE, MAX_CONCURRENT_STREAMS};
 use h2_frame::{Setting, next_setting};
 
@@ -13,7 +13,7 @@ pub(crate) struct Settings {
     /// SETTINGS_MAX_CONCURRENT_STREAMS.
     pub limit: Option<u32>,
     /// SETTINGS_INITIAL_WINDOW_SIZE.
-    pub initial: i32,
+    pub initial: WindowSize,
     /// Whether SETTINGS_HEADER_TABLE_SIZE was named.
     pub resizes: bool,
 }
@@ -28,10 +28,9 @@ fn with_setting(old: Settings, setting: Setting) -> Settings
         } else {
             old.limit
         },
-        initial: if identifier == INITIAL_WINDOW_SIZE && value <= LARGEST_WINDOW {
-            value as i32
-        } else {
-            old.initial
+        initial: match WindowSize::new(value) {
+            Some(size) if identifier == INITIAL_WINDOW_SIZE => size,
+            _ => old.initial,
         },
         resizes: identifier == HEADER_TABLE_SIZE || old.resizes,
     }

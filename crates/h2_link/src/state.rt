@@ -1,12 +1,13 @@
 // The state of a link after whole frames and calls.
-ghost use Rattle.std.specs.Prelude.{◌≡◌, ◌<◌, ◌∷◌, [], length, OnOk, IfOk, None};
+ghost use Rattle.std.specs.Prelude.{◌≡◌, ◌<◌, ◌≤◌, ◌∷◌, [], length, drop, map, OnOk, IfOk, None};
+ghost use Rattle.h2_link.specs.Drains.{named};
 ghost use Rattle.h2_link.specs.Steps.{with_effect, broke, placed, cut, pinged, sealed_wire};
-ghost use Rattle.h2_link.specs.Wire.{blank, fresh_wire};
+ghost use Rattle.h2_link.specs.Wire.{blank, block_bytes, fresh_wire};
 
 use crate::block::OpenBlock;
 use crate::control::{Control, Controls};
 use crate::effect::Effect;
-use crate::live::{LiveStreams, StreamNumber};
+use crate::live::{LiveStream, LiveStreams, StreamNumber, WindowSize};
 use crate::news::LinkNews;
 use crate::waiting::Waiting;
 use grpc_base::{Items, NoMemory};
@@ -34,7 +35,7 @@ pub(crate) struct State {
     /// The peer's SETTINGS_MAX_CONCURRENT_STREAMS.
     pub limit: Option<u32>,
     /// The peer's SETTINGS_INITIAL_WINDOW_SIZE.
-    pub initial: i32,
+    pub initial: WindowSize,
     /// The link's send window.
     pub window: u32,
     pub queue: Controls,
@@ -67,7 +68,7 @@ impl State {
             live: LiveStreams::new(alloc),
             opened: 0,
             limit: None,
-            initial: FIRST_WINDOW as i32,
+            initial: WindowSize::first(),
             window: FIRST_WINDOW,
             queue: Controls::new(alloc),
             resizes: false,
@@ -133,7 +134,8 @@ impl State {
     {
         match self.live.tagged(tag) {
             Some((place, stream)) => {
-                self.apply_effect(place, stream.number, Effect::Ends(Some(code)))
+                let number = stream.number;
+                self.apply_effect(place, number, Effect::Ends(Some(code)))
             }
             None => {
                 self.waiting.remove(tag);
@@ -142,12 +144,39 @@ impl State {
         }
     }
 
-    /// A PING is to be sent.
+    /// A PING is to be sent, unless the link is broken.
     pub(crate) fn ping(&mut self, word: u64) -> Result<(), NoMemory>
         ensures { OnOk result (self.new ≡ pinged self.old word) }
     {
-        self.queue.push(Control::Ping { word })?;
+        if self.broken.is_none() {
+            self.queue.push(Control::Ping { word })?;
+        }
         Ok(())
+    }
+
+    /// How many bytes of an open header block the link holds.
+    pub(crate) fn block_len(&self) -> usize
+        ensures value { result ≡ block_bytes self.now.block }
+        ensures within { result ≤ 65536 }
+    {
+        match &self.block {
+            Some(block) => block.len(),
+            None => 0,
+        }
+    }
+
+    /// How many streams are live.
+    pub(crate) fn live_count(&self) -> usize
+        ensures { result ≡ length self.now.live }
+    {
+        self.live.len()
+    }
+
+    /// The live streams from a place on: the tag of each with its number.
+    pub(crate) fn opened_from(&self, alloc: Global, before: usize) -> Result<Items<(u64, u32)>, NoMemory>
+        ensures { IfOk result (λ o. o ≡ map named (drop before self.now.live)) }
+    {
+        names_from(alloc, self.live.as_slice(), before)
     }
 
     /// The effects of the last frame are complete.
@@ -156,6 +185,20 @@ impl State {
     {
         self.queue.seal();
     }
+}
+
+/// The tag of each stream from a place on, with its number.
+fn names_from(alloc: Global, live: &[LiveStream], before: usize) -> Result<Items<(u64, u32)>, NoMemory>
+    ensures { IfOk result (λ o. o ≡ map named (drop before live.now)) }
+{
+    let mut names = Items::new(alloc);
+    let Some(opened) = live.get(before..) else {
+        return Ok(names);
+    };
+    for stream in opened {
+        names.push((stream.tag, stream.number.get()))?;
+    }
+    Ok(names)
 }
 
 /// One piece of news.

@@ -5,9 +5,9 @@ ghost use Rattle.h2_frame.specs.Numbers.{data_type, headers_type, rst_stream_typ
 ghost use Rattle.h2_frame.specs.Payloads.{reset_code, last_stream, increment};
 ghost use Rattle.h2_frame.specs.Steps.{seen};
 ghost use Rattle.h2_link.specs.Outcomes.{outcome_of};
-ghost use Rattle.h2_link.specs.Steps.{told, applied, plain_told, listed, block_read, headers_told, continuation_told, link_updated, stream_updated, data_told, data_news, fault_news, reset_told, window_told, update_told, settings_told, ping_told, goaway_told, found_from, is_numbered, all_reset, unseen, unseen_stream};
+ghost use Rattle.h2_link.specs.Steps.{told, applied, plain_told, listed, block_read, block_held, headers_told, continuation_told, link_updated, stream_updated, data_told, data_news, fault_news, reset_told, window_told, update_told, settings_told, ping_told, goaway_told, found_from, is_numbered, all_reset, unseen, unseen_stream};
 
-use crate::block::OpenBlock;
+use crate::block::{BLOCK_LIMIT, OpenBlock};
 use crate::control::{Control, Controls};
 use crate::effect::{Effect, data_effect, headers_effect, window_effect};
 use crate::judge::link_error;
@@ -23,9 +23,6 @@ use h2_frame::{Frame, HEADER_SIZE, flags, kinds};
 use h2_hpack::HpackFault;
 use std::alloc::Global;
 
-/// A header block has at most so many bytes.
-pub(crate) const BLOCK_LIMIT: usize = 65_536;
-
 /// The news of a frame, or the code of the link error that it turns out to make.
 type Outcome = Result<Items<LinkNews>, u32>;
 
@@ -39,7 +36,7 @@ impl State {
     /// A whole frame.
     pub(crate) fn tell(&mut self, alloc: Global, frame: Frame) -> Result<Items<LinkNews>, NoMemory>
         requires { self.old.read + 9 + length frame.payload.now ≤ 2 ^ 63 }
-        ensures { IfOk result (λ news. record { wire = self.new; news = news } ≡ told self.old (seen frame)) }
+        ensures { IfOk result (λ news. record { wire = self.new; news = news } ≡ told self.old (seen frame.entry)) }
     {
         let read = self.read;
         if let Some(code) = link_error(self, frame) {
@@ -58,7 +55,7 @@ impl State {
 
     /// A frame that breaks no rule of the link, but that its header block may turn out to be bad.
     fn apply(&mut self, alloc: Global, frame: Frame, at: u64) -> Result<Outcome, NoMemory>
-        ensures { IfOk result (λ r. outcome_of r self.new ≡ applied self.old (seen frame) at) }
+        ensures { IfOk result (λ r. outcome_of r self.new ≡ applied self.old (seen frame.entry) at) }
     {
         match frame.kind {
             kinds::HEADERS => self.tell_headers(alloc, frame, at),
@@ -69,7 +66,7 @@ impl State {
 
     /// A frame without a header block.
     fn tell_plain(&mut self, alloc: Global, frame: Frame, at: u64) -> Result<Items<LinkNews>, NoMemory>
-        ensures { IfOk result (λ news. record { wire = self.new; news = news } ≡ plain_told self.old (seen frame) at) }
+        ensures { IfOk result (λ news. record { wire = self.new; news = news } ≡ plain_told self.old (seen frame.entry) at) }
     {
         match frame.kind {
             kinds::DATA => self.tell_data(alloc, frame, at),
@@ -83,35 +80,47 @@ impl State {
     }
 
     fn tell_headers(&mut self, alloc: Global, frame: Frame, at: u64) -> Result<Outcome, NoMemory>
-        ensures { IfOk result (λ r. outcome_of r self.new ≡ headers_told self.old (seen frame) at) }
+        ensures { IfOk result (λ r. outcome_of r self.new ≡ headers_told self.old (seen frame.entry) at) }
     {
         let ends = has_flag(frame, flags::END_STREAM);
         if has_flag(frame, flags::END_HEADERS) {
             return self.read_block(alloc, frame.stream, ends, frame.content(), at);
         }
-        self.block = Some(OpenBlock {
-            number: frame.stream,
-            ends,
-            bytes: Text::of_slice(alloc, frame.content())?,
-        });
-        Ok(Ok(Items::new(alloc)))
+        let bytes = Text::of_slice(alloc, frame.content())?;
+        Ok(self.hold(alloc, frame.stream, ends, bytes))
     }
 
     fn tell_continuation(&mut self, alloc: Global, frame: Frame, at: u64) -> Result<Outcome, NoMemory>
-        ensures { IfOk result (λ r. outcome_of r self.new ≡ continuation_told self.old (seen frame) at self.old.block) }
+        ensures { IfOk result (λ r. outcome_of r self.new ≡ continuation_told self.old (seen frame.entry) at self.old.block) }
     {
-        let Some(mut block) = self.block.take() else {
+        let Some(block) = self.block.take() else {
             return Ok(Ok(Items::new(alloc)));
         };
-        block.bytes.append(frame.payload)?;
+        let OpenBlock {
+            number,
+            ends,
+            mut bytes,
+        } = block;
+        bytes.append(frame.payload)?;
         if has_flag(frame, flags::END_HEADERS) {
-            return self.read_block(alloc, block.number, block.ends, block.bytes.as_slice(), at);
+            return self.read_block(alloc, number, ends, bytes.as_slice(), at);
         }
-        if block.bytes.len() > BLOCK_LIMIT {
-            return Ok(Err(ENHANCE_YOUR_CALM));
+        Ok(self.hold(alloc, number, ends, bytes))
+    }
+
+    /// A header block that CONTINUATION is to complete.
+    fn hold(&mut self, alloc: Global, number: u32, ends: bool, bytes: Text) -> Outcome
+        ensures { outcome_of result self.new ≡ block_held self.old (record { number = number; ends = ends; bytes = bytes }) }
+    {
+        if bytes.len() > BLOCK_LIMIT {
+            return Err(ENHANCE_YOUR_CALM);
         }
-        self.block = Some(block);
-        Ok(Ok(Items::new(alloc)))
+        self.block = Some(OpenBlock {
+            number,
+            ends,
+            bytes,
+        });
+        Ok(Items::new(alloc))
     }
 
     /// A whole header block.
@@ -159,13 +168,14 @@ impl State {
             end,
             seen,
         })?;
-        push_fault(&mut news, tag, seen, effect)?;
-        self.apply_effect(place, stream.number, effect)?;
+        push_fault(&mut news, tag, seen, &effect)?;
+        let number = stream.number;
+        self.apply_effect(place, number, effect)?;
         Ok(news)
     }
 
     fn tell_data(&mut self, alloc: Global, frame: Frame, at: u64) -> Result<Items<LinkNews>, NoMemory>
-        ensures { IfOk result (λ news. record { wire = self.new; news = news } ≡ data_told self.old (seen frame) at (found_from (is_numbered frame.stream) 0 self.old.live)) }
+        ensures { IfOk result (λ news. record { wire = self.new; news = news } ≡ data_told self.old (seen frame.entry) at (found_from (is_numbered frame.stream) 0 self.old.live)) }
     {
         let len = frame.payload.len() as u32;
         update_link(&mut self.queue, len)?;
@@ -175,8 +185,10 @@ impl State {
         let end = has_flag(frame, flags::END_STREAM);
         update_stream(&mut self.queue, &stream, len, end)?;
         let effect = data_effect(&stream, end);
-        self.apply_effect(place, stream.number, effect)?;
-        data_news(alloc, stream.tag, frame.content(), end, at, effect)
+        let news = data_news(alloc, stream.tag, frame.content(), end, at, &effect)?;
+        let number = stream.number;
+        self.apply_effect(place, number, effect)?;
+        Ok(news)
     }
 
     fn tell_reset(&mut self, alloc: Global, number: u32, code: u32, seen: u64) -> Result<Items<LinkNews>, NoMemory>
@@ -186,13 +198,14 @@ impl State {
             return Ok(Items::new(alloc));
         };
         let tag = stream.tag;
-        self.apply_effect(place, stream.number, Effect::Ends(None))?;
+        let number = stream.number;
+        self.apply_effect(place, number, Effect::Ends(None))?;
         one_news(alloc, LinkNews::Reset { tag, code, seen })
     }
 
     fn tell_update(&mut self, alloc: Global, frame: Frame, at: u64) -> Result<Items<LinkNews>, NoMemory>
         requires kind { frame.kind ≡ window_update_type }
-        ensures { IfOk result (λ news. record { wire = self.new; news = news } ≡ update_told self.old (seen frame) at) }
+        ensures { IfOk result (λ news. record { wire = self.new; news = news } ≡ update_told self.old (seen frame.entry) at) }
     {
         let by = frame.increment();
         let mut news = Items::new(alloc);
@@ -203,14 +216,16 @@ impl State {
         let Some((place, stream)) = self.live.numbered(frame.stream) else {
             return Ok(news);
         };
-        let effect = window_effect(self.initial, &stream, by);
-        push_fault(&mut news, stream.tag, at, effect)?;
-        self.apply_effect(place, stream.number, effect)?;
+        let initial = self.initial;
+        let effect = window_effect(&initial, &stream, by);
+        push_fault(&mut news, stream.tag, at, &effect)?;
+        let number = stream.number;
+        self.apply_effect(place, number, effect)?;
         Ok(news)
     }
 
     fn tell_settings(&mut self, alloc: Global, frame: Frame) -> Result<Items<LinkNews>, NoMemory>
-        ensures { IfOk result (λ news. record { wire = self.new; news = news } ≡ settings_told self.old (seen frame)) }
+        ensures { IfOk result (λ news. record { wire = self.new; news = news } ≡ settings_told self.old (seen frame.entry)) }
     {
         let mut news = Items::new(alloc);
         if has_flag(frame, flags::ACK) {
@@ -236,7 +251,7 @@ impl State {
 
     fn tell_ping(&mut self, alloc: Global, frame: Frame) -> Result<Items<LinkNews>, NoMemory>
         requires kind { frame.kind ≡ ping_type }
-        ensures { IfOk result (λ news. record { wire = self.new; news = news } ≡ ping_told self.old (seen frame)) }
+        ensures { IfOk result (λ news. record { wire = self.new; news = news } ≡ ping_told self.old (seen frame.entry)) }
     {
         if !has_flag(frame, flags::ACK) {
             let word = frame.ping_word();
@@ -263,11 +278,11 @@ impl State {
     }
 }
 
-fn push_fault(news: &mut Items<LinkNews>, tag: u64, seen: u64, effect: Effect) -> Result<(), NoMemory>
-    ensures { OnOk result (news.new ≡ news.old ++ fault_news tag seen effect) }
+fn push_fault(news: &mut Items<LinkNews>, tag: u64, seen: u64, effect: &Effect) -> Result<(), NoMemory>
+    ensures { OnOk result (news.new ≡ news.old ++ fault_news tag seen effect.now) }
 {
     match effect {
-        Effect::Faults(code) => news.push(LinkNews::Fault { tag, code, seen }),
+        Effect::Faults(code) => news.push(LinkNews::Fault { tag, code: *code, seen }),
         _ => Ok(()),
     }
 }
@@ -278,12 +293,12 @@ fn data_news(
     content: &[u8],
     end: bool,
     seen: u64,
-    effect: Effect,
+    effect: &Effect,
 ) -> Result<Items<LinkNews>, NoMemory>
-    ensures { IfOk result (λ news. news ≡ data_news tag content.now end seen effect) }
+    ensures { IfOk result (λ news. news ≡ data_news tag content.now end seen effect.now) }
 {
     if let Effect::Faults(code) = effect {
-        return one_news(alloc, LinkNews::Fault { tag, code, seen });
+        return one_news(alloc, LinkNews::Fault { tag, code: *code, seen });
     }
     let octets = Octets::of_slice(alloc, content)?;
     one_news(

@@ -1,5 +1,6 @@
 // The tags that have no stream yet.
-ghost use Rattle.std.specs.Prelude.{◌≡◌, [], drop, OnOk, slice_get, nat_cmp, length};
+ghost use Rattle.std.specs.Prelude.{◌≡◌, [], drop, OnOk, slice_get};
+ghost use Rattle.std.specs.Ordering.{nat_cmp};
 ghost use Rattle.std.specs.BTreeSet.{insert_key};
 ghost use Rattle.std.specs.Set.{remove_key};
 ghost use Rattle.std.specs.BTreeMap.{is_at};
