@@ -12,6 +12,7 @@ pub mod ListLemmas
 pub mod LookupLemmas
 pub mod Paths
 pub mod RoundTrip
+pub mod SizeLemmas
 pub mod StateLemmas
 pub mod TableLemmas
 pub mod TextLemmas

@@ -46,3 +46,7 @@ field_bytes f = pair_bytes f (index_where (same_pair f.name f.value))
 
 abbrev pub block_bytes : List Field → List ℕ
 block_bytes fields = flat_map field_bytes fields
+
+-- a dynamic table size update to 0, which may stand before the fields of a block (section 6.3)
+abbrev pub size_update_to_zero : ℕ
+size_update_to_zero = 32

@@ -1,10 +1,10 @@
 -- What the definitions of this crate promise of each other.
-use Rattle.std.specs.Prelude.{◌≡◌, ◌≤◌, ◌<◌, ◌↔◌, ℕ, ◌-◌, ◌^◌, ◌+◌, true, List, [], ◌∷◌, ◌++◌, length, map, replicate, Some, Ok, Err}
+use Rattle.std.specs.Prelude.{◌≡◌, ◌≤◌, ◌<◌, ◌↔◌, ℕ, ◌-◌, ◌*◌, ◌^◌, ◌+◌, true, List, [], ◌∷◌, ◌++◌, length, map, replicate, Some, Ok, Err}
 use Rattle.std.specs.List.{AllByRecursion, range_with_len}
 use Rattle.grpc_base.specs.declared.fields.Field.{Field}
 use Rattle.h2_hpack.specs.declared.fault.HpackFault.{HpackFault}
 use Rattle.h2_hpack.specs.Blocks.{Reading, block_of, and_then, decoded, fields_in, fields_of_blocks, state_after}
-use Rattle.h2_hpack.specs.Encoding.{block_bytes}
+use Rattle.h2_hpack.specs.Encoding.{block_bytes, size_update_to_zero}
 use Rattle.h2_hpack.specs.Huffman.{SymbolCode, symbol_codes, is_free, of_length, code_of, end_of_string, symbols_of, IsHuffman}
 use Rattle.h2_hpack.specs.Representations.{IsBlock, IsFaulty}
 use Rattle.h2_hpack.specs.Tables.{Table, new_table, list_size, list_limit}
@@ -36,6 +36,15 @@ BlocksAreRepresentations = (t : Table) (block : List ℕ) → AllByRecursion (λ
 -- a decoder reads what the encoder writes, whatever its table, which stays as it was
 abbrev pub EncodingIsRead : Type 0
 EncodingIsRead = (t : Table) (fields : List Field) → list_size fields ≤ list_limit → block_of t (block_bytes fields) ≡ Ok (record { fields = fields; table = t })
+
+-- nor where the block begins with a table size update to 0, behind which the table is empty and stays so
+abbrev pub UpdateIsRead : Type 0
+UpdateIsRead = (t : Table) (fields : List Field) → list_size fields ≤ list_limit → block_of t (size_update_to_zero ∷ block_bytes fields) ≡ Ok (record { fields = fields; table = record { entries = []; limit = 0 } })
+
+-- each field is written with 25 bytes less than its size, or fewer, so a whole list with 16,359 at most
+pub record EncodingIsShort (fields : List Field) : Type 0 where
+  pub each : length (block_bytes fields) + 25 * length fields ≤ list_size fields
+  pub most : length (block_bytes fields) ≤ 16359
 
 -- the header lists of all blocks so far and of one more are those so far and what the state after them gives
 abbrev pub BlocksInTurn : Type 0

@@ -9,6 +9,9 @@ use bytes::BytesMut;
 use grpc_base::{Field, Fields, NoMemory};
 use std::alloc::Global;
 
+/// A dynamic table size update to 0, which may stand before a block (RFC 7541, section 6.3).
+pub const SIZE_UPDATE_TO_ZERO: u8 = 0x20;
+
 /// The block of a header list: each field by its index where the static table has it, else as a literal that the
 /// peer does not add to its table; no Huffman text. A decoder reads the list back whatever its table, if the sizes
 /// of the fields come to 16,384 at most.

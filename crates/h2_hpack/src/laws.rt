@@ -1,5 +1,10 @@
 // Laws of the definitions that the contracts cite, each the contract of a call that does nothing.
-ghost use Rattle.h2_hpack.specs.Laws.{HuffmanIsExact, CodeIsWhole, BlocksAreRepresentations, EncodingIsRead, BlocksInTurn};
+ghost use Rattle.std.specs.Prelude.{◌≡◌, ◌≤◌, List};
+ghost use Rattle.grpc_base.specs.declared.fields.Field.{Field};
+ghost use Rattle.h2_hpack.specs.declared.encoder.TheConstants.{SIZE_UPDATE_TO_ZERO};
+ghost use Rattle.h2_hpack.specs.Encoding.{size_update_to_zero};
+ghost use Rattle.h2_hpack.specs.Laws.{HuffmanIsExact, CodeIsWhole, BlocksAreRepresentations, EncodingIsRead, EncodingIsShort, BlocksInTurn, UpdateIsRead};
+ghost use Rattle.h2_hpack.specs.Tables.{list_limit, list_size};
 
 /// Huffman text is read exactly where its bits are the codes of symbols, joined, before at most seven padding ones
 /// (RFC 7541, section 5.2).
@@ -23,6 +28,18 @@ pub fn blocks_are_representations()
 /// it was.
 pub fn encoding_is_read()
     ensures { EncodingIsRead }
+{}
+
+/// The same where the block begins with `SIZE_UPDATE_TO_ZERO`, which leaves the decoder's table empty for good.
+pub fn encoding_is_read_behind_an_update()
+    ensures read { UpdateIsRead }
+    ensures constant { SIZE_UPDATE_TO_ZERO ≡ size_update_to_zero }
+{}
+
+/// What `encode_fields` writes of a list of at most 16,384 has at most 16,359 bytes, as many as a single field of two long
+/// strings takes; so it fits a frame, also behind `SIZE_UPDATE_TO_ZERO`.
+pub fn encoding_fits_a_frame()
+    ensures { (fields : List Field) → list_size fields ≤ list_limit → EncodingIsShort fields }
 {}
 
 /// What a decoder answers to the blocks of a connection, one after the other, are their header lists over one table.

@@ -18,9 +18,9 @@ mod table;
 mod text;
 
 pub use decoder::Decoder;
-pub use encoder::encode_fields;
+pub use encoder::{SIZE_UPDATE_TO_ZERO, encode_fields};
 pub use fault::HpackFault;
 pub use laws::{
-    blocks_are_read_in_turn, blocks_are_representations, encoding_is_read, huffman_code_is_whole,
-    huffman_text_is_exact,
+    blocks_are_read_in_turn, blocks_are_representations, encoding_fits_a_frame, encoding_is_read,
+    encoding_is_read_behind_an_update, huffman_code_is_whole, huffman_text_is_exact,
 };
