@@ -4,11 +4,12 @@ use Rattle.grpc_base.specs.declared.fields.Field.{Field}
 use Rattle.h2_frame.specs.declared.payload.Setting.{Setting}
 use Rattle.h2_frame.specs.Frames.{FrameSeen, written}
 use Rattle.h2_frame.specs.Sent.{data_frame, headers_frame, ping_ack, ping_frame, rst_stream_frame, settings_ack, settings_frame, window_update_frame}
-use Rattle.h2_hpack.specs.Encoding.{block_bytes}
+use Rattle.h2_hpack.specs.Encoding.{block_bytes, size_update_to_zero}
 use Rattle.h2_stream.specs.Stream.{or_zero}
 use Rattle.h2_link.specs.declared.control.Control.{Control}
 use Rattle.h2_link.specs.declared.control.Control.TheVariants.{Preface, SettingsAck, Ping, PingAck, LinkUpdate, StreamUpdate, Reset}
 use Rattle.h2_link.specs.declared.live.LiveStream.{LiveStream}
+use Rattle.h2_link.specs.declared.send.Share.{Share}
 use Rattle.h2_link.specs.Feeds.{Line, fed}
 use Rattle.h2_link.specs.LinkErrors.{send_window}
 use Rattle.h2_link.specs.Queues.{unqueued}
@@ -70,9 +71,9 @@ may_open w = not w.retiring && is_below (length w.live) w.limit && nat_lt w.open
 abbrev pub opens : Wire → Option ℕ
 opens w = if may_open w then slice_get w.waiting 0 else None
 
--- a header block; an update of the dynamic table's size to 0 is the byte 32 (RFC 7541, section 6.3)
+-- a header block, behind an update of the dynamic table's size to 0 where that is owed (RFC 7541, section 6.3)
 abbrev pub head_block : Bool → List Field → List ℕ
-head_block resizes fields = (if resizes then 32 ∷ [] else []) ++ block_bytes fields
+head_block resizes fields = (if resizes then size_update_to_zero ∷ [] else []) ++ block_bytes fields
 
 abbrev pub stream_opened : Wire → ℕ → LiveStream
 stream_opened w tag = record { number = 2 * w.opened + 1; tag = tag; head = false; finished = false; credit = pos 0 }
@@ -87,24 +88,19 @@ sent_head w g tag = record {
 -- then DATA of the lowest stream that may send. How many bytes, and whether END_STREAM: as many as 16,384, both windows and
 -- what is left allow, and END_STREAM exactly if nothing is left behind them and nothing will be added; an empty frame only
 -- for its END_STREAM
-abbrev pub least_of : ℕ → ℕ → LiveStream → List ℕ → ℕ
-least_of window initial s left = min (min 16384 window) (min (or_zero (send_window initial s)) (length left))
+abbrev pub least_of : ℕ → ℕ → LiveStream → ℕ → ℕ
+least_of window initial s left = min (min 16384 window) (min (or_zero (send_window initial s)) left)
 
-abbrev pub share_as : ℕ → Line → Option (ℕ × Bool)
-share_as len line =
-    let ends = line.finished && (len == length line.left) in
+abbrev pub share_as : ℕ → ℕ → Bool → Option (ℕ × Bool)
+share_as len left finished =
+    let ends = finished && (len == left) in
     if nat_lt 0 len || ends then Some (len, ends) else None
 
-abbrev pub share_of : ℕ → ℕ → LiveStream → Line → Option (ℕ × Bool)
-share_of window initial s line = if s.finished then None else share_as (least_of window initial s line.left) line
+abbrev pub share_of : ℕ → ℕ → LiveStream → ℕ → Bool → Option (ℕ × Bool)
+share_of window initial s left finished =
+    if s.finished then None else share_as (least_of window initial s left) left finished
 
 -- a stream that may send: its place, itself, how many bytes, and whether END_STREAM
-pub record Share : Type 0 where
-  pub place : ℕ
-  pub stream : LiveStream
-  pub len : ℕ
-  pub ends : Bool
-
 abbrev pub share_or : ℕ → LiveStream → Option (ℕ × Bool) → Option Share → Option Share
 share_or place s None other = other
 share_or place s (Some x) other = Some (record { place = place; stream = s; len = x.0; ends = x.1 })
@@ -112,7 +108,8 @@ share_or place s (Some x) other = Some (record { place = place; stream = s; len 
 abbrev pub sender : ℕ → ℕ → (ℕ → Line) → ℕ → List LiveStream → Option Share
 sender window initial g place [] = None
 sender window initial g place (s ∷ streams) =
-    share_or place s (share_of window initial s (g s.tag)) (sender window initial g (place + 1) streams)
+    share_or place s (share_of window initial s (length (g s.tag).left) (g s.tag).finished)
+      (sender window initial g (place + 1) streams)
 
 abbrev pub sent_data : Wire → (ℕ → Line) → Share → Sent
 sent_data w g x = record {

@@ -3,6 +3,9 @@ use Rattle.std.specs.Prelude.{◌≡◌, ◌<◌, ◌≤◌, ℕ, Bool, true, fa
 use Rattle.h2_link.specs.declared.news.LinkNews.{LinkNews}
 use Rattle.h2_link.specs.Drains.{Sent, octets_of}
 use Rattle.h2_link.specs.Feeds.{Line}
+use Rattle.h2_link.specs.LinkErrors.{send_window}
+use Rattle.h2_link.specs.declared.send.Share.{Share}
+use Rattle.h2_stream.specs.Stream.{or_zero}
 use Rattle.h2_link.specs.Wire.{Wire, Told}
 
 abbrev pub outcome_of : Result (List LinkNews) ℕ → Wire → Result Told ℕ
@@ -21,3 +24,12 @@ WentAs true left w g out (Some s) w2 g2 out2 =
 WentAs false left w g out None w2 g2 out2 = (w2 ≡ w) × (g2 ≡ g) × (out2 ≡ out)
 WentAs false left w g out (Some s) w2 g2 out2 =
     (w2 ≡ w) × (g2 ≡ g) × (out2 ≡ out) × (left < length (octets_of s.frame))
+
+-- DATA that may be sent
+pub record ShareFits (w : Wire) (g : ℕ → Line) (x : Share) : Type 0 where
+  pub held : (g x.stream.tag).held ≡ true
+  pub there : x.len ≤ length (g x.stream.tag).left
+  pub place : x.place < length w.live
+  pub window : x.len ≤ w.window
+  pub own : x.len ≤ or_zero (send_window w.initial x.stream)
+  pub size : x.len ≤ 16384

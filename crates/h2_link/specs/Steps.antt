@@ -127,7 +127,7 @@ abbrev pub link_updated : ℕ → Queue → Queue
 link_updated len q = if len == 0 then q else queued q (LinkUpdate len)
 
 abbrev pub stream_updated : LiveStream → ℕ → Bool → Queue → Queue
-stream_updated s len end q = if (len == 0) || end || not s.head then q else queued q (StreamUpdate s.number len)
+stream_updated s len end q = if end || not s.head || (len == 0) then q else queued q (StreamUpdate s.number len)
 
 abbrev pub data_news : ℕ → List ℕ → Bool → ℕ → Effect → List LinkNews
 data_news tag content end seen (Goes s) = news.Data tag content end seen ∷ []

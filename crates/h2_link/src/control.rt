@@ -1,5 +1,5 @@
 // Frames that are sent whatever the windows, in the order in which they were queued.
-ghost use Rattle.std.specs.Prelude.{◌≡◌, ◌+◌, ◌-◌, ◌<◌, ◌≤◌, ◌++◌, ◌∷◌, [], length, slice_get, take, drop, min, OnOk, Some, None};
+ghost use Rattle.std.specs.Prelude.{◌≡◌, ◌<◌, ◌≤◌, ◌^◌, ◌==◌, if◌then◌else◌, length, slice_get, OnOk, Some, None};
 ghost use Rattle.h2_link.specs.Queues.{new_queue, queued, sealed, reset_queued, unqueued, reset_place, is_behind};
 
 use crate::live::StreamNumber;
@@ -7,6 +7,46 @@ use grpc_base::NoMemory;
 use std::alloc::Global;
 use std::collections::VecDeque;
 use std::marker::Model;
+
+/// The increment of a WINDOW_UPDATE (RFC 9113, section 6.9).
+#[derive(Clone, Copy, Debug, PartialEq, Eq)]
+pub struct Increment {
+    by: u32,
+}
+
+impl Model for Increment {
+    ghost use Rattle.std.specs.Prelude.{ℕ, ◌<◌, ◌^◌};
+
+    ghost Value = { ℕ };
+
+    ghost view = { λ i. i.by };
+
+    ghost invariant = { λ i. (0 < i.by) × (i.by < 2 ^ 31) };
+
+    ghost inverse = { λ n. record { by = n } };
+}
+
+impl Increment {
+    /// None exactly for 0.
+    pub(crate) fn of_len(len: u32) -> Option<Increment>
+        requires { len < 2 ^ 31 }
+        ensures { result ≡ (if len == 0 then None else Some len) }
+    {
+        if len == 0 {
+            None
+        } else {
+            Some(Increment { by: len })
+        }
+    }
+
+    pub(crate) fn get(&self) -> u32
+        ensures value { result ≡ self.now }
+        ensures from_one { 0 < result }
+        ensures within { result < 2 ^ 31 }
+    {
+        self.by
+    }
+}
 
 /// A frame that no window holds back.
 #[derive(Clone, Copy, Debug)]
@@ -18,9 +58,9 @@ pub enum Control {
     Ping { word: u64 },
     PingAck { word: u64 },
     /// WINDOW_UPDATE of the connection.
-    LinkUpdate { by: u32 },
+    LinkUpdate { by: Increment },
     /// WINDOW_UPDATE of a stream.
-    StreamUpdate { stream: StreamNumber, by: u32 },
+    StreamUpdate { stream: StreamNumber, by: Increment },
     /// RST_STREAM.
     Reset { stream: StreamNumber, code: u32 },
 }
@@ -34,11 +74,14 @@ pub struct Controls {
 }
 
 impl Model for Controls {
+    ghost use Rattle.std.specs.Prelude.{◌≤◌, length};
     ghost use Rattle.h2_link.specs.Queues.{Queue};
 
     ghost Value = { Queue };
 
     ghost view = { λ q. record { items = q.items.items; fresh = q.fresh } };
+
+    ghost invariant = { λ q. q.fresh ≤ length q.items.items };
 }
 
 impl Controls {
@@ -73,6 +116,7 @@ impl Controls {
     {
         let place = self.reset_place(stream);
         self.items.insert(place, Control::Reset { stream, code })?;
+        let _count = self.items.len();
         self.fresh += 1;
         Ok(())
     }

@@ -1,7 +1,6 @@
 // What something that the peer sent does to a stream for it alone.
-ghost use Rattle.std.specs.Prelude.{◌≡◌, ◌<◌, ◌≤◌};
+ghost use Rattle.std.specs.Prelude.{◌≡◌, ◌+ℤ◌, ◌≤ℤ◌, pos};
 ghost use Rattle.h2_link.specs.StreamErrors.{headers_error, data_error, window_error};
-ghost use Rattle.h2_link.specs.Status.{is_interim};
 ghost use Rattle.h2_link.specs.Steps.{headers_effect, data_effect, window_effect, reset_owed};
 
 use crate::live::{LARGEST_WINDOW, LiveStream, WindowSize};
@@ -69,6 +68,13 @@ pub(crate) fn data_effect(stream: &LiveStream, end: bool) -> Effect
     Effect::Goes(*stream)
 }
 
+fn raised_credit(credit: i32, by: u32) -> i32
+    requires { (credit +ℤ pos by) ≤ℤ pos 2147483647 }
+    ensures { result ≡ credit +ℤ pos by }
+{
+    (i64::from(credit) + i64::from(by)) as i32
+}
+
 /// WINDOW_UPDATE under this initial window size.
 pub(crate) fn window_effect(initial: &WindowSize, stream: &LiveStream, by: u32) -> Effect
     ensures { result ≡ window_effect initial.now stream.now by }
@@ -85,6 +91,6 @@ pub(crate) fn window_effect(initial: &WindowSize, stream: &LiveStream, by: u32) 
         tag: stream.tag,
         head: stream.head,
         finished: stream.finished,
-        credit: (i64::from(stream.credit) + i64::from(by)) as i32,
+        credit: raised_credit(stream.credit, by),
     })
 }

@@ -173,7 +173,8 @@ impl Link {
 }
 
 fn extend(bytes: &mut Vec<u8>, more: &[u8]) -> Result<(), NoMemory>
-    ensures { OnOk result (bytes.new.items ≡ bytes.old.items ++ more.now) }
+    ensures ok { OnOk result (bytes.new.items ≡ bytes.old.items ++ more.now) }
+    ensures err { OnErr result (bytes.new.items ≡ bytes.old.items) }
 {
     bytes.extend_from_slice(more)?;
     Ok(())

@@ -1,13 +1,14 @@
 // The frames that a link sends, one at a time.
-ghost use Rattle.std.specs.Prelude.{◌≡◌, ◌≢◌, ◌<◌, ◌≤◌, ◌^◌, ◌++◌, ◌∷◌, ℕ, [], true, if◌then◌else◌, is_some, length, slice_get, pos, ◌≤ℤ◌, IfOk, OnOk, IfSome, Some};
+ghost use Rattle.std.specs.Prelude.{◌≡◌, ◌≢◌, ◌<◌, ◌≤◌, ◌^◌, ◌++◌, ◌∷◌, ℕ, [], true, if◌then◌else◌, is_some, length, slice_get, min, pos, ◌+ℤ◌, ◌-ℤ◌, IfOk, OnOk, IfSome, Some};
 ghost use Rattle.h2_frame.specs.Frames.{written};
-ghost use Rattle.h2_frame.specs.Sent.{headers_frame, window_update_frame};
-ghost use Rattle.h2_hpack.specs.Encoding.{block_bytes};
+ghost use Rattle.h2_frame.specs.Sent.{headers_frame};
+ghost use Rattle.h2_hpack.specs.Encoding.{block_bytes, size_update_to_zero};
 ghost use Rattle.h2_hpack.specs.Tables.{list_size};
-ghost use Rattle.h2_link.specs.Drains.{octets_of, outgoing, may_open, share_of, sender, sent_control, sent_head, sent_data, next};
+ghost use Rattle.h2_link.specs.Drains.{Opening, octets_of, outgoing, may_open, share_of, sender, sent_control, sent_head, sent_data, next};
 ghost use Rattle.h2_link.specs.Feeds.{Holds, Line};
 ghost use Rattle.h2_link.specs.LinkErrors.{send_window};
-ghost use Rattle.h2_link.specs.Outcomes.{WentAs};
+ghost use Rattle.h2_link.specs.Outcomes.{WentAs, ShareFits};
+ghost use Rattle.h2_stream.specs.Stream.{or_zero};
 
 use crate::control::Control;
 use crate::feed::Feed;
@@ -19,9 +20,9 @@ use grpc_base::{Fields, NoMemory};
 use h2_frame::settings::{ENABLE_PUSH, MAX_HEADER_LIST_SIZE};
 use h2_frame::{
     FrameHeader, HEADER_SIZE, Setting, flags, kinds, write_header, write_ping, write_ping_ack,
-    write_rst_stream, write_settings, write_settings_ack,
+    write_rst_stream, write_settings, write_settings_ack, write_window_update,
 };
-use h2_hpack::encode_fields;
+use h2_hpack::{SIZE_UPDATE_TO_ZERO, encode_fields};
 use std::alloc::Global;
 
 /// The beginning of a connection (RFC 9113, section 3.4).
@@ -38,9 +39,6 @@ const SETTINGS: [Setting; 2] = [
         value: 16_384,
     },
 ];
-
-/// A dynamic table size update to 0 (RFC 7541, section 6.3).
-const TABLE_SIZE_ZERO: u8 = 0x20;
 
 /// The streams that can be opened: their numbers have 31 bits.
 const STREAM_LIMIT: u32 = 1 << 30;
@@ -68,44 +66,35 @@ fn control_size(control: &Control) -> u64
     }
 }
 
+/// Appends the preface with the client's SETTINGS.
+fn write_preface(out: &mut BytesMut) -> Result<(), NoMemory>
+    ensures { OnOk result (out.new.items ≡ out.old.items ++ octets_of Opening) }
+{
+    out.extend_from_slice(&PREFACE)?;
+    write_settings(out, &SETTINGS)
+}
+
 /// Appends a frame that no window holds back.
 fn write_control(out: &mut BytesMut, control: &Control) -> Result<(), NoMemory>
     ensures { OnOk result (out.new.items ≡ out.old.items ++ octets_of (outgoing control.now)) }
 {
-    match control {
-        Control::Preface => {
-            out.extend_from_slice(&PREFACE)?;
-            write_settings(out, &SETTINGS)
-        }
+    match *control {
+        Control::Preface => write_preface(out),
         Control::SettingsAck { resizes: _ } => write_settings_ack(out),
-        Control::Ping { word } => write_ping(out, *word),
-        Control::PingAck { word } => write_ping_ack(out, *word),
-        Control::LinkUpdate { by } => write_update(out, 0, *by),
-        Control::StreamUpdate { stream, by } => write_update(out, stream.get(), *by),
-        Control::Reset { stream, code } => write_rst_stream(out, stream.get(), *code),
+        Control::Ping { word } => write_ping(out, word),
+        Control::PingAck { word } => write_ping_ack(out, word),
+        Control::LinkUpdate { by } => write_window_update(out, 0, by.get()),
+        Control::StreamUpdate { stream, by } => {
+            write_window_update(out, stream.get(), by.get())
+        }
+        Control::Reset { stream, code } => write_rst_stream(out, stream.get(), code),
     }
-}
-
-/// Appends WINDOW_UPDATE.
-fn write_update(out: &mut BytesMut, stream: u32, by: u32) -> Result<(), NoMemory>
-    requires { stream < 2147483648 }
-    ensures { OnOk result (out.new.items ≡ out.old.items ++ written (window_update_frame stream by)) }
-{
-    let header = FrameHeader {
-        kind: kinds::WINDOW_UPDATE,
-        flags: 0,
-        stream,
-        length: 4,
-    };
-    write_header(out, header)?;
-    out.extend_from_slice(&by.to_be_bytes())?;
-    Ok(())
 }
 
 /// Appends HEADERS with a whole header block, which begins with a table size update where that is owed.
 fn write_head(out: &mut BytesMut, number: &StreamNumber, resizes: bool, block: &[u8]) -> Result<(), NoMemory>
     requires { length block.now < 16384 }
-    ensures { OnOk result (out.new.items ≡ out.old.items ++ written (headers_frame number.now ((if resizes then 32 ∷ [] else []) ++ block.now))) }
+    ensures { OnOk result (out.new.items ≡ out.old.items ++ written (headers_frame number.now ((if resizes then size_update_to_zero ∷ [] else []) ++ block.now))) }
 {
     let header = FrameHeader {
         kind: kinds::HEADERS,
@@ -115,7 +104,7 @@ fn write_head(out: &mut BytesMut, number: &StreamNumber, resizes: bool, block: &
     };
     write_header(out, header)?;
     if resizes {
-        out.extend_from_slice(&[TABLE_SIZE_ZERO])?;
+        out.extend_from_slice(&[SIZE_UPDATE_TO_ZERO])?;
     }
     out.extend_from_slice(block)?;
     Ok(())
@@ -123,21 +112,44 @@ fn write_head(out: &mut BytesMut, number: &StreamNumber, resizes: bool, block: &
 
 /// What a stream may send of so many bytes that are left.
 fn share_of(window: u32, initial: &WindowSize, stream: &LiveStream, left: u64, finished: bool) -> Option<(u32, bool)>
-    ensures { (line : Line) → left ≡ length line.left → finished ≡ line.finished → result ≡ share_of window initial.now stream.now line }
+    ensures share { result ≡ share_of window initial.now stream.now left finished }
+    ensures within { IfSome result (λ x. (x.0 ≤ left) × (x.0 ≤ window) × (x.0 ≤ 16384) × (x.0 ≤ or_zero (send_window initial.now stream.now))) }
 {
     if stream.finished {
         return None;
     }
-    let own = (i64::from(initial.get()) + i64::from(stream.credit)).max(0) as u64;
-    let len = (PAYLOAD_BYTES as u64)
-        .min(u64::from(window))
-        .min(own.min(left));
+    let len = least_of(window, own_window(initial, stream), left);
     let ends = finished && len == left;
     if 0 < len || ends {
         Some((len as u32, ends))
     } else {
         None
     }
+}
+
+/// The send window of a stream, or 0 for one below 0.
+fn own_window(initial: &WindowSize, stream: &LiveStream) -> u64
+    ensures { result ≡ or_zero (send_window initial.now stream.now) }
+{
+    (i64::from(initial.get()) + i64::from(stream.credit)).max(0) as u64
+}
+
+fn least_of(window: u32, own: u64, left: u64) -> u64
+    ensures least { result ≡ min (min 16384 window) (min own left) }
+    ensures size { result ≤ 16384 }
+{
+    let frame = (PAYLOAD_BYTES as u64).min(u64::from(window));
+    frame.min(own.min(left))
+}
+
+/// The credit of a stream behind so many bytes of DATA more.
+#[tactic(auto, using(crate::proofs::Windows::lowered))]
+fn lowered_credit(initial: &WindowSize, credit: i32, len: u32) -> i32
+    requires { len ≤ or_zero (pos initial.now +ℤ credit) }
+    ensures { result ≡ credit -ℤ pos len }
+{
+    let _initial = initial.get();
+    (i64::from(credit) - i64::from(len)) as i32
 }
 
 impl State {
@@ -156,7 +168,7 @@ impl State {
     fn sender<F: Feed>(&self, feed: &F) -> Option<Share>
         requires holds { Holds self.now (F.lines feed.now) }
         ensures share { result ≡ sender self.now.window self.now.initial (F.lines feed.now) 0 self.now.live }
-        ensures within { IfSome result (λ x. (x.place < length self.now.live) × (x.len ≤ self.now.window)) }
+        ensures fits { IfSome result (λ x. ShareFits self.now (F.lines feed.now) x) }
     {
         let window = self.window;
         let initial = self.initial;
@@ -270,12 +282,7 @@ impl State {
         feed: &mut F,
         out: &mut BytesMut,
     ) -> Result<bool, NoMemory>
-        requires held { (F.lines feed.old share.stream.tag).held ≡ true }
-        requires there { share.len ≤ length (F.lines feed.old share.stream.tag).left }
-        requires place { share.place < length self.old.live }
-        requires window { share.len ≤ self.old.window }
-        requires own { pos share.len ≤ℤ send_window self.old.initial share.stream }
-        requires size { share.len ≤ 16384 }
+        requires { ShareFits self.old (F.lines feed.old) share }
         ensures went { IfOk result (λ sent. WentAs sent left self.old (F.lines feed.old) out.old.items (Some (sent_data self.old (F.lines feed.old) share)) self.new (F.lines feed.new) out.new.items) }
         ensures same { F.same feed.old feed.new }
     {
@@ -297,6 +304,8 @@ impl State {
         write_header(out, header)?;
         feed.take(stream.tag, u64::from(len), out)?;
         self.window -= len;
+        let initial = self.initial;
+        let credit = lowered_credit(&initial, stream.credit, len);
         self.live.put(
             place,
             LiveStream {
@@ -304,7 +313,7 @@ impl State {
                 tag: stream.tag,
                 head: stream.head,
                 finished: ends,
-                credit: (i64::from(stream.credit) - i64::from(len)) as i32,
+                credit,
             },
         );
         Ok(true)
@@ -313,8 +322,7 @@ impl State {
 
 /// The header block of a request.
 fn encode_block(alloc: Global, fields: &Fields) -> Result<BytesMut, NoMemory>
-    requires some { fields.now ≢ [] }
-    requires size { list_size fields.now ≤ 16384 }
+    requires { list_size fields.now ≤ 16384 }
     ensures block { IfOk result (λ block. block.items ≡ block_bytes fields.now) }
     ensures fits { IfOk result (λ block. length block.items < 16384) }
 {

@@ -1,5 +1,6 @@
 // The HTTP status of a header list.
 ghost use Rattle.std.specs.Prelude.{◌≡◌, codes};
+ghost use Rattle.std.specs.List.{list_any};
 ghost use Rattle.h2_link.specs.Status.{http_status, is_interim, is_status, is_digit, three_digits};
 
 use grpc_base::Field;
@@ -15,10 +16,21 @@ pub fn http_status(fields: &[Field]) -> Option<u32>
     if !is_status(first) {
         return http_status(rest);
     }
-    if rest.iter().any(is_status) {
+    if has_status(rest) {
         return None;
     }
     three_digits(first.value.as_slice())
+}
+
+fn has_status(fields: &[Field]) -> bool
+    ensures { result ≡ list_any is_status fields.now }
+{
+    for field in fields {
+        if is_status(field) {
+            return true;
+        }
+    }
+    false
 }
 
 fn is_status(field: &Field) -> bool

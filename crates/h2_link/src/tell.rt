@@ -1,5 +1,5 @@
 // What a whole frame does to a link, by its type.
-ghost use Rattle.std.specs.Prelude.{◌≡◌, ◌≤◌, ◌+◌, ◌^◌, ◌++◌, ◌∷◌, [], length, map, IfOk, OnOk, None};
+ghost use Rattle.std.specs.Prelude.{◌≡◌, ◌<◌, ◌≤◌, ◌+◌, ◌^◌, ◌++◌, ◌∷◌, [], length, map, IfOk, OnOk, None};
 ghost use Rattle.h2_frame.specs.Frames.{has_flag};
 ghost use Rattle.h2_frame.specs.Numbers.{data_type, headers_type, rst_stream_type, settings_type, ping_type, goaway_type, window_update_type, continuation_type};
 ghost use Rattle.h2_frame.specs.Payloads.{reset_code, last_stream, increment};
@@ -8,7 +8,7 @@ ghost use Rattle.h2_link.specs.Outcomes.{outcome_of};
 ghost use Rattle.h2_link.specs.Steps.{told, applied, plain_told, listed, block_read, block_held, headers_told, continuation_told, link_updated, stream_updated, data_told, data_news, fault_news, reset_told, window_told, update_told, settings_told, ping_told, goaway_told, found_from, is_numbered, all_reset, unseen, unseen_stream};
 
 use crate::block::{BLOCK_LIMIT, OpenBlock};
-use crate::control::{Control, Controls};
+use crate::control::{Control, Controls, Increment};
 use crate::effect::{Effect, data_effect, headers_effect, window_effect};
 use crate::judge::link_error;
 use crate::live::LiveStream;
@@ -27,7 +27,7 @@ use std::alloc::Global;
 type Outcome = Result<Items<LinkNews>, u32>;
 
 fn has_flag(frame: Frame, flag: u8) -> bool
-    ensures { result ≡ has_flag frame.flags flag }
+    ensures { result ≡ has_flag frame.entry.flags flag }
 {
     frame.flags & flag != 0
 }
@@ -175,7 +175,7 @@ impl State {
     }
 
     fn tell_data(&mut self, alloc: Global, frame: Frame, at: u64) -> Result<Items<LinkNews>, NoMemory>
-        ensures { IfOk result (λ news. record { wire = self.new; news = news } ≡ data_told self.old (seen frame.entry) at (found_from (is_numbered frame.stream) 0 self.old.live)) }
+        ensures { IfOk result (λ news. record { wire = self.new; news = news } ≡ data_told self.old (seen frame.entry) at (found_from (is_numbered frame.entry.stream) 0 self.old.live)) }
     {
         let len = frame.payload.len() as u32;
         update_link(&mut self.queue, len)?;
@@ -314,25 +314,28 @@ fn data_news(
 
 /// Gives the bytes of DATA back to the link's window.
 fn update_link(queue: &mut Controls, len: u32) -> Result<(), NoMemory>
+    requires { len < 2 ^ 31 }
     ensures { OnOk result (queue.new ≡ link_updated len queue.old) }
 {
-    if len == 0 {
-        return Ok(());
+    match Increment::of_len(len) {
+        Some(by) => queue.push(Control::LinkUpdate { by }),
+        None => Ok(()),
     }
-    queue.push(Control::LinkUpdate { by: len })
 }
 
 /// Gives the bytes of DATA back to its stream's window.
 fn update_stream(queue: &mut Controls, stream: &LiveStream, len: u32, end: bool) -> Result<(), NoMemory>
+    requires { len < 2 ^ 31 }
     ensures { OnOk result (queue.new ≡ stream_updated stream.now len end queue.old) }
 {
-    if len == 0 || end || !stream.head {
+    if end || !stream.head {
         return Ok(());
     }
-    queue.push(Control::StreamUpdate {
-        stream: stream.number,
-        by: len,
-    })
+    let number = stream.number;
+    match Increment::of_len(len) {
+        Some(by) => queue.push(Control::StreamUpdate { stream: number, by }),
+        None => Ok(()),
+    }
 }
 
 fn reset_all(queue: &mut Controls, streams: &[LiveStream]) -> Result<(), NoMemory>
@@ -355,6 +358,7 @@ fn push_unseen_streams(news: &mut Items<LinkNews>, streams: &[LiveStream], seen:
 }
 
 /// Tells of all tags that wait, and takes them off.
+#[tactic(auto, using(crate::proofs::Lists::none_first))]
 fn push_unseen_tags(news: &mut Items<LinkNews>, waiting: &mut Waiting, seen: u64) -> Result<(), NoMemory>
     ensures news { OnOk result (news.new ≡ news.old ++ map (unseen seen) waiting.old) }
     ensures none { OnOk result (waiting.new ≡ []) }
