@@ -42,6 +42,7 @@ fault_back x y code f h =
     }
 
 stays_as : (w : Wire) (x y : List ℕ) (v : ℕ × Told) (r : Reading) → reading_of x ≡ r → front_as w x r ≡ Some v → front_of w (x ++ y) ≡ Some v
+unfolding fault_on
 stays_as w x y v (Whole f n) e h = rw (whole_stays x y f n e) h
 stays_as w x y v Partial e h = absurd (cc)
 stays_as w x y v (Fault code) e h =
@@ -120,3 +121,9 @@ enough_as w x y m short e (Some v) h =
 
 pub enough : (w : Wire) (x y : List ℕ) (m : ℕ) → length x ≤ 16392 → m ≡ min (length y) (16393 - length x) → front_of w (x ++ take m y) ≡ front_of w (x ++ y)
 enough w x y m short e = sym (enough_as w x y m short e (front_of w (x ++ take m y)) refl)
+
+-- the fault of some bytes is shown within them
+pub shown_within : (x : List ℕ) (code place : ℕ) → IsFault x code → ((code : ℕ) (fault : IsFault x code) → place ≡ fault.place) → place ≤ length x
+shown_within x code place fault same =
+    let at : place ≡ fault.place = same code fault in
+    let k : fault.place ≤ length x = fault.within in omega arith

@@ -171,10 +171,10 @@ impl State {
         ensures fits { IfSome result (λ x. ShareFits self.now (F.lines feed.now) x) }
     {
         let window = self.window;
-        let initial = self.initial;
+        let size = self.initial;
         for (place, stream) in self.live.as_slice().iter().enumerate() {
             let (left, finished) = feed.ready(stream.tag);
-            if let Some((len, ends)) = share_of(window, &initial, stream, left, finished) {
+            if let Some((len, ends)) = share_of(window, &size, stream, left, finished) {
                 return Some(Share {
                     place,
                     stream: *stream,
@@ -326,5 +326,6 @@ fn encode_block(alloc: Global, fields: &Fields) -> Result<BytesMut, NoMemory>
     ensures block { IfOk result (λ block. block.items ≡ block_bytes fields.now) }
     ensures fits { IfOk result (λ block. length block.items < 16384) }
 {
-    encode_fields(alloc, fields)
+    let block = encode_fields(alloc, fields)?;
+    Ok(block)
 }
