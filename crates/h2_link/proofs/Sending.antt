@@ -151,11 +151,11 @@ stop_as room left w g out w2 g2 (Some s) f l n h = record {
   whole = f.whole;
   fits = f.fits;
   stops = λ t k.
-    let same : s ≡ t = cc in
-    let P : Sent → Type 0 = λ v. room < length out + length (octets_of v.frame) in
-    let below = h.3 in
-    let fit = f.fits in
-    subst P same (omega (arith, below, l, fit));
+      let same : s ≡ t = cc in
+      let P : Sent → Type 0 = λ v. room < length out + length (octets_of v.frame) in
+      let below = h.3 in
+      let fit = f.fits in
+      subst P same (omega (arith, below, l, fit));
 }
 
 same_as : (left : ℕ) (out : List ℕ) (w2 : Wire) (g2 : ℕ → Line) (w3 : Wire) (g3 : ℕ → Line) (out3 : List ℕ) (o : Option Sent) → WentAs false left w2 g2 out o w3 g3 out3 → (w3 ≡ w2) × (g3 ≡ g2) × (out3 ≡ out)
