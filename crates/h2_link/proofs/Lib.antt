@@ -1,0 +1,6 @@
+pub mod Lists
+pub mod Windows
+pub mod Fronts
+pub mod Hearing
+pub mod Resets
+pub mod Sending

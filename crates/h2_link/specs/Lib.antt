@@ -1,0 +1,11 @@
+pub mod Wire
+pub mod Queues
+pub mod Status
+pub mod LinkErrors
+pub mod StreamErrors
+pub mod Settings
+pub mod Steps
+pub mod Feeds
+pub mod Drains
+pub mod Outcomes
+pub mod Heard

@@ -1,0 +1,17 @@
+-- Nobody has to believe these steps: what the code does with the settings of a frame, one after the other.
+use Rattle.std.specs.Prelude.{ℕ, ◌==◌, Bool, true, nat_le, ◌&&◌, if◌then◌else◌, Option, Some, List, [], ◌∷◌}
+use Rattle.h2_frame.specs.declared.payload.Setting.{Setting}
+use Rattle.h2_link.specs.declared.setting.Settings.{Settings}
+use Rattle.h2_link.specs.Wire.{largest_window}
+
+-- with one setting more
+abbrev pub with_setting : Settings → Setting → Settings
+with_setting t s = record {
+  limit = if s.identifier == 3 then Some s.value else t.limit;
+  initial = if (s.identifier == 4) && nat_le s.value largest_window then s.value else t.initial;
+  resizes = if s.identifier == 1 then true else t.resizes;
+}
+
+abbrev pub with_settings : Settings → List Setting → Settings
+with_settings t [] = t
+with_settings t (s ∷ settings) = with_settings (with_setting t s) settings

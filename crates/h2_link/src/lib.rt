@@ -1,0 +1,28 @@
+// One HTTP/2 connection as a client keeps it: from bytes to news of its streams, and from placed requests to bytes.
+#![tactic(auto)]
+
+mod block;
+mod control;
+mod drain;
+mod effect;
+mod fault;
+mod feed;
+mod hear;
+mod judge;
+mod link;
+mod live;
+mod news;
+mod send;
+mod setting;
+mod state;
+mod status;
+mod tell;
+mod waiting;
+
+pub use control::{Control, Controls};
+pub use fault::{DrainFault, LinkFault, PlaceFault};
+pub use feed::Feed;
+pub use link::Link;
+pub use live::{LiveStream, StreamNumber, WindowSize};
+pub use news::{Arrival, Drained, LinkNews};
+pub use status::http_status;
