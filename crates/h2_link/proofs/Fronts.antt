@@ -88,10 +88,10 @@ behind_as w x y v (Whole f n) p e h =
     elim (cases_lt (length x) n) [
       | inl k ↦ omega arith
       | inr k ↦
-        let whole = (whole_is (x ++ y) f n).0 e in
-        let F : List ℕ → Type 0 = λ t. IsFrame t f in
-        let here : reading_of x ≡ Whole f n = (whole_is x f n).1 (k, subst F (take-append-le n x y k) whole.1) in
-        absurd (cc)
+          let whole = (whole_is (x ++ y) f n).0 e in
+          let F : List ℕ → Type 0 = λ t. IsFrame t f in
+          let here : reading_of x ≡ Whole f n = (whole_is x f n).1 (k, subst F (take-append-le n x y k) whole.1) in
+          absurd (cc)
     ]
 behind_as w x y v Partial p e h = absurd (cc)
 behind_as w x y v (Fault code) p e h =

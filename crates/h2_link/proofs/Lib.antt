@@ -4,3 +4,5 @@ pub mod Fronts
 pub mod Hearing
 pub mod Resets
 pub mod Sending
+pub mod Cuts
+pub mod Keeps

@@ -109,7 +109,7 @@ abbrev pub sender : ℕ → ℕ → (ℕ → Line) → ℕ → List LiveStream �
 sender window initial g place [] = None
 sender window initial g place (s ∷ streams) =
     share_or place s (share_of window initial s (length (g s.tag).left) (g s.tag).finished)
-      (sender window initial g (place + 1) streams)
+    (sender window initial g (place + 1) streams)
 
 abbrev pub sent_data : Wire → (ℕ → Line) → Share → Sent
 sent_data w g x = record {

@@ -1,5 +1,5 @@
 -- What a link hears of a piece: at most one frame, or the fault of its bytes.
-use Rattle.std.specs.Prelude.{ℕ, ◌-◌, Option, Some, None, List, [], ◌++◌, length}
+use Rattle.std.specs.Prelude.{ℕ, ◌+◌, ◌-◌, Option, Some, None, List, [], ◌++◌, length}
 use Rattle.h2_frame.specs.Readings.{Reading, Whole, Partial, Fault, reading_of, fault_place}
 use Rattle.h2_link.specs.declared.news.LinkNews.{LinkNews}
 use Rattle.h2_link.specs.Steps.{told, broke}
@@ -29,3 +29,7 @@ heard_with l piece (Some x) =
 -- at most one frame, or its fault, of a link's rest and a piece
 abbrev pub heard : Seen → List ℕ → Hearing
 heard l piece = heard_with l piece (front_of l.wire (l.rest ++ piece))
+
+-- what is heard of a piece of which so many bytes were taken before
+abbrev pub heard_behind : ℕ → Hearing → Hearing
+heard_behind len h = record { taken = len + h.taken; link = h.link; news = h.news }

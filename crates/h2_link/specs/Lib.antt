@@ -9,3 +9,4 @@ pub mod Feeds
 pub mod Drains
 pub mod Outcomes
 pub mod Heard
+pub mod Laws

@@ -50,7 +50,7 @@ reset_owed s = if s.finished then None else Some cancel
 abbrev pub headers_effect : LiveStream → Option ℕ → Bool → Effect
 headers_effect s status end =
     unless (headers_error s status end)
-      (if end then Ends (reset_owed s) else Goes (record s { head = s.head || not (is_interim status) }))
+    (if end then Ends (reset_owed s) else Goes (record s { head = s.head || not (is_interim status) }))
 
 abbrev pub data_effect : LiveStream → Bool → Effect
 data_effect s end = unless (data_error s) (if end then Ends (reset_owed s) else Goes s)
@@ -224,10 +224,14 @@ abbrev pub outcome : Wire → ℕ → Result Told ℕ → Told
 outcome w seen (Ok t) = record { wire = record t.wire { read = seen }; news = t.news }
 outcome w seen (Err code) = broke w code
 
+-- how many bytes were read with so many more; a count of 64 bits stays at its last number
+abbrev pub read_after : ℕ → ℕ → ℕ
+read_after read len = min (read + len) 18446744073709551615
+
 abbrev pub judged : Wire → FrameSeen → Option ℕ → Told
 judged w f (Some code) = broke w code
 judged w f None =
-    let seen = w.read + 9 + length f.payload in
+    let seen = read_after w.read (9 + length f.payload) in
     outcome w seen (applied (record w { queue = sealed w.queue }) f seen)
 
 -- a whole frame

@@ -1,6 +1,5 @@
 -- What a link is to its callers.
-use Rattle.std.specs.Prelude.{◌≡◌, ◌≢◌, ℕ, ◌+◌, Bool, false, Option, None, Some, List, [], ◌∷◌, length, Result, Ok}
-use Rattle.std.specs.List.{AllByRecursion}
+use Rattle.std.specs.Prelude.{ℕ, ◌+◌, Bool, false, Option, None, Some, List, [], ◌∷◌, length, Result, Ok}
 use Rattle.h2_hpack.specs.Blocks as hpack
 use Rattle.h2_hpack.specs.Tables.{new_table}
 use Rattle.h2_link.specs.declared.control.Control.TheVariants.{Preface}
@@ -82,11 +81,6 @@ fresh_wire = record (blank 0 None) { queue = queued new_queue Preface }
 pub record Told : Type 0 where
   pub wire : Wire
   pub news : List LinkNews
-
--- a tag that neither waits nor has a live stream
-pub record IsFresh (tag : ℕ) (w : Wire) : Type 0 where
-  pub waits : AllByRecursion (λ t. t ≢ tag) w.waiting
-  pub lives : AllByRecursion (λ (s : LiveStream). s.tag ≢ tag) w.live
 
 -- how many bytes of input a link holds
 abbrev pub block_bytes : Option Block → ℕ

@@ -14,7 +14,12 @@ use std::alloc::Global;
 
 impl State {
     /// Sends all that may be sent and fits.
-    pub(crate) fn send_all<F: Feed>(&mut self, alloc: Global, room: u32, feed: &mut F) -> Result<BytesMut, NoMemory>
+    pub(crate) fn send_all<F: Feed>(
+        &mut self,
+        alloc: Global,
+        room: u32,
+        feed: &mut F,
+    ) -> Result<BytesMut, NoMemory>
         requires holds { Holds self.old (F.lines feed.old) }
         ensures drains { IfOk result (λ out. Drains room self.old (F.lines feed.old) out.items self.new (F.lines feed.new)) }
         ensures same { F.same feed.old feed.new }

@@ -16,7 +16,6 @@ impl State {
         alloc: Global,
         bytes: &[u8],
     ) -> Result<Option<(usize, Items<LinkNews>)>, NoMemory>
-        requires room { self.old.read + length bytes.now ≤ 2 ^ 62 }
         ensures front { IfOk result (λ r. front_told r self.new ≡ front_of self.old bytes.now) }
         ensures same { IfOk result (λ r. IfNone r (self.new ≡ self.old)) }
         ensures within { IfOk result (λ r. IfSome r (λ x. x.0 ≤ length bytes.now)) }

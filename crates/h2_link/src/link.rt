@@ -3,7 +3,7 @@ ghost use Rattle.std.specs.Prelude.{◌≡◌, ◌<◌, ◌≤◌, ◌+◌, ◌^
 ghost use Rattle.h2_frame.specs.Readings.{reading_of, Partial};
 ghost use Rattle.h2_link.specs.Heard.{heard};
 ghost use Rattle.h2_link.specs.Steps.{placed, cut, pinged, sealed_wire};
-ghost use Rattle.h2_link.specs.Wire.{Wire, IsFresh, fresh_wire, kept_bytes};
+ghost use Rattle.h2_link.specs.Wire.{fresh_wire, kept_bytes};
 
 use crate::fault::{LinkFault, PlaceFault};
 use crate::news::{Arrival, LinkNews};
@@ -50,9 +50,9 @@ impl Link {
         })
     }
 
-    /// A tag waits for a stream, which a drain opens. Gone comes exactly where the link is broken or retiring.
+    /// A tag waits for a stream, which a drain opens; a tag that waits already goes on waiting. A caller gives each tag
+    /// once, so that it names one stream. Gone comes exactly where the link is broken or retiring.
     pub fn place(&mut self, tag: u64) -> Result<(), PlaceFault>
-        requires fresh { IsFresh tag self.old.wire }
         ensures gone { (result ≡ Err PlaceFault.Gone) ↔ IsTrue (is_some self.old.wire.broken || self.old.wire.retiring) }
         ensures same { result ≡ Err PlaceFault.Gone → self.new ≡ self.old }
         ensures after { OnOk result (self.new ≡ record self.old { wire = placed self.old.wire tag }) }
@@ -102,8 +102,7 @@ impl Link {
     /// one frame; so a caller can place and reset before it hands in the rest. Gone comes exactly where the link is
     /// broken.
     pub fn arrived(&mut self, piece: &[u8]) -> Result<Arrival, LinkFault>
-        requires some { 0 < length piece.now }
-        requires room { self.old.wire.broken ≡ None → self.old.wire.read + length self.old.rest + length piece.now ≤ 2 ^ 62 }
+        requires { 0 < length piece.now }
         ensures gone { (result ≡ Err LinkFault.Gone) ↔ IsTrue (is_some self.old.wire.broken) }
         ensures same { result ≡ Err LinkFault.Gone → self.new ≡ self.old }
         ensures whole { OnOk result ((self.old.wire.broken ≡ None) × (reading_of self.old.rest ≡ Partial)) }
@@ -132,7 +131,6 @@ impl Link {
     fn hear_first(&mut self, piece: &[u8]) -> Result<(usize, Items<LinkNews>), NoMemory>
         requires some { 0 < length piece.now }
         requires none { self.old.rest ≡ [] }
-        requires room { self.old.wire.read + length piece.now ≤ 2 ^ 62 }
         ensures heard { IfOk result (λ a. record { taken = a.0; link = self.new; news = a.1 } ≡ heard self.old piece.now) }
         ensures within { IfOk result (λ a. (1 ≤ a.0) × (a.0 ≤ length piece.now)) }
     {
@@ -148,8 +146,7 @@ impl Link {
 
     /// A piece behind the bytes that the link holds. Of the piece no more is copied than the longest frame needs.
     fn hear_behind(&mut self, piece: &[u8]) -> Result<(usize, Items<LinkNews>), NoMemory>
-        requires some { 0 < length piece.now }
-        requires room { self.old.wire.read + length self.old.rest + length piece.now ≤ 2 ^ 62 }
+        requires { 0 < length piece.now }
         ensures heard { IfOk result (λ a. record { taken = a.0; link = self.new; news = a.1 } ≡ heard self.old piece.now) }
         ensures within { IfOk result (λ a. (1 ≤ a.0) × (a.0 ≤ length piece.now)) }
     {

@@ -23,16 +23,29 @@ pub enum LinkNews {
         seen: u64,
     },
     /// The peer reset the stream with this code.
-    Reset { tag: u64, code: u32, seen: u64 },
+    Reset {
+        tag: u64,
+        code: u32,
+        seen: u64,
+    },
     /// A stream error of the peer, for which the stream is reset with this code. Where a header block makes it, the
     /// block's own news stand before it.
-    Fault { tag: u64, code: u32, seen: u64 },
+    Fault {
+        tag: u64,
+        code: u32,
+        seen: u64,
+    },
     /// The peer will not act on the request: its GOAWAY names a lower last stream, or no stream was opened yet.
-    Unseen { tag: u64, seen: u64 },
+    Unseen {
+        tag: u64,
+        seen: u64,
+    },
     /// The peer's first GOAWAY came: no stream is opened any more.
     Retiring,
     /// The link is broken with this code.
-    Broken { code: u32 },
+    Broken {
+        code: u32,
+    },
 }
 
 /// What one call of `arrived` took, and what it told.

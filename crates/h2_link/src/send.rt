@@ -84,15 +84,18 @@ fn write_control(out: &mut BytesMut, control: &Control) -> Result<(), NoMemory>
         Control::Ping { word } => write_ping(out, word),
         Control::PingAck { word } => write_ping_ack(out, word),
         Control::LinkUpdate { by } => write_window_update(out, 0, by.get()),
-        Control::StreamUpdate { stream, by } => {
-            write_window_update(out, stream.get(), by.get())
-        }
+        Control::StreamUpdate { stream, by } => { write_window_update(out, stream.get(), by.get()) }
         Control::Reset { stream, code } => write_rst_stream(out, stream.get(), code),
     }
 }
 
 /// Appends HEADERS with a whole header block, which begins with a table size update where that is owed.
-fn write_head(out: &mut BytesMut, number: &StreamNumber, resizes: bool, block: &[u8]) -> Result<(), NoMemory>
+fn write_head(
+    out: &mut BytesMut,
+    number: &StreamNumber,
+    resizes: bool,
+    block: &[u8],
+) -> Result<(), NoMemory>
     requires { length block.now < 16384 }
     ensures { OnOk result (out.new.items ≡ out.old.items ++ written (headers_frame number.now ((if resizes then size_update_to_zero ∷ [] else []) ++ block.now))) }
 {
@@ -111,7 +114,13 @@ fn write_head(out: &mut BytesMut, number: &StreamNumber, resizes: bool, block: &
 }
 
 /// What a stream may send of so many bytes that are left.
-fn share_of(window: u32, initial: &WindowSize, stream: &LiveStream, left: u64, finished: bool) -> Option<(u32, bool)>
+fn share_of(
+    window: u32,
+    initial: &WindowSize,
+    stream: &LiveStream,
+    left: u64,
+    finished: bool,
+) -> Option<(u32, bool)>
     ensures share { result ≡ share_of window initial.now stream.now left finished }
     ensures within { IfSome result (λ x. (x.0 ≤ left) × (x.0 ≤ window) × (x.0 ≤ 16384) × (x.0 ≤ or_zero (send_window initial.now stream.now))) }
 {
@@ -226,7 +235,12 @@ impl State {
         }
     }
 
-    fn send_control(&mut self, left: u64, control: &Control, out: &mut BytesMut) -> Result<bool, NoMemory>
+    fn send_control(
+        &mut self,
+        left: u64,
+        control: &Control,
+        out: &mut BytesMut,
+    ) -> Result<bool, NoMemory>
         requires first { slice_get self.old.queue.items 0 ≡ Some control.now }
         ensures { IfOk result (λ sent. (g : ℕ → Line) → WentAs sent left self.old g out.old.items (Some (sent_control self.old g control.now)) self.new g out.new.items) }
     {

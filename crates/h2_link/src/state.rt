@@ -173,7 +173,11 @@ impl State {
     }
 
     /// The live streams from a place on: the tag of each with its number.
-    pub(crate) fn opened_from(&self, alloc: Global, before: usize) -> Result<Items<(u64, u32)>, NoMemory>
+    pub(crate) fn opened_from(
+        &self,
+        alloc: Global,
+        before: usize,
+    ) -> Result<Items<(u64, u32)>, NoMemory>
         ensures { IfOk result (λ o. o ≡ map named (drop before self.now.live)) }
     {
         names_from(alloc, self.live.as_slice(), before)
@@ -188,7 +192,11 @@ impl State {
 }
 
 /// The tag of each stream from a place on, with its number.
-fn names_from(alloc: Global, live: &[LiveStream], before: usize) -> Result<Items<(u64, u32)>, NoMemory>
+fn names_from(
+    alloc: Global,
+    live: &[LiveStream],
+    before: usize,
+) -> Result<Items<(u64, u32)>, NoMemory>
     ensures { IfOk result (λ o. o ≡ map named (drop before live.now)) }
 {
     let mut names = Items::new(alloc);

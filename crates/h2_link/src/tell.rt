@@ -35,14 +35,14 @@ fn has_flag(frame: Frame, flag: u8) -> bool
 impl State {
     /// A whole frame.
     pub(crate) fn tell(&mut self, alloc: Global, frame: Frame) -> Result<Items<LinkNews>, NoMemory>
-        requires { self.old.read + 9 + length frame.payload.now ≤ 2 ^ 63 }
         ensures { IfOk result (λ news. record { wire = self.new; news = news } ≡ told self.old (seen frame.entry)) }
     {
         let read = self.read;
         if let Some(code) = link_error(self, frame) {
             return self.break_off(alloc, read, code);
         }
-        let seen = read + HEADER_SIZE as u64 + frame.payload.len() as u64;
+        let len = HEADER_SIZE as u64 + frame.payload.len() as u64;
+        let seen = read.saturating_add(len);
         self.queue.seal();
         match self.apply(alloc, frame, seen)? {
             Ok(news) => {
@@ -65,7 +65,12 @@ impl State {
     }
 
     /// A frame without a header block.
-    fn tell_plain(&mut self, alloc: Global, frame: Frame, at: u64) -> Result<Items<LinkNews>, NoMemory>
+    fn tell_plain(
+        &mut self,
+        alloc: Global,
+        frame: Frame,
+        at: u64,
+    ) -> Result<Items<LinkNews>, NoMemory>
         ensures { IfOk result (λ news. record { wire = self.new; news = news } ≡ plain_told self.old (seen frame.entry) at) }
     {
         match frame.kind {
@@ -90,7 +95,12 @@ impl State {
         Ok(self.hold(alloc, frame.stream, ends, bytes))
     }
 
-    fn tell_continuation(&mut self, alloc: Global, frame: Frame, at: u64) -> Result<Outcome, NoMemory>
+    fn tell_continuation(
+        &mut self,
+        alloc: Global,
+        frame: Frame,
+        at: u64,
+    ) -> Result<Outcome, NoMemory>
         ensures { IfOk result (λ r. outcome_of r self.new ≡ continuation_told self.old (seen frame.entry) at self.old.block) }
     {
         let Some(block) = self.block.take() else {
@@ -174,7 +184,12 @@ impl State {
         Ok(news)
     }
 
-    fn tell_data(&mut self, alloc: Global, frame: Frame, at: u64) -> Result<Items<LinkNews>, NoMemory>
+    fn tell_data(
+        &mut self,
+        alloc: Global,
+        frame: Frame,
+        at: u64,
+    ) -> Result<Items<LinkNews>, NoMemory>
         ensures { IfOk result (λ news. record { wire = self.new; news = news } ≡ data_told self.old (seen frame.entry) at (found_from (is_numbered frame.entry.stream) 0 self.old.live)) }
     {
         let len = frame.payload.len() as u32;
@@ -191,7 +206,13 @@ impl State {
         Ok(news)
     }
 
-    fn tell_reset(&mut self, alloc: Global, number: u32, code: u32, seen: u64) -> Result<Items<LinkNews>, NoMemory>
+    fn tell_reset(
+        &mut self,
+        alloc: Global,
+        number: u32,
+        code: u32,
+        seen: u64,
+    ) -> Result<Items<LinkNews>, NoMemory>
         ensures { IfOk result (λ news. record { wire = self.new; news = news } ≡ reset_told self.old code seen (found_from (is_numbered number) 0 self.old.live)) }
     {
         let Some((place, stream)) = self.live.numbered(number) else {
@@ -203,7 +224,12 @@ impl State {
         one_news(alloc, LinkNews::Reset { tag, code, seen })
     }
 
-    fn tell_update(&mut self, alloc: Global, frame: Frame, at: u64) -> Result<Items<LinkNews>, NoMemory>
+    fn tell_update(
+        &mut self,
+        alloc: Global,
+        frame: Frame,
+        at: u64,
+    ) -> Result<Items<LinkNews>, NoMemory>
         requires kind { frame.kind ≡ window_update_type }
         ensures { IfOk result (λ news. record { wire = self.new; news = news } ≡ update_told self.old (seen frame.entry) at) }
     {
@@ -260,7 +286,12 @@ impl State {
         Ok(Items::new(alloc))
     }
 
-    fn tell_goaway(&mut self, alloc: Global, last: u32, seen: u64) -> Result<Items<LinkNews>, NoMemory>
+    fn tell_goaway(
+        &mut self,
+        alloc: Global,
+        last: u32,
+        seen: u64,
+    ) -> Result<Items<LinkNews>, NoMemory>
         ensures { IfOk result (λ news. record { wire = self.new; news = news } ≡ goaway_told self.old last seen) }
     {
         let gone = self.live.above(alloc, last)?;
@@ -278,11 +309,20 @@ impl State {
     }
 }
 
-fn push_fault(news: &mut Items<LinkNews>, tag: u64, seen: u64, effect: &Effect) -> Result<(), NoMemory>
+fn push_fault(
+    news: &mut Items<LinkNews>,
+    tag: u64,
+    seen: u64,
+    effect: &Effect,
+) -> Result<(), NoMemory>
     ensures { OnOk result (news.new ≡ news.old ++ fault_news tag seen effect.now) }
 {
     match effect {
-        Effect::Faults(code) => news.push(LinkNews::Fault { tag, code: *code, seen }),
+        Effect::Faults(code) => news.push(LinkNews::Fault {
+            tag,
+            code: *code,
+            seen,
+        }),
         _ => Ok(()),
     }
 }
@@ -298,7 +338,14 @@ fn data_news(
     ensures { IfOk result (λ news. news ≡ data_news tag content.now end seen effect.now) }
 {
     if let Effect::Faults(code) = effect {
-        return one_news(alloc, LinkNews::Fault { tag, code: *code, seen });
+        return one_news(
+            alloc,
+            LinkNews::Fault {
+                tag,
+                code: *code,
+                seen,
+            },
+        );
     }
     let octets = Octets::of_slice(alloc, content)?;
     one_news(
@@ -324,7 +371,12 @@ fn update_link(queue: &mut Controls, len: u32) -> Result<(), NoMemory>
 }
 
 /// Gives the bytes of DATA back to its stream's window.
-fn update_stream(queue: &mut Controls, stream: &LiveStream, len: u32, end: bool) -> Result<(), NoMemory>
+fn update_stream(
+    queue: &mut Controls,
+    stream: &LiveStream,
+    len: u32,
+    end: bool,
+) -> Result<(), NoMemory>
     requires { len < 2 ^ 31 }
     ensures { OnOk result (queue.new ≡ stream_updated stream.now len end queue.old) }
 {
@@ -347,7 +399,11 @@ fn reset_all(queue: &mut Controls, streams: &[LiveStream]) -> Result<(), NoMemor
     Ok(())
 }
 
-fn push_unseen_streams(news: &mut Items<LinkNews>, streams: &[LiveStream], seen: u64) -> Result<(), NoMemory>
+fn push_unseen_streams(
+    news: &mut Items<LinkNews>,
+    streams: &[LiveStream],
+    seen: u64,
+) -> Result<(), NoMemory>
     ensures { OnOk result (news.new ≡ news.old ++ map (unseen_stream seen) streams.now) }
 {
     for stream in streams {
@@ -359,7 +415,11 @@ fn push_unseen_streams(news: &mut Items<LinkNews>, streams: &[LiveStream], seen:
 
 /// Tells of all tags that wait, and takes them off.
 #[tactic(auto, using(crate::proofs::Lists::none_first))]
-fn push_unseen_tags(news: &mut Items<LinkNews>, waiting: &mut Waiting, seen: u64) -> Result<(), NoMemory>
+fn push_unseen_tags(
+    news: &mut Items<LinkNews>,
+    waiting: &mut Waiting,
+    seen: u64,
+) -> Result<(), NoMemory>
     ensures news { OnOk result (news.new ≡ news.old ++ map (unseen seen) waiting.old) }
     ensures none { OnOk result (waiting.new ≡ []) }
 {
