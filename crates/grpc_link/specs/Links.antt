@@ -1,6 +1,6 @@
 -- A link with a reader for each of its tags.
-use Rattle.std.specs.Prelude.{ℕ, ◌+◌, ◌==◌, Bool, true, false, Option, Some, None, List, [], ◌∷◌, ◌++◌, if◌then◌else◌, map, slice_set}
-use Rattle.std.specs.List.{list_any, remove}
+use Rattle.std.specs.Prelude.{ℕ, ◌+◌, ◌==◌, true, Option, Some, None, List, [], ◌∷◌, ◌++◌, if◌then◌else◌}
+use Rattle.std.specs.List.{remove}
 use Rattle.grpc_base.specs.ErrorCodes.{cancel}
 use Rattle.attempt_ledger.specs.declared.news.News.{News}
 use Rattle.attempt_ledger.specs.declared.news.News.TheVariants as news
@@ -9,24 +9,21 @@ use Rattle.h2_link.specs.declared.news.LinkNews.TheVariants as link
 use Rattle.h2_link.specs.Heard.{heard}
 use Rattle.h2_link.specs.Steps.{cut}
 use Rattle.h2_link.specs.Wire.{Seen}
+use Rattle.grpc_link.specs.declared.readers.TagReader.{TagReader}
 use Rattle.grpc_link.specs.Readers.{ReaderSeen, Stepped, reader_for, stepped}
 use Rattle.grpc_link.specs.Response.{no_response}
 
--- the reader of a tag whose response is not over
-pub record Tagged : Type 0 where
-  pub tag : ℕ
-  pub reader : ReaderSeen
-
+-- a link, and the readers of the tags whose responses are not over
 pub record GrpcSeen : Type 0 where
   pub link : Seen
-  pub readers : List Tagged
+  pub readers : List TagReader
 
 -- the first reader of a tag, with its place
-abbrev pub found_from : ℕ → ℕ → List Tagged → Option (ℕ × ReaderSeen)
+abbrev pub found_from : ℕ → ℕ → List TagReader → Option (ℕ × ReaderSeen)
 found_from tag place [] = None
 found_from tag place (t ∷ readers) = if t.tag == tag then Some (place, t.reader) else found_from tag (place + 1) readers
 
-abbrev pub found : ℕ → List Tagged → Option (ℕ × ReaderSeen)
+abbrev pub found : ℕ → List TagReader → Option (ℕ × ReaderSeen)
 found tag readers = found_from tag 0 readers
 
 -- a link and what it tells
@@ -35,15 +32,15 @@ pub record Told : Type 0 where
   pub news : List News
 
 -- the others
-abbrev pub without_at : List Tagged → Option (ℕ × ReaderSeen) → List Tagged
+abbrev pub without_at : List TagReader → Option (ℕ × ReaderSeen) → List TagReader
 without_at readers None = readers
 without_at readers (Some x) = remove readers x.0
 
-abbrev pub without : ℕ → List Tagged → List Tagged
+abbrev pub without : ℕ → List TagReader → List TagReader
 without tag readers = without_at readers (found tag readers)
 
 -- a reader behind the others
-abbrev pub with_reader : ℕ → ReaderSeen → List Tagged → List Tagged
+abbrev pub with_reader : ℕ → ReaderSeen → List TagReader → List TagReader
 with_reader tag r readers = readers ++ record { tag = tag; reader = r } ∷ []
 
 -- where the response is over, the tag is given up with CANCEL, which changes nothing if its stream has ended
@@ -82,16 +79,16 @@ link_heard g piece =
     let h = heard g.link piece in told_all (record { link = h.link; readers = g.readers }) h.news
 
 -- the readers once a tag is placed, and once the streams of tags were opened
-abbrev pub placed_reader : ℕ → ℕ → List Tagged → List Tagged
+abbrev pub placed_reader : ℕ → ℕ → List TagReader → List TagReader
 placed_reader tag limit readers = with_reader tag (reader_for limit no_response) readers
 
-abbrev pub opened_at : ℕ → List Tagged → Option (ℕ × ReaderSeen) → List Tagged
+abbrev pub opened_at : ℕ → List TagReader → Option (ℕ × ReaderSeen) → List TagReader
 opened_at tag readers None = readers
 opened_at tag readers (Some x) = with_reader tag (record x.1 { opened = true }) (remove readers x.0)
 
-abbrev pub opened_one : ℕ → List Tagged → List Tagged
+abbrev pub opened_one : ℕ → List TagReader → List TagReader
 opened_one tag readers = opened_at tag readers (found tag readers)
 
-abbrev pub opened_all : List (ℕ × ℕ) → List Tagged → List Tagged
+abbrev pub opened_all : List (ℕ × ℕ) → List TagReader → List TagReader
 opened_all [] readers = readers
 opened_all (x ∷ opened) readers = opened_all opened (opened_one x.0 readers)

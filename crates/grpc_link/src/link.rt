@@ -4,7 +4,7 @@ ghost use Rattle.h2_link.specs.Drains.{Drains, next, opened_between};
 ghost use Rattle.h2_link.specs.Feeds.{Holds};
 ghost use Rattle.h2_link.specs.Heard.{heard};
 ghost use Rattle.h2_link.specs.Steps.{cut, pinged, placed, sealed_wire};
-ghost use Rattle.h2_link.specs.Wire.{IsFresh, fresh_wire, kept_bytes};
+ghost use Rattle.h2_link.specs.Wire.{fresh_wire, kept_bytes};
 ghost use Rattle.grpc_link.specs.Links.{found, link_heard, opened_all, placed_reader, told, told_all, told_of, without};
 
 use crate::readers::Readers;
@@ -58,7 +58,6 @@ impl GrpcLink {
     /// A tag waits for a stream, which a drain opens; no message of its response may be longer than the limit. Gone
     /// comes exactly where the link is broken or retiring.
     pub fn place(&mut self, tag: u64, limit: u32) -> Result<(), PlaceFault>
-        requires fresh { IsFresh tag self.old.link.wire }
         ensures gone { (result ≡ Err PlaceFault.Gone) ↔ IsTrue (is_some self.old.link.wire.broken || self.old.link.wire.retiring) }
         ensures same { result ≡ Err PlaceFault.Gone → self.new ≡ self.old }
         ensures link { OnOk result (self.new.link ≡ record self.old.link { wire = placed self.old.link.wire tag }) }
@@ -98,8 +97,7 @@ impl GrpcLink {
     /// the link gained by that one frame. A tag whose response is over is given up with CANCEL. Gone comes exactly where
     /// the link is broken. What a broken link leaves of its attempts is for the caller to end.
     pub fn arrived(&mut self, piece: &[u8]) -> Result<GrpcArrival, LinkFault>
-        requires some { 0 < length piece.now }
-        requires room { self.old.link.wire.broken ≡ None → self.old.link.wire.read + length self.old.link.rest + length piece.now ≤ 2 ^ 62 }
+        requires { 0 < length piece.now }
         ensures gone { (result ≡ Err LinkFault.Gone) ↔ IsTrue (is_some self.old.link.wire.broken) }
         ensures same { result ≡ Err LinkFault.Gone → self.new ≡ self.old }
         ensures taken { IfOk result (λ a. a.taken ≡ (heard self.old.link piece.now).taken) }

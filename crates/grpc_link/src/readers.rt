@@ -7,19 +7,11 @@ use grpc_base::NoMemory;
 use std::alloc::Global;
 use std::marker::Model;
 
-/// The reader of a tag.
+/// The reader of a tag whose response is not over.
 #[derive(Debug, Drop)]
 pub(crate) struct TagReader {
-    tag: u64,
-    reader: ResponseReader,
-}
-
-impl Model for TagReader {
-    ghost use Rattle.grpc_link.specs.Links.{Tagged};
-
-    ghost Value = { Tagged };
-
-    ghost view = { λ t. record { tag = t.tag; reader = t.reader } };
+    pub tag: u64,
+    pub reader: ResponseReader,
 }
 
 /// The readers of the tags whose responses are not over.
@@ -30,9 +22,9 @@ pub(crate) struct Readers {
 
 impl Model for Readers {
     ghost use Rattle.std.specs.Prelude.{List};
-    ghost use Rattle.grpc_link.specs.Links.{Tagged};
+    ghost use Rattle.grpc_link.specs.declared.readers.TagReader.{TagReader};
 
-    ghost Value = { List Tagged };
+    ghost Value = { List TagReader };
 
     ghost view = { λ r. r.readers.items };
 }
@@ -91,6 +83,7 @@ impl Readers {
     }
 
     /// The HEADERS of a tag were sent.
+    #[tactic(auto, using(crate::proofs::LinkLaws::opened_none, crate::proofs::LinkLaws::opened_some))]
     pub(crate) fn open(&mut self, tag: u64) -> Result<(), NoMemory>
         ensures { OnOk result (self.new ≡ opened_one tag self.old) }
     {
