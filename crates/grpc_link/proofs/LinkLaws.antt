@@ -1,7 +1,7 @@
 -- The readers of tags, by their places.
-use Rattle.std.proofs.Common.{◌≡◌, ℕ, zero, suc, ◌+◌, ◌-◌, ◌<◌, ◌≤◌, Bool, true, false, Option, Some, None, List, [], ◌∷◌, ◌++◌, length, refl, ap, sym, ◌∙◌, arith, inl, inr, ◌⊎◌}
+use Rattle.std.proofs.Common.{◌≡◌, ℕ, suc, ◌+◌, true, Option, Some, None, List, [], ◌∷◌, refl, ap, sym, ◌∙◌, arith, inl, inr}
 use Rattle.std.proofs.lemmas.Bool.{cases_Bool}
-use Rattle.std.specs.Prelude.{◌==◌, option_map, slice_get, slice_index_or}
+use Rattle.std.specs.Prelude.{◌==◌, option_map, slice_index_or}
 use Rattle.std.specs.List.{remove}
 use Rattle.grpc_link.specs.Links.{found, found_from, opened_at, opened_one, with_reader, without, without_at}
 use Rattle.grpc_link.specs.declared.readers.TagReader.{TagReader}

@@ -1,11 +1,10 @@
 -- A reader tells what the response gains.
-use Rattle.std.proofs.Common.{◌≡◌, ℕ, Bool, true, false, Option, Some, None, List, [], ◌∷◌, ◌++◌, length, drop, refl, ap, sym, ◌∙◌, inl, inr, ◌⊎◌}
+use Rattle.std.proofs.Common.{◌≡◌, ℕ, Bool, true, false, Option, Some, None, List, [], ◌++◌, length, drop, refl, ap, sym, ◌∙◌, inl, inr}
 use Rattle.std.proofs.lemmas.Bool.{cases_Bool}
 use Rattle.std.proofs.Math.Seq.{drop-append_seam, drop-length}
 use Rattle.std.specs.Prelude.{◌&&◌, ◌||◌, if◌then◌else◌, map, is_none, is_some}
 use Rattle.grpc_base.specs.declared.fields.Field.{Field}
 use Rattle.attempt_ledger.specs.declared.news.EndNews.{EndNews}
-use Rattle.attempt_ledger.specs.declared.news.News.{News}
 use Rattle.grpc_frame.specs.declared.next.MessageFault.{MessageFault}
 use Rattle.grpc_frame.specs.Messages.{messages_of}
 use Rattle.grpc_frame.specs.Reader as frame
@@ -14,7 +13,7 @@ use Rattle.grpc_frame.proofs.MessageLaws.{pieces_fault, pieces_messages, pieces_
 use Rattle.grpc_meta.specs.ResponseFields.{shown_of}
 use Rattle.h2_link.specs.declared.news.LinkNews.{LinkNews}
 use Rattle.h2_link.specs.declared.news.LinkNews.TheVariants as link
-use Rattle.grpc_link.specs.Readers.{ReaderSeen, Stepped, data_by, headers_by, read_on, reader_for, stepped}
+use Rattle.grpc_link.specs.Readers.{ReaderSeen, headers_by, read_on, reader_for, stepped}
 use Rattle.grpc_link.specs.Response.{Response, comes_head, data_end, data_large, end_gained, gained, head_gained, headers_end, heard, is_over, large_gained, message_news, messages_gained, seen_by, with_news}
 
 -- a response that is not over

@@ -1,5 +1,5 @@
 -- What a reader of one response keeps of it, and what it makes of the link's news.
-use Rattle.std.specs.Prelude.{ℕ, Bool, true, false, Option, Some, None, List, [], ◌∷◌, ◌++◌, ◌&&◌, ◌||◌, map, is_none, is_some, if◌then◌else◌}
+use Rattle.std.specs.Prelude.{ℕ, Bool, true, false, Option, Some, None, List, [], ◌∷◌, ◌++◌, ◌||◌, map, is_some, if◌then◌else◌}
 use Rattle.grpc_base.specs.declared.code.Code.TheVariants as code
 use Rattle.grpc_base.specs.declared.fields.Field.{Field}
 use Rattle.attempt_ledger.specs.declared.news.EndNews.{EndNews}

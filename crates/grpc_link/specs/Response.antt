@@ -9,7 +9,7 @@ use Rattle.attempt_ledger.specs.declared.news.News.TheVariants as news
 use Rattle.attempt_ledger.specs.declared.row.RowCause.TheVariants as cause
 use Rattle.grpc_frame.specs.declared.next.MessageFault.{MessageFault}
 use Rattle.grpc_frame.specs.declared.next.MessageFault.TheVariants as fault
-use Rattle.grpc_frame.specs.Messages.{Messages, messages_of}
+use Rattle.grpc_frame.specs.Messages.{messages_of}
 use Rattle.grpc_frame.specs.Reader.{is_whole, reader_of}
 use Rattle.grpc_meta.specs.ResponseFields.{shown_of}
 use Rattle.h2_link.specs.declared.news.LinkNews.{LinkNews}
