@@ -2,8 +2,8 @@
 use Rattle.std.proofs.Common.{◌≡◌, ◌≢◌, ℕ, ◌<◌, ◌+◌, ◌-◌, List, [], ◌++◌, length, refl, sym, ◌∙◌, ap, ap₂, Some, None, arith, length-append, append_assoc}
 use Rattle.std.specs.Prelude.{Option}
 use Rattle.h2_frame.specs.Readings.{Partial, reading_of}
-use Rattle.h2_link.specs.Heard.{Hearing, heard, heard_with, heard_behind, front_of}
-use Rattle.h2_link.specs.Wire.{Wire, Told, Seen}
+use Rattle.h2_link.specs.Heard.{heard, heard_with, heard_behind, front_of}
+use Rattle.h2_link.specs.Wire.{Told, Seen}
 use Rattle.h2_link.proofs.Fronts.{stays, behind, none_is_partial, partial_is_none}
 
 stays_by : (l : Seen) (front more : List ℕ) (o : Option (ℕ × Told)) → front_of l.wire (l.rest ++ front) ≡ o → reading_of (l.rest ++ front) ≢ Partial → heard l (front ++ more) ≡ heard l front

@@ -1,16 +1,16 @@
 -- What is at the front of some bytes stays, whatever follows.
-use Rattle.std.proofs.Common.{◌≡◌, ◌≢◌, ℕ, ◌<◌, ◌≤◌, ◌+◌, ◌-◌, List, [], ◌∷◌, ◌++◌, length, take, drop, refl, sym, ◌∙◌, ap, ap₂, subst, Some, None, arith, length-append, append_assoc, inl, inr}
+use Rattle.std.proofs.Common.{◌≡◌, ℕ, ◌<◌, ◌≤◌, ◌-◌, List, ◌++◌, length, take, drop, refl, sym, ◌∙◌, ap, subst, Some, None, arith, length-append, append_assoc, inl, inr}
 use Rattle.std.specs.Prelude.{Option, min}
 use Rattle.std.proofs.lemmas.List.{take-append-drop, take-append-le, take_all, length-take-le}
 use Rattle.std.proofs.lemmas.Bool.{cases_lt}
-use Rattle.h2_frame.specs.Frames.{FrameSeen, IsFrame}
+use Rattle.h2_frame.specs.Frames.{IsFrame}
 use Rattle.h2_frame.specs.Readings.{Reading, Whole, Partial, Fault, IsFault, IsProperPrefix, IsDead, IsCode, reading_of, fault_place}
 use Rattle.h2_frame.proofs.PlaceLaws.{fault_is_told, told_fault, whole_stays}
 use Rattle.h2_frame.proofs.PayloadLaws.{place_is, prefix_size}
 use Rattle.h2_frame.proofs.PrefixLaws.{partial_is_prefix}
 use Rattle.h2_frame.proofs.TextLaws.{whole_is}
 use Rattle.h2_link.specs.Heard.{front_as, front_of}
-use Rattle.h2_link.specs.Steps.{told, broke}
+use Rattle.h2_link.specs.Steps.{broke}
 use Rattle.h2_link.specs.Wire.{Wire, Told}
 
 -- a fault, at the same place, behind more bytes

@@ -1,5 +1,5 @@
 -- What a link hears of a piece, by what is at the front of its rest and as much of the piece as the longest frame needs.
-use Rattle.std.proofs.Common.{◌≡◌, ℕ, ◌≤◌, ◌+◌, ◌-◌, List, [], ◌∷◌, ◌++◌, length, take, refl, sym, ◌∙◌, ap, ap₂, subst, Some, None, arith, length-append}
+use Rattle.std.proofs.Common.{◌≡◌, ℕ, ◌≤◌, ◌-◌, List, [], ◌++◌, length, take, refl, sym, ◌∙◌, ap, ap₂, Some, None, arith, length-append}
 use Rattle.std.specs.Prelude.{Option, min}
 use Rattle.std.proofs.lemmas.List.{take_all, length-take-le}
 use Rattle.h2_frame.specs.Readings.{Partial, reading_of}

@@ -1,14 +1,12 @@
 -- What sending leaves as it was, and that DATA keeps both windows.
-use Rattle.std.proofs.Common.{◌≡◌, ℕ, ◌≤◌, ◌+◌, Bool, true, false, List, [], ◌∷◌, length, refl, sym, ◌∙◌, subst, Some, None, arith}
-use Rattle.std.specs.Prelude.{Option, slice_get, min, nat_lt, ◌||◌, ◌&&◌, ◌==◌, if◌then◌else◌}
-use Rattle.h2_stream.specs.Stream.{or_zero}
+use Rattle.std.proofs.Common.{◌≡◌, ℕ, ◌+◌, Bool, true, false, List, [], ◌∷◌, length, refl, sym, ◌∙◌, subst, Some, None, arith}
+use Rattle.std.specs.Prelude.{Option, slice_get, nat_lt, ◌||◌, ◌&&◌, ◌==◌, if◌then◌else◌}
 use Rattle.h2_link.specs.declared.control.Control.{Control}
 use Rattle.h2_link.specs.declared.live.LiveStream.{LiveStream}
 use Rattle.h2_link.specs.declared.send.Share.{Share}
 use Rattle.h2_link.specs.Drains.{Outgoing, Sent, Sends, next, next_control, next_head, next_data, opens, sender, share_as, share_of, share_or, least_of, sent_control, sent_head, sent_data}
 use Rattle.h2_link.specs.Feeds.{Line}
 use Rattle.h2_link.specs.Laws.{KeepsHeard, KeepsWindows}
-use Rattle.h2_link.specs.LinkErrors.{send_window}
 use Rattle.h2_link.specs.Wire.{Wire}
 
 self_kept : (w : Wire) → KeepsHeard w w

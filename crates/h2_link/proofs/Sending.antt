@@ -1,9 +1,8 @@
 -- A drain, one frame after the other.
-use Rattle.std.proofs.Common.{◌≡◌, ℕ, zero, suc, ◌<◌, ◌≤◌, ◌+◌, ◌-◌, Bool, true, false, List, [], ◌∷◌, ◌++◌, length, take, drop, get_or, refl, sym, ◌∙◌, ap, subst, Some, None, arith, length-append, append_assoc, append-nil}
+use Rattle.std.proofs.Common.{◌≡◌, ℕ, zero, suc, ◌<◌, ◌≤◌, ◌+◌, ◌-◌, Bool, true, false, List, [], ◌∷◌, ◌++◌, length, drop, refl, sym, ◌∙◌, ap, subst, Some, None, arith, length-append, append-nil}
 use Rattle.std.specs.Prelude.{Option, flat_map, slice_get, slice_set, ◌==◌, if◌then◌else◌}
 use Rattle.std.specs.List.{AllByRecursion}
 use Rattle.std.proofs.lemmas.Grind.{flat_map-append}
-use Rattle.grpc_base.specs.declared.fields.Field.{Field}
 use Rattle.h2_link.specs.declared.control.Control.{Control}
 use Rattle.h2_link.specs.declared.live.LiveStream.{LiveStream}
 use Rattle.h2_link.specs.declared.send.Share.{Share}

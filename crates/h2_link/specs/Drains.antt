@@ -1,5 +1,5 @@
 -- What a link sends, in which order (RFC 9113, sections 3.4, 5.1.2 and 6.9).
-use Rattle.std.specs.Prelude.{◌≡◌, ◌<◌, ◌≤◌, ℕ, ◌+◌, ◌-◌, ◌*◌, ◌^◌, ◌==◌, Bool, true, false, nat_lt, not, ◌&&◌, ◌||◌, if◌then◌else◌, min, Option, Some, None, List, [], ◌∷◌, ◌++◌, length, take, drop, map, flat_map, slice_get, slice_set, ℤ, pos, ◌-ℤ◌}
+use Rattle.std.specs.Prelude.{◌≡◌, ◌<◌, ◌≤◌, ℕ, ◌+◌, ◌-◌, ◌*◌, ◌^◌, ◌==◌, Bool, true, false, nat_lt, not, ◌&&◌, ◌||◌, if◌then◌else◌, min, Option, Some, None, List, [], ◌∷◌, ◌++◌, length, take, drop, map, flat_map, slice_get, slice_set, pos, ◌-ℤ◌}
 use Rattle.grpc_base.specs.declared.fields.Field.{Field}
 use Rattle.h2_frame.specs.declared.payload.Setting.{Setting}
 use Rattle.h2_frame.specs.Frames.{FrameSeen, written}

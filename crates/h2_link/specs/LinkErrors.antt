@@ -1,5 +1,5 @@
 -- The errors that break a link (RFC 9113, section 5.4.1), beyond those that one frame shows by itself, in their order.
-use Rattle.std.specs.Prelude.{ℕ, ◌+◌, ◌*◌, ◌%◌, ◌==◌, Bool, true, false, nat_le, nat_lt, not, ◌&&◌, ◌||◌, if◌then◌else◌, Option, Some, None, List, [], length, ℤ, pos, ◌+ℤ◌, int_lt}
+use Rattle.std.specs.Prelude.{ℕ, ◌+◌, ◌*◌, ◌%◌, ◌==◌, Bool, nat_le, nat_lt, not, ◌&&◌, ◌||◌, if◌then◌else◌, Option, Some, None, List, [], length, ℤ, pos, ◌+ℤ◌, int_lt}
 use Rattle.std.specs.List.{list_any}
 use Rattle.grpc_base.specs.ErrorCodes.{protocol_error, flow_control_error, compression_error, enhance_your_calm}
 use Rattle.h2_frame.specs.declared.payload.Setting.{Setting}

@@ -1,5 +1,5 @@
 -- The frames that wait to be sent whatever the windows.
-use Rattle.std.specs.Prelude.{ℕ, suc, ◌+◌, ◌-◌, Bool, true, false, nat_lt, if◌then◌else◌, List, [], ◌∷◌, ◌++◌, length, drop, min}
+use Rattle.std.specs.Prelude.{ℕ, suc, ◌+◌, ◌-◌, Bool, false, nat_lt, if◌then◌else◌, List, [], ◌∷◌, ◌++◌, length, drop, min}
 use Rattle.std.specs.List.{insert}
 use Rattle.h2_link.specs.declared.control.Control.{Control}
 use Rattle.h2_link.specs.declared.control.Control.TheVariants.{Reset}

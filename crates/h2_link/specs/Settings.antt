@@ -1,5 +1,5 @@
 -- Nobody has to believe these steps: what the code does with the settings of a frame, one after the other.
-use Rattle.std.specs.Prelude.{ℕ, ◌==◌, Bool, true, nat_le, ◌&&◌, if◌then◌else◌, Option, Some, List, [], ◌∷◌}
+use Rattle.std.specs.Prelude.{◌==◌, true, nat_le, ◌&&◌, if◌then◌else◌, Some, List, [], ◌∷◌}
 use Rattle.h2_frame.specs.declared.payload.Setting.{Setting}
 use Rattle.h2_link.specs.declared.setting.Settings.{Settings}
 use Rattle.h2_link.specs.Wire.{largest_window}

@@ -1,5 +1,5 @@
 -- Nobody has to believe these steps: what the code does at a frame and at a call, one definition for each function.
-use Rattle.std.specs.Prelude.{ℕ, suc, ◌+◌, ◌==◌, Bool, true, false, nat_lt, not, ◌&&◌, ◌||◌, if◌then◌else◌, min, Option, Some, None, is_some, List, [], ◌∷◌, ◌++◌, length, map, filter, slice_set, ℤ, pos, ◌+ℤ◌, Result, Ok, Err}
+use Rattle.std.specs.Prelude.{ℕ, ◌+◌, ◌==◌, Bool, true, false, nat_lt, not, ◌||◌, if◌then◌else◌, min, Option, Some, None, is_some, List, [], ◌∷◌, ◌++◌, length, map, filter, slice_set, pos, ◌+ℤ◌, Result, Ok, Err}
 use Rattle.std.specs.Ordering.{nat_cmp}
 use Rattle.std.specs.List.{remove}
 use Rattle.std.specs.BTreeSet.{insert_key}
@@ -19,7 +19,6 @@ use Rattle.h2_link.specs.declared.effect.Effect.TheVariants.{Goes, Ends, Faults}
 use Rattle.h2_link.specs.declared.live.LiveStream.{LiveStream}
 use Rattle.h2_link.specs.declared.news.LinkNews.{LinkNews}
 use Rattle.h2_link.specs.declared.news.LinkNews.TheVariants as news
-use Rattle.h2_link.specs.declared.setting.Settings.{Settings}
 use Rattle.h2_link.specs.LinkErrors.{link_error, hpack_error, is_long}
 use Rattle.h2_link.specs.Queues.{Queue, queued, sealed, reset_queued}
 use Rattle.h2_link.specs.Settings.{with_settings}

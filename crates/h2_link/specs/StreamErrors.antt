@@ -1,5 +1,5 @@
 -- The errors of a stream (RFC 9113, section 5.4.2): each ends its attempt, and the stream is reset with the code.
-use Rattle.std.specs.Prelude.{ℕ, ◌==◌, Bool, true, false, not, ◌&&◌, ◌||◌, if◌then◌else◌, Option, Some, None, is_none, ℤ, pos, ◌+ℤ◌, int_lt}
+use Rattle.std.specs.Prelude.{ℕ, ◌==◌, Bool, not, ◌&&◌, ◌||◌, if◌then◌else◌, Option, Some, None, is_none, pos, ◌+ℤ◌, int_lt}
 use Rattle.grpc_base.specs.ErrorCodes.{protocol_error, flow_control_error}
 use Rattle.h2_link.specs.declared.live.LiveStream.{LiveStream}
 use Rattle.h2_link.specs.LinkErrors.{send_window}

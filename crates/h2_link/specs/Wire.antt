@@ -1,5 +1,5 @@
 -- What a link is to its callers.
-use Rattle.std.specs.Prelude.{ℕ, ◌+◌, Bool, false, Option, None, Some, List, [], ◌∷◌, length, Result, Ok}
+use Rattle.std.specs.Prelude.{ℕ, ◌+◌, Bool, false, Option, None, Some, List, [], length, Ok}
 use Rattle.h2_hpack.specs.Blocks as hpack
 use Rattle.h2_hpack.specs.Tables.{new_table}
 use Rattle.h2_link.specs.declared.control.Control.TheVariants.{Preface}

@@ -30,7 +30,7 @@ pub trait Feed {
         ensures finished { result.1 ≡ (lines self.now tag).finished };
 
     /// Appends the next bytes of a tag, and takes them off what is left.
-    fn take(&mut self, tag: u64, len: u64, out: &mut BytesMut) -> Result<(), NoMemory>
+    fn take(&mut self, tag: u64, len: u32, out: &mut BytesMut) -> Result<(), NoMemory>
         requires held { (lines self.old tag).held ≡ true }
         requires there { len ≤ length (lines self.old tag).left }
         ensures out { OnOk result (out.new.items ≡ out.old.items ++ take len (lines self.old tag).left) }

@@ -316,7 +316,7 @@ impl State {
             length: len,
         };
         write_header(out, header)?;
-        feed.take(stream.tag, u64::from(len), out)?;
+        feed.take(stream.tag, len, out)?;
         self.window -= len;
         let initial = self.initial;
         let credit = lowered_credit(&initial, stream.credit, len);

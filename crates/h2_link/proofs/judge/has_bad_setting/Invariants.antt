@@ -1,8 +1,7 @@
 use Rattle.std.proofs.Common.{◌≡◌, length}
 use Rattle.std.specs.List.{list_any}
 use Rattle.h2_frame.specs.Payloads.{settings_in}
-use Rattle.h2_frame.specs.Steps.{seen}
-use Rattle.h2_link.specs.LinkErrors.{is_bad_setting, settings_of}
+use Rattle.h2_link.specs.LinkErrors.{is_bad_setting}
 use Rattle.h2_link.proofs.judge.has_bad_setting.Given as goal
 
 abbrev pub decreases-loop-setting : goal.decreases-loop-setting

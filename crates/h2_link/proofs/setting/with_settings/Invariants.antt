@@ -1,4 +1,4 @@
-use Rattle.std.proofs.Common.{◌≡◌, ℕ, length}
+use Rattle.std.proofs.Common.{◌≡◌, length}
 use Rattle.h2_frame.specs.Payloads.{settings_in}
 use Rattle.h2_link.specs.Settings.{with_settings}
 use Rattle.h2_link.proofs.setting.with_settings.Given as goal

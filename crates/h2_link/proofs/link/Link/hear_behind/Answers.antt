@@ -1,11 +1,11 @@
-use Rattle.std.proofs.Common.{◌≡◌, ℕ, List, ◌∙◌, sym, ap, arith, length, Some, None}
+use Rattle.std.proofs.Common.{◌≡◌, ℕ, List, ◌∙◌, sym, ap, arith, length}
 use Rattle.std.specs.Prelude.{Option}
 use Rattle.h2_link.specs.declared.news.LinkNews.{LinkNews}
-use Rattle.h2_link.specs.Heard.{Hearing, heard, front_of}
+use Rattle.h2_link.specs.Heard.{heard, front_of}
 use Rattle.h2_link.specs.Outcomes.{front_told}
 use Rattle.h2_link.specs.Wire.{Seen}
 use Rattle.h2_link.proofs.Fronts.{partial_size}
-use Rattle.h2_link.proofs.Hearing.{IsJoined, is_joined, heard_some, some_bounds, heard_none}
+use Rattle.h2_link.proofs.Hearing.{is_joined, heard_some, some_bounds, heard_none}
 use Rattle.h2_link.proofs.link.Link.hear_behind.Goals as goal
 
 pub overflow_sub-held : goal.overflow_sub-held

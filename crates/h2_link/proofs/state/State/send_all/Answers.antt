@@ -1,4 +1,4 @@
-use Rattle.std.proofs.Common.{◌≡◌, true, false, ◌-◌, length, arith}
+use Rattle.std.proofs.Common.{◌≡◌, true, ◌-◌, arith}
 use Rattle.h2_link.proofs.Sending.{more}
 use Rattle.h2_link.proofs.state.State.send_all.Goals as goal
 

@@ -1,0 +1,7 @@
+// The tests of the link crates' public calls; nothing else stands here.
+#![tactic(auto)]
+
+#[cfg(test)]
+mod desk;
+#[cfg(test)]
+mod h2_link_tests;
