@@ -1,5 +1,6 @@
 -- The feed of the tests holds each tag, and taking nothing changes nothing.
-use Rattle.std.proofs.Common.{◌≡◌, ℕ, ◌≤◌, zero, suc, Bool, true, false, List, [], ◌∷◌, length, drop, refl, sym, ap, fun_ext}
+use Rattle.std.proofs.Common.{◌≡◌, ℕ, ◌≤◌, zero, suc, Bool, true, false, List, [], ◌∷◌, length, drop, refl, sym, ap}
+use Rattle.std.proofs.Math.Path.{fun_ext}
 use Rattle.std.specs.Prelude.{◌==◌, if◌then◌else◌}
 use Rattle.std.specs.List.{AllByRecursion}
 use Rattle.h2_link.specs.declared.live.LiveStream.{LiveStream}

@@ -4,6 +4,7 @@ ghost use Rattle.link_tests.specs.Lines.{field, request};
 
 use bytes::BytesMut;
 use grpc_base::{Field, Fields, NoMemory, Octets};
+use grpc_link::GrpcLink;
 use h2_link::{DrainFault, Drained, Feed, Link};
 use std::alloc::Global;
 
@@ -65,5 +66,18 @@ pub fn drained(link: &mut Link, room: u32, desk: &mut Desk) -> Result<Drained, D
 }
 
 pub fn may_drain(link: &Link, desk: &Desk) -> bool {
+    link.can_drain(desk)
+}
+
+/// The same over a link that tells attempt news.
+pub fn grpc_drained(
+    link: &mut GrpcLink,
+    room: u32,
+    desk: &mut Desk,
+) -> Result<Drained, DrainFault> {
+    link.drain(room, desk)
+}
+
+pub fn grpc_may_drain(link: &GrpcLink, desk: &Desk) -> bool {
     link.can_drain(desk)
 }

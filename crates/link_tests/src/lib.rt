@@ -4,4 +4,6 @@
 #[cfg(test)]
 mod desk;
 #[cfg(test)]
+mod grpc_link_tests;
+#[cfg(test)]
 mod h2_link_tests;

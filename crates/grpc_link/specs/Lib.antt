@@ -1,0 +1,4 @@
+pub mod Ends
+pub mod Links
+pub mod Readers
+pub mod Response

@@ -1,0 +1,94 @@
+-- A link with a reader for each of its tags.
+use Rattle.std.specs.Prelude.{ℕ, ◌+◌, ◌==◌, true, Option, Some, None, List, [], ◌∷◌, ◌++◌, if◌then◌else◌}
+use Rattle.std.specs.List.{remove}
+use Rattle.grpc_base.specs.ErrorCodes.{cancel}
+use Rattle.attempt_ledger.specs.declared.news.News.{News}
+use Rattle.attempt_ledger.specs.declared.news.News.TheVariants as news
+use Rattle.h2_link.specs.declared.news.LinkNews.{LinkNews}
+use Rattle.h2_link.specs.declared.news.LinkNews.TheVariants as link
+use Rattle.h2_link.specs.Heard.{heard}
+use Rattle.h2_link.specs.Steps.{cut}
+use Rattle.h2_link.specs.Wire.{Seen}
+use Rattle.grpc_link.specs.declared.readers.TagReader.{TagReader}
+use Rattle.grpc_link.specs.Readers.{ReaderSeen, Stepped, reader_for, stepped}
+use Rattle.grpc_link.specs.Response.{no_response}
+
+-- a link, and the readers of the tags whose responses are not over
+pub record GrpcSeen : Type 0 where
+  pub link : Seen
+  pub readers : List TagReader
+
+-- the first reader of a tag, with its place
+abbrev pub found_from : ℕ → ℕ → List TagReader → Option (ℕ × ReaderSeen)
+found_from tag place [] = None
+found_from tag place (t ∷ readers) = if t.tag == tag then Some (place, t.reader) else found_from tag (place + 1) readers
+
+abbrev pub found : ℕ → List TagReader → Option (ℕ × ReaderSeen)
+found tag readers = found_from tag 0 readers
+
+-- a link and what it tells
+pub record Told : Type 0 where
+  pub link : GrpcSeen
+  pub news : List News
+
+-- the others
+abbrev pub without_at : List TagReader → Option (ℕ × ReaderSeen) → List TagReader
+without_at readers None = readers
+without_at readers (Some x) = remove readers x.0
+
+abbrev pub without : ℕ → List TagReader → List TagReader
+without tag readers = without_at readers (found tag readers)
+
+-- a reader behind the others
+abbrev pub with_reader : ℕ → ReaderSeen → List TagReader → List TagReader
+with_reader tag r readers = readers ++ record { tag = tag; reader = r } ∷ []
+
+-- where the response is over, the tag is given up with CANCEL, which changes nothing if its stream has ended
+abbrev pub told_by : GrpcSeen → ℕ → Stepped → Told
+told_by g tag s =
+    if s.reader.over then record { link = record g { link = record g.link { wire = cut g.link.wire tag cancel } }; news = s.news }
+    else record { link = record g { readers = with_reader tag s.reader g.readers }; news = s.news }
+
+-- news of a tag
+abbrev pub told_of : GrpcSeen → ℕ → LinkNews → Option (ℕ × ReaderSeen) → Told
+told_of g tag n None = record { link = g; news = [] }
+told_of g tag n (Some x) = told_by (record g { readers = remove g.readers x.0 }) tag (stepped x.1 tag n)
+
+-- one of the link's news; a broken link has no tags any more
+abbrev pub told : GrpcSeen → LinkNews → Told
+told g link.Ready = record { link = g; news = news.Ready ∷ [] }
+told g link.Retiring = record { link = g; news = news.Retiring ∷ [] }
+told g (link.Broken code) = record { link = record g { readers = [] }; news = news.Broken code ∷ [] }
+told g (link.Fields tag fields end seen) = told_of g tag (link.Fields tag fields end seen) (found tag g.readers)
+told g (link.Data tag bytes end seen) = told_of g tag (link.Data tag bytes end seen) (found tag g.readers)
+told g (link.Reset tag code seen) = told_of g tag (link.Reset tag code seen) (found tag g.readers)
+told g (link.Fault tag code seen) = told_of g tag (link.Fault tag code seen) (found tag g.readers)
+told g (link.Unseen tag seen) = told_of g tag (link.Unseen tag seen) (found tag g.readers)
+
+-- all of the link's news, one after the other
+abbrev pub told_all : GrpcSeen → List LinkNews → Told
+told_all g [] = record { link = g; news = [] }
+told_all g (n ∷ ns) =
+    let t = told g n in
+    let rest = told_all t.link ns in
+    record { link = rest.link; news = t.news ++ rest.news }
+
+-- what a link hears of a piece
+abbrev pub link_heard : GrpcSeen → List ℕ → Told
+link_heard g piece =
+    let h = heard g.link piece in told_all (record { link = h.link; readers = g.readers }) h.news
+
+-- the readers once a tag is placed, and once the streams of tags were opened
+abbrev pub placed_reader : ℕ → ℕ → List TagReader → List TagReader
+placed_reader tag limit readers = with_reader tag (reader_for limit no_response) readers
+
+abbrev pub opened_at : ℕ → List TagReader → Option (ℕ × ReaderSeen) → List TagReader
+opened_at tag readers None = readers
+opened_at tag readers (Some x) = with_reader tag (record x.1 { opened = true }) (remove readers x.0)
+
+abbrev pub opened_one : ℕ → List TagReader → List TagReader
+opened_one tag readers = opened_at tag readers (found tag readers)
+
+abbrev pub opened_all : List (ℕ × ℕ) → List TagReader → List TagReader
+opened_all [] readers = readers
+opened_all (x ∷ opened) readers = opened_all opened (opened_one x.0 readers)

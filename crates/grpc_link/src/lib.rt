@@ -1,0 +1,12 @@
+// Attempt news of a link: the responses on its streams, told piece by piece.
+#![tactic(auto)]
+
+mod ends;
+mod laws;
+mod link;
+mod reader;
+mod readers;
+
+pub use laws::news_are_what_responses_gain;
+pub use link::{GrpcArrival, GrpcLink};
+pub use reader::ResponseReader;
