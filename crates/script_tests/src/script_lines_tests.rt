@@ -45,7 +45,7 @@ static MODEL: &str = "\
 10Rchannel 1 dns:-x\n\
 04Rchannel 1 ipv4:1.2.3.4|0 0 begin /a/b - 01 -\n\
 07Rchannel 1 ipv4:1.2.3.4|0 0 send 1 \n\
-01Rchannel 2 ipv4:\n\
+10Rchannel 2 ipv4:\n\
 06Rchannel 1 ipv4:1.2.3.4|18001000 18446744073709551615 arrived 1 00 -\n\
 01Rchannel 3 ipv4:\n\
 04Rchannel 1 ipv4:1.2.3.4|0 5893612703463706378 drain 01 16393\n\
@@ -55,7 +55,6 @@ static MODEL: &str = "\
 07Rchannel 1 ipv4:1.2.3.4|0 0 send 1 0G\n\
 01Rchannel 1 ipv4:127.0.0.1:50051 \n\
 08Rchannel 1 ipv4:1.2.3.4|0 0 begin /a/b/c - x -\n\
-01Rchannel 2 dns:x\n\
 06Rchannel 1 ipv4:1.2.3.4|0 dial\n\
 01R0 0 begin /{a*1021}/b - - a:00\n\
 01R0 0 resolved {1.2.3.#:80,*63}1.2.3.63:80 7b7\n\
