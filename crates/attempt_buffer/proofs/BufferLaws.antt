@@ -2,7 +2,7 @@
 use Rattle.std.proofs.Common.{◌≡◌, ◌∙◌, ◌<◌, ◌≤◌, ℕ, zero, suc, ◌+◌, ◌-◌, ◌==◌, Bool, true, false, not, ◌&&◌, is_some, nat_le, if◌then◌else◌, Option, Some, None, IfSome, List, [], ◌∷◌, ◌++◌, length, take, drop, map, refl, ap, sym, subst, inl, inr, arith, zero-add, length-append, set, get_or}
 use Rattle.std.specs.List.{concat, filter, find}
 use Rattle.std.specs.Option.{option_map, option_map_or}
-use Rattle.std.proofs.lemmas.Bool.{cases_lt}
+use Rattle.std.proofs.lemmas.Bool.{and_parts, cases_lt, false≢true, not-true}
 use Rattle.std.proofs.lemmas.Bool.Decides.{nat_tests}
 use Rattle.std.proofs.lemmas.List.{take-append-le}
 use Rattle.std.proofs.Math.Seq.{drop-append-add, take-append_seam}
@@ -197,6 +197,7 @@ sound_committed ms s row sized at le =
       spots = tt;
       first = (spot_rest ms s.message s.offset at.first, refl);
       fits = omega (arith, split_at ms s.message, le);
+      alone = λ h. refl;
     })
 
 -- one message more
@@ -206,12 +207,14 @@ sound_more ms m cs None sound filled short room = record {
   spots = spots_more ms m cs filled sound.spots;
   first = tt;
   fits = omega (arith, bytes_more ms m, room);
+  alone = tt;
 }
 sound_more ms m cs (Some c) sound filled short room = record {
   sized = sized_more ms m sound.sized filled short;
   spots = spots_more ms m cs filled sound.spots;
   first = (spot_more ms m c.cursor.spot filled sound.first.0, sound.first.1);
   fits = omega (arith, bytes_more ms m, room);
+  alone = sound.alone;
 }
 
 pub most_is : (o : Option Committed) → most_bytes o ≡ (if is_some (option_map seen_committed o) then 8454153 else 262144)
@@ -222,14 +225,25 @@ pub most_at_most : (o : Option Committed) → most_bytes o ≤ 8454153
 most_at_most None = omega arith
 most_at_most (Some c) = omega arith
 
+-- where a committed row is open, no other one is
+pub alone_kept : (f : List Cursor → List Cursor) (cs : List Cursor) (o : Option Committed) → f [] ≡ [] → IfSome o (λ c. c.is_open ≡ true → cs ≡ []) → IfSome o (λ c. c.is_open ≡ true → f cs ≡ [])
+alone_kept f cs None e alone = tt
+alone_kept f cs (Some c) e alone = λ h. ap f (alone h) ∙ e
+
+pub alone_opened : (whole other : Bool) (cs : List Cursor) (o : Option Committed) → (whole && not (option_map_or (λ c. c.is_open) (option_map seen_committed o) false) && other) ≡ true → IfSome o (λ c. c.is_open ≡ true → cs ≡ [])
+alone_opened whole other cs None can = tt
+alone_opened whole other cs (Some c) can = λ h.
+    let closed : not c.is_open ≡ true = (and_parts whole (not c.is_open) (and_parts (whole && not c.is_open) other can).0).1 in
+    absurd (false≢true (sym (not-true c.is_open closed) ∙ h))
+
 -- a row that is closed
 pub shut_seen : (o : Option Committed) → option_map seen_committed (option_map shut_code o) ≡ option_map shut (option_map seen_committed o)
 shut_seen None = refl
 shut_seen (Some c) = refl
 
 pub sound_shut : (ms : List (List ℕ)) (cs : List Cursor) (o : Option Committed) → IsSound ms cs o → IsSound ms cs (option_map shut_code o)
-sound_shut ms cs None sound = record { sized = sound.sized; spots = sound.spots; first = tt; fits = sound.fits }
-sound_shut ms cs (Some c) sound = record { sized = sound.sized; spots = sound.spots; first = sound.first; fits = sound.fits }
+sound_shut ms cs None sound = record { sized = sound.sized; spots = sound.spots; first = tt; fits = sound.fits; alone = tt }
+sound_shut ms cs (Some c) sound = record { sized = sound.sized; spots = sound.spots; first = sound.first; fits = sound.fits; alone = λ h. absurd (false≢true h) }
 
 pub closed_then : (row : ℕ) (b : Buffered) → is_committed_row row b.committed ≡ true → ◌≡◌ {A = Buffered} (record b { committed = option_map shut b.committed }) (closed row b)
 closed_then row b h = sym (ap (λ t. if t then record b { committed = option_map shut b.committed } else record b { cursors = filter (λ c. not (c.row == row)) b.cursors }) h)

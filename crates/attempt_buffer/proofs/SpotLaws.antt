@@ -103,7 +103,7 @@ bytes_more [] m = grind (arith, common_steps)
 bytes_more (x ∷ ms) m = omega (arith, length-append x (concat (ms ++ m ∷ [])), length-append x (concat ms), bytes_more ms m)
 
 -- what stands behind so many bytes, and behind more
-drop_on : (s n : ℕ) (xs : List ℕ) → drop n (drop s xs) ≡ drop (s + n) xs
+pub drop_on : (s n : ℕ) (xs : List ℕ) → drop n (drop s xs) ≡ drop (s + n) xs
 drop_on zero n xs = ap (λ k. drop k xs) (sym (zero-add n))
 drop_on (suc s) n [] = drop_all n [] (omega arith) ∙ sym (drop_all (suc s + n) [] (omega arith))
 drop_on (suc s) n (x ∷ xs) =

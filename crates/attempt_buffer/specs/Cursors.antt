@@ -1,5 +1,5 @@
 -- The cursors of a buffer, as the code keeps them. No contract of a public call cites this file.
-use Rattle.std.specs.Prelude.{◌≡◌, ◌≤◌, ℕ, false, ◌&&◌, ◌==◌, if◌then◌else◌, Option, Some, None, IfSome, List, [], ◌∷◌, length, map}
+use Rattle.std.specs.Prelude.{◌≡◌, ◌≤◌, ℕ, true, false, ◌&&◌, ◌==◌, if◌then◌else◌, Option, Some, None, IfSome, List, [], ◌∷◌, length, map}
 use Rattle.std.specs.List.{concat, find}
 use Rattle.std.specs.Option.{option_map}
 use Rattle.attempt_buffer.specs.Buffers.{Buffered, Cursor as Seen, Committed as Kept}
@@ -58,3 +58,4 @@ pub record IsSound (messages : List (List ℕ)) (cursors : List Cursor) (committ
   pub spots : AreAt messages cursors
   pub first : IfSome committed (λ c. IsAt messages c.cursor.spot × (c.cursor.spot.message ≡ 0))
   pub fits : length (concat messages) ≤ most_bytes committed
+  pub alone : IfSome committed (λ c. c.is_open ≡ true → cursors ≡ [])

@@ -1,5 +1,5 @@
 // The messages of a call, for all its attempts.
-ghost use Rattle.std.specs.Prelude.{◌≡◌, ◌≢◌, ◌≤◌, ◌<◌, ◌+◌, ℕ, true, false, None, Some, Ok, Err, [], ◌∷◌, ◌++◌, length, take, is_some, IfSome, IfNone, IfOk, OnOk, OnErr, if◌then◌else◌};
+ghost use Rattle.std.specs.Prelude.{◌≡◌, ◌≢◌, ◌≤◌, ◌<◌, ◌+◌, ℕ, ◌==◌, true, false, None, Some, Ok, Err, [], ◌∷◌, ◌++◌, length, take, drop, is_some, IfSome, IfNone, IfOk, OnOk, OnErr, if◌then◌else◌};
 ghost use Rattle.attempt_buffer.specs.Buffers.{after_taking, appended, can_open, closed, committed_to, held, is_open, left_of, opened, push_answer, pushed_to, text_of};
 
 use crate::cursors::{Cursor, remove_cursor};
@@ -138,13 +138,14 @@ impl Buffer {
         Ok(())
     }
 
-    /// Appends the next bytes of an attempt to `out`, and takes them off what it has still to send. On out of memory both are as
-    /// before.
+    /// Appends the next bytes of an attempt to `out`, and takes them off what it has still to send; every other row keeps what it
+    /// has. On out of memory both are as before.
     pub fn take(&mut self, row: u64, len: u32, out: &mut BytesMut) -> Result<(), NoMemory>
         requires open { is_open row self.old ≡ true }
         requires within { len ≤ length (left_of row self.old) }
         ensures bytes { OnOk result (out.new.items ≡ out.old.items ++ take len (left_of row self.old)) }
         ensures ok { OnOk result (self.new ≡ after_taking row len self.old) }
+        ensures left { OnOk result ((t : ℕ) → left_of t self.new ≡ (if t == row then drop len (left_of row self.old) else left_of t self.old)) }
         ensures err { OnErr result (self.new ≡ self.old) }
         ensures err_out { OnErr result (out.new.items ≡ out.old.items) }
     {
@@ -158,10 +159,12 @@ impl Buffer {
         Ok(())
     }
 
-    /// Commits the call to an open row: every other row is closed, and the messages that this one has sent whole are given up.
+    /// Commits the call to an open row: every other row is closed, and the messages that this one has sent whole are given up. What
+    /// it has still to send stays.
     pub fn commit(&mut self, row: u64)
         requires { is_open row self.old ≡ true }
-        ensures { self.new ≡ committed_to row self.old }
+        ensures after { self.new ≡ committed_to row self.old }
+        ensures left { (t : ℕ) → left_of t self.new ≡ (if t == row then left_of row self.old else []) }
     {
         if let Some(spot) = self.state.spot_of(row) {
             self.state.commit_at(row, spot);

@@ -1,21 +1,24 @@
-use Rattle.std.proofs.Common.{◌≡◌, ◌∙◌, false, List, map, ap, subst, sym}
+use Rattle.std.proofs.Common.{◌≡◌, ◌∙◌, ◌==◌, true, false, not, IfSome, List, [], map, refl, ap, subst, sym}
+use Rattle.std.specs.List.{filter}
 use Rattle.std.specs.Option.{option_map}
 use Rattle.attempt_buffer.specs.Buffers.{Buffered, closed, is_committed_row}
 use Rattle.attempt_buffer.specs.Buffers.{Cursor as Seen}
 use Rattle.attempt_buffer.specs.Cursors.{AreAt, seen_committed, seen_cursor, seen_state}
 use Rattle.attempt_buffer.specs.declared.cursors.Cursor.{Cursor}
-use Rattle.attempt_buffer.proofs.BufferLaws.{closed_at, closed_else, closed_seen}
+use Rattle.attempt_buffer.proofs.BufferLaws.{alone_kept, closed_at, closed_else, closed_seen}
 use Rattle.attempt_buffer.proofs.buffer.Buffer.close.Goals as goal
 
 pub invariant_of-self-else-is_committed_row : goal.invariant_of-self-else-is_committed_row
 invariant_of-self-else-is_committed_row c =
     let s = c.self.inside.state in
     let P : List Cursor → Type 0 = λ l. AreAt s.messages l in
+    let Q : List Cursor → Type 0 = λ l. IfSome s.committed (λ x. x.is_open ≡ true → l ≡ []) in
     record {
       sized = c.self.invariant.sized;
       spots = subst P (sym c.remove_cursor.ensures) (closed_at s.messages c.args.row s.cursors.items c.self.invariant.spots);
       first = c.self.invariant.first;
       fits = c.self.invariant.fits;
+      alone = subst Q (sym c.remove_cursor.ensures) (alone_kept (filter (λ x. not (x.row == c.args.row))) s.cursors.items s.committed refl c.self.invariant.alone);
     }
 
 pub returns-else-is_committed_row : goal.returns-else-is_committed_row

@@ -1,10 +1,10 @@
-use Rattle.std.proofs.Common.{◌≡◌, ◌∙◌, ◌++◌, false, List, length, map, take, drop, ap, arith, subst, sym}
+use Rattle.std.proofs.Common.{◌≡◌, ◌∙◌, ◌++◌, false, List, length, map, take, drop, refl, ap, arith, subst, sym}
 use Rattle.std.specs.Option.{option_map}
 use Rattle.attempt_buffer.specs.Buffers.{Buffered, is_committed_row}
 use Rattle.attempt_buffer.specs.Buffers.{Cursor as Seen}
 use Rattle.attempt_buffer.specs.Cursors.{IsSound, at_spot, seen_committed, seen_cursor, seen_state}
 use Rattle.attempt_buffer.specs.declared.cursors.Cursor.{Cursor}
-use Rattle.attempt_buffer.proofs.BufferLaws.{back_whole, moved_at, moved_seen, taken_else}
+use Rattle.attempt_buffer.proofs.BufferLaws.{alone_kept, back_whole, moved_at, moved_seen, taken_else}
 use Rattle.attempt_buffer.proofs.state.State.stand.Goals as goal
 
 -- the cursors, as the code leaves them
@@ -29,4 +29,5 @@ returns-else-is_committed_row-clause-sound c =
       spots = moved_at s.messages c.args.row c.args.spot s.cursors.items c.requires.at c.requires.sound.spots;
       first = c.requires.sound.first;
       fits = c.requires.sound.fits;
+      alone = alone_kept (map (at_spot c.args.row c.args.spot)) s.cursors.items s.committed refl c.requires.sound.alone;
     })
