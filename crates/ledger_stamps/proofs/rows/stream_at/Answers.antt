@@ -1,0 +1,7 @@
+use Rattle.ledger_stamps.specs.Steps.{streamed_row}
+use Rattle.ledger_stamps.proofs.Places.{set-changed}
+use Rattle.ledger_stamps.proofs.rows.stream_at.Goals as goal
+
+pub returns : goal.returns
+returns c =
+    set-changed (streamed_row c.args.stream) c.args.rows.now.items c.args.index c.index_mut-chosen.result.now _ c.requires c.index_mut-chosen.ensures.value c.stamp_stream.ensures
