@@ -1,0 +1,5 @@
+pub mod Laws
+pub mod Numbering
+pub mod Parts
+pub mod Rows
+pub mod Steps

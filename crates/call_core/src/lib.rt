@@ -1,0 +1,34 @@
+// One call: its attempts, the messages that it sends, and what came for its application.
+#![tactic(auto)]
+
+mod act;
+mod attempts;
+mod call;
+mod chosen;
+mod commit;
+mod cut;
+mod due;
+mod ended;
+mod hear;
+mod inbox;
+mod judge;
+mod laws;
+mod live;
+mod outbox;
+mod state;
+mod take;
+mod tokens;
+
+pub use act::CallAct;
+pub use attempts::Attempts;
+pub use call::Call;
+pub use inbox::{Inbox, Messages};
+pub use laws::{
+    attempts_are_made_when_due, attempts_are_numbered, calls_are_kept, calls_write_their_entry,
+    committed_calls_make_no_attempt, ended_calls_stay, ended_rows_are_told,
+    full_tells_what_is_held, hedges_follow_their_policy, items_are_taken_in_order, live_rows_stand,
+    messages_come_in_order, other_rows_are_cut, refusals_are_followed_once,
+    retries_follow_their_license, tokens_count_ends,
+};
+pub use live::LiveRow;
+pub use state::CallState;

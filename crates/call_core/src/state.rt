@@ -1,0 +1,71 @@
+// A call's record.
+ghost use Rattle.std.specs.Prelude.{◌≡◌};
+ghost use Rattle.call_core.specs.Parts.{has_none};
+ghost use Rattle.call_core.specs.Steps.{call_plan, new_call};
+
+use crate::attempts::Attempts;
+use crate::chosen::plan_of;
+use crate::inbox::Inbox;
+use crate::live::LiveRow;
+use attempt_buffer::Buffer;
+use grpc_base::{CallPlan, Chosen, EndCause, Items, Moment, Request};
+use std::alloc::Global;
+
+/// What a call knows.
+#[derive(Drop)]
+pub struct CallState {
+    /// Its number in the ledger, from 1.
+    pub number: u32,
+    pub request: Request,
+    /// The moment of its Begin.
+    pub begun: Moment,
+    /// Its configuration, once it has it.
+    pub chosen: Option<Chosen>,
+    /// Whether the application sends no further message.
+    pub is_finished: bool,
+    /// The bytes of the longest message that was accepted.
+    pub longest: usize,
+    /// The messages that it sends.
+    pub buffer: Buffer,
+    pub attempts: Attempts,
+    /// Its rows that are queued or outstanding, by their places.
+    pub live: Items<LiveRow>,
+    pub inbox: Inbox,
+    pub ended: Option<EndCause>,
+}
+
+impl CallState {
+    /// A call that began.
+    pub fn new(alloc: Global, number: u32, request: Request, begun: Moment) -> CallState
+        ensures { result ≡ new_call number request begun }
+    {
+        CallState {
+            number,
+            request,
+            begun,
+            chosen: None,
+            is_finished: false,
+            longest: 0,
+            buffer: Buffer::new(alloc),
+            attempts: Attempts::none(),
+            live: Items::new(alloc),
+            inbox: Inbox::new(alloc),
+            ended: None,
+        }
+    }
+
+    /// Its plan; none before the configuration.
+    pub fn plan(&self) -> CallPlan
+        ensures { result ≡ call_plan self.now }
+    {
+        plan_of(&self.chosen)
+    }
+
+    /// Whether no row is queued or outstanding.
+    #[tactic(auto, using(crate::proofs::Rows::none_exact))]
+    pub fn is_idle(&self) -> bool
+        ensures { result ≡ has_none self.now.live }
+    {
+        self.live.is_empty()
+    }
+}
