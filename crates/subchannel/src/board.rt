@@ -4,6 +4,7 @@ ghost use Rattle.std.specs.Option.{option_copied};
 ghost use Rattle.grpc_base.specs.Limits.{moment_limit};
 ghost use Rattle.subchannel.specs.Records.{wished, dialed, until_after, linked_up, failed, greeted, lost, is_dialable, is_dialing, is_due};
 ghost use Rattle.subchannel.specs.Boards.{numbered, HasNumber, changed_at, first_number, is_live_at, first_clocked, next_of_all, kept};
+ghost use Rattle.subchannel.specs.Insides.{live_numbers};
 
 use crate::keep::{live_after, new_subs, shut_unwanted};
 use crate::next::next_of_live;
@@ -66,6 +67,13 @@ impl Board {
         ensures { result ≡ length self.now }
     {
         self.subs.len() as u32
+    }
+
+    /// The numbers of the subchannels that are not SHUTDOWN, rising.
+    pub fn live(&self) -> &[u32]
+        ensures { result.now ≡ live_numbers 1 self.now }
+    {
+        &self.live
     }
 
     /// The live subchannel of an address; None exactly where it has none.

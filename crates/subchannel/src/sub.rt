@@ -166,6 +166,20 @@ impl Subchannel {
         matches!(self.phase, Phase::Waiting)
     }
 
+    /// Whether its dial was taken, and is no link yet.
+    pub fn is_dialing(&self) -> bool
+        ensures { result ≡ is_dialing self.now }
+    {
+        matches!(self.phase, Phase::Dialing { .. })
+    }
+
+    /// How often it was dialled since it was last READY.
+    pub fn dials(&self) -> u32
+        ensures { result ≡ self.now.dials }
+    {
+        self.dials
+    }
+
     /// The address that it connects to.
     pub fn address(&self) -> Address
         ensures { result ≡ self.now.address }

@@ -1,0 +1,12 @@
+pub mod AskLaws
+pub mod BoardLaws
+pub mod KindRuns
+pub mod LinkRuns
+pub mod ListLaws
+pub mod MoveLaws
+pub mod RoundLaws
+pub mod RunLaws
+pub mod SettleLaws
+pub mod TurnLaws
+pub mod ViewLaws
+pub mod ViewRuns

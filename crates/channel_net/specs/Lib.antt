@@ -1,0 +1,6 @@
+pub mod Askers
+pub mod Laws
+pub mod Lists
+pub mod Runs
+pub mod Stamps
+pub mod Steps
