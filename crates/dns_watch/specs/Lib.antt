@@ -1,0 +1,4 @@
+pub mod Lookups
+pub mod Memory
+pub mod Schedule
+pub mod Turns
