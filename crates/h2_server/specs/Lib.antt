@@ -1,0 +1,10 @@
+pub mod Wire
+pub mod LinkErrors
+pub mod StreamErrors
+pub mod Settings
+pub mod Frames
+pub mod Steps
+pub mod Heard
+pub mod Sends
+pub mod Outcomes
+pub mod Laws

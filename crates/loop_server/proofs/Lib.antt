@@ -1,0 +1,8 @@
+pub mod Weights
+pub mod Giving
+pub mod Pieces
+pub mod Turns
+pub mod Going
+pub mod Sizes
+pub mod Moves
+pub mod Answering
