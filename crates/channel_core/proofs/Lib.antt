@@ -1,11 +1,4 @@
-pub mod CallLaws
-pub mod Examples
-pub mod FrameSizes
-pub mod Lawful
-pub mod ListLaws
+pub mod BookLaws
+pub mod Feeds
+pub mod Hearing
 pub mod Places
-pub mod SaidLaws
-pub mod Sessions
-pub mod StepLaws
-pub mod TextLaws
-pub mod WireLaws

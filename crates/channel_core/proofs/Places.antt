@@ -1,50 +1,79 @@
--- The places of the first events: each in its line.
-use Rattle.std.proofs.Common.{◌≡◌, ℕ, zero, suc, ◌+◌, Some, List, [], ◌∷◌, ◌++◌, length, refl, sym, subst, slice_get, arith, zero-add}
-use Rattle.grpc_base.specs.declared.event.Stamped.{Stamped}
-use Rattle.channel_core.specs.FirstCall.{AreFirstEvents, IsStampedAt}
+-- The element of an index, and of a number.
+use Rattle.std.proofs.Common.{◌≡◌, ◌∙◌, ℕ, zero, suc, ◌<◌, true, false, nat_lt, if◌then◌else◌, Bool, List, [], ◌∷◌, length, refl, ap, sym, inl, inr, arith, slice_set, slice_get, get_or, Option, Some, None, Result, Ok, Err, OnOk}
+use Rattle.std.specs.Option.{option_map_or}
+use Rattle.std.proofs.lemmas.Bool.{cases_Bool, ltb-false}
+use Rattle.std.proofs.lemmas.Option.{slice_get_past}
+use Rattle.ledger_stamps.specs.Steps.{changed, changed_at, index_at}
+use Rattle.channel_core.specs.Tables.{numbered}
 
--- events that may stand in the lines from this one on
-abbrev pub EachFrom : ℕ → List Stamped → Type 0
-EachFrom n [] = Unit {0}
-EachFrom n (s ∷ events) = IsStampedAt n s × EachFrom (suc n) events
+-- an element is written back changed
+pub set-changed : {X : Type 0} (f : X → X) (xs : List X) (index : ℕ) (x y : X) → index < length xs → x ≡ get_or xs index x → y ≡ f x → slice_set xs index y ≡ changed f xs index
+set-changed f [] index x y inside same new = absurd (omega arith)
+set-changed f (z ∷ xs) zero x y inside same new = ap (λ v. v ∷ xs) (new ∙ ap f same)
+set-changed f (z ∷ xs) (suc index) x y inside same new = ap (λ vs. z ∷ vs) (set-changed f xs index x y (omega arith) same new)
 
--- by their places: the event at place k stands in the line k + n
-pub to_each : (n : ℕ) (events : List Stamped) → ((k : ℕ) (s : Stamped) → slice_get events k ≡ Some s → IsStampedAt (k + n) s) → EachFrom n events
-to_each n [] at = tt
-to_each n (x ∷ events) at = (
-  subst (λ (m : ℕ). IsStampedAt m x) (zero-add n) (at 0 x refl),
-  to_each (suc n) events (λ k s e.
-      let same : suc k + n ≡ k + suc n = omega arith in
-      subst (λ (m : ℕ). IsStampedAt m s) same (at (suc k) s e)),
-)
+pub set-on : {X T E : Type 0} (f : X → X) (xs : List X) (index : ℕ) (x y : X) (r : Result T E) → index < length xs → x ≡ get_or xs index x → OnOk r (y ≡ f x) → OnOk r (slice_set xs index y ≡ changed f xs index)
+set-on f xs index x y (Ok u) inside same new = set-changed f xs index x y inside same new
+set-on f xs index x y (Err e) inside same new = new
 
-pub from_each : (n : ℕ) (events : List Stamped) → EachFrom n events → (k : ℕ) (s : Stamped) → slice_get events k ≡ Some s → IsStampedAt (k + n) s
-from_each n [] each k s e = absurd (cc)
-from_each n (x ∷ events) each zero s e =
-    let same : x ≡ s = (cc) in
-    subst (λ (m : ℕ). IsStampedAt m s) (sym (zero-add n)) (subst (IsStampedAt n) same each.0)
-from_each n (x ∷ events) each (suc k) s e =
-    let shift : k + suc n ≡ suc k + n = omega arith in
-    subst (λ (m : ℕ). IsStampedAt m s) shift (from_each (suc n) events each.1 k s e)
+pub there : {X : Type 0} (xs : List X) (index : ℕ) (x : X) → index < length xs → x ≡ get_or xs index x → slice_get xs index ≡ Some x
+there [] index x inside same = absurd (omega arith)
+there (z ∷ xs) zero x inside same = ap (λ v. Some v) (sym same)
+there (z ∷ xs) (suc index) x inside same = there xs index x (omega arith) same
 
--- parts of a list of such events
-pub front_of : (n : ℕ) (xs ys : List Stamped) → EachFrom n (xs ++ ys) → EachFrom n xs
-front_of n [] ys each = tt
-front_of n (x ∷ xs) ys each = (each.0, front_of (suc n) xs ys each.1)
+-- a number names the element of its index, or none
+pub number_there : {X : Type 0} (xs : List X) (number index : ℕ) → index_at number (length xs) ≡ Some index → numbered xs number ≡ slice_get xs index
+number_there xs zero index is = absurd (let no : ⊥ = (cc) in no)
+number_there xs (suc k) index is =
+    let I : Bool → Option ℕ = λ b. if b then Some k else None in
+    elim (cases_Bool (nat_lt k (length xs))) [
+      | inl inside ↦ let e : Some k ≡ Some index = sym (ap I inside) ∙ is in ap (slice_get xs) (let same : k ≡ index = (cc) in same)
+      | inr past ↦ let e : None ≡ Some index = sym (ap I past) ∙ is in absurd (let no : ⊥ = (cc) in no)
+    ]
 
-pub rest_of : (n : ℕ) (xs ys : List Stamped) → EachFrom n (xs ++ ys) → EachFrom (n + length xs) ys
-rest_of n [] ys each = subst (λ (m : ℕ). EachFrom m ys) (omega arith) each
-rest_of n (x ∷ xs) ys each = subst (λ (m : ℕ). EachFrom m ys) (omega arith) (rest_of (suc n) xs ys each.1)
+pub number_none : {X : Type 0} (xs : List X) (number : ℕ) → index_at number (length xs) ≡ None → numbered xs number ≡ None
+number_none xs zero is = refl
+number_none xs (suc k) is =
+    let I : Bool → Option ℕ = λ b. if b then Some k else None in
+    elim (cases_Bool (nat_lt k (length xs))) [
+      | inl inside ↦ let e : Some k ≡ None = sym (ap I inside) ∙ is in absurd (let no : ⊥ = (cc) in no)
+      | inr past ↦ slice_get_past xs k (ltb-false k (length xs) past)
+    ]
 
-pub joined_each : (n : ℕ) (xs ys : List Stamped) → EachFrom n xs → EachFrom (n + length xs) ys → EachFrom n (xs ++ ys)
-joined_each n [] ys front rest = subst (λ (m : ℕ). EachFrom m ys) (omega arith) rest
-joined_each n (x ∷ xs) ys front rest =
-    (front.0, joined_each (suc n) xs ys front.1 (subst (λ (m : ℕ). EachFrom m ys) (omega arith) rest))
+pub changed_there : {X : Type 0} (f : X → X) (xs : List X) (number index : ℕ) → index_at number (length xs) ≡ Some index → changed_at f xs number ≡ changed f xs index
+changed_there f xs number index is = ap (λ o. option_map_or (λ i. changed f xs i) o xs) is
 
--- one event more, in the line behind the others
-pub one_more : (events others : List Stamped) (s : Stamped) → AreFirstEvents events → length others ≡ length events → AreFirstEvents (others ++ s ∷ []) → AreFirstEvents (events ++ s ∷ [])
-one_more events others s first same more =
-    let newest : EachFrom (2 + length others) (s ∷ []) = rest_of 2 others (s ∷ []) (to_each 2 (others ++ s ∷ []) more) in
-    from_each 2 (events ++ s ∷ [])
-    (joined_each 2 events (s ∷ []) (to_each 2 events first)
-    (subst (λ (n : ℕ). EachFrom (2 + n) (s ∷ [])) same newest))
+pub changed_none : {X : Type 0} (f : X → X) (xs : List X) (number : ℕ) → index_at number (length xs) ≡ None → changed_at f xs number ≡ xs
+changed_none f xs number is = ap (λ o. option_map_or (λ i. changed f xs i) o xs) is
+
+-- an element is written back as it was, or changed, by a test of it
+same_put : {X : Type 0} (xs : List X) (index : ℕ) (x y : X) → x ≡ get_or xs index x → y ≡ x → slice_set xs index y ≡ xs
+same_put [] index x y same new = refl
+same_put (z ∷ xs) zero x y same new = ap (λ v. v ∷ xs) (new ∙ same)
+same_put (z ∷ xs) (suc index) x y same new = ap (λ vs. z ∷ vs) (same_put xs index x y same new)
+
+pub set-if : {X T E : Type 0} (p : Option X → Bool) (f : X → X) (xs : List X) (index : ℕ) (x y : X) (r : Result T E) → index < length xs → x ≡ get_or xs index x
+    → OnOk r (y ≡ (if p (Some x) then f x else x)) → OnOk r (slice_set xs index y ≡ (if p (slice_get xs index) then changed f xs index else xs))
+set-if p f xs index x y (Ok u) inside same new =
+    let at : p (slice_get xs index) ≡ p (Some x) = ap p (there xs index x inside same) in
+    elim (cases_Bool (p (Some x))) [
+      | inl passes ↦
+          set-changed f xs index x y inside same (new ∙ ap (λ b. if b then f x else x) passes)
+          ∙ sym (ap (λ b. if b then changed f xs index else xs) (at ∙ passes))
+      | inr fails ↦
+          same_put xs index x y same (new ∙ ap (λ b. if b then f x else x) fails)
+          ∙ sym (ap (λ b. if b then changed f xs index else xs) (at ∙ fails))
+    ]
+set-if p f xs index x y (Err e) inside same new = new
+
+-- the same of a number
+pub changed_if : {X : Type 0} (p : Option X → Bool) (f : X → X) (xs : List X) (number index : ℕ) → index_at number (length xs) ≡ Some index
+    → (if p (slice_get xs index) then changed f xs index else xs) ≡ (if p (numbered xs number) then changed_at f xs number else xs)
+changed_if p f xs number index is =
+    ap (λ o. if p o then changed f xs index else xs) (sym (number_there xs number index is))
+    ∙ ap (λ l. if p (numbered xs number) then l else xs) (sym (changed_there f xs number index is))
+
+pub unchanged_if : {X : Type 0} (p : Option X → Bool) (f : X → X) (xs : List X) (number : ℕ) → index_at number (length xs) ≡ None
+    → xs ≡ (if p (numbered xs number) then changed_at f xs number else xs)
+unchanged_if p f xs number is =
+    elim (p (numbered xs number)) as (λ b. xs ≡ (if b then changed_at f xs number else xs)) [ true ↦ sym (changed_none f xs number is) | false ↦ refl ]

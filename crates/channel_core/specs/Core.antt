@@ -1,82 +1,71 @@
 -- The channel as its callers see it, and what one step does.
-use Rattle.std.specs.Prelude.{◌≡◌, ℕ, ◌+◌, ◌-◌, Bool, false, List, [], ◌∷◌, ◌++◌, length, max, slice_get}
+use Rattle.std.specs.Prelude.{◌≡◌, ℕ, ◌-◌, Bool, false, Some, List, [], ◌∷◌, ◌++◌, length, max, slice_get}
 use Rattle.std.specs.Option.{option_map_or}
 use Rattle.grpc_base.specs.declared.event.Conn.{Conn}
+use Rattle.grpc_base.specs.declared.event.Conn.TheVariants as conn
 use Rattle.grpc_base.specs.declared.event.Entry.{Entry}
+use Rattle.grpc_base.specs.declared.event.Event.{Event}
 use Rattle.grpc_base.specs.declared.event.Reply.{Reply}
 use Rattle.grpc_base.specs.declared.event.Stamped.{Stamped}
+use Rattle.grpc_base.specs.Posts.{HasNoRoom}
 use Rattle.attempt_ledger.specs.declared.journal.Journal.{Journal}
 use Rattle.attempt_ledger.specs.declared.ledger.Ledger.{Ledger}
-use Rattle.grpc_base.specs.Authorities.{IsAuthority}
-use Rattle.channel_core.specs.FirstCall.{AreFirstEvents}
-use Rattle.channel_core.specs.Steps.{next_place, reply_to, state_after, told}
+use Rattle.channel_core.specs.Books.{no_ledger}
+use Rattle.channel_core.specs.Sizes.{counted, journal_bytes}
+use Rattle.channel_core.specs.States.{StateSeen}
 
--- a channel: the authority of its requests, its journal and its ledger, and whether it ran out of memory in mid-step
+-- a channel: its journal, all else that it keeps, and whether it ran out of memory in mid-step
 pub record CoreSeen : Type 0 where
-  pub authority : List ℕ
   pub journal : Journal
-  pub ledger : Ledger
+  pub state : StateSeen
   pub spent : Bool
 
--- the empty ledger
-abbrev pub no_ledger : Ledger
-no_ledger = record { rows = []; calls = []; asks = []; generations = []; links = []; entry = 0 }
+-- the authority of its requests, and its ledger
+abbrev pub authority_in : CoreSeen → List ℕ
+authority_in core = core.state.book.authority
 
--- a ledger into which these entries are written one behind another, the first of them behind n others
-abbrev pub written_by : Ledger → ℕ → List Entry → Ledger
-written_by ledger n [] = ledger
-written_by ledger n (e ∷ entries) = written_by (told ledger (next_place n) e.moment e.event) (n + 1) entries
+abbrev pub ledger_in : CoreSeen → Ledger
+ledger_in core = core.state.book.ledger
 
--- the ledger of a journal
-abbrev pub ledger_of : List Entry → Ledger
-ledger_of entries = written_by no_ledger 0 entries
+-- a journal, and for how many entries there is room behind its last one
+pub record KeptSeen : Type 0 where
+  pub entries : List Entry
+  pub room : ℕ
 
 -- the moment of the last step
 abbrev pub last_moment : List Entry → ℕ
 last_moment entries = option_map_or (λ e. e.moment) (slice_get entries (length entries - 1)) 0
 
+-- the channel's state after the last step
+abbrev pub last_state : List Entry → Conn
+last_state entries = option_map_or (λ e. e.state) (slice_get entries (length entries - 1)) conn.Idle
+
 -- the moment of a step: no earlier than the step before
 abbrev pub moment_of : List Entry → Stamped → ℕ
 moment_of before s = max s.moment (last_moment before)
 
--- the entry that a step makes behind these entries, with this ledger
-abbrev pub entry_made : List ℕ → List Entry → Ledger → Stamped → Entry
-entry_made authority before ledger s = record {
-  moment = moment_of before s;
-  word = s.word;
-  event = s.event;
-  reply = reply_to authority before ledger (moment_of before s) s.event;
-  state = state_after before s.event;
-}
-
--- the ledger behind that entry
-abbrev pub ledger_made : List Entry → Ledger → Stamped → Ledger
-ledger_made before ledger s = told ledger (next_place (length before)) (moment_of before s) s.event
-
--- the steps of a channel on these events, behind the entries that it has
-abbrev pub run_from : List ℕ → List Entry → List Stamped → List Entry
-run_from authority before [] = before
-run_from authority before (s ∷ events) = run_from authority (before ++ entry_made authority before (ledger_of before) s ∷ []) events
-
--- what stands in journal and ledger of a channel that is not spent: those of a run on the first events of the first call
-pub record IsRun (authority : List ℕ) (entries : List Entry) (ledger : Ledger) : Type 0 where
-  pub events : List Stamped
-  pub first : AreFirstEvents events
-  pub count : length events ≡ length entries
-  pub ran : entries ≡ run_from authority [] events
-  pub written : ledger ≡ ledger_of entries
-  pub authority_is : IsAuthority authority
-
--- what a step adds to the journal: this event with its word, at the later of its moment and the last step's, and its reply
-pub record Gains (old new : CoreSeen) (s : Stamped) (reply : Reply) : Type 0 where
-  pub state : Conn
-  pub journal : new.journal.entries ≡ old.journal.entries ++ record { moment = moment_of old.journal.entries s; word = s.word; event = s.event; reply = reply; state = state } ∷ []
-  pub authority : new.authority ≡ old.authority
-  pub unspent : new.spent ≡ false
-
 -- a new channel
 pub record IsNew (authority : List ℕ) (core : CoreSeen) : Type 0 where
-  pub authority_is : core.authority ≡ authority
+  pub authority_is : authority_in core ≡ authority
   pub journal : core.journal.entries ≡ []
-  pub ledger : core.ledger ≡ no_ledger
+  pub ledger : ledger_in core ≡ no_ledger
   pub unspent : core.spent ≡ false
+
+-- what a step adds to the journal: one entry of this event with its word, at the later of its moment and the last step's, with
+-- its reply and the channel's state
+pub record Steps (old new : CoreSeen) (s : Stamped) (reply : Reply) : Type 0 where
+  pub state : Conn
+  pub journal : new.journal.entries ≡ old.journal.entries ++ record { moment = moment_of old.journal.entries s; word = s.word; event = s.event; reply = reply; state = state } ∷ []
+  pub before : old.spent ≡ false
+  pub unspent : new.spent ≡ false
+
+-- a channel that is not spent refuses an event since its journal, of so many entries and bytes, has no room for it
+abbrev pub IsFull : CoreSeen → Event → ℕ → ℕ → Type 0
+IsFull core event entries bytes =
+    (core.spent ≡ false) × HasNoRoom entries bytes event
+    × (entries ≡ length core.journal.entries) × (bytes ≡ counted (journal_bytes core.journal.entries))
+
+-- a channel was given these events, one behind another
+abbrev pub Runs : CoreSeen → List Stamped → CoreSeen → Type 0
+Runs old [] new = new ≡ old
+Runs old (s ∷ events) new = (next : CoreSeen) × (reply : Reply) × Steps old next s reply × Runs next events new

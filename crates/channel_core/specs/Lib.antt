@@ -1,10 +1,12 @@
+pub mod Books
 pub mod Core
-pub mod Delivery
-pub mod FirstCall
-pub mod Lawful
+pub mod Draining
 pub mod Messages
 pub mod Response
 pub mod Said
 pub mod Sent
+pub mod Sizes
+pub mod States
 pub mod Steps
-pub mod Wire
+pub mod Tables
+pub mod Timing

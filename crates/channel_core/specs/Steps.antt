@@ -1,258 +1,521 @@
--- One step of the channel on the first call: what it replies, and what it writes into the ledger.
-use Rattle.std.specs.Prelude.{ℕ, suc, zero, ◌+◌, Bool, true, false, Option, Some, None, List, [], ◌∷◌, ◌++◌, length, take, drop, codes, nat_eq, nat_lt, nat_le, min, ◌&&◌, ◌||◌, ◌==◌, if◌then◌else◌, option_map, option_and_then, slice_index_or, flat_map}
-use Rattle.std.specs.Option.{option_map_or}
-use Rattle.std.specs.List.{list_any}
-use Rattle.std.specs.Cmp.Lexicographic.{pointwise}
+-- Nobody has to believe these steps: what the code does to the channel, one definition for each function.
+use Rattle.std.specs.Prelude.{◌≡◌, ℕ, zero, suc, ◌+◌, ◌*◌, ◌^◌, ◌%◌, ◌==◌, Bool, true, false, not, ◌&&◌, ◌||◌, nat_lt, nat_le, min, if◌then◌else◌, Option, Some, None, List, [], ◌∷◌, ◌++◌, length, map, drop}
+use Rattle.std.specs.Option.{is_some, is_none, option_map, option_map_or}
+use Rattle.std.specs.BTreeMap.{insert_entry}
+use Rattle.std.specs.BTreeSet.{insert_key}
+use Rattle.std.specs.Ordering.{nat_cmp}
+use Rattle.std.specs.Set.{remove_key}
+use Rattle.grpc_base.specs.Requests.{RequestSeen}
 use Rattle.grpc_base.specs.declared.address.Address.{Address}
-use Rattle.grpc_base.specs.declared.code.Code.TheVariants as code
+use Rattle.grpc_base.specs.declared.event.ConfigFault.{ConfigFault}
 use Rattle.grpc_base.specs.declared.event.Conn.{Conn}
 use Rattle.grpc_base.specs.declared.event.Conn.TheVariants as conn
-use Rattle.grpc_base.specs.declared.event.EndCause.TheVariants as ending
-use Rattle.grpc_base.specs.declared.event.Entry.{Entry}
+use Rattle.grpc_base.specs.declared.event.EndCause.{EndCause}
+use Rattle.grpc_base.specs.declared.event.EndCause.TheVariants as ends
 use Rattle.grpc_base.specs.declared.event.Event.{Event}
 use Rattle.grpc_base.specs.declared.event.Event.TheVariants as event
+use Rattle.grpc_base.specs.declared.event.Refusal.{Refusal}
+use Rattle.grpc_base.specs.declared.event.Refusal.TheVariants as refusal
 use Rattle.grpc_base.specs.declared.event.Reply.{Reply}
 use Rattle.grpc_base.specs.declared.event.Reply.TheVariants as reply
-use Rattle.grpc_base.specs.declared.kind.Kind.TheVariants as kind
-use Rattle.grpc_base.specs.declared.kind.Pick.TheVariants as pick
+use Rattle.grpc_base.specs.declared.code.Code.TheVariants as code
+use Rattle.grpc_base.specs.declared.plan.Chosen.{Chosen}
 use Rattle.grpc_base.specs.declared.plan.Pushback.TheVariants as pushback
-use Rattle.grpc_base.specs.Requests.{RequestSeen}
-use Rattle.attempt_ledger.specs.declared.ledger.Ledger.{Ledger}
-use Rattle.attempt_ledger.specs.declared.ledger.CallSeen.{CallSeen}
+use Rattle.grpc_base.specs.declared.kind.Kind.{Kind}
+use Rattle.grpc_base.specs.declared.kind.Pick.{Pick}
+use Rattle.grpc_base.specs.declared.kind.Pick.TheVariants as pick
+use Rattle.attempt_ledger.specs.declared.ledger.Ask.{Ask}
+use Rattle.attempt_ledger.specs.declared.ledger.Generation.{Generation}
 use Rattle.attempt_ledger.specs.declared.ledger.LinkSeen.{LinkSeen}
-use Rattle.attempt_ledger.specs.declared.row.Row.{Row}
-use Rattle.attempt_ledger.specs.declared.row.RowEnd.{RowEnd}
-use Rattle.attempt_ledger.specs.declared.row.RowKind.TheVariants as row_kind
-use Rattle.attempt_ledger.specs.declared.row.RowCause.TheVariants as row_cause
-use Rattle.grpc_status.specs.StatusMaps.{code_of_text}
-use Rattle.channel_core.specs.FirstCall.{first_dial, first_message_limit}
-use Rattle.channel_core.specs.Wire.{client_settings, preface, request_text, settings_ack}
-use Rattle.h2_frame.specs.Frames.{written as written_frame}
+use Rattle.attempt_ledger.specs.declared.news.EndNews.{EndNews}
+use Rattle.attempt_ledger.specs.declared.news.News.{News}
+use Rattle.attempt_ledger.specs.declared.news.News.TheVariants as news
+use Rattle.attempt_ledger.specs.declared.row.Placed.{Placed}
+use Rattle.attempt_ledger.specs.declared.row.RowCause.TheVariants as cause
+use Rattle.picker_gate.specs.Pairs.{first_due, is_same, next_behind, next_moment, pair_cmp}
+use Rattle.service_config.specs.declared.config.Config.{Config}
+use Rattle.service_config.specs.Choice.{chosen_for}
+use Rattle.channel_net.specs.declared.replies.Asked.{Asked}
+use Rattle.channel_net.specs.declared.replies.Dialing.{Dialing}
+use Rattle.channel_net.specs.Lists as net_lists
+use Rattle.channel_net.specs.Steps as net
+use Rattle.channel_net.specs.Steps.{NetSeen, NetLeft}
+use Rattle.ledger_stamps.specs.Steps.{changed_at, gone_link, new_link, read_link, streamed_row}
+use Rattle.call_core.specs.declared.act.CallAct.{CallAct}
+use Rattle.call_core.specs.declared.act.CallAct.TheVariants as act
+use Rattle.call_core.specs.Steps as call
+use Rattle.channel_core.specs.declared.state.book.Book.{Book}
+use Rattle.channel_core.specs.declared.state.slots.CallSlot.{CallSlot}
+use Rattle.channel_core.specs.Books.{BookActs, begun_step, book_acted, book_asked, book_begun, book_configured, book_followed, book_placed, call_of, deadline_of, deadline_set, due_at, due_forgotten, due_set, has_drawn, has_ended, has_stream, is_live_at, lacks_call, limit_at, link_at, link_of, row_at, slot_at, timers_set, waits_at}
+use Rattle.channel_core.specs.States.{StateSeen}
+use Rattle.channel_core.specs.Timing.{due_keys, earlier, first_pair, later, number_of, sorted_into, timer_moved}
+use Rattle.channel_core.specs.Tables.{Heard, buried_in, has_link, heard_in, is_dead, is_retiring, pinged_in, placed_in, reset_in, retired_in, sealed_in, takes_rows}
 
--- the first of what is found in a list
-abbrev pub first_of : {X Y : Type 0} → (X → Option Y) → List X → Option Y
-first_of find [] = None
-first_of find (x ∷ xs) = option_map_or (λ y. Some y) (find x) (first_of find xs)
+-- the list of the ledger's links changes
+abbrev pub with_ledger_links : List LinkSeen → StateSeen → StateSeen
+with_ledger_links links s = record s { book = record s.book { ledger = record s.book.ledger { links = links } } }
 
--- the first address of a resolver result
-abbrev pub address_in : Event → Option Address
-address_in (event.Resolved (a ∷ rest) config) = Some a
-address_in _ = None
+abbrev pub with_generations : List Generation → StateSeen → StateSeen
+with_generations generations s = record s { book = record s.book { ledger = record s.book.ledger { generations = generations } } }
 
--- the request that a call begins with
-abbrev pub request_in : Event → Option RequestSeen
-request_in (event.Begin r) = Some r
-request_in _ = None
+-- a link is gone
+abbrev pub sub_of : Option LinkSeen → ℕ
+sub_of None = 0
+sub_of (Some link) = link.sub
 
--- a message of the request
-abbrev pub message_in : Event → Option (List ℕ)
-message_in (event.Send call message) = Some message
-message_in _ = None
+abbrev pub is_shut_state : Option Conn → Bool
+is_shut_state None = true
+is_shut_state (Some conn.Idle) = false
+is_shut_state (Some conn.Connecting) = false
+is_shut_state (Some conn.Ready) = false
+is_shut_state (Some conn.Failure) = false
+is_shut_state (Some conn.Shutdown) = true
 
--- whether the application sends no further message
-abbrev pub is_finish : Event → Bool
-is_finish (event.Finish call) = true
-is_finish _ = false
+abbrev pub is_of_shut_sub : ℕ → StateSeen → Bool
+is_of_shut_sub link s = is_shut_state (net_lists.state_at s.net.board (sub_of (link_at s.book link)))
 
--- whether a piece is a SETTINGS frame, by the type of its frame (RFC 9113, section 4.1)
-abbrev pub is_settings : List ℕ → Bool
-is_settings piece = slice_index_or piece 3 0 == 4
+abbrev pub is_on : ℕ → Option (ℕ × ℕ) → Bool
+is_on link None = false
+is_on link (Some pair) = pair.0 == link
 
--- whether the server's SETTINGS came
-abbrev pub is_settings_arrival : Event → Bool
-is_settings_arrival (event.Arrived link piece) = is_settings piece
-is_settings_arrival _ = false
+abbrev pub has_outstanding : ℕ → StateSeen → Bool
+has_outstanding link s = is_on link (next_behind s.outstanding (link, 0))
 
--- what a reply gives to be written on a link
-abbrev pub drained_in : Reply → List ℕ
-drained_in (reply.Octets octets) = octets
-drained_in _ = []
+abbrev pub is_gone : ℕ → StateSeen → Bool
+is_gone link s = is_dead s.links link || ((is_retiring s.links link || is_of_shut_sub link s) && not (has_outstanding link s))
 
--- what was drained so far
-abbrev pub drained : List Entry → List ℕ
-drained entries = flat_map (λ e. drained_in e.reply) entries
+abbrev pub stamped_gone : ℕ → StateSeen → StateSeen
+stamped_gone link s =
+    if is_gone link s then with_ledger_links (changed_at (gone_link s.book.ledger.entry) s.book.ledger.links link) s else s
 
--- the request with its message, which one DATA frame holds
-abbrev pub short_request : List ℕ → RequestSeen → List ℕ → List ℕ
-short_request authority r message = if nat_lt first_message_limit (length message) then [] else request_text authority r message
+abbrev pub all_stamped_gone : List ℕ → StateSeen → StateSeen
+all_stamped_gone [] s = s
+all_stamped_gone (link ∷ links) s = all_stamped_gone links (stamped_gone link s)
 
--- the request with its message, once the call was finished
-abbrev pub request_so_far : List ℕ → List Entry → List ℕ
-request_so_far authority entries =
-    if list_any (λ e. is_finish e.event) entries then
-    option_map_or (λ r. option_map_or (λ m. short_request authority r m) (first_of (λ e. message_in e.event) entries) [])
-    (first_of (λ e. request_in e.event) entries) []
-    else []
+-- an attempt is no longer outstanding
+abbrev pub left_on : ℕ → ℕ → StateSeen → StateSeen
+left_on link row s = stamped_gone link (record s { outstanding = remove_key (is_same (link, row)) s.outstanding })
 
--- the acknowledgement of the server's SETTINGS, once these came
-abbrev pub ack_so_far : List Entry → List ℕ
-ack_so_far entries = if list_any (λ e. is_settings_arrival e.event) entries then written_frame settings_ack else []
+-- the acts of a call
+abbrev pub reset_on : ℕ → ℕ → StateSeen → StateSeen
+reset_on link row s = record s { links = reset_in link row s.links; resets = s.resets ++ link ∷ [] }
 
--- all that may be drained so far: the preface and SETTINGS, the acknowledgement of the server's SETTINGS, and the request
-abbrev pub all_to_send : List ℕ → List Entry → List ℕ
-all_to_send authority entries = preface ++ written_frame client_settings ++ ack_so_far entries ++ request_so_far authority entries
+abbrev pub cut_on : ℕ → ℕ → StateSeen → StateSeen
+cut_on link row s = left_on link row (reset_on link row s)
 
--- the number behind so many things; it stands still at its type's end
-abbrev pub next_number : ℕ → ℕ
-next_number n = min (n + 1) 4294967295
+abbrev pub cut : ℕ → StateSeen → StateSeen
+cut row s = cut_on (link_of (row_at s.book row)) row s
 
--- the place behind so many rows; it stands still at its type's end
-abbrev pub next_place : ℕ → ℕ
-next_place n = min (n + 1) 18446744073709551615
+abbrev pub unqueued : ℕ → ℕ → StateSeen → StateSeen
+unqueued call row s = record s { queue = remove_key (is_same (call, row)) s.queue; patient = remove_key (is_same (call, row)) s.patient }
 
--- a string of a header block without Huffman coding, shorter than 127 bytes, and what stands behind it (RFC 7541, section 5.2)
-abbrev pub string_front : List ℕ → Option (List ℕ × List ℕ)
-string_front [] = None
-string_front (n ∷ rest) = if nat_lt n 127 && nat_le n (length rest) then Some (take n rest, drop n rest) else None
+abbrev pub queued : ℕ → ℕ → StateSeen → StateSeen
+queued call row s = record s {
+  patient = if waits_at (slot_at s.book call) then insert_key pair_cmp s.patient (call, row) else s.patient;
+  queue = if waits_at (slot_at s.book call) then s.queue else insert_key pair_cmp s.queue (call, row);
+}
 
--- a literal field without indexing, with a new name: its name, its value, and what stands behind it (RFC 7541, section 6.2.2)
-abbrev pub literal_front : List ℕ → Option (List ℕ × List ℕ × List ℕ)
-literal_front [] = None
-literal_front (b ∷ block) = if b == 0 then option_and_then strings (string_front block) else None
-  where
-    strings : List ℕ × List ℕ → Option (List ℕ × List ℕ × List ℕ)
-    strings n = option_map (λ (v : List ℕ × List ℕ). (n.0, v.0, v.1)) (string_front n.1)
+abbrev pub clothed : ℕ → StateSeen → StateSeen
+clothed call s = record s { bare = remove_key (is_same (0, call)) s.bare; impatient = remove_key (is_same (0, call)) s.impatient }
 
--- the value of the first field of a name in a block of such literals, of at most so many
-abbrev pub literal_value : ℕ → List ℕ → List ℕ → Option (List ℕ)
-literal_value zero name block = None
-literal_value (suc most) name block =
-    option_map_or (λ f. if pointwise nat_eq name f.0 then Some f.1 else literal_value most name f.2) (literal_front block) None
+abbrev pub act_done : ℕ → CallAct → StateSeen → StateSeen
+act_done call (act.Cut row) s = cut row s
+act_done call (act.Drop row) s = unqueued call row s
+act_done call (act.Queue row) s = queued call row s
+act_done call (act.End why) s = clothed call s
 
--- the `grpc-status` of a frame of headers, behind the nine bytes of its head
-abbrev pub status_of : List ℕ → Option (List ℕ)
-status_of piece = literal_value (length piece) (codes "grpc-status") (drop 9 piece)
+abbrev pub acts_done : ℕ → List CallAct → StateSeen → StateSeen
+acts_done call [] s = s
+acts_done call (a ∷ acts) s = acts_done call acts (act_done call a s)
 
--- f of the last of a list
-abbrev pub change_last : {X : Type 0} → (X → X) → List X → List X
-change_last f [] = []
-change_last f (x ∷ []) = f x ∷ []
-change_last f (x ∷ (y ∷ rest)) = x ∷ change_last f (y ∷ rest)
+-- the timers of a call
+abbrev pub timers_moved_to : ℕ → Option CallSlot → StateSeen → StateSeen
+timers_moved_to call slot s = record s {
+  dues = timer_moved call (due_set slot) (due_at slot) s.dues;
+  deadlines = timer_moved call (deadline_set slot) (deadline_of slot) s.deadlines;
+  book = timers_set (due_at slot) (deadline_of slot) call s.book;
+}
 
--- the end of an attempt by a response that is one header block: by its `grpc-status`, or by its HTTP status 200 where it has none
-abbrev pub end_by : ℕ → ℕ → ℕ → List ℕ → RowEnd
-end_by entry moment seen piece = record {
-  entry = entry;
-  moment = moment;
-  code = option_map_or code_of_text (status_of piece) code.Unknown;
+abbrev pub timers_moved : ℕ → StateSeen → StateSeen
+timers_moved call s = timers_moved_to call (slot_at s.book call) s
+
+abbrev pub followed : ℕ → List CallAct → StateSeen → StateSeen
+followed call acts s = timers_moved call (acts_done call acts s)
+
+-- resets are sealed
+abbrev pub sealed_one : ℕ → StateSeen → StateSeen
+sealed_one link s = record s { links = sealed_in link s.links }
+
+abbrev pub resets_taken : StateSeen → StateSeen
+resets_taken s = record s { resets = [] }
+
+abbrev pub links_sealed : List ℕ → StateSeen → StateSeen
+links_sealed [] s = s
+links_sealed (link ∷ links) s = links_sealed links (sealed_one link s)
+
+abbrev pub sealed : StateSeen → StateSeen
+sealed s = links_sealed s.resets (resets_taken s)
+
+-- a call does something, and the channel follows it
+abbrev pub with_book : BookActs → ℕ → StateSeen → StateSeen
+with_book b number s = followed number b.acts (record s { book = b.book })
+
+abbrev pub call_did : (call.Stepped → call.Stepped) → ℕ → StateSeen → StateSeen
+call_did f number s = with_book (book_acted f number s.book) number s
+
+abbrev pub call_asked : (call.Stepped → call.Stepped) → ℕ → StateSeen → StateSeen
+call_asked f number s = with_book (book_asked f number s.book) number s
+
+abbrev pub timed_out : ℕ → StateSeen → StateSeen
+timed_out number s = sealed (call_asked (call.timed_out s.book.moment) number s)
+
+abbrev pub closed : EndCause → ℕ → StateSeen → StateSeen
+closed why number s = sealed (call_asked (call.closed_by why s.book.moment) number s)
+
+abbrev pub all_timed_out : List ℕ → StateSeen → StateSeen
+all_timed_out [] s = s
+all_timed_out (key ∷ calls) s = all_timed_out calls (timed_out (number_of key) s)
+
+abbrev pub overdue_ended : StateSeen → StateSeen
+overdue_ended s = all_timed_out (due_keys s.book.moment s.deadlines) (record s { deadlines = later s.book.moment s.deadlines })
+
+-- draws
+abbrev pub next_word : StateSeen → ℕ
+next_word s = (s.word + (s.drawn * 11400714819323198485) % 2 ^ 64) % 2 ^ 64
+
+abbrev pub drawn_if : Bool → StateSeen → StateSeen
+drawn_if drew s = record s { drawn = if drew then (s.drawn + 1) % 2 ^ 64 else s.drawn }
+
+-- the applications
+abbrev pub bare_added : ℕ → Bool → StateSeen → StateSeen
+bare_added number waits s = record s {
+  bare = insert_key pair_cmp s.bare (0, number);
+  impatient = if waits then s.impatient else insert_key pair_cmp s.impatient (0, number);
+}
+
+abbrev pub says_yes : Option Bool → Bool
+says_yes None = false
+says_yes (Some says) = says
+
+abbrev pub begun_as : ℕ → RequestSeen → StateSeen → StateSeen
+begun_as number request s = timers_moved number (bare_added number (says_yes request.wait) (record s { book = book_begun request s.book }))
+
+abbrev pub begun : RequestSeen → StateSeen → StateSeen
+begun request s = begun_as (length s.book.ledger.calls + 1) request s
+
+-- what comes on links: the loss of a link, with the end of each attempt on it
+abbrev pub read_of : Option LinkSeen → ℕ
+read_of None = 0
+read_of (Some link) = link.read
+
+abbrev pub loss : Bool → ℕ → EndNews
+loss was_sent seen = record {
+  code = code.Unavailable;
   text = [];
   meta = [];
   pushback = pushback.None;
-  unseen = false;
+  unseen = not was_sent;
   seen = seen;
-  cause = option_map_or (λ v. row_cause.Status) (status_of piece) row_cause.Http;
-  tokens = None;
-  word = None;
+  cause = if was_sent then cause.Lost else cause.Unsent;
 }
 
--- the octets of a link's whole frames, with one frame more; the sum stands still at its type's end
-abbrev pub with_read : ℕ → LinkSeen → LinkSeen
-with_read n link = record link { read = min (link.read + n) 18446744073709551615 }
+abbrev pub loss_of : ℕ → ℕ → StateSeen → EndNews
+loss_of link row s = loss (has_stream (row_at s.book row)) (read_of (link_at s.book link))
 
--- the bytes read on the first link
-abbrev pub read_of : List LinkSeen → ℕ
-read_of [] = 0
-read_of (link ∷ rest) = link.read
+-- a call is told what came for one of its rows; a draw is counted
+abbrev pub told_acts : BookActs → ℕ → ℕ → StateSeen → StateSeen
+told_acts b number row s = with_book b number (drawn_if (has_drawn (row_at b.book row)) s)
 
--- a generation of the one policy becomes current
-abbrev pub with_generation : Ledger → ℕ → Ledger
-with_generation ledger entry = record ledger {
-  generations = ledger.generations ++ record { kind = kind.PickFirst; activated = Some entry; retired = None } ∷ [];
-}
+abbrev pub told_to : ℕ → ℕ → News → StateSeen → StateSeen
+told_to number row n s = told_acts (book_acted (call.heard_news row n s.book.moment (next_word s)) number s.book) number row s
 
--- a link comes up
-abbrev pub with_link : Ledger → ℕ → ℕ → Ledger
-with_link ledger entry sub = record ledger { links = ledger.links ++ record { sub = sub; up = entry; gone = None; read = 0 } ∷ [] }
+abbrev pub told : ℕ → News → StateSeen → StateSeen
+told row n s = told_to (call_of (row_at s.book row)) row n s
 
--- a first attempt that is placed at once
-abbrev pub first_row : ℕ → ℕ → ℕ → Row
-first_row call entry moment = record {
-  call = call;
-  number = 1;
-  kind = row_kind.First;
-  due = moment;
-  placed = Some (record { entry = entry; moment = moment; generation = 1; sub = 1; link = 1 });
-  stream = None;
-  ended = None;
-  committed = None;
-}
+abbrev pub left_behind : ℕ → ℕ → StateSeen → StateSeen
+left_behind link row s = record s { outstanding = remove_key (is_same (link, row)) s.outstanding }
 
--- a call begins, with its configuration and its first attempt
-abbrev pub with_call : Ledger → ℕ → ℕ → Ledger
-with_call ledger entry moment = record ledger {
-  rows = ledger.rows ++ first_row (next_number (length ledger.calls)) entry moment ∷ [];
-  calls = ledger.calls ++ record { begun = entry; configured = Some entry; made = entry ∷ []; end = None } ∷ [];
-  asks = ledger.asks ++ record { entry = entry; generation = 1; row = next_place (length ledger.rows); answer = pick.Place 1 } ∷ [];
-}
+abbrev pub ended_on : ℕ → ℕ → EndNews → StateSeen → StateSeen
+ended_on link row end s =
+    if has_ended (row_at s.book row) then s
+    else stamped_gone link (told row (news.Ended row end) (left_behind link row s))
 
--- an attempt gets the first stream
-abbrev pub on_stream : Row → Row
-on_stream row = record row { stream = Some 1 }
+-- the ends of one frame, by the rows' places
+abbrev pub all_ended_on : ℕ → List (ℕ × EndNews) → StateSeen → StateSeen
+all_ended_on link [] s = s
+all_ended_on link (e ∷ rest) s = all_ended_on link rest (ended_on link e.0 e.1 s)
 
--- an attempt ends, and its call is committed to it
-abbrev pub ended_by : RowEnd → Row → Row
-ended_by end row = record row { ended = Some end; committed = Some end.entry }
+-- a link of a subchannel goes down
+abbrev pub downed : ℕ → StateSeen → StateSeen
+downed link s = record s { net = net.net_down (sub_of (link_at s.book link)) link s.net }
 
--- a call ends with its attempt
-abbrev pub call_ended : ℕ → ℕ → CallSeen → CallSeen
-call_ended entry moment call = record call { end = Some (record { entry = entry; moment = moment; cause = ending.Row }) }
+abbrev pub buried : ℕ → StateSeen → StateSeen
+buried link s = record (downed link s) { links = buried_in link s.links; resolver = true }
 
--- a piece of the one link comes: the server's SETTINGS, or the answer
-abbrev pub with_piece : Ledger → ℕ → ℕ → List ℕ → Ledger
-with_piece ledger entry moment piece =
-    let links = change_last (with_read (length piece)) ledger.links in
-    if is_settings piece then record ledger { links = links }
-    else record ledger {
-      links = links;
-      rows = change_last (ended_by (end_by entry moment (read_of links) piece)) ledger.rows;
-      calls = change_last (call_ended entry moment) ledger.calls;
-    }
+abbrev pub retired : ℕ → StateSeen → StateSeen
+retired link s = stamped_gone link (record (downed link s) { links = retired_in link s.links })
 
--- what an event writes into the ledger
-abbrev pub written : Ledger → ℕ → ℕ → Event → Ledger
-written ledger entry moment (event.Resolved addresses config) = with_generation ledger entry
-written ledger entry moment (event.LinkUp sub) = with_link ledger entry sub
-written ledger entry moment (event.Begin r) = with_call ledger entry moment
-written ledger entry moment (event.Drain link room) = record ledger { rows = change_last on_stream ledger.rows }
-written ledger entry moment (event.Arrived link piece) = with_piece ledger entry moment piece
-written ledger entry moment _ = ledger
+-- the first outstanding row of a link behind another
+abbrev pub row_on : ℕ → Option (ℕ × ℕ) → Option ℕ
+row_on link None = None
+row_on link (Some pair) = if pair.0 == link then Some pair.1 else None
 
--- the ledger after an entry of this number, at this moment, with this event
-abbrev pub told : Ledger → ℕ → ℕ → Event → Ledger
-told ledger entry moment e = record (written ledger entry moment e) { entry = entry }
+abbrev pub next_on : ℕ → ℕ → StateSeen → Option ℕ
+next_on link row s = row_on link (next_behind s.outstanding (link, row))
 
--- the end of the last attempt that has one
-abbrev pub last_end : List Row → Option RowEnd
-last_end rows = first_of (λ r. r.ended) rows
+abbrev pub sealed_if : Bool → StateSeen → StateSeen
+sealed_if each s = if each then sealed s else s
 
--- the dial of the one subchannel, once its address is known
-abbrev pub dial_reply : Option Address → ℕ → Reply
-dial_reply None moment = reply.NotYet
-dial_reply (Some a) moment = reply.Dial 1 a (moment + first_dial)
+abbrev pub lost_row : ℕ → Bool → ℕ → StateSeen → StateSeen
+lost_row link each row s = sealed_if each (ended_on link row (loss_of link row s) s)
 
--- the end of the call, once its attempt ended
-abbrev pub end_reply : Option RowEnd → Reply
-end_reply None = reply.NotYet
-end_reply (Some e) = reply.End e.code e.text e.meta ending.Row
+-- the rows behind one, one after the other; there are fewer than 2^64 places
+abbrev pub rows_lost_on : (ℕ → StateSeen → StateSeen) → ℕ → Bool → Option ℕ → StateSeen → StateSeen
+rows_lost_on further link each None s = s
+rows_lost_on further link each (Some row) s = further row (lost_row link each row s)
 
--- what is replied to an event, before its step wrote anything
-abbrev pub reply_to : List ℕ → List Entry → Ledger → ℕ → Event → Reply
-reply_to authority before ledger moment event.TakeDial = dial_reply (first_of (λ e. address_in e.event) before) moment
-reply_to authority before ledger moment (event.LinkUp sub) = reply.Link (next_number (length ledger.links))
-reply_to authority before ledger moment (event.Begin r) = reply.Call (next_number (length ledger.calls))
-reply_to authority before ledger moment (event.Drain link room) =
-    reply.Octets (drop (length (drained before)) (all_to_send authority before))
-reply_to authority before ledger moment (event.Take call) = end_reply (last_end ledger.rows)
-reply_to authority before ledger moment _ = reply.Done
+abbrev pub rows_lost : ℕ → ℕ → Bool → ℕ → StateSeen → StateSeen
+rows_lost zero link each row s = s
+rows_lost (suc n) link each row s = rows_lost_on (rows_lost n link each) link each (next_on link row s) s
 
--- whether the resolver gave addresses
-abbrev pub is_resolved : Event → Bool
-is_resolved (event.Resolved addresses config) = true
-is_resolved _ = false
+abbrev pub lost : ℕ → Bool → StateSeen → StateSeen
+lost link each s = stamped_gone link (rows_lost (2 ^ 64) link each 0 (buried link s))
 
--- the channel's state after an event: READY from the server's SETTINGS on, CONNECTING from the resolver's result on
-abbrev pub state_after : List Entry → Event → Conn
-state_after before e =
-    if list_any (λ x. is_settings_arrival x.event) before || is_settings_arrival e then conn.Ready
-    else if list_any (λ x. is_resolved x.event) before || is_resolved e then conn.Connecting
-    else conn.Idle
+-- the server's first SETTINGS
+abbrev pub greeted : ℕ → StateSeen → StateSeen
+greeted link s = record s { net = net.net_ready (sub_of (link_at s.book link)) link s.net }
+
+-- the news of one frame
+abbrev pub heard_one : ℕ → News → StateSeen → StateSeen
+heard_one link news.Ready s = greeted link s
+heard_one link news.Retiring s = retired link s
+heard_one link (news.Broken why) s = lost link false s
+heard_one link (news.Ended tag end) s = s
+heard_one link (news.Head tag meta seen) s = told tag (news.Head tag meta seen) s
+heard_one link (news.Message tag octets seen) s = told tag (news.Message tag octets seen) s
+heard_one link (news.TooLarge tag seen) s = told tag (news.TooLarge tag seen) s
+
+abbrev pub heard_all : ℕ → List News → StateSeen → StateSeen
+heard_all link [] s = s
+heard_all link (n ∷ ns) s = heard_all link ns (heard_one link n s)
+
+-- the ends among them, by the rows' places
+abbrev pub end_kept : News → List (ℕ × EndNews) → List (ℕ × EndNews)
+end_kept (news.Ended tag end) ends = insert_entry nat_cmp ends tag end
+end_kept news.Ready ends = ends
+end_kept news.Retiring ends = ends
+end_kept (news.Broken why) ends = ends
+end_kept (news.Head tag meta seen) ends = ends
+end_kept (news.Message tag octets seen) ends = ends
+end_kept (news.TooLarge tag seen) ends = ends
+
+abbrev pub ends_kept : List News → List (ℕ × EndNews) → List (ℕ × EndNews)
+ends_kept [] ends = ends
+ends_kept (n ∷ ns) ends = ends_kept ns (end_kept n ends)
+
+abbrev pub heard : ℕ → List News → StateSeen → StateSeen
+heard link ns s = sealed (sealed_one link (all_ended_on link (ends_kept ns []) (heard_all link ns s)))
+
+-- the link is read so far
+abbrev pub read_to : ℕ → ℕ → StateSeen → StateSeen
+read_to link read s = with_ledger_links (changed_at (read_link read) s.book.ledger.links link) s
+
+-- what the resolver and the dialers tell
+abbrev pub links_left : NetLeft → StateSeen → StateSeen
+links_left l s = all_stamped_gone l.gone (record s { net = l.net })
+
+abbrev pub readdressed_to : Kind → List Address → StateSeen → StateSeen
+readdressed_to kind addresses s =
+    all_stamped_gone (net.resolved_shut kind addresses s.net)
+    (with_generations (net.resolved_stamps s.book.ledger.entry kind s.net (net.net_resolved kind addresses s.net) s.book.ledger.generations)
+    (record s { net = net.net_resolved kind addresses s.net }))
+
+abbrev pub readdressed_by : Option Config → List Address → StateSeen → StateSeen
+readdressed_by None addresses s = s
+readdressed_by (Some config) addresses s = readdressed_to config.kind addresses s
+
+abbrev pub readdressed : List Address → StateSeen → StateSeen
+readdressed addresses s = readdressed_by s.held addresses s
+
+abbrev pub configured_by : Config → StateSeen → StateSeen
+configured_by config s = record s { book = book_followed config.throttle s.book; held = Some config }
+
+abbrev pub misconfigured : StateSeen → StateSeen
+misconfigured s = record s { unconfigured = is_none s.held }
+
+abbrev pub unresolved : StateSeen → StateSeen
+unresolved s = record s { resolver = false; unconfigured = s.unconfigured || is_none s.held }
+
+abbrev pub dialed : StateSeen → StateSeen
+dialed s = record s { net = net.net_dialed s.book.moment (next_word s) s.net }
+
+abbrev pub dial_draw : Option Dialing → StateSeen → StateSeen
+dial_draw None s = s
+dial_draw (Some d) s = drawn_if d.drew s
+
+abbrev pub dial_reply : Option Dialing → Reply
+dial_reply None = reply.NotYet
+dial_reply (Some d) = reply.Dial d.sub d.address d.until
+
+abbrev pub dial_taken : StateSeen → StateSeen
+dial_taken s = dial_draw (net.dial_answer s.book.moment (next_word s) s.net) (dialed s)
+
+-- rule 4: the channel settles
+abbrev pub limit_passed : ℕ → StateSeen → StateSeen
+limit_passed link s = stamped_gone link (record s { links = buried_in link s.links; resolver = true })
+
+abbrev pub limits_passed : List ℕ → StateSeen → StateSeen
+limits_passed [] s = s
+limits_passed (link ∷ links) s = limits_passed links (limit_passed link s)
+
+abbrev pub clocked_to : NetLeft → StateSeen → StateSeen
+clocked_to l s = limits_passed l.gone (record s { net = l.net })
+
+abbrev pub clocked : StateSeen → StateSeen
+clocked s = clocked_to (net.net_clocked s.book.moment s.net) s
+
+abbrev pub net_settled : StateSeen → StateSeen
+net_settled s = links_left (net.net_settled s.net) (with_generations (net.settled_stamps s.book.ledger.entry s.net s.book.ledger.generations) s)
+
+-- calls without a configuration
+abbrev pub chosen_in : Option Config → Option CallSlot → Option Chosen
+chosen_in None slot = None
+chosen_in (Some config) None = None
+chosen_in (Some config) (Some slot) = Some (chosen_for config slot.call.request.path)
+
+abbrev pub configured_as : ℕ → Option Chosen → StateSeen → StateSeen
+configured_as number None s = s
+configured_as number (Some chosen) s = with_book (book_configured chosen number s.book) number s
+
+abbrev pub configured_call : ℕ → StateSeen → StateSeen
+configured_call number s = configured_as number (chosen_in s.held (slot_at s.book number)) s
+
+abbrev pub all_configured : List ℕ → StateSeen → StateSeen
+all_configured [] s = s
+all_configured (key ∷ calls) s = all_configured calls (configured_call (number_of key) s)
+
+abbrev pub all_unconfigured : List ℕ → StateSeen → StateSeen
+all_unconfigured [] s = s
+all_unconfigured (key ∷ calls) s = all_unconfigured calls (closed ends.NoConfig (number_of key) s)
+
+abbrev pub bare_served : StateSeen → StateSeen
+bare_served s =
+    if is_some s.held then all_configured (due_keys 0 s.bare) (record s { bare = later 0 s.bare; impatient = [] })
+    else if s.unconfigured then all_unconfigured (due_keys 0 s.impatient) (record s { impatient = later 0 s.impatient })
+    else s
+
+-- due attempts, by the calls' numbers
+abbrev pub made_one : ℕ → StateSeen → StateSeen
+made_one number s = sealed (call_asked (call.made_due s.book.moment) number s)
+
+abbrev pub all_made : List ℕ → StateSeen → StateSeen
+all_made [] s = s
+all_made (key ∷ calls) s = all_made calls (made_one (number_of key) s)
+
+-- the calls whose due moment has come, sorted, and their timers gone
+abbrev pub due_gone : ℕ → StateSeen → StateSeen
+due_gone call s = record s { book = due_forgotten call s.book }
+
+abbrev pub dues_forgotten : List ℕ → StateSeen → StateSeen
+dues_forgotten [] s = s
+dues_forgotten (key ∷ calls) s = dues_forgotten calls (due_gone (number_of key) s)
+
+abbrev pub dues_taken : StateSeen → StateSeen
+dues_taken s = dues_forgotten (due_keys s.book.moment s.dues) (record s { dues = later s.book.moment s.dues })
+
+-- the queue: who is served next
+abbrev pub served_in : Option Conn → ℕ × ℕ → StateSeen → Option (ℕ × ℕ)
+served_in None last s = None
+served_in (Some conn.Idle) last s = None
+served_in (Some conn.Connecting) last s = None
+served_in (Some conn.Ready) last s = first_pair (next_behind s.queue last) (next_behind s.patient last)
+served_in (Some conn.Failure) last s = next_behind s.queue last
+served_in (Some conn.Shutdown) last s = None
+
+abbrev pub next_served : ℕ × ℕ → StateSeen → Option (ℕ × ℕ)
+next_served last s = served_in (net.net_state s.net) last s
+
+-- one pick request
+abbrev pub with_ask : Ask → StateSeen → StateSeen
+with_ask a s = record s { book = record s.book { ledger = record s.book.ledger { asks = s.book.ledger.asks ++ a ∷ [] } } }
+
+abbrev pub asked_by : ℕ → Asked → StateSeen → StateSeen
+asked_by row a s = with_ask (record { entry = s.book.ledger.entry; generation = a.generation; row = row; answer = a.pick }) s
+
+-- a state, and whether anything moved
+pub record Moved : Type 0 where
+  pub state : StateSeen
+  pub moved : Bool
+
+abbrev pub stays : StateSeen → Moved
+stays s = record { state = s; moved = false }
+
+abbrev pub moves : StateSeen → Moved
+moves s = record { state = s; moved = true }
+
+abbrev pub placed_as : ℕ → ℕ → Placed → StateSeen → StateSeen
+placed_as number row at s =
+    with_book (book_placed row at number s.book) number
+    (record (unqueued number row s) { links = placed_in at.link row (limit_at (slot_at s.book number)) s.links; outstanding = insert_key pair_cmp s.outstanding (at.link, row) })
+
+abbrev pub placed_on : ℕ → ℕ → ℕ → ℕ → Option ℕ → StateSeen → Moved
+placed_on number row generation sub None s = stays s
+placed_on number row generation sub (Some link) s =
+    if takes_rows link s.links
+    then moves (placed_as number row (record { entry = s.book.ledger.entry; moment = s.book.moment; generation = generation; sub = sub; link = link }) s)
+    else stays s
+
+abbrev pub pick_failed : ℕ → ℕ → StateSeen → StateSeen
+pick_failed number row s =
+    sealed (told_acts (book_acted (call.pick_failed row s.book.moment (next_word s)) number s.book) number row (unqueued number row s))
+
+abbrev pub picked : ℕ → ℕ → ℕ → Pick → StateSeen → Moved
+picked number row generation (pick.Place sub) s = placed_on number row generation sub (net_lists.link_of s.net.links sub) s
+picked number row generation pick.Wait s = stays s
+picked number row generation pick.Fail s = moves (pick_failed number row s)
+
+abbrev pub served_by : ℕ → ℕ → Option Asked → StateSeen → Moved
+served_by number row None s = stays s
+served_by number row (Some a) s = picked number row a.generation a.pick (asked_by row a (record s { net = net.net_asked s.net }))
+
+abbrev pub served : ℕ → ℕ → StateSeen → Moved
+served number row s = served_by number row (net.net_answer s.net) s
+
+-- one pass over the queue: each pair stands behind the one before, and there are fewer than 2^96 pairs
+abbrev pub also : Bool → Moved → Moved
+also moved m = record m { moved = moved || m.moved }
+
+abbrev pub pass_on : (ℕ × ℕ → Moved → Moved) → Option (ℕ × ℕ) → Moved → Moved
+pass_on further None m = m
+pass_on further (Some p) m = further p (also m.moved (served p.0 p.1 m.state))
+
+abbrev pub pass : ℕ → ℕ × ℕ → Moved → Moved
+pass zero last m = m
+pass (suc n) last m = pass_on (pass n) (next_served last m.state) m
+
+abbrev pub queue_served : StateSeen → Moved
+queue_served s = pass (2 ^ 96) (0, 0) (stays s)
+
+-- a round: due attempts, then the queue
+abbrev pub dues_made : List (ℕ × ℕ) → StateSeen → Moved
+dues_made calls s = record { state = all_made (due_keys 0 calls) s; moved = nat_lt 0 (length (due_keys 0 calls)) }
+
+abbrev pub round_made : StateSeen → Moved
+round_made s = dues_made (sorted_into [] (due_keys s.book.moment s.dues)) (dues_taken s)
+
+abbrev pub round_on : Moved → Moved
+round_on m = also m.moved (queue_served m.state)
+
+abbrev pub round : StateSeen → Moved
+round s = round_on (round_made s)
+
+-- rounds until nothing moves; the count is never reached
+abbrev pub rounds_on : (StateSeen → StateSeen) → Moved → StateSeen
+rounds_on further m = if m.moved then further m.state else m.state
+
+abbrev pub rounds : ℕ → StateSeen → StateSeen
+rounds zero s = s
+rounds (suc n) s = rounds_on (rounds n) (round s)
+
+abbrev pub settled : StateSeen → StateSeen
+settled s = rounds 18446744073709551615 (bare_served (net_settled (clocked s)))

@@ -1,13 +1,10 @@
 // The channel as one pure step: an event in, a reply out, and everything kept in journal and ledger.
 #![tactic(auto)]
 
-mod answer;
-mod core_step;
-pub mod first_call;
-mod heard;
-mod record;
-mod replies;
-mod wire;
+mod bytes_of;
+mod channel;
+mod kept;
+mod state;
 
 pub use attempt_ledger::{Journal, Ledger};
-pub use core_step::{ChannelCore, CoreError};
+pub use channel::{ChannelCore, CoreError};

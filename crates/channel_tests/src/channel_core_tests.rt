@@ -1,4 +1,4 @@
-// The first call at its greatest: a path of 1,024 bytes, and a message that fills its DATA frame.
+// Calls over one link, through the top call and through the channel itself.
 use crate::program::answer;
 use std::alloc::Global;
 use std::test::Fail;
@@ -6,7 +6,7 @@ use std::test::Fail;
 /// How often `m` stands behind `/p/`, in a path of 1,024 bytes.
 const NAME: usize = 1_021;
 
-/// The bytes of the longest message, each of them `x`.
+/// The bytes of a message that fills its DATA frame, each of them `x`.
 const MESSAGE: usize = 16_379;
 
 /// What stands in front of the path, between it and the message in hex, and behind them.
@@ -38,7 +38,7 @@ fn repeated(alloc: Global, text: &str, count: usize) -> Result<String, Fail> {
 }
 
 #[test]
-fn the_greatest_first_call_is_sent_whole(rt: HostRuntime) -> Result<(), Fail> {
+fn the_longest_path_is_sent_whole(rt: HostRuntime) -> Result<(), Fail> {
     let alloc = rt.alloc();
     let name = repeated(alloc, "m", NAME)?;
     let message = repeated(alloc, "78", MESSAGE)?;

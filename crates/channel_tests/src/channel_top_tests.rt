@@ -7,7 +7,7 @@ use std::alloc::Global;
 use std::process::Abort;
 use std::test::Fail;
 
-/// The script of the first call, up to its answer.
+/// A script of one call, up to its answer.
 const FRONT: &str =
     "channel 1 ipv4:127.0.0.1:50051\n0 0 resolved 127.0.0.1:50051 -\n0 0 dial\n0 0 up 1\n0 0 drain 1 65536\n1 0 arrived 1 000000040000000000\n2 0 begin /a.B/C - - -\n2 0 send 1 6869\n2 0 finish 1\n3 0 drain 1 65536\n";
 
@@ -69,13 +69,6 @@ fn each_fault_is_told_in_one_line(rt: HostRuntime) -> Result<(), Fail> {
     expect(
         &rt,
         alloc,
-        of_parts("replay", FRONT, OK, ""),
-        3,
-        "fault line 12 cause 13\n",
-    )?;
-    expect(
-        &rt,
-        alloc,
         of_parts("replay", first, "0 0 dance\n", ""),
         3,
         "fault line 2 cause 5\n",
@@ -83,9 +76,9 @@ fn each_fault_is_told_in_one_line(rt: HostRuntime) -> Result<(), Fail> {
     expect(
         &rt,
         alloc,
-        of_parts("replay", first, "0 0 tick\n", ""),
-        3,
-        "fault line 2 cause 13\n",
+        of_parts("replay", first, "7 9 tick\n", ""),
+        0,
+        "channel 2 ipv4:127.0.0.1:50051\n7 9 tick = done\nend 1 0 0 0\n",
     )
 }
 
@@ -99,7 +92,7 @@ fn a_status_that_is_no_number_is_unknown(rt: HostRuntime) -> Result<(), Fail> {
     Ok(())
 }
 
-/// The report of the first call, as version 1 has it, and its script in version 2.
+/// A report of one call, as version 1 has it, and its script in version 2.
 const OLD_REPORT: &str =
     "channel 1 ipv4:127.0.0.1:50051\n0 0 resolved 127.0.0.1:50051 - = done\n0 0 dial = dial 1 127.0.0.1:50051 20000000000\n4 0 take 1 = end 0 - - row\nrow 1 1 first 2 6 1 1 1 1 10 0 - 77 status 10\nend 11 1 1 1\n";
 

@@ -4,6 +4,7 @@
 #[cfg(test)]
 mod channel_core_tests;
 #[cfg(test)]
+#[cfg(test)]
 mod channel_top_config_tests;
 #[cfg(test)]
 mod channel_top_script_tests;

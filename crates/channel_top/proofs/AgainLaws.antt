@@ -1,13 +1,10 @@
 -- The events of a session that a script gave are a script again, at the moments of their steps.
-use Rattle.std.proofs.Common.{◌≡◌, ◌≤◌, ℕ, ◌+◌, Option, List, [], ◌∷◌, ◌++◌, map, ap, sym, subst, inr, arith, refl, ◌∙◌}
+use Rattle.std.proofs.Common.{◌≡◌, ◌≤◌, ℕ, ◌+◌, Option, List, [], ◌∷◌, ◌++◌, map, ap, sym, subst, inl, inr, arith, refl, ◌∙◌}
 use Rattle.std.specs.Prelude.{max}
-use Rattle.grpc_base.specs.declared.address.Address.{Address}
-use Rattle.grpc_base.specs.Addresses.{address_text}
 use Rattle.grpc_base.specs.declared.event.Entry.{Entry}
 use Rattle.grpc_base.specs.declared.event.Stamped.{Stamped}
 use Rattle.grpc_base.specs.Limits.{moment_limit}
 use Rattle.attempt_ledger.specs.declared.journal.Journal.{Journal}
-use Rattle.attempt_ledger.specs.declared.ledger.Ledger.{Ledger}
 use Rattle.attempt_ledger.specs.Journals.{stamped_of}
 use Rattle.grpc_base.specs.Pieces.{pieces}
 use Rattle.script_fields.specs.Spelling.{fields}
@@ -21,8 +18,10 @@ use Rattle.script_input.specs.Scripts.{AreLines, IsOnlyScript, IsScript, read_pa
 use Rattle.script_lines.specs.Spelling.{script_of}
 use Rattle.channel_top.specs.Migrate.{IsMigrated}
 use Rattle.script_input.proofs.ScriptLaws.{AreMoved, script_again}
-use Rattle.channel_top.specs.Shape.{IsFirstCall, target_text}
-use Rattle.channel_top.specs.Top.{IsDone, IsReport, IsScriptAgain, IsSession, highest_so_far}
+use Rattle.resolver_core.specs.AnyTargets.{IsTarget}
+use Rattle.resolver_core.proofs.KeptLaws.{target_kept}
+use Rattle.channel_top.specs.Top.{AreEntriesOf, EndsFull, IsDone, IsFullReport, IsReplayText, IsReport, IsRunReport, IsScriptAgain, highest_so_far}
+use Rattle.channel_top.specs.declared.ran.Ran.TheVariants as ran
 
 moment_within : (texts : List (List ℕ)) (s : Stamped) → IsStampedText texts s → s.moment ≤ moment_limit
 moment_within (moment ∷ (word ∷ others)) s t = t.0.0
@@ -53,10 +52,10 @@ moved_lines f n [] target value events entries t event word moment = absurd t
 moved_lines f n (text ∷ texts) target value events entries t event word moment = moved_of f (n + 1) texts events entries 0 t.1 (omega arith) event word moment
 
 -- what a session of a script reports up to each ` = ` is a script again
-pub session_again : (input target : List ℕ) (value : Target) (authority : List ℕ) (events : List Stamped) (journal : Journal) (ledger : Ledger) → IsScript form.Script input target value events → IsSession authority events journal ledger → IsScriptAgain target value (map stamped_of journal.entries)
-session_again input target value authority events journal ledger script session = λ short.
+session_again : (input target : List ℕ) (value : Target) (events : List Stamped) (journal : Journal) → IsScript form.Script input target value events → AreEntriesOf events journal → IsScriptAgain target value (map stamped_of journal.entries)
+session_again input target value events journal script entries = λ short.
     script_again form.Script input target value events (map stamped_of journal.entries) script
-    (moved_lines form.Script 1 script.texts target value events journal.entries script.lines session.events_are session.words_are session.moments_are)
+    (moved_lines form.Script 1 script.texts target value events journal.entries script.lines entries.events_are entries.words_are entries.moments_are)
     short
 
 -- a script has a line
@@ -71,30 +70,52 @@ some_input f target value events (text ∷ texts) records e t = no_snoc (texts +
     no_snoc [] y e = absurd ((cc))
     no_snoc (x ∷ xs) y e = absurd ((cc))
 
--- the script of the first call was read, and this is its report
-pub report_done : (left left' : Option (List ℕ)) (target : List ℕ) (value : Target) (events own : List Stamped) (authority : Address) (text : List ℕ) → ReadsScript form.Script left left' target value events → IsFirstCall target events authority → own ≡ events → IsReport authority own text → IsDone left left' text
-report_done left left' target value events own authority text read first same report_own =
-    let input : List ℕ = read.input in
-    let script : IsScript form.Script input (target_text authority) value events = subst (λ (t : List ℕ). IsScript form.Script input t value events) first.target_is read.script in
-    let report : IsReport authority events text = subst (λ (es : List Stamped). IsReport authority es text) same report_own in
+-- a script was read, and this is its report
+pub report_done : (left left' : Option (List ℕ)) (target : List ℕ) (value : Target) (events : List Stamped) (text : List ℕ) → ReadsScript form.Script left left' target value events → IsReport target value events text → IsDone left left' text
+report_done left left' target value events text read report = record {
+  input = read.input;
+  read = read.read;
+  at_end = read.at_end;
+  done = inr (
+    (λ none. some_input form.Script target value events read.script.texts read.script.records (ap (pieces 10) (sym none) ∙ read.script.parts) read.script.lines),
     record {
-      input = input;
-      read = read.read;
-      at_end = read.at_end;
-      done = inr (
-        (λ none. some_input form.Script target value events read.script.texts read.script.records (ap (pieces 10) (sym none) ∙ read.script.parts) read.script.lines),
-        record {
-          authority = authority;
-          value = value;
-          events = events;
-          script = script;
-          first = subst (λ (t : List ℕ). IsFirstCall t events authority) first.target_is first;
-          only = subst (λ (t : List ℕ). IsOnlyScript form.Script input t value events) first.target_is read.only;
-          report = report;
-          again = session_again input (target_text authority) value (address_text authority) events report.journal report.ledger script report.session;
-        },
-      );
-    }
+      target = target;
+      value = value;
+      events = events;
+      script = read.script;
+      only = read.only;
+      report = report;
+      again = session_again read.input target value events report.journal read.script report.session.entries;
+    },
+  );
+}
+
+-- the same where its journal is full
+pub report_ends : (left left' : Option (List ℕ)) (target : List ℕ) (value : Target) (events : List Stamped) (text : List ℕ) → ReadsScript form.Script left left' target value events → IsFullReport target value events text → EndsFull left left' text
+report_ends left left' target value events text read report = record {
+  input = read.input;
+  target = target;
+  value = value;
+  events = events;
+  read = read.read;
+  at_end = read.at_end;
+  script = read.script;
+  only = read.only;
+  report = report;
+}
+
+-- either is the output of the mode
+pub replay_text : (left left' : Option (List ℕ)) (target : List ℕ) (value : Target) (events : List Stamped) (text : List ℕ) → ReadsScript form.Script left left' target value events → IsRunReport target value events text → IsReplayText left left' text
+replay_text left left' target value events text read (ran.Whole, report) = inl (inl (report_done left left' target value events text read report))
+replay_text left left' target value events text read (ran.Full, report) = inl (inr (report_ends left left' target value events text read report))
+
+-- the target of a script that was read is one
+target_of_lines : (f : Form) (texts : List (List ℕ)) (target : List ℕ) (value : Target) (events : List Stamped) → AreLines f 1 texts (script_reads target value events) → IsTarget value
+target_of_lines f [] target value events t = absurd t
+target_of_lines f (text ∷ texts) target value events t = target_kept target value t.0.2.1.3
+
+pub target_read : (f : Form) (left left' : Option (List ℕ)) (target : List ℕ) (value : Target) (events : List Stamped) → ReadsScript f left left' target value events → IsTarget value
+target_read f left left' target value events read = target_of_lines f read.script.texts target value events read.script.lines
 
 -- ---- a script that is written as it was read
 

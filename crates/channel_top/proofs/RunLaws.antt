@@ -1,62 +1,72 @@
--- A session, event by event: its events stay the first of the script, and its journal has those that were given so far.
-use Rattle.std.proofs.Common.{◌≡◌, ◌<◌, ℕ, ◌+◌, ◌-◌, Option, Some, None, List, [], ◌∷◌, ◌++◌, map, length, length-append, refl, ap, ◌∙◌, sym, subst, slice_get, arith, append_assoc, append-nil, option_map, false, Bool}
-use Rattle.attempt_ledger.specs.declared.journal.Journal.{Journal}
-use Rattle.attempt_ledger.specs.declared.ledger.Ledger.{Ledger}
+-- A session, event by event: its journal has those that were given so far.
+use Rattle.std.proofs.Common.{◌≡◌, ◌<◌, ◌≤◌, ◌⊎◌, ℕ, ◌+◌, ◌-◌, List, [], ◌∷◌, ◌++◌, map, length, length-append, refl, ap, ◌∙◌, sym, subst, slice_get, arith, append_assoc, append-nil, inl, inr}
 use Rattle.std.specs.Option.{option_map_or}
 use Rattle.std.proofs.lemmas.List.{map-append}
-use Rattle.std.proofs.lemmas.Option.{slice_get-map}
-use Rattle.grpc_base.specs.declared.address.Address.{Address}
-use Rattle.grpc_base.specs.Addresses.{address_text}
-use Rattle.grpc_base.specs.declared.event.Conn.{Conn}
+use Rattle.std.specs.Prelude.{Option, Some}
 use Rattle.grpc_base.specs.declared.event.Entry.{Entry}
+use Rattle.grpc_base.specs.declared.event.Event.{Event}
 use Rattle.grpc_base.specs.declared.event.Reply.{Reply}
 use Rattle.grpc_base.specs.declared.event.Stamped.{Stamped}
-use Rattle.channel_core.specs.FirstCall.{AreFirstEvents, IsStampedAt, first_moment_limit, stamped_of}
-use Rattle.channel_core.specs.Core.{CoreSeen, Gains, IsNew, last_moment, moment_of}
-use Rattle.channel_core.proofs.Places.{EachFrom, from_each, front_of, joined_each, rest_of, to_each}
-use Rattle.channel_core.specs.Lawful.{IsLawful}
-use Rattle.script_text.specs.Report.{report_of}
-use Rattle.channel_top.specs.Runs.{HasRun}
-use Rattle.channel_top.specs.Shape.{target_text}
-use Rattle.channel_top.specs.Top.{IsReport, highest_so_far}
+use Rattle.grpc_base.specs.Posts.{HasNoRoom, event_bytes}
+use Rattle.channel_core.specs.Core.{CoreSeen, IsFull, IsNew, Runs, Steps, last_moment, moment_of}
+use Rattle.channel_core.specs.Sizes.{counted, journal_bytes}
+use Rattle.attempt_ledger.specs.declared.journal.Journal.{Journal}
+use Rattle.channel_top.specs.declared.ran.Ran.TheVariants as ran
+use Rattle.channel_top.specs.Runs.{FillsUp, IsFullFor, StepsTo}
+use Rattle.channel_top.specs.Top.{AreEntriesOf, highest_so_far}
 
--- the newest of the first events, with those before it
-pub AreFirstEvents-front : (xs ys : List Stamped) (s : Stamped) → AreFirstEvents (xs ++ s ∷ ys) → AreFirstEvents (xs ++ s ∷ [])
-AreFirstEvents-front xs ys s first =
-    let each : EachFrom 2 (xs ++ s ∷ ys) = to_each 2 (xs ++ s ∷ ys) first in
-    let rest : EachFrom (2 + length xs) (s ∷ ys) = rest_of 2 xs (s ∷ ys) each in
-    from_each 2 (xs ++ s ∷ []) (joined_each 2 xs (s ∷ []) (front_of 2 xs (s ∷ ys) each) (rest.0, tt))
+-- ---- the loop over the events
 
--- the last step's moment lies below the limit
-last_below : (before : List Entry) → ((k : ℕ) (s : Stamped) → slice_get (map stamped_of before) k ≡ Some s → s.moment < first_moment_limit) → last_moment before < first_moment_limit
-last_below before below = by_last (slice_get before (length before - 1)) refl
-  where
-    by_last : (last : Option Entry) → slice_get before (length before - 1) ≡ last → option_map_or (λ (e : Entry). e.moment) last 0 < first_moment_limit
-    by_last None same = omega arith
-    by_last (Some e) same =
-        below (length before - 1) (stamped_of e) (slice_get-map stamped_of before (length before - 1) ∙ ap (λ (o : Option Entry). option_map stamped_of o) same)
+-- one event more at the end of a run
+pub Runs-one_more : (old mid new : CoreSeen) (events : List Stamped) (s : Stamped) (r : Reply) → Runs old events mid → Steps mid new s r → Runs old (events ++ s ∷ []) new
+Runs-one_more old mid new [] s r same step = (new, r, subst (λ (c : CoreSeen). Steps c new s r) same step, refl)
+Runs-one_more old mid new (e ∷ events) s r runs step = (runs.0, runs.1, runs.2, Runs-one_more runs.0 mid new events s r runs.3 step)
+
+-- the events so far, and those that are left
+pub record IsRunning (old : CoreSeen) (all : List Stamped) (core : CoreSeen) (left : List Stamped) : Type 0 where
+  pub front : List Stamped
+  pub parts : all ≡ front ++ left
+  pub runs : Runs old front core
+
+pub IsRunning-new : (old : CoreSeen) (all left : List Stamped) → left ≡ all → IsRunning old all old left
+IsRunning-new old all left same = record { front = []; parts = sym same; runs = refl }
+
+pub IsRunning-step : (old : CoreSeen) (all : List Stamped) (core new : CoreSeen) (left rest : List Stamped) (s : Stamped) → IsRunning old all core left → left ≡ s ∷ rest → StepsTo ran.Whole core s new → IsRunning old all new rest
+IsRunning-step old all core new left rest s running e step = record {
+  front = running.front ++ s ∷ [];
+  parts = running.parts ∙ ap (λ (xs : List Stamped). running.front ++ xs) e ∙ sym (append_assoc running.front (s ∷ []) rest);
+  runs = Runs-one_more old core new running.front s step.0 running.runs step.1;
+}
+
+pub IsRunning-done : (old : CoreSeen) (all : List Stamped) (core : CoreSeen) (left : List Stamped) → IsRunning old all core left → left ≡ [] → Runs old all core
+IsRunning-done old all core left running none =
+    subst (λ (xs : List Stamped). Runs old xs core) (sym (running.parts ∙ ap (λ (xs : List Stamped). running.front ++ xs) none ∙ append-nil running.front)) running.runs
+
+-- a journal that is counted as full is full
+full_of : (event : Event) (entries bytes : ℕ) (journal : List Entry) → HasNoRoom entries bytes event → entries ≡ length journal → bytes ≡ counted (journal_bytes journal) → HasNoRoom (length journal) (journal_bytes journal) event
+full_of event entries bytes journal (inl many) n b = inl (subst (λ (k : ℕ). 1048576 ≤ k) n many)
+full_of event entries bytes journal (inr much) n b = inr (omega (arith, much, b))
+
+pub is_full : (core : CoreSeen) (event : Event) (entries bytes : ℕ) → IsFull core event entries bytes → IsFullFor core event
+is_full core event entries bytes full = full_of event entries bytes core.journal.entries full.1 full.2 full.3
+
+pub IsRunning-full : (old : CoreSeen) (all : List Stamped) (core new : CoreSeen) (left rest : List Stamped) (s : Stamped) → IsRunning old all core left → left ≡ s ∷ rest → StepsTo ran.Full core s new → FillsUp old all new
+IsRunning-full old all core new left rest s running e full =
+    subst (λ (c : CoreSeen). FillsUp old all c) (sym full.1)
+    (record {
+      front = running.front;
+      next = s;
+      behind = rest;
+      parts = running.parts ∙ ap (λ (xs : List Stamped). running.front ++ xs) e;
+      runs = running.runs;
+      full = full.0;
+    })
+
+-- ---- what a run leaves in the journal
 
 -- the entry of a step
-abbrev entry_of : List Entry → Stamped → Reply → Conn → Entry
-entry_of before s r state = record { moment = moment_of before s; word = s.word; event = s.event; reply = r; state = state }
-
--- one step more: the event of the entry stands where the event stood
-AreFirstEvents-step : (before : List Entry) (s : Stamped) (r : Reply) (state : Conn) (rest : List Stamped) → AreFirstEvents (map stamped_of before ++ s ∷ rest) → AreFirstEvents (map stamped_of (before ++ entry_of before s r state ∷ []) ++ rest)
-AreFirstEvents-step before s r state rest first =
-    let xs : List Stamped = map stamped_of before in
-    let each : EachFrom 2 (xs ++ s ∷ rest) = to_each 2 (xs ++ s ∷ rest) first in
-    let front : EachFrom 2 xs = front_of 2 xs (s ∷ rest) each in
-    let behind : EachFrom (2 + length xs) (s ∷ rest) = rest_of 2 xs (s ∷ rest) each in
-    let below : last_moment before < first_moment_limit = last_below before (λ k t e. (from_each 2 xs front k t e).moment) in
-    let newest : s.moment < first_moment_limit = behind.0.moment in
-    let moment : moment_of before s < first_moment_limit = omega arith in
-    let made : Stamped = stamped_of (entry_of before s r state) in
-    let here : IsStampedAt (2 + length xs) made = record { moment = moment; word = behind.0.word; event = behind.0.event } in
-    let all : EachFrom 2 (xs ++ made ∷ rest) = joined_each 2 xs (made ∷ rest) front (here, behind.1) in
-    let same : map stamped_of (before ++ entry_of before s r state ∷ []) ++ rest ≡ xs ++ made ∷ rest =
-    ap (λ (t : List Stamped). t ++ rest) (map-append stamped_of before (entry_of before s r state ∷ []))
-    ∙ append_assoc xs (made ∷ []) rest in
-    subst AreFirstEvents (sym same) (from_each 2 (xs ++ made ∷ rest) all)
+abbrev entry_of : (old new : CoreSeen) (s : Stamped) (r : Reply) → Steps old new s r → Entry
+entry_of old new s r step = record { moment = moment_of old.journal.entries s; word = s.word; event = s.event; reply = r; state = step.state }
 
 -- the last moment of a journal with one entry more
 at_last : (xs : List Entry) (e : Entry) → slice_get (xs ++ e ∷ []) (length xs) ≡ Some e
@@ -70,91 +80,55 @@ last_made xs e =
     ap (λ (o : Option Entry). option_map_or (λ (x : Entry). x.moment) o 0)
     (ap (slice_get (xs ++ e ∷ [])) place ∙ at_last xs e)
 
--- what is told of the entries and of the events that are left, with one entry more and one event less
-told_step : {X : Type 0} → (f : Entry → X) (before : List Entry) (e : Entry) (x : X) (rest : List X) → f e ≡ x → map f (before ++ e ∷ []) ++ rest ≡ map f before ++ x ∷ rest
-told_step f before e x rest same =
+-- what is told of the entries behind one entry more
+told_step : {X : Type 0} → (f : Entry → X) (before : List Entry) (e : Entry) (rest : List X) → map f (before ++ e ∷ []) ++ rest ≡ map f before ++ f e ∷ rest
+told_step f before e rest =
     ap (λ (t : List _). t ++ rest) (map-append f before (e ∷ []))
     ∙ append_assoc (map f before) (f e ∷ []) rest
-    ∙ ap (λ (y : _). map f before ++ y ∷ rest) same
 
--- the steps of a session so far, with the events that are left
-pub record IsRunning (authority : List ℕ) (all : List Stamped) (core : CoreSeen) (left : List Stamped) : Type 0 where
-  pub same : core.authority ≡ authority
-  pub unspent : core.spent ≡ false
-  pub events : map (λ e. e.event) core.journal.entries ++ map (λ s. s.event) left ≡ map (λ s. s.event) all
-  pub words : map (λ e. e.word) core.journal.entries ++ map (λ s. s.word) left ≡ map (λ s. s.word) all
-  pub moments : map (λ e. e.moment) core.journal.entries ++ highest_so_far (last_moment core.journal.entries) (map (λ s. s.moment) left) ≡ highest_so_far 0 (map (λ s. s.moment) all)
-  pub first : AreFirstEvents (map stamped_of core.journal.entries ++ left)
+-- what a run adds to a journal
+record Adds (old : CoreSeen) (events : List Stamped) (new : CoreSeen) : Type 0 where
+  events_are : map (λ e. e.event) new.journal.entries ≡ map (λ e. e.event) old.journal.entries ++ map (λ s. s.event) events
+  words_are : map (λ e. e.word) new.journal.entries ≡ map (λ e. e.word) old.journal.entries ++ map (λ s. s.word) events
+  moments_are : map (λ e. e.moment) new.journal.entries ≡ map (λ e. e.moment) old.journal.entries ++ highest_so_far (last_moment old.journal.entries) (map (λ s. s.moment) events)
 
--- the events that are left allow the next step
-pub IsRunning-allows : (authority : List ℕ) (all : List Stamped) (core : CoreSeen) (left rest : List Stamped) (s : Stamped) → IsRunning authority all core left → left ≡ s ∷ rest → AreFirstEvents (map stamped_of core.journal.entries ++ s ∷ [])
-IsRunning-allows authority all core left rest s running e =
-    AreFirstEvents-front (map stamped_of core.journal.entries) rest s
-    (subst (λ (xs : List Stamped). AreFirstEvents (map stamped_of core.journal.entries ++ xs)) e running.first)
-
--- and the step leads on
-pub IsRunning-step : (authority : List ℕ) (all : List Stamped) (core new : CoreSeen) (left rest : List Stamped) (s : Stamped) (r : Reply) → IsRunning authority all core left → left ≡ s ∷ rest → Gains core new s r → IsRunning authority all new rest
-IsRunning-step authority all core new left rest s r running e step =
-    let before : List Entry = core.journal.entries in
-    let made : Entry = entry_of before s r step.state in
-    let start : IsRunning authority all core (s ∷ rest) = subst (IsRunning authority all core) e running in
-    let last : last_moment new.journal.entries ≡ made.moment = ap last_moment step.journal ∙ last_made before made in
-    record {
-      same = step.authority ∙ running.same;
-      unspent = step.unspent;
-      events =
-          ap (λ (es : List Entry). map (λ x. x.event) es ++ map (λ x. x.event) rest) step.journal
-          ∙ told_step (λ x. x.event) before made s.event (map (λ x. x.event) rest) refl ∙ start.events;
-      words =
-          ap (λ (es : List Entry). map (λ x. x.word) es ++ map (λ x. x.word) rest) step.journal
-          ∙ told_step (λ x. x.word) before made s.word (map (λ x. x.word) rest) refl ∙ start.words;
-      moments =
-          ap (λ (m : ℕ). map (λ x. x.moment) new.journal.entries ++ highest_so_far m (map (λ x. x.moment) rest)) last
-          ∙ ap (λ (es : List Entry). map (λ x. x.moment) es ++ highest_so_far made.moment (map (λ x. x.moment) rest)) step.journal
-          ∙ told_step (λ x. x.moment) before made made.moment (highest_so_far made.moment (map (λ x. x.moment) rest)) refl
-          ∙ start.moments;
-      first =
-          subst (λ (es : List Entry). AreFirstEvents (map stamped_of es ++ rest)) (sym step.journal)
-          (AreFirstEvents-step before s r step.state rest start.first);
-    }
-
--- a new channel has all events left
-pub IsRunning-new : (authority : List ℕ) (all : List Stamped) (core : CoreSeen) → IsNew authority core → AreFirstEvents all → IsRunning authority all core all
-IsRunning-new authority all core new first = record {
-  same = new.authority_is;
-  unspent = new.unspent;
-  events = ap (λ (es : List Entry). map (λ x. x.event) es ++ map (λ x. x.event) all) new.journal;
-  words = ap (λ (es : List Entry). map (λ x. x.word) es ++ map (λ x. x.word) all) new.journal;
-  moments = ap (λ (es : List Entry). map (λ x. x.moment) es ++ highest_so_far (last_moment es) (map (λ x. x.moment) all)) new.journal;
-  first = subst (λ (es : List Entry). AreFirstEvents (map stamped_of es ++ all)) (sym new.journal) first;
+adds : (old : CoreSeen) (events : List Stamped) (new : CoreSeen) → Runs old events new → Adds old events new
+adds old [] new same = record {
+  events_are = ap (λ (c : CoreSeen). map (λ (x : Entry). x.event) c.journal.entries) same ∙ sym (append-nil (map (λ (x : Entry). x.event) old.journal.entries));
+  words_are = ap (λ (c : CoreSeen). map (λ (x : Entry). x.word) c.journal.entries) same ∙ sym (append-nil (map (λ (x : Entry). x.word) old.journal.entries));
+  moments_are = ap (λ (c : CoreSeen). map (λ (x : Entry). x.moment) c.journal.entries) same ∙ sym (append-nil (map (λ (x : Entry). x.moment) old.journal.entries));
 }
-
--- with no events left the channel has run all
-pub IsRunning-done : (authority : List ℕ) (all : List Stamped) (core : CoreSeen) (left : List Stamped) → IsRunning authority all core left → left ≡ [] → HasRun authority all core
-IsRunning-done authority all core left running none =
-    let end : IsRunning authority all core [] = subst (IsRunning authority all core) none running in
+adds old (s ∷ events) new runs =
+    let next : CoreSeen = runs.0 in
+    let step : Steps old next s runs.1 = runs.2 in
+    let before : List Entry = old.journal.entries in
+    let made : Entry = entry_of old next s runs.1 step in
+    let more : Adds next events new = adds next events new runs.3 in
+    let last : last_moment next.journal.entries ≡ made.moment = ap last_moment step.journal ∙ last_made before made in
     record {
-      authority_is = end.same;
-      unspent = end.unspent;
-      events_are = sym (append-nil (map (λ x. x.event) core.journal.entries)) ∙ end.events;
-      words_are = sym (append-nil (map (λ x. x.word) core.journal.entries)) ∙ end.words;
-      moments_are = sym (append-nil (map (λ x. x.moment) core.journal.entries)) ∙ end.moments;
+      events_are =
+          more.events_are
+          ∙ ap (λ (es : List Entry). map (λ (x : Entry). x.event) es ++ map (λ (x : Stamped). x.event) events) step.journal
+          ∙ told_step (λ (x : Entry). x.event) before made (map (λ (x : Stamped). x.event) events);
+      words_are =
+          more.words_are
+          ∙ ap (λ (es : List Entry). map (λ (x : Entry). x.word) es ++ map (λ (x : Stamped). x.word) events) step.journal
+          ∙ told_step (λ (x : Entry). x.word) before made (map (λ (x : Stamped). x.word) events);
+      moments_are =
+          more.moments_are
+          ∙ ap (λ (m : ℕ). map (λ (x : Entry). x.moment) next.journal.entries ++ highest_so_far m (map (λ (x : Stamped). x.moment) events)) last
+          ∙ ap (λ (es : List Entry). map (λ (x : Entry). x.moment) es ++ highest_so_far made.moment (map (λ (x : Stamped). x.moment) events)) step.journal
+          ∙ told_step (λ (x : Entry). x.moment) before made (highest_so_far made.moment (map (λ (x : Stamped). x.moment) events));
     }
 
--- the report of a channel that has run these events is that of their session
-pub session_report : (authority : Address) (other target : List ℕ) (events : List Stamped) (core : CoreSeen) (journal : Journal) (ledger : Ledger) → other ≡ address_text authority → HasRun other events core → journal ≡ core.journal → ledger ≡ core.ledger → (core.spent ≡ false → IsLawful core.authority core.journal.entries ledger) → target ≡ target_text authority → IsReport authority events (report_of target journal ledger)
-session_report authority other target events core journal ledger is run j l lawful same =
-    let laws : IsLawful (address_text authority) journal.entries ledger =
-    subst (λ (x : Journal). IsLawful (address_text authority) x.entries ledger) (sym j)
-    (subst (λ (a : List ℕ). IsLawful a core.journal.entries ledger) (run.authority_is ∙ is) (lawful run.unspent)) in
+-- and to that of a new channel
+pub entries_of : (authority : List ℕ) (old : CoreSeen) (events : List Stamped) (new : CoreSeen) → IsNew authority old → Runs old events new → AreEntriesOf events new.journal
+entries_of authority old events new is_new runs =
+    let more : Adds old events new = adds old events new runs in
     record {
-      journal = journal;
-      ledger = ledger;
-      session = record {
-        events_are = ap (λ (x : Journal). map (λ e. e.event) x.entries) j ∙ run.events_are;
-        words_are = ap (λ (x : Journal). map (λ e. e.word) x.entries) j ∙ run.words_are;
-        moments_are = ap (λ (x : Journal). map (λ e. e.moment) x.entries) j ∙ run.moments_are;
-        lawful = laws;
-      };
-      text_is = ap (λ (t : List ℕ). report_of t journal ledger) same;
+      events_are = more.events_are ∙ ap (λ (es : List Entry). map (λ (x : Entry). x.event) es ++ map (λ (x : Stamped). x.event) events) is_new.journal;
+      words_are = more.words_are ∙ ap (λ (es : List Entry). map (λ (x : Entry). x.word) es ++ map (λ (x : Stamped). x.word) events) is_new.journal;
+      moments_are =
+          more.moments_are
+          ∙ ap (λ (es : List Entry). map (λ (x : Entry). x.moment) es ++ highest_so_far (last_moment es) (map (λ (x : Stamped). x.moment) events)) is_new.journal;
     }

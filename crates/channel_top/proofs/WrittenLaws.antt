@@ -1,10 +1,11 @@
 -- How much of an output was written, for one that is more than another.
-use Rattle.std.proofs.Common.{◌≡◌, ◌∙◌, ℕ, Option, List, ap, inl, inr}
+use Rattle.std.proofs.Common.{◌≡◌, ◌∙◌, ℕ, Option, List, ap, inl, inr, subst, sym}
 use Rattle.std.specs.Prelude.{Result, Ok, Err, OnOk, OnErr}
 use Rattle.grpc_base.specs.Kinds.{KindsSeen}
 use Rattle.gate_io.specs.Outside.{Appends, AppendsFront}
 use Rattle.script_text.proofs.Passing.{AppendsFront-none}
 use Rattle.channel_top.specs.Modes.{IsOutput, IsOutputIn}
+use Rattle.channel_top.specs.Top.{IsReplayText}
 use Rattle.channel_top.specs.Words.{Runs}
 use Rattle.channel_top.specs.Writing.{WritesAll, WritesFront, WritesSome}
 use Rattle.channel_top.specs.declared.words.Mode.{Mode}
@@ -26,12 +27,17 @@ some_as P Q taken taken' more (inr front) = inr (front_as P Q taken taken' more 
 
 -- the output of the mode that the words run is that of the program
 pub output_of : (kinds : KindsSeen) (m : Mode) (words : List (List ℕ)) (left left' : Option (List ℕ)) → Runs m words → (text : List ℕ) → IsOutputIn kinds m left left' text → IsOutput kinds words left left' text
-output_of kinds mode.Replay words left left' runs text (inl done) = inl (inl (mode.Replay, runs, done))
-output_of kinds mode.Replay words left left' runs text (inr fault) = inr (inr (mode.Replay, runs, fault))
+output_of kinds mode.Replay words left left' runs text (inl (inl done)) = inl (inl (mode.Replay, runs, done))
+output_of kinds mode.Replay words left left' runs text (inl (inr full)) = inr (inr (inr (runs, full)))
+output_of kinds mode.Replay words left left' runs text (inr fault) = inr (inr (inl (mode.Replay, runs, fault)))
 output_of kinds mode.Config words left left' runs text (inl done) = inl (inl (mode.Config, runs, done))
-output_of kinds mode.Config words left left' runs text (inr fault) = inr (inr (mode.Config, runs, fault))
+output_of kinds mode.Config words left left' runs text (inr fault) = inr (inr (inl (mode.Config, runs, fault)))
 output_of kinds mode.Migrate words left left' runs text (inl done) = inl (inl (mode.Migrate, runs, done))
-output_of kinds mode.Migrate words left left' runs text (inr fault) = inr (inr (mode.Migrate, runs, fault))
+output_of kinds mode.Migrate words left left' runs text (inr fault) = inr (inr (inl (mode.Migrate, runs, fault)))
+
+-- the output of the mode `replay` is that of its mode
+pub replay_output : (kinds : KindsSeen) (m : Mode) (left left' : Option (List ℕ)) → m ≡ mode.Replay → (text : List ℕ) → IsReplayText left left' text → IsOutputIn kinds m left left' text
+replay_output kinds m left left' is text told = subst (λ (x : Mode). IsOutputIn kinds x left left' text) (sym is) told
 
 -- what holds where a call succeeded, or where it failed, holds of what follows from it
 pub on_ok_as : {T E P Q : Type 0} → (r : Result T E) → (P → Q) → OnOk r P → OnOk r Q

@@ -3,7 +3,6 @@ pub mod Ending
 pub mod Migrate
 pub mod Modes
 pub mod Runs
-pub mod Shape
 pub mod Top
 pub mod Words
 pub mod Writing

@@ -1,7 +1,7 @@
 -- What the program reads and writes for the words that it is given, by its status.
 use Rattle.std.specs.Prelude.{◌≡◌, ◌⊎◌, ℕ, Option, List, [], ◌∷◌, ◌++◌, codes}
 use Rattle.grpc_base.specs.Kinds.{KindsSeen}
-use Rattle.channel_top.specs.Top.{IsDone, IsReplayText, StopsAtRead, TellsBadLine}
+use Rattle.channel_top.specs.Top.{EndsFull, IsDone, IsReplayText, StopsAtRead, TellsBadLine}
 use Rattle.channel_top.specs.ConfigMode.{IsConfigDone, IsConfigText, StopsInConfig, TellsConfigFault}
 use Rattle.channel_top.specs.Migrate.{IsMigrateText, IsMigrated, StopsInReport, TellsBadReport}
 use Rattle.channel_top.specs.Words.{AreWrong, AskForText, Runs}
@@ -50,11 +50,16 @@ RefusesWords words left left' text = AreWrong words × (left' ≡ left) × (text
 abbrev pub TellsFault : KindsSeen → List (List ℕ) → Option (List ℕ) → Option (List ℕ) → List ℕ → Type 0
 TellsFault kinds words left left' text = (m : Mode) × Runs m words × TellsFaultIn kinds m left left' text
 
+-- status 7: the words run a session, and its journal has no room for an event
+abbrev pub EndsSession : List (List ℕ) → Option (List ℕ) → Option (List ℕ) → List ℕ → Type 0
+EndsSession words left left' text = Runs mode.Replay words × EndsFull left left' text
+
 -- status 4: a read failed in the mode that the words run
 abbrev pub StopsReading : List (List ℕ) → Option (List ℕ) → Option (List ℕ) → Option (List ℕ) → Option (List ℕ) → ℕ → ℕ → Type 0
 StopsReading words left left' taken taken' faults faults' = (m : Mode) × Runs m words × StopsIn m left left' taken taken' faults faults'
 
--- the output of the program, by what it read: that of status 0, 2 or 3
+-- the output of the program, by what it read: that of status 0, 2, 3 or 7
 abbrev pub IsOutput : KindsSeen → List (List ℕ) → Option (List ℕ) → Option (List ℕ) → List ℕ → Type 0
 IsOutput kinds words left left' text =
-    Finishes kinds words left left' text ⊎ (RefusesWords words left left' text ⊎ TellsFault kinds words left left' text)
+    Finishes kinds words left left' text
+    ⊎ (RefusesWords words left left' text ⊎ (TellsFault kinds words left left' text ⊎ EndsSession words left left' text))

@@ -4,10 +4,10 @@
 mod config_mode;
 mod input;
 mod migrate;
+mod ran;
 mod replay;
 mod run;
 mod session;
-mod shape;
 mod tell;
 mod top;
 mod words;

@@ -1,30 +1,42 @@
-// A session: a new channel is given the events of a script, one behind another.
-ghost use Rattle.std.specs.Prelude.{◌≡◌, ◌++◌, ◌∷◌, [], false, map, OnOk};
-ghost use Rattle.channel_core.specs.Core.{IsNew};
-ghost use Rattle.channel_core.specs.FirstCall.{AreFirstEvents, stamped_of};
-ghost use Rattle.channel_top.specs.Runs.{HasRun, StepsOn};
+// A session: a channel is given the events of a script, one behind another.
+ghost use Rattle.std.specs.Prelude.{◌≡◌, ℕ, Err, IfOk};
+ghost use Rattle.channel_top.specs.Runs.{RunsTo, StepsTo};
 
+use crate::ran::Ran;
 use channel_core::{ChannelCore, CoreError};
-use grpc_base::Stamped;
+use grpc_base::{NoMemory, Stamped};
+use lb_policy::Balancer;
 
-/// Gives a new channel these events in order.
-pub fn run_events(core: &mut ChannelCore, events: Vec<Stamped>) -> Result<(), CoreError>
-    requires new { IsNew core.old.authority core.old }
-    requires first { AreFirstEvents events.items }
-    ensures run { OnOk result (HasRun core.old.authority events.items core.new) }
+/// Gives a channel these events in order, up to the first for which its journal has no room.
+pub fn run_events<P: Balancer>(
+    core: &mut ChannelCore<P>,
+    events: Vec<Stamped>,
+) -> Result<Ran, NoMemory>
+    ensures { IfOk result (λ ran. RunsTo ran core.old events.items core.new) }
 {
     let mut rest = events.into_iter();
     while let Some(stamped) = rest.next() {
-        step_once(core, stamped)?;
+        match step_once(core, stamped) {
+            Ok(Ran::Whole) => {}
+            Ok(Ran::Full) => return Ok(Ran::Full),
+            Err(fault) => return Err(fault),
+        }
     }
-    Ok(())
+    Ok(Ran::Whole)
 }
 
-/// One step, whose reply the journal keeps.
-fn step_once(core: &mut ChannelCore, stamped: Stamped) -> Result<(), CoreError>
-    requires { AreFirstEvents (map stamped_of core.old.journal.entries ++ stamped ∷ []) }
-    ensures { OnOk result (StepsOn core.old core.new stamped) }
+/// One step, whose reply the journal keeps; Full where the journal has no room for the event.
+fn step_once<P: Balancer>(core: &mut ChannelCore<P>, stamped: Stamped) -> Result<Ran, NoMemory>
+    ensures { IfOk result (λ ran. StepsTo ran core.old stamped core.new) }
 {
-    core.step(stamped)?;
-    Ok(())
+    match core.step(stamped) {
+        Ok(_reply) => Ok(Ran::Whole),
+        Err(error) => match error {
+            CoreError::SessionFull {
+                entries: _,
+                octets: _,
+            } => Ok(Ran::Full),
+            CoreError::NoMemory { spent: _ } => Err(NoMemory),
+        },
+    }
 }

@@ -1,57 +1,101 @@
 // A script that is run and reported.
-ghost use Rattle.std.specs.Prelude.{◌≡◌, Vec, Err, IfOk, OnErr, OnOk};
-ghost use Rattle.gate_io.specs.Outside.{Rises};
-ghost use Rattle.grpc_base.specs.Addresses.{address_text};
+ghost use Rattle.std.specs.Prelude.{◌≡◌, Err, IfOk, OnErr, OnOk, map, true};
+ghost use Rattle.gate_io.specs.Outside.{Appends, AppendsFront, Rises};
 ghost use Rattle.grpc_base.specs.Authorities.{IsAuthority};
-ghost use Rattle.channel_core.specs.FirstCall.{AreFirstEvents};
-ghost use Rattle.channel_top.specs.Shape.{target_text};
-ghost use Rattle.channel_top.specs.Top.{IsReport};
+ghost use Rattle.channel_core.specs.Core.{ledger_in};
+ghost use Rattle.channel_top.specs.Top.{HasRun, IsReportBy, IsRunReport, run_text};
 ghost use Rattle.channel_top.specs.Writing.{WritesAll, WritesFront, WritesSome};
+ghost use Rattle.policy_rack.specs.Kinds.{are_ready};
+ghost use Rattle.resolver_core.specs.AnyTargets.{IsTarget, authority_of};
 
+use crate::ran::Ran;
 use crate::run::run_events;
-use crate::shape::FirstCall;
-use channel_core::{ChannelCore, CoreError};
+use crate::tell::{SESSION_FULL, write_text};
+use channel_core::ChannelCore;
 use gate_io::Sink;
-use grpc_base::{Address, AddressList, NoMemory, Text};
+use grpc_base::{NoMemory, Stamped, Text};
+use lb_policy::Balancer;
 use resolver_core::Target;
+use script_input::Script;
 use script_text::{ReportFault, write_report};
 use std::alloc::Global;
 
-/// Runs a script and writes the report of its session.
-pub fn report_session<K: Sink>(
+/// A channel that was given the events of a script, and how far.
+#[derive(Drop)]
+struct Session<P: Balancer> {
+    core: ChannelCore<P>,
+    ran: Ran,
+}
+
+/// Runs a script with these policies, and writes the report of its session; where the journal has no room for an event, the report
+/// of those before it and a line that says so.
+pub fn report_session<P: Balancer, K: Sink>(
     alloc: Global,
-    script: FirstCall,
+    policies: Vec<P>,
+    script: Script,
     report: &mut K,
-) -> Result<(), ReportFault>
-    requires first { AreFirstEvents script.events.items }
-    requires target { script.target ≡ target_text script.authority }
-    ensures ok { OnOk result (WritesAll (IsReport script.authority script.events.items) (K.taken report.old) (K.taken report.new)) }
-    ensures err { OnErr result (WritesSome (IsReport script.authority script.events.items) (K.taken report.old) (K.taken report.new)) }
-    ensures write { (result ≡ Err ReportFault.Write) → Rises (K.faults report.old) (K.faults report.new) × WritesFront (IsReport script.authority script.events.items) (K.taken report.old) (K.taken report.new) }
+) -> Result<Ran, ReportFault>
+    requires ready { are_ready (map P.seen policies.items) ≡ true }
+    requires target { IsTarget script.value }
+    ensures ok { IfOk result (λ ran. WritesAll (IsReportBy ran script.target script.value script.events.items) (K.taken report.old) (K.taken report.new)) }
+    ensures err { OnErr result (WritesSome (IsRunReport script.target script.value script.events.items) (K.taken report.old) (K.taken report.new)) }
+    ensures write { (result ≡ Err ReportFault.Write) → Rises (K.faults report.old) (K.faults report.new) × WritesFront (IsRunReport script.target script.value script.events.items) (K.taken report.old) (K.taken report.new) }
 {
-    let FirstCall {
-        authority,
+    let Script {
         target,
+        value,
         events,
     } = script;
-    let authority = authority_of(alloc, authority)?;
-    let mut core = ChannelCore::new(alloc, authority)?;
-    match run_events(&mut core, events) {
-        Ok(()) => write_report(alloc, core.journal(), core.ledger(), &target, report),
-        Err(fault) => match fault {
-            CoreError::NoMemory { spent: _ } => Err(ReportFault::NoMemory),
-        },
+    let session = run_session(alloc, policies, value, events)?;
+    match write_session(alloc, &session.core, session.ran, &target, report) {
+        Ok(()) => Ok(session.ran),
+        Err(fault) => Err(fault),
     }
 }
 
-/// The authority of a target of one address.
-fn authority_of(alloc: Global, address: Address) -> Result<Text, NoMemory>
-    ensures text { IfOk result (λ t. t ≡ address_text address) }
+/// Gives a new channel the events of a script.
+fn run_session<P: Balancer>(
+    alloc: Global,
+    policies: Vec<P>,
+    target: Target,
+    events: Vec<Stamped>,
+) -> Result<Session<P>, NoMemory>
+    requires ready { are_ready (map P.seen policies.items) ≡ true }
+    requires target { IsTarget target }
+    ensures { IfOk result (λ s. HasRun s.ran (authority_of target) events.items s.core) }
+{
+    let authority = authority_of(alloc, target)?;
+    let mut core = ChannelCore::new(alloc, authority, policies)?;
+    let ran = run_events(&mut core, events)?;
+    Ok(Session { core, ran })
+}
+
+/// What requests to a target name as their authority.
+fn authority_of(alloc: Global, target: Target) -> Result<Text, NoMemory>
+    requires { IsTarget target }
+    ensures text { IfOk result (λ t. t ≡ authority_of target) }
     ensures is_authority { IfOk result IsAuthority }
 {
-    let mut addresses = AddressList::new();
-    let Ok(()) = addresses.push(address) else {
-        unreachable!();
-    };
-    Target::Ipv4(addresses).authority(alloc)
+    target.authority(alloc)
+}
+
+/// Writes the report of a channel; where its journal had no room for an event, a line behind it says so.
+fn write_session<P: Balancer, K: Sink>(
+    alloc: Global,
+    core: &ChannelCore<P>,
+    ran: Ran,
+    target: &Text,
+    report: &mut K,
+) -> Result<(), ReportFault>
+    ensures ok { OnOk result (Appends (K.taken report.old) (K.taken report.new) (run_text ran target.now core.now.journal (ledger_in core.now))) }
+    ensures err { OnErr result (AppendsFront (K.taken report.old) (K.taken report.new) (run_text ran target.now core.now.journal (ledger_in core.now))) }
+    ensures write { (result ≡ Err ReportFault.Write) → Rises (K.faults report.old) (K.faults report.new) }
+{
+    match write_report(alloc, core.journal(), core.ledger(), target, report) {
+        Ok(()) => match ran {
+            Ran::Whole => Ok(()),
+            Ran::Full => write_text(report, SESSION_FULL),
+        },
+        Err(fault) => Err(fault),
+    }
 }

@@ -13,6 +13,9 @@ use std::alloc::Global;
 /// The answer to wrong words.
 pub const WORDS_FAULT: &[u8] = b"fault words\n";
 
+/// The line behind the report of a session whose journal is full.
+pub const SESSION_FULL: &[u8] = b"fault session full\n";
+
 /// The status of the program where its output was not written whole.
 pub fn unwritten(fault: ReportFault) -> u8
     ensures write { result ≡ 5 → fault ≡ unwritten_by.Write }

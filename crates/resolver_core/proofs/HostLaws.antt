@@ -61,7 +61,7 @@ host_is_told : (host : List ℕ) → IsHost host → is_host host ≡ true
 host_is_told host h =
     both _ _ (at_most (length host) 253 h.within) (list_all-from_AllPass is_label (pieces 46 host) (λ k d below. label_is_told _ (h.labels k d below)))
 
-told_is_host : (host : List ℕ) → is_host host ≡ true → IsHost host
+pub told_is_host : (host : List ℕ) → is_host host ≡ true → IsHost host
 told_is_host host h =
     let labels : list_all is_label (pieces 46 host) ≡ true = second (nat_le (length host) 253) _ h in
     record {

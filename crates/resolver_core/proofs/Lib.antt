@@ -1,5 +1,6 @@
 mod AnyTargetLaws
 mod AuthorityLaws
 mod HostLaws
+pub mod KeptLaws
 mod PieceLaws
 pub mod TargetLaws

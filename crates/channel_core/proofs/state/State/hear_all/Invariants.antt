@@ -1,0 +1,10 @@
+use Rattle.std.proofs.Common.{◌≡◌, length, drop, []}
+use Rattle.std.specs.Vec.Iter.{into_iter_items}
+use Rattle.channel_core.specs.Steps as steps
+use Rattle.channel_core.proofs.state.State.hear_all.Given as goal
+
+abbrev pub invariant-loop-one : goal.invariant-loop-one
+invariant-loop-one g l = steps.ends_kept (into_iter_items l.rest) l.ends.entries ≡ steps.ends_kept l.fn.news []
+
+abbrev pub decreases-loop-one : goal.decreases-loop-one
+decreases-loop-one g l = length (into_iter_items l.rest)

@@ -1,0 +1,263 @@
+// The channel but for its journal: what each of the sixteen events does, and how the channel settles after it.
+ghost use Rattle.std.specs.Prelude.{◌≡◌, IfOk, OnOk, map, true};
+ghost use Rattle.channel_core.specs.Books.{no_ledger};
+ghost use Rattle.grpc_base.specs.Authorities.{IsAuthority};
+ghost use Rattle.policy_rack.specs.Kinds.{are_ready};
+ghost use Rattle.channel_core.specs.Steps as steps;
+
+mod acts;
+mod applications;
+mod arriving;
+mod authority;
+mod book;
+mod buckets;
+mod connecting;
+mod draining;
+mod links;
+mod settling;
+mod slots;
+mod timers;
+
+use attempt_ledger::Ledger;
+use authority::Authority;
+use book::Book;
+use channel_net::Net;
+use grpc_base::{Conn, Event, Items, KindSet, Moment, NoMemory, Refusal, Reply, Text};
+use lb_policy::Balancer;
+use links::LinkTable;
+use picker_gate::{Gate, Timers};
+use resolver_core::Resolver;
+use service_config::Config;
+use std::alloc::Global;
+use std::marker::Model;
+use timers::{earlier, number_of, take_due};
+
+/// A channel without its journal.
+#[derive(Drop)]
+pub struct State<P: Balancer> {
+    alloc: Global,
+    /// The random word of the step, and how many draws the step made.
+    word: u64,
+    drawn: u64,
+    shut: bool,
+    resolver: Resolver,
+    /// The last valid config.
+    held: Option<Config>,
+    /// Whether the resolver failed, or gave an invalid config, before any valid one was held.
+    unconfigured: bool,
+    book: Book,
+    net: Net<P>,
+    links: LinkTable,
+    /// The outstanding attempts, each as its link and its row.
+    outstanding: Gate,
+    /// The attempts that wait for a pick: those of calls that do not wait for ready, and those of calls that do.
+    queue: Gate,
+    patient: Gate,
+    /// The due moments and the deadlines of calls.
+    dues: Timers,
+    deadlines: Timers,
+    /// The calls without a configuration; and of these, those whose application does not wait for ready.
+    bare: Timers,
+    impatient: Timers,
+    /// The links with resets that are still to be sealed.
+    resets: Items<u32>,
+}
+
+impl<P: Balancer> Model for State<P> {
+    ghost use Rattle.channel_core.specs.States.{StateSeen};
+
+    ghost Value = { StateSeen };
+
+    ghost view = { λ s. record {
+      word = s.word;
+      drawn = s.drawn;
+      shut = s.shut;
+      resolver = s.resolver;
+      held = s.held;
+      unconfigured = s.unconfigured;
+      book = s.book;
+      net = s.net;
+      links = s.links;
+      outstanding = s.outstanding;
+      queue = s.queue;
+      patient = s.patient;
+      dues = s.dues;
+      deadlines = s.deadlines;
+      bare = s.bare;
+      impatient = s.impatient;
+      resets = s.resets;
+    } };
+}
+
+impl<P: Balancer> State<P> {
+    /// A channel whose requests have this authority, and which balances by these policies.
+    pub fn new(alloc: Global, authority: Text, policies: Vec<P>) -> Result<State<P>, NoMemory>
+        requires authority { IsAuthority authority }
+        requires policies { are_ready (map P.seen policies.items) ≡ true }
+        ensures authority { IfOk result (λ s. s.book.authority ≡ authority) }
+        ensures ledger { IfOk result (λ s. s.book.ledger ≡ no_ledger) }
+    {
+        let book = Book::new(alloc, Authority::new(authority), Moment::new(0).unwrap())?;
+        Ok(State {
+            alloc,
+            word: 0,
+            drawn: 0,
+            shut: false,
+            resolver: Resolver::new(),
+            held: None,
+            unconfigured: false,
+            book,
+            net: Net::new(alloc, policies),
+            links: LinkTable::new(alloc),
+            outstanding: Gate::new(alloc),
+            queue: Gate::new(alloc),
+            patient: Gate::new(alloc),
+            dues: Timers::new(alloc),
+            deadlines: Timers::new(alloc),
+            bare: Timers::new(alloc),
+            impatient: Timers::new(alloc),
+            resets: Items::new(alloc),
+        })
+    }
+
+    /// One step but for its entry in the journal: what is due by its moment, the event, and what it settles.
+    pub fn step(
+        &mut self,
+        entry: u64,
+        moment: Moment,
+        word: u64,
+        event: &Event,
+    ) -> Result<Reply, NoMemory> {
+        self.book.begin_step(entry, moment);
+        self.word = word;
+        self.drawn = 0;
+        self.end_overdue()?;
+        let reply = self.apply(event)?;
+        self.settle()?;
+        Ok(reply)
+    }
+
+    /// Ends the calls whose deadline has come, the earliest first.
+    fn end_overdue(&mut self) -> Result<(), NoMemory>
+        ensures { OnOk result (self.new ≡ steps.overdue_ended self.old) }
+    {
+        let calls = take_due(self.alloc, &mut self.deadlines, self.book.moment.nanos())?;
+        self.end_all(calls)
+    }
+
+    fn end_all(&mut self, calls: Items<u64>) -> Result<(), NoMemory>
+        ensures { OnOk result (self.new ≡ steps.all_timed_out calls self.old) }
+    {
+        let mut rest = calls.into_vec().into_iter();
+        while let Some(call) = rest.next() {
+            self.time_out(number_of(call))?;
+        }
+        Ok(())
+    }
+
+    fn apply(&mut self, event: &Event) -> Result<Reply, NoMemory> {
+        match self.refused(event) {
+            Some(refusal) => Ok(Reply::Refused { refusal }),
+            None => self.applied(event),
+        }
+    }
+
+    /// The first refusal that stands, of those that the channel itself tells.
+    fn refused(&self, event: &Event) -> Option<Refusal> {
+        match event {
+            Event::Tick | Event::Shutdown => None,
+            Event::Take { call } => self.book.lacks_call(*call),
+            _ if self.shut => Some(Refusal::Shut),
+            Event::Send { call, message: _ } | Event::Finish { call } | Event::Cancel { call } => {
+                self.book.lacks_call(*call)
+            }
+            Event::Arrived { link, piece: _ }
+            | Event::LinkLost { link }
+            | Event::Ping { link, word: _ } => self.lacks_link(*link),
+            Event::Drain { link, room } => match self.lacks_link(*link) {
+                Some(refusal) => Some(refusal),
+                None if *room < LEAST_ROOM => Some(Refusal::RoomTooSmall),
+                None => None,
+            },
+            _ => None,
+        }
+    }
+
+    fn applied(&mut self, event: &Event) -> Result<Reply, NoMemory> {
+        match event {
+            Event::Begin { request } => self.begin(request),
+            Event::Send { call, message } => self.send(*call, message),
+            Event::Finish { call } => Ok(self.book.finish(*call)),
+            Event::Take { call } => self.book.take(*call),
+            Event::Cancel { call } => self.cancel(*call),
+            Event::Resolved { addresses, config } => {
+                self.resolved(addresses.as_list(), config.as_ref())
+            }
+            Event::ResolveFailed => Ok(self.resolve_failed()),
+            Event::TakeDial => Ok(self.take_dial()),
+            Event::LinkUp { sub } => self.link_up(*sub),
+            Event::DialFailed { sub } => Ok(self.dial_failed(*sub)),
+            Event::Arrived { link, piece } => self.arrived(*link, piece.as_slice()),
+            Event::LinkLost { link } => self.link_lost(*link),
+            Event::Drain { link, room } => self.drain(*link, *room),
+            Event::Ping { link, word } => self.ping(*link, *word),
+            Event::Tick => Ok(Reply::Done),
+            Event::Shutdown => self.shut_down(),
+        }
+    }
+
+    /// The channel's connectivity state.
+    pub fn conn(&self) -> Conn {
+        if self.shut {
+            return Conn::Shutdown;
+        }
+        match self.net.state() {
+            Some(state) => state,
+            None if self.unconfigured => Conn::Failure,
+            None => Conn::Idle,
+        }
+    }
+
+    /// What the channel did so far.
+    pub fn ledger(&self) -> &Ledger
+        ensures { result.now ≡ self.now.book.ledger }
+    {
+        &self.book.ledger
+    }
+
+    /// Whether a new result of the resolver is wanted.
+    pub fn wants_resolution(&self) -> bool {
+        self.resolver.wants_resolution()
+    }
+
+    /// The next moment at which something is due, in nanoseconds.
+    pub fn next(&self) -> Option<u64> {
+        earlier(
+            earlier(self.dues.next(), self.deadlines.next()),
+            self.net.next(),
+        )
+    }
+
+    /// Whether an address waits to be dialled.
+    pub fn dialable(&self) -> bool {
+        self.net.dialable()
+    }
+
+    /// Whether a take of this call would be answered with something.
+    pub fn can_take(&self, call: u32) -> bool {
+        self.book.can_take(call)
+    }
+
+    /// Whether a message of so many bytes would not find the call full.
+    pub fn can_send(&self, call: u32, len: u32) -> bool {
+        self.book.can_send(call, len)
+    }
+
+    /// Whether a drain of this link would not be refused, and would give something.
+    pub fn can_drain(&self, link: u32) -> bool {
+        !self.shut && self.lacks_link(link).is_none() && self.links.can_drain(link, &self.book)
+    }
+}
+
+/// The largest frame: a header of 9 bytes and a payload of 16,384.
+const LEAST_ROOM: u32 = 16_393;

@@ -1,0 +1,224 @@
+// What comes on links.
+ghost use Rattle.std.specs.Prelude.{◌≡◌, ◌<◌, ◌≤◌, [], length, IfOk, OnOk};
+ghost use Rattle.channel_core.specs.Steps as steps;
+
+use crate::state::State;
+use attempt_ledger::{EndNews, News, RowCause};
+use grpc_base::{Code, Items, Metadata, NoMemory, Pushback, Reply, Text};
+use lb_policy::Balancer;
+use ledger_stamps::link_read;
+use std::alloc::Global;
+use std::collections::BTreeMap;
+
+impl<P: Balancer> State<P> {
+    /// Applies a piece frame by frame: what one frame causes is done before the next is read.
+    pub fn arrived(&mut self, link: u32, piece: &[u8]) -> Result<Reply, NoMemory> {
+        let mut rest = piece;
+        while !rest.is_empty() {
+            let taken = self.frame_arrived(link, rest)?;
+            if taken == 0 {
+                return Ok(Reply::Done);
+            }
+            rest = &rest[taken..];
+        }
+        Ok(Reply::Done)
+    }
+
+    /// Applies the bytes up to the end of one frame, and tells how many these are; none where the link is dead.
+    fn frame_arrived(&mut self, link: u32, piece: &[u8]) -> Result<usize, NoMemory>
+        requires { 0 < length piece.now }
+        ensures { IfOk result (λ taken. taken ≤ length piece.now) }
+    {
+        let Some(arrival) = self.links.arrived(link, piece)? else {
+            return Ok(0);
+        };
+        link_read(&mut self.book.ledger.links, link, arrival.read);
+        self.hear(link, arrival.news)?;
+        Ok(arrival.taken)
+    }
+
+    /// The news of one frame. Ends are applied by the rows' places.
+    fn hear(&mut self, link: u32, news: Items<News>) -> Result<(), NoMemory> {
+        let ends = self.hear_all(link, news)?;
+        self.end_all_on(link, ends)?;
+        self.seal_one(link);
+        self.seal();
+        Ok(())
+    }
+
+    /// All news but the ends, which it gives by the rows' places.
+    fn hear_all(&mut self, link: u32, news: Items<News>) -> Result<BTreeMap<u64, EndNews>, NoMemory>
+        ensures { IfOk result (λ ends. ends.entries ≡ steps.ends_kept news []) }
+    {
+        let mut ends = BTreeMap::new(self.alloc);
+        let mut rest = news.into_vec().into_iter();
+        while let Some(one) = rest.next() {
+            self.hear_one(link, one, &mut ends)?;
+        }
+        Ok(ends)
+    }
+
+    fn end_all_on(&mut self, link: u32, ends: BTreeMap<u64, EndNews>) -> Result<(), NoMemory> {
+        let mut ends = ends;
+        while let Some((row, end)) = ends.pop_first() {
+            self.end_on(link, row, end)?;
+        }
+        Ok(())
+    }
+
+    fn hear_one(
+        &mut self,
+        link: u32,
+        news: News,
+        ends: &mut BTreeMap<u64, EndNews>,
+    ) -> Result<(), NoMemory>
+        ensures { OnOk result (ends.new.entries ≡ steps.end_kept news ends.old.entries) }
+    {
+        match news {
+            News::Ready => {
+                self.greet(link);
+                Ok(())
+            }
+            News::Retiring => {
+                self.retire(link);
+                Ok(())
+            }
+            News::Broken { code: _ } => self.lose(link, false),
+            News::Ended { tag, end } => {
+                let _before = ends.insert(tag, end)?;
+                Ok(())
+            }
+            News::Head { tag, meta, seen } => self.tell(tag, News::Head { tag, meta, seen }),
+            News::Message { tag, octets, seen } => {
+                self.tell(tag, News::Message { tag, octets, seen })
+            }
+            News::TooLarge { tag, seen } => self.tell(tag, News::TooLarge { tag, seen }),
+        }
+    }
+
+    /// The server's first SETTINGS came on a link.
+    fn greet(&mut self, link: u32)
+        ensures { self.new ≡ steps.greeted link self.old }
+    {
+        let sub = self.sub_of(link);
+        self.net.ready(sub, link);
+    }
+
+    /// The peer's GOAWAY came on a link.
+    fn retire(&mut self, link: u32)
+        ensures { self.new ≡ steps.retired link self.old }
+    {
+        let sub = self.sub_of(link);
+        self.links.retire(link);
+        self.net.down(sub, link);
+        self.stamp_gone(link);
+    }
+
+    /// A link is lost or broken.
+    fn bury(&mut self, link: u32)
+        ensures { self.new ≡ steps.buried link self.old }
+    {
+        let sub = self.sub_of(link);
+        self.links.bury(link);
+        self.net.down(sub, link);
+        self.resolver.want();
+    }
+
+    /// Tells a call what came for one of its attempts.
+    fn tell(&mut self, row: u64, news: News) -> Result<(), NoMemory>
+        ensures { OnOk result (self.new ≡ steps.told row news self.old) }
+    {
+        let call = self.book.call_of_row(row);
+        let word = self.next_word();
+        let acts = self.book.news(call, row, news, word)?;
+        let drew = self.book.has_drawn(row);
+        self.count_draw(drew);
+        self.follow(call, acts)
+    }
+
+    /// An attempt on a link ended, unless it was cut meanwhile.
+    fn end_on(&mut self, link: u32, row: u64, end: EndNews) -> Result<(), NoMemory> {
+        if self.book.has_ended(row) {
+            return Ok(());
+        }
+        self.leave(link, row);
+        self.tell(row, News::Ended { tag: row, end })?;
+        self.stamp_gone(link);
+        Ok(())
+    }
+
+    pub fn link_lost(&mut self, link: u32) -> Result<Reply, NoMemory> {
+        self.lose(link, true)?;
+        Ok(Reply::Done)
+    }
+
+    /// A link is lost or broken, and with it each attempt on it. `each` says whether what one attempt's loss causes is complete
+    /// before the next one's.
+    fn lose(&mut self, link: u32, each: bool) -> Result<(), NoMemory> {
+        self.bury(link);
+        self.lose_rows(link, each)?;
+        self.stamp_gone(link);
+        Ok(())
+    }
+
+    fn lose_rows(&mut self, link: u32, each: bool) -> Result<(), NoMemory> {
+        let mut last = 0;
+        // There are fewer rows than this.
+        for _row in 0..u64::MAX {
+            let Some(row) = self.next_on(link, last) else {
+                return Ok(());
+            };
+            last = row;
+            self.lose_row(link, row, each)?;
+        }
+        Ok(())
+    }
+
+    /// The first outstanding row of a link after another.
+    fn next_on(&self, link: u32, row: u64) -> Option<u64>
+        ensures { result ≡ steps.next_on link row self.now }
+    {
+        match self.outstanding.first_after(link, row) {
+            Some((on, next)) if on == link => Some(next),
+            Some(_) | None => None,
+        }
+    }
+
+    fn lose_row(&mut self, link: u32, row: u64, each: bool) -> Result<(), NoMemory> {
+        let end = self.loss_of(link, row);
+        self.end_on(link, row, end)?;
+        if each {
+            self.seal();
+        }
+        Ok(())
+    }
+
+    /// The end of an attempt whose link is lost: after its request's head was sent, or before.
+    fn loss_of(&self, link: u32, row: u64) -> EndNews
+        ensures { result ≡ steps.loss_of link row self.now }
+    {
+        let seen = match self.book.link(link) {
+            Some(link) => link.read,
+            None => 0,
+        };
+        loss(self.alloc, self.book.has_stream(row), seen)
+    }
+}
+
+fn loss(alloc: Global, was_sent: bool, seen: u64) -> EndNews
+    ensures { result ≡ steps.loss was_sent seen }
+{
+    EndNews {
+        code: Code::Unavailable,
+        text: Text::new(alloc),
+        meta: Metadata::new(alloc),
+        pushback: Pushback::None,
+        unseen: !was_sent,
+        seen,
+        cause: if was_sent {
+            RowCause::Lost
+        } else {
+            RowCause::Unsent
+        },
+    }
+}

@@ -1,0 +1,512 @@
+// The calls and the ledger of a channel, as its links are lent them for the requests of their attempts.
+ghost use Rattle.std.specs.Prelude.{◌≡◌, ◌≢◌, ◌≤◌, ◌+◌, [], length, IfOk, OnOk};
+ghost use Rattle.std.specs.Option.{option_copied, option_map};
+ghost use Rattle.attempt_ledger.specs.declared.ledger.Ledger.{Ledger};
+ghost use Rattle.grpc_base.specs.Authorities.{IsAuthority};
+ghost use Rattle.call_core.specs.Steps as step;
+ghost use Rattle.h2_hpack.specs.Tables.{list_size};
+ghost use Rattle.channel_core.specs.Tables.{cancel_reply_of, finish_reply_of, no_buckets, send_reply_of, take_reply_of};
+ghost use Rattle.channel_core.specs.Books.{begun_step, blank_request, book_acted, book_asked, book_begun, book_configured, book_finished, book_followed, book_placed, book_taken, can_send_at, can_take_at, head_for, no_ledger, bucket_at, call_of, deadline_of, deadline_set, due_at, due_forgotten, due_set, has_drawn, has_ended, has_stream, head_of, is_live_at, lacks_call, left_until, limit_at, lines_of, link_at, link_of, row_at, slot_at, timers_set, waits_at};
+
+use crate::state::authority::Authority;
+use crate::state::buckets::Buckets;
+use crate::state::slots::Slots;
+use attempt_ledger::{Ledger, LinkSeen, News, Placed, Row};
+use bytes::BytesMut;
+use call_core::{Call, CallAct};
+use grpc_base::{
+    Chosen, Duration, EndCause, Field, Fields, Items, Moment, NoMemory, Octets, Refusal, Reply,
+    Request, Text, Throttle,
+};
+use grpc_meta::request_fields;
+use h2_link::Feed;
+use ledger_stamps::{add_call, link_gone, link_read};
+use std::alloc::Global;
+
+/// The calls, their buckets, and what the channel did, at the moment of the step.
+#[derive(Drop)]
+pub struct Book {
+    pub alloc: Global,
+    pub authority: Authority,
+    pub moment: Moment,
+    pub ledger: Ledger,
+    pub calls: Slots,
+    pub buckets: Buckets,
+}
+
+impl Book {
+    pub fn new(alloc: Global, authority: Authority, moment: Moment) -> Result<Book, NoMemory>
+        ensures { IfOk result (λ b. b ≡ record b { authority = authority; moment = moment; ledger = no_ledger; calls = []; buckets = no_buckets }) }
+    {
+        let buckets = Buckets::new(alloc)?;
+        Ok(Book {
+            alloc,
+            authority,
+            moment,
+            ledger: Ledger::new(alloc),
+            calls: Slots::new(alloc),
+            buckets,
+        })
+    }
+
+    pub fn begin_step(&mut self, entry: u64, moment: Moment)
+        ensures { self.new ≡ begun_step entry moment self.old }
+    {
+        self.ledger.entry = entry;
+        self.moment = moment;
+    }
+
+    /// The row at a place.
+    pub fn row(&self, place: u64) -> Option<&Row>
+        ensures { option_copied result ≡ row_at self.now place }
+    {
+        if place == 0 {
+            return None;
+        }
+        self.ledger.rows.get(place as usize - 1)
+    }
+
+    /// The link of a number, as the ledger has it.
+    pub fn link(&self, link: u32) -> Option<&LinkSeen>
+        ensures { option_copied result ≡ link_at self.now link }
+    {
+        if link == 0 {
+            return None;
+        }
+        self.ledger.links.get(link as usize - 1)
+    }
+
+    /// The call of a number.
+    pub fn call(&self, call: u32) -> Option<&Call>
+        ensures { option_copied result ≡ option_map (λ slot. slot.call) (slot_at self.now call) }
+    {
+        match self.calls.at(call) {
+            Some(slot) => Some(&slot.call),
+            None => None,
+        }
+    }
+
+    /// The call of the row at a place; 0, which is no call's number, where there is no row.
+    pub fn call_of_row(&self, place: u64) -> u32
+        ensures { result ≡ call_of (row_at self.now place) }
+    {
+        match self.row(place) {
+            Some(row) => row.call,
+            None => 0,
+        }
+    }
+
+    /// The link of the row at a place; 0, which is no link's number, where it has none.
+    pub fn link_of_row(&self, place: u64) -> u32
+        ensures { result ≡ link_of (row_at self.now place) }
+    {
+        match self.row(place) {
+            Some(row) => match row.placed {
+                Some(placed) => placed.link,
+                None => 0,
+            },
+            None => 0,
+        }
+    }
+
+    pub fn has_ended(&self, place: u64) -> bool
+        ensures { result ≡ has_ended (row_at self.now place) }
+    {
+        match self.row(place) {
+            Some(row) => row.ended.is_some(),
+            None => true,
+        }
+    }
+
+    pub fn has_stream(&self, place: u64) -> bool
+        ensures { result ≡ has_stream (row_at self.now place) }
+    {
+        match self.row(place) {
+            Some(row) => row.stream.is_some(),
+            None => false,
+        }
+    }
+
+    /// Whether a random word was drawn at the end of the row at a place.
+    pub fn has_drawn(&self, place: u64) -> bool
+        ensures { result ≡ has_drawn (row_at self.now place) }
+    {
+        match self.row(place) {
+            Some(row) => match &row.ended {
+                Some(end) => end.word.is_some(),
+                None => false,
+            },
+            None => false,
+        }
+    }
+
+    pub fn lacks_call(&self, call: u32) -> Option<Refusal>
+        ensures { result ≡ lacks_call (slot_at self.now call) }
+    {
+        match self.calls.at(call) {
+            Some(_) => None,
+            None => Some(Refusal::NoSuchCall),
+        }
+    }
+
+    pub fn waits(&self, call: u32) -> bool
+        ensures { result ≡ waits_at (slot_at self.now call) }
+    {
+        match self.calls.at(call) {
+            Some(slot) => slot.call.waits(),
+            None => false,
+        }
+    }
+
+    /// The limit on each message of a call's response.
+    pub fn response_limit(&self, call: u32) -> u32
+        ensures { result ≡ limit_at (slot_at self.now call) }
+    {
+        match self.calls.at(call) {
+            Some(slot) => match slot.call.chosen() {
+                Some(chosen) => chosen.response.bytes(),
+                None => 0,
+            },
+            None => 0,
+        }
+    }
+
+    pub fn is_live(&self, call: u32) -> bool
+        ensures { result ≡ is_live_at (slot_at self.now call) }
+    {
+        match self.calls.at(call) {
+            Some(slot) => slot.call.ended().is_none(),
+            None => false,
+        }
+    }
+
+    fn bucket_of(&self, call: u32) -> usize
+        ensures { result ≡ bucket_at (slot_at self.now call) }
+    {
+        match self.calls.at(call) {
+            Some(slot) => slot.bucket,
+            None => 0,
+        }
+    }
+
+    /// The due moment of a call that has not ended, and its deadline.
+    pub fn due_at(&self, call: u32) -> Option<u64>
+        ensures { result ≡ due_at (slot_at self.now call) }
+    {
+        match self.calls.at(call) {
+            Some(slot) => {
+                if slot.call.ended().is_none() {
+                    slot.call.next_due()
+                } else {
+                    None
+                }
+            }
+            None => None,
+        }
+    }
+
+    pub fn deadline_of(&self, call: u32) -> Option<u64>
+        ensures { result ≡ deadline_of (slot_at self.now call) }
+    {
+        match self.calls.at(call) {
+            Some(slot) => {
+                if slot.call.ended().is_none() {
+                    slot.call.deadline_at()
+                } else {
+                    None
+                }
+            }
+            None => None,
+        }
+    }
+
+    /// The moments for which timers stand.
+    pub fn due_set(&self, call: u32) -> Option<u64>
+        ensures { result ≡ due_set (slot_at self.now call) }
+    {
+        match self.calls.at(call) {
+            Some(slot) => slot.due,
+            None => None,
+        }
+    }
+
+    pub fn deadline_set(&self, call: u32) -> Option<u64>
+        ensures { result ≡ deadline_set (slot_at self.now call) }
+    {
+        match self.calls.at(call) {
+            Some(slot) => slot.deadline,
+            None => None,
+        }
+    }
+
+    pub fn set_timers(&mut self, call: u32, due: Option<u64>, deadline: Option<u64>)
+        ensures { self.new ≡ timers_set due deadline call self.old }
+    {
+        self.calls.set_timers(call, due, deadline);
+    }
+
+    pub fn forget_due(&mut self, call: u32)
+        ensures { self.new ≡ due_forgotten call self.old }
+    {
+        self.calls.forget_due(call);
+    }
+
+    pub fn begin(&mut self, request: &Request) -> Result<u32, NoMemory>
+        ensures book { OnOk result (self.new ≡ book_begun request.now self.old) }
+        ensures number { IfOk result (λ n. n ≡ length self.old.ledger.calls + 1) }
+    {
+        let request = request.copy()?;
+        let number = add_call(self.alloc, &mut self.ledger.calls, self.ledger.entry)?;
+        let call = Call::new(self.alloc, number, request, self.moment);
+        self.calls.push(call)?;
+        Ok(number)
+    }
+
+    pub fn follow(&mut self, throttle: Option<Throttle>) -> Result<(), NoMemory>
+        ensures { OnOk result (self.new ≡ book_followed throttle self.old) }
+    {
+        self.buckets.follow(throttle)
+    }
+
+    pub fn configure(&mut self, call: u32, chosen: Chosen) -> Result<Items<CallAct>, NoMemory>
+        ensures book { OnOk result (self.new ≡ (book_configured chosen call self.old).book) }
+        ensures acts { IfOk result (λ acts. acts ≡ (book_configured chosen call self.old).acts) }
+    {
+        let acts = self
+            .calls
+            .configure(call, &mut self.ledger, chosen, self.moment)?;
+        self.calls.set_bucket(call, self.buckets.last());
+        Ok(acts)
+    }
+
+    pub fn close(&mut self, call: u32, cause: EndCause) -> Result<Items<CallAct>, NoMemory>
+        ensures book { OnOk result (self.new ≡ (book_asked (step.closed_by cause self.old.moment) call self.old).book) }
+        ensures acts { IfOk result (λ acts. acts ≡ (book_asked (step.closed_by cause self.old.moment) call self.old).acts) }
+    {
+        let bucket = self.bucket_of(call);
+        let tokens = self.buckets.lift(bucket);
+        let acts = self
+            .calls
+            .close(call, &mut self.ledger, cause, self.moment, &tokens)?;
+        self.buckets.lay(bucket, tokens);
+        Ok(acts)
+    }
+
+    pub fn deadline(&mut self, call: u32) -> Result<Items<CallAct>, NoMemory>
+        ensures book { OnOk result (self.new ≡ (book_asked (step.timed_out self.old.moment) call self.old).book) }
+        ensures acts { IfOk result (λ acts. acts ≡ (book_asked (step.timed_out self.old.moment) call self.old).acts) }
+    {
+        let bucket = self.bucket_of(call);
+        let tokens = self.buckets.lift(bucket);
+        let acts = self
+            .calls
+            .deadline(call, &mut self.ledger, self.moment, &tokens)?;
+        self.buckets.lay(bucket, tokens);
+        Ok(acts)
+    }
+
+    pub fn due(&mut self, call: u32) -> Result<Items<CallAct>, NoMemory>
+        ensures book { OnOk result (self.new ≡ (book_asked (step.made_due self.old.moment) call self.old).book) }
+        ensures acts { IfOk result (λ acts. acts ≡ (book_asked (step.made_due self.old.moment) call self.old).acts) }
+    {
+        let bucket = self.bucket_of(call);
+        let tokens = self.buckets.lift(bucket);
+        let acts = self
+            .calls
+            .due(call, &mut self.ledger, self.moment, &tokens)?;
+        self.buckets.lay(bucket, tokens);
+        Ok(acts)
+    }
+
+    pub fn picked_fail(
+        &mut self,
+        call: u32,
+        row: u64,
+        word: u64,
+    ) -> Result<Items<CallAct>, NoMemory>
+        ensures book { OnOk result (self.new ≡ (book_acted (step.pick_failed row self.old.moment word) call self.old).book) }
+        ensures acts { IfOk result (λ acts. acts ≡ (book_acted (step.pick_failed row self.old.moment word) call self.old).acts) }
+    {
+        let bucket = self.bucket_of(call);
+        let mut tokens = self.buckets.lift(bucket);
+        let acts = self.calls.picked_fail(
+            call,
+            &mut self.ledger,
+            row,
+            self.moment,
+            word,
+            &mut tokens,
+        )?;
+        self.buckets.lay(bucket, tokens);
+        Ok(acts)
+    }
+
+    pub fn news(
+        &mut self,
+        call: u32,
+        row: u64,
+        news: News,
+        word: u64,
+    ) -> Result<Items<CallAct>, NoMemory>
+        ensures book { OnOk result (self.new ≡ (book_acted (step.heard_news row news self.old.moment word) call self.old).book) }
+        ensures acts { IfOk result (λ acts. acts ≡ (book_acted (step.heard_news row news self.old.moment word) call self.old).acts) }
+    {
+        let bucket = self.bucket_of(call);
+        let mut tokens = self.buckets.lift(bucket);
+        let acts = self.calls.news(
+            call,
+            &mut self.ledger,
+            row,
+            news,
+            self.moment,
+            word,
+            &mut tokens,
+        )?;
+        self.buckets.lay(bucket, tokens);
+        Ok(acts)
+    }
+
+    pub fn send(&mut self, call: u32, message: Octets) -> Result<(Reply, Items<CallAct>), NoMemory>
+        ensures reply { IfOk result (λ r. r.0 ≡ send_reply_of message (slot_at self.old call)) }
+        ensures book { OnOk result (self.new ≡ (book_asked (step.sent message self.old.moment) call self.old).book) }
+        ensures acts { IfOk result (λ r. r.1 ≡ (book_asked (step.sent message self.old.moment) call self.old).acts) }
+    {
+        let bucket = self.bucket_of(call);
+        let tokens = self.buckets.lift(bucket);
+        let sent = self
+            .calls
+            .send(call, &mut self.ledger, message, self.moment, &tokens)?;
+        self.buckets.lay(bucket, tokens);
+        Ok(sent)
+    }
+
+    pub fn cancel(&mut self, call: u32) -> Result<(Reply, Items<CallAct>), NoMemory>
+        ensures reply { IfOk result (λ r. r.0 ≡ cancel_reply_of (slot_at self.old call)) }
+        ensures book { OnOk result (self.new ≡ (book_asked (step.cancelled self.old.moment) call self.old).book) }
+        ensures acts { IfOk result (λ r. r.1 ≡ (book_asked (step.cancelled self.old.moment) call self.old).acts) }
+    {
+        let bucket = self.bucket_of(call);
+        let tokens = self.buckets.lift(bucket);
+        let cancelled = self
+            .calls
+            .cancel(call, &mut self.ledger, self.moment, &tokens)?;
+        self.buckets.lay(bucket, tokens);
+        Ok(cancelled)
+    }
+
+    pub fn placed(&mut self, call: u32, row: u64, at: Placed) -> Result<Items<CallAct>, NoMemory>
+        ensures book { OnOk result (self.new ≡ (book_placed row at call self.old).book) }
+        ensures acts { IfOk result (λ acts. acts ≡ (book_placed row at call self.old).acts) }
+    {
+        self.calls.placed(call, &mut self.ledger, row, at)
+    }
+
+    pub fn finish(&mut self, call: u32) -> Reply
+        ensures reply { result ≡ finish_reply_of (slot_at self.old call) }
+        ensures book { self.new ≡ book_finished call self.old }
+    {
+        self.calls.finish(call)
+    }
+
+    pub fn take(&mut self, call: u32) -> Result<Reply, NoMemory>
+        ensures reply { IfOk result (λ r. r ≡ take_reply_of self.old.ledger (slot_at self.old call)) }
+        ensures book { OnOk result (self.new ≡ book_taken call self.old) }
+    {
+        self.calls.take(call, &self.ledger)
+    }
+
+    pub fn can_take(&self, call: u32) -> bool
+        ensures { result ≡ can_take_at (slot_at self.now call) }
+    {
+        match self.calls.at(call) {
+            Some(slot) => slot.call.can_take(&self.ledger),
+            None => true,
+        }
+    }
+
+    pub fn can_send(&self, call: u32, len: u32) -> bool
+        ensures { result ≡ can_send_at len (slot_at self.now call) }
+    {
+        match self.calls.at(call) {
+            Some(slot) => slot.call.can_send(len),
+            None => true,
+        }
+    }
+
+    /// The request of an attempt of a call.
+    fn head_for(&self, row: &Row) -> Result<Fields, NoMemory>
+        ensures fields { IfOk result (λ f. f ≡ head_for self.now row.now (slot_at self.now row.now.call)) }
+        ensures some { IfOk result (λ f. f ≢ []) }
+        ensures size { IfOk result (λ f. list_size f ≤ 16384) }
+    {
+        let Some(slot) = self.calls.at(row.call) else {
+            return blank_request(self.alloc);
+        };
+        request_fields(
+            self.alloc,
+            slot.call.request(),
+            self.authority.text(),
+            left_until(self.moment, slot.call.deadline_at()),
+            row.number.max(1),
+        )
+    }
+}
+
+/// The time that is left until a deadline, in nanoseconds, from 1 to the longest.
+fn left_until(moment: Moment, deadline: Option<u64>) -> Option<u64>
+    ensures { result ≡ left_until moment deadline }
+{
+    match deadline {
+        Some(deadline) => Some(
+            deadline
+                .saturating_sub(moment.nanos())
+                .max(1)
+                .min(Duration::LIMIT),
+        ),
+        None => None,
+    }
+}
+
+/// The request for a tag that names no attempt.
+fn blank_request(alloc: Global) -> Result<Fields, NoMemory>
+    ensures { IfOk result (λ f. f ≡ blank_request) }
+{
+    let mut fields = Fields::new(alloc);
+    fields.push(Field {
+        name: Octets::of_static(b":method"),
+        value: Octets::of_static(b"POST"),
+    })?;
+    Ok(fields)
+}
+
+impl Feed for Book {
+    ghost use Rattle.std.proofs.Common.{refl, ◌∙◌};
+    ghost use Rattle.channel_core.specs.Books.{lines_of, IsSameBook};
+
+    ghost lines = { lines_of };
+
+    ghost same = { IsSameBook };
+
+    ghost same_self = { λ b. record { rest = refl; calls = refl } };
+
+    ghost same_on = { λ f g h p q. record { rest = p.rest ∙ q.rest; calls = p.calls ∙ q.calls } };
+
+    fn head(&mut self, tag: u64) -> Result<Fields, NoMemory> {
+        match self.row(tag) {
+            Some(row) => self.head_for(row),
+            None => blank_request(self.alloc),
+        }
+    }
+
+    fn ready(&self, tag: u64) -> (u64, bool) {
+        match self.calls.at(self.call_of_row(tag)) {
+            Some(slot) => slot.call.ready(tag),
+            None => (0, false),
+        }
+    }
+
+    fn take(&mut self, tag: u64, len: u32, out: &mut BytesMut) -> Result<(), NoMemory> {
+        let call = self.call_of_row(tag);
+        self.calls.feed(call, tag, len, out)
+    }
+}

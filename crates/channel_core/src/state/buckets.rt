@@ -1,0 +1,98 @@
+// The token buckets of a channel.
+ghost use Rattle.std.specs.Prelude.{◌≡◌, None, IfOk, OnOk, slice_set};
+ghost use Rattle.std.specs.Option.{option_map};
+ghost use Rattle.a6_numbers.specs.Throttling.{full};
+ghost use Rattle.channel_core.specs.Tables.{followed, is_same_throttle, last_run, no_buckets, tokens_in, with_tokens};
+
+use a6_numbers::Tokens;
+use grpc_base::{NoMemory, Throttle};
+use std::alloc::Global;
+use std::marker::Model;
+use std::mem;
+
+/// The token buckets, one for each run of valid configs with equal throttling; None for a run without. Behind that of calls
+/// without a configuration, which has no tokens.
+#[derive(Drop)]
+pub struct Buckets {
+    runs: Vec<Option<Tokens>>,
+    throttle: Option<Throttle>,
+}
+
+impl Model for Buckets {
+    ghost use Rattle.channel_core.specs.Tables.{BucketsSeen};
+
+    ghost Value = { BucketsSeen };
+
+    ghost view = { λ b. record { runs = b.runs.items; throttle = b.throttle } };
+}
+
+impl Buckets {
+    pub fn new(alloc: Global) -> Result<Buckets, NoMemory>
+        ensures { IfOk result (λ b. b ≡ no_buckets) }
+    {
+        let mut runs = Vec::new(alloc);
+        runs.push(None)?;
+        Ok(Buckets {
+            runs,
+            throttle: None,
+        })
+    }
+
+    /// A valid config with this throttling is held from here on.
+    pub fn follow(&mut self, throttle: Option<Throttle>) -> Result<(), NoMemory>
+        ensures { OnOk result (self.new ≡ followed throttle self.old) }
+    {
+        if self.runs.len() > 1 && is_same_throttle(self.throttle, throttle) {
+            return Ok(());
+        }
+        self.runs.push(bucket_of(throttle))?;
+        self.throttle = throttle;
+        Ok(())
+    }
+
+    /// The place of the bucket of the config that is held.
+    pub fn last(&self) -> usize
+        ensures { result ≡ last_run self.now }
+    {
+        self.runs.len().saturating_sub(1)
+    }
+
+    /// Lends the tokens of a bucket; None takes their place.
+    pub fn lift(&mut self, bucket: usize) -> Option<Tokens>
+        ensures tokens { result ≡ tokens_in self.old bucket }
+        ensures after { self.new ≡ with_tokens bucket None self.old }
+    {
+        if bucket >= self.runs.len() {
+            return None;
+        }
+        mem::replace(&mut self.runs[bucket], None)
+    }
+
+    /// Puts tokens that were lent back.
+    pub fn lay(&mut self, bucket: usize, tokens: Option<Tokens>)
+        ensures { self.new ≡ with_tokens bucket tokens self.old }
+    {
+        if bucket < self.runs.len() {
+            self.runs[bucket] = tokens;
+        }
+    }
+}
+
+fn bucket_of(throttle: Option<Throttle>) -> Option<Tokens>
+    ensures { result ≡ option_map full throttle }
+{
+    match throttle {
+        Some(throttle) => Some(Tokens::new(throttle)),
+        None => None,
+    }
+}
+
+fn is_same_throttle(one: Option<Throttle>, other: Option<Throttle>) -> bool
+    ensures { result ≡ is_same_throttle one other }
+{
+    match (one, other) {
+        (None, None) => true,
+        (Some(one), Some(other)) => one.start == other.start && one.ratio == other.ratio,
+        (None, Some(_)) | (Some(_), None) => false,
+    }
+}

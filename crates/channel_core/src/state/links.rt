@@ -1,0 +1,357 @@
+// The links of a channel.
+ghost use Rattle.std.specs.Prelude.{◌≡◌, ◌<◌, ◌≤◌, ◌++◌, ◌∷◌, ℕ, [], Some, min, true, length, IfOk, IfSome, OnOk, slice_get, if◌then◌else◌};
+ghost use Rattle.std.specs.Option.{option_copied, option_map};
+ghost use Rattle.ledger_stamps.specs.Steps.{changed};
+ghost use Rattle.channel_core.specs.Tables.{DrainGives, SlotDrains, SlotGives, arrival_at, arrival_of, buried, buried_in, can_drain_at, fresh_link, has_link, heard_in, heard_link, hears_at, is_dead, is_retiring, links_heard, new_slot, numbered, pinged_in, pinged_link, placed_in, placed_link, reset_in, reset_link, retired, retired_in, sealed_in, sealed_link, takes_rows, takes_rows_at, with_link};
+
+use grpc_base::NoMemory;
+use grpc_base::error_code::CANCEL;
+use grpc_link::{GrpcArrival, GrpcLink};
+use h2_link::{DrainFault, Drained, Feed, LinkFault, PlaceFault};
+use ledger_stamps::index_of;
+use std::alloc::Global;
+use std::marker::Model;
+
+/// A link, whether it is lost, broken or timed out, and whether the peer's GOAWAY retired it.
+#[derive(Drop)]
+pub struct LinkSlot {
+    link: GrpcLink,
+    dead: bool,
+    retiring: bool,
+}
+
+impl LinkSlot {
+    fn bury(&mut self)
+        ensures { self.new ≡ buried self.old }
+    {
+        self.dead = true;
+    }
+
+    fn retire(&mut self)
+        ensures { self.new ≡ retired self.old }
+    {
+        self.retiring = true;
+    }
+
+    fn place(&mut self, row: u64, limit: u32) -> Result<bool, NoMemory>
+        ensures answer { IfOk result (λ placed. placed ≡ takes_rows_at (Some self.old)) }
+        ensures after { OnOk result (self.new ≡ (if takes_rows_at (Some self.old) then with_link (placed_link row limit) self.old else self.old)) }
+    {
+        match self.link.place(row, limit) {
+            Ok(()) => Ok(true),
+            Err(PlaceFault::Gone) => Ok(false),
+            Err(PlaceFault::NoMemory) => Err(NoMemory),
+        }
+    }
+
+    fn reset(&mut self, row: u64) -> Result<(), NoMemory>
+        ensures { OnOk result (self.new ≡ with_link (reset_link row) self.old) }
+    {
+        self.link.reset(row, CANCEL)
+    }
+
+    fn seal(&mut self)
+        ensures { self.new ≡ with_link sealed_link self.old }
+    {
+        self.link.seal();
+    }
+
+    fn ping(&mut self, word: u64) -> Result<(), NoMemory>
+        ensures { OnOk result (self.new ≡ with_link (pinged_link word) self.old) }
+    {
+        self.link.ping(word)
+    }
+
+    fn arrived(&mut self, piece: &[u8]) -> Result<Option<GrpcArrival>, NoMemory>
+        requires { 0 < length piece.now }
+        ensures arrival { IfOk result (λ a. a ≡ arrival_at piece.now (Some self.old)) }
+        ensures within { IfOk result (λ a. IfSome a (λ a. (1 ≤ a.taken) × (a.taken ≤ length piece.now))) }
+        ensures after { OnOk result (self.new ≡ (if hears_at (Some self.old) then with_link (heard_link piece.now) self.old else self.old)) }
+    {
+        if self.dead {
+            return Ok(None);
+        }
+        match self.link.arrived(piece) {
+            Ok(arrival) => Ok(Some(arrival)),
+            Err(LinkFault::Gone) => Ok(None),
+            Err(LinkFault::NoMemory) => Err(NoMemory),
+        }
+    }
+
+    #[tactic(auto, using(crate::proofs::Feeds::holds_all))]
+    fn drain<F: Feed>(&mut self, room: u32, feed: &mut F) -> Result<Option<Drained>, NoMemory>
+        requires { (t : ℕ) → (F.lines feed.old t).held ≡ true }
+        ensures drains { IfOk result (λ d. SlotGives room self.old (F.lines feed.old) d self.new (F.lines feed.new)) }
+        ensures same { F.same feed.old feed.new }
+    {
+        match self.link.drain(room, feed) {
+            Ok(drained) => Ok(Some(drained)),
+            Err(DrainFault::Gone | DrainFault::RoomTooSmall) => Ok(None),
+            Err(DrainFault::NoMemory) => Err(NoMemory),
+        }
+    }
+
+    #[tactic(auto, using(crate::proofs::Feeds::holds_all))]
+    fn can_drain<F: Feed>(&self, feed: &F) -> bool
+        requires { (t : ℕ) → (F.lines feed.now t).held ≡ true }
+        ensures { result ≡ can_drain_at (F.lines feed.now) (Some self.now) }
+    {
+        self.link.can_drain(feed)
+    }
+}
+
+/// The links of a channel, numbered from 1. What names no link changes nothing.
+#[derive(Drop)]
+pub struct LinkTable {
+    alloc: Global,
+    slots: Vec<LinkSlot>,
+}
+
+impl Model for LinkTable {
+    ghost use Rattle.std.specs.Prelude.{List};
+    ghost use Rattle.channel_core.specs.declared.state.links.LinkSlot.{LinkSlot};
+
+    ghost Value = { List LinkSlot };
+
+    ghost view = { λ t. t.slots.items };
+}
+
+impl LinkTable {
+    pub fn new(alloc: Global) -> LinkTable
+        ensures { result ≡ [] }
+    {
+        LinkTable {
+            alloc,
+            slots: Vec::new(alloc),
+        }
+    }
+
+    /// A link comes up.
+    pub fn add(&mut self) -> Result<(), NoMemory>
+        ensures { OnOk result (self.new ≡ self.old ++ new_slot fresh_link ∷ []) }
+    {
+        let link = GrpcLink::new(self.alloc)?;
+        self.slots.push(LinkSlot {
+            link,
+            dead: false,
+            retiring: false,
+        })?;
+        Ok(())
+    }
+
+    /// How many links there were; 4,294,967,295 where there were more.
+    pub fn count(&self) -> u32
+        ensures { result ≡ min (length self.now) 4294967295 }
+    {
+        self.slots.len().min(u32::MAX as usize) as u32
+    }
+
+    fn at(&self, link: u32) -> Option<&LinkSlot>
+        ensures { option_copied result ≡ numbered self.now link }
+    {
+        let place = link.checked_sub(1)?;
+        self.slots.as_slice().get(place as usize)
+    }
+
+    pub fn has(&self, link: u32) -> bool
+        ensures { result ≡ has_link self.now link }
+    {
+        self.at(link).is_some()
+    }
+
+    /// Whether the link is lost, broken or timed out, or there is none.
+    pub fn is_dead(&self, link: u32) -> bool
+        ensures { result ≡ is_dead self.now link }
+    {
+        match self.at(link) {
+            Some(slot) => slot.dead,
+            None => true,
+        }
+    }
+
+    /// Whether the peer's GOAWAY retired the link, or there is none.
+    pub fn is_retiring(&self, link: u32) -> bool
+        ensures { result ≡ is_retiring self.now link }
+    {
+        match self.at(link) {
+            Some(slot) => slot.retiring,
+            None => true,
+        }
+    }
+
+    pub fn bury(&mut self, link: u32)
+        ensures { self.new ≡ buried_in link self.old }
+    {
+        if let Some(index) = index_of(u64::from(link), self.slots.len()) {
+            bury_at(&mut self.slots, index);
+        }
+    }
+
+    pub fn retire(&mut self, link: u32)
+        ensures { self.new ≡ retired_in link self.old }
+    {
+        if let Some(index) = index_of(u64::from(link), self.slots.len()) {
+            retire_at(&mut self.slots, index);
+        }
+    }
+
+    /// Whether the attempt may be placed, and then it is.
+    pub fn place(&mut self, link: u32, row: u64, limit: u32) -> Result<bool, NoMemory>
+        ensures answer { IfOk result (λ placed. placed ≡ takes_rows link self.old) }
+        ensures after { OnOk result (self.new ≡ placed_in link row limit self.old) }
+    {
+        match index_of(u64::from(link), self.slots.len()) {
+            Some(index) => place_at(&mut self.slots, index, row, limit),
+            None => Ok(false),
+        }
+    }
+
+    /// Gives up the attempt of a row.
+    pub fn reset(&mut self, link: u32, row: u64) -> Result<(), NoMemory>
+        ensures { OnOk result (self.new ≡ reset_in link row self.old) }
+    {
+        match index_of(u64::from(link), self.slots.len()) {
+            Some(index) => reset_at(&mut self.slots, index, row),
+            None => Ok(()),
+        }
+    }
+
+    /// The effects of the link's last frame are complete.
+    pub fn seal(&mut self, link: u32)
+        ensures { self.new ≡ sealed_in link self.old }
+    {
+        if let Some(index) = index_of(u64::from(link), self.slots.len()) {
+            seal_at(&mut self.slots, index);
+        }
+    }
+
+    pub fn ping(&mut self, link: u32, word: u64) -> Result<(), NoMemory>
+        ensures { OnOk result (self.new ≡ pinged_in link word self.old) }
+    {
+        match index_of(u64::from(link), self.slots.len()) {
+            Some(index) => ping_at(&mut self.slots, index, word),
+            None => Ok(()),
+        }
+    }
+
+    /// Hands the link the next bytes, at least one; None where it is dead or broken, or there is none.
+    pub fn arrived(&mut self, link: u32, piece: &[u8]) -> Result<Option<GrpcArrival>, NoMemory>
+        requires { 0 < length piece.now }
+        ensures arrival { IfOk result (λ a. a ≡ option_map arrival_of (heard_in link piece.now self.old)) }
+        ensures within { IfOk result (λ a. IfSome a (λ a. (1 ≤ a.taken) × (a.taken ≤ length piece.now))) }
+        ensures after { OnOk result (self.new ≡ links_heard self.old (heard_in link piece.now self.old)) }
+    {
+        match index_of(u64::from(link), self.slots.len()) {
+            Some(index) => arrived_at(&mut self.slots, index, piece),
+            None => Ok(None),
+        }
+    }
+
+    /// Whole frames within the room, as many as fit; None where the link is broken, there is none, or the room is below 16,393
+    /// bytes.
+    pub fn drain<F: Feed>(
+        &mut self,
+        link: u32,
+        room: u32,
+        feed: &mut F,
+    ) -> Result<Option<Drained>, NoMemory>
+        requires { (t : ℕ) → (F.lines feed.old t).held ≡ true }
+        ensures drains { IfOk result (λ d. DrainGives room self.old link (F.lines feed.old) d self.new (F.lines feed.new)) }
+        ensures same { F.same feed.old feed.new }
+    {
+        match index_of(u64::from(link), self.slots.len()) {
+            Some(index) => drain_at(&mut self.slots, index, room, feed),
+            None => Ok(None),
+        }
+    }
+
+    /// Whether a drain of the link with room enough would give something.
+    pub fn can_drain<F: Feed>(&self, link: u32, feed: &F) -> bool
+        requires { (t : ℕ) → (F.lines feed.now t).held ≡ true }
+        ensures { result ≡ can_drain_at (F.lines feed.now) (numbered self.now link) }
+    {
+        match self.at(link) {
+            Some(slot) => slot.can_drain(feed),
+            None => false,
+        }
+    }
+}
+
+fn bury_at(slots: &mut Vec<LinkSlot>, index: usize)
+    requires { index < length slots.old.items }
+    ensures { slots.new.items ≡ changed buried slots.old.items index }
+{
+    let chosen = &mut slots[index];
+    chosen.bury();
+}
+
+fn retire_at(slots: &mut Vec<LinkSlot>, index: usize)
+    requires { index < length slots.old.items }
+    ensures { slots.new.items ≡ changed retired slots.old.items index }
+{
+    let chosen = &mut slots[index];
+    chosen.retire();
+}
+
+fn place_at(slots: &mut Vec<LinkSlot>, index: usize, row: u64, limit: u32) -> Result<bool, NoMemory>
+    requires { index < length slots.old.items }
+    ensures answer { IfOk result (λ placed. placed ≡ takes_rows_at (slice_get slots.old.items index)) }
+    ensures after { OnOk result (slots.new.items ≡ (if takes_rows_at (slice_get slots.old.items index) then changed (with_link (placed_link row limit)) slots.old.items index else slots.old.items)) }
+{
+    let chosen = &mut slots[index];
+    chosen.place(row, limit)
+}
+
+fn reset_at(slots: &mut Vec<LinkSlot>, index: usize, row: u64) -> Result<(), NoMemory>
+    requires { index < length slots.old.items }
+    ensures { OnOk result (slots.new.items ≡ changed (with_link (reset_link row)) slots.old.items index) }
+{
+    let chosen = &mut slots[index];
+    chosen.reset(row)
+}
+
+fn seal_at(slots: &mut Vec<LinkSlot>, index: usize)
+    requires { index < length slots.old.items }
+    ensures { slots.new.items ≡ changed (with_link sealed_link) slots.old.items index }
+{
+    let chosen = &mut slots[index];
+    chosen.seal();
+}
+
+fn ping_at(slots: &mut Vec<LinkSlot>, index: usize, word: u64) -> Result<(), NoMemory>
+    requires { index < length slots.old.items }
+    ensures { OnOk result (slots.new.items ≡ changed (with_link (pinged_link word)) slots.old.items index) }
+{
+    let chosen = &mut slots[index];
+    chosen.ping(word)
+}
+
+fn arrived_at(
+    slots: &mut Vec<LinkSlot>,
+    index: usize,
+    piece: &[u8],
+) -> Result<Option<GrpcArrival>, NoMemory>
+    requires some { 0 < length piece.now }
+    requires inside { index < length slots.old.items }
+    ensures arrival { IfOk result (λ a. a ≡ arrival_at piece.now (slice_get slots.old.items index)) }
+    ensures within { IfOk result (λ a. IfSome a (λ a. (1 ≤ a.taken) × (a.taken ≤ length piece.now))) }
+    ensures after { OnOk result (slots.new.items ≡ (if hears_at (slice_get slots.old.items index) then changed (with_link (heard_link piece.now)) slots.old.items index else slots.old.items)) }
+{
+    let chosen = &mut slots[index];
+    chosen.arrived(piece)
+}
+
+fn drain_at<F: Feed>(
+    slots: &mut Vec<LinkSlot>,
+    index: usize,
+    room: u32,
+    feed: &mut F,
+) -> Result<Option<Drained>, NoMemory>
+    requires inside { index < length slots.old.items }
+    requires held { (t : ℕ) → (F.lines feed.old t).held ≡ true }
+    ensures drains { IfOk result (λ d. SlotDrains room slots.old.items index (F.lines feed.old) d slots.new.items (F.lines feed.new)) }
+    ensures same { F.same feed.old feed.new }
+{
+    let chosen = &mut slots[index];
+    chosen.drain(room, feed)
+}

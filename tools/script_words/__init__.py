@@ -1,0 +1,1 @@
+"""Lines of scripts and reports with their bytes written for people."""
