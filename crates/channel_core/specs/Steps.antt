@@ -160,9 +160,6 @@ sealed s = links_sealed s.resets (resets_taken s)
 abbrev pub with_book : BookActs → ℕ → StateSeen → StateSeen
 with_book b number s = followed number b.acts (record s { book = b.book })
 
-abbrev pub call_did : (call.Stepped → call.Stepped) → ℕ → StateSeen → StateSeen
-call_did f number s = with_book (book_acted f number s.book) number s
-
 abbrev pub call_asked : (call.Stepped → call.Stepped) → ℕ → StateSeen → StateSeen
 call_asked f number s = with_book (book_asked f number s.book) number s
 
@@ -235,16 +232,6 @@ told row n s = told_to (call_of (row_at s.book row)) row n s
 abbrev pub left_behind : ℕ → ℕ → StateSeen → StateSeen
 left_behind link row s = record s { outstanding = remove_key (is_same (link, row)) s.outstanding }
 
-abbrev pub ended_on : ℕ → ℕ → EndNews → StateSeen → StateSeen
-ended_on link row end s =
-    if has_ended (row_at s.book row) then s
-    else stamped_gone link (told row (news.Ended row end) (left_behind link row s))
-
--- the ends of one frame, by the rows' places
-abbrev pub all_ended_on : ℕ → List (ℕ × EndNews) → StateSeen → StateSeen
-all_ended_on link [] s = s
-all_ended_on link (e ∷ rest) s = all_ended_on link rest (ended_on link e.0 e.1 s)
-
 -- a link of a subchannel goes down
 abbrev pub downed : ℕ → StateSeen → StateSeen
 downed link s = record s { net = net.net_down (sub_of (link_at s.book link)) link s.net }
@@ -263,41 +250,9 @@ row_on link (Some pair) = if pair.0 == link then Some pair.1 else None
 abbrev pub next_on : ℕ → ℕ → StateSeen → Option ℕ
 next_on link row s = row_on link (next_behind s.outstanding (link, row))
 
-abbrev pub sealed_if : Bool → StateSeen → StateSeen
-sealed_if each s = if each then sealed s else s
-
-abbrev pub lost_row : ℕ → Bool → ℕ → StateSeen → StateSeen
-lost_row link each row s = sealed_if each (ended_on link row (loss_of link row s) s)
-
--- the rows behind one, one after the other; there are fewer than 2^64 places
-abbrev pub rows_lost_on : (ℕ → StateSeen → StateSeen) → ℕ → Bool → Option ℕ → StateSeen → StateSeen
-rows_lost_on further link each None s = s
-rows_lost_on further link each (Some row) s = further row (lost_row link each row s)
-
-abbrev pub rows_lost : ℕ → ℕ → Bool → ℕ → StateSeen → StateSeen
-rows_lost zero link each row s = s
-rows_lost (suc n) link each row s = rows_lost_on (rows_lost n link each) link each (next_on link row s) s
-
-abbrev pub lost : ℕ → Bool → StateSeen → StateSeen
-lost link each s = stamped_gone link (rows_lost (2 ^ 64) link each 0 (buried link s))
-
 -- the server's first SETTINGS
 abbrev pub greeted : ℕ → StateSeen → StateSeen
 greeted link s = record s { net = net.net_ready (sub_of (link_at s.book link)) link s.net }
-
--- the news of one frame
-abbrev pub heard_one : ℕ → News → StateSeen → StateSeen
-heard_one link news.Ready s = greeted link s
-heard_one link news.Retiring s = retired link s
-heard_one link (news.Broken why) s = lost link false s
-heard_one link (news.Ended tag end) s = s
-heard_one link (news.Head tag meta seen) s = told tag (news.Head tag meta seen) s
-heard_one link (news.Message tag octets seen) s = told tag (news.Message tag octets seen) s
-heard_one link (news.TooLarge tag seen) s = told tag (news.TooLarge tag seen) s
-
-abbrev pub heard_all : ℕ → List News → StateSeen → StateSeen
-heard_all link [] s = s
-heard_all link (n ∷ ns) s = heard_all link ns (heard_one link n s)
 
 -- the ends among them, by the rows' places
 abbrev pub end_kept : News → List (ℕ × EndNews) → List (ℕ × EndNews)
@@ -313,35 +268,12 @@ abbrev pub ends_kept : List News → List (ℕ × EndNews) → List (ℕ × EndN
 ends_kept [] ends = ends
 ends_kept (n ∷ ns) ends = ends_kept ns (end_kept n ends)
 
-abbrev pub heard : ℕ → List News → StateSeen → StateSeen
-heard link ns s = sealed (sealed_one link (all_ended_on link (ends_kept ns []) (heard_all link ns s)))
-
--- the link is read so far
-abbrev pub read_to : ℕ → ℕ → StateSeen → StateSeen
-read_to link read s = with_ledger_links (changed_at (read_link read) s.book.ledger.links link) s
-
 -- what the resolver and the dialers tell
 abbrev pub links_left : NetLeft → StateSeen → StateSeen
 links_left l s = all_stamped_gone l.gone (record s { net = l.net })
 
-abbrev pub readdressed_to : Kind → List Address → StateSeen → StateSeen
-readdressed_to kind addresses s =
-    all_stamped_gone (net.resolved_shut kind addresses s.net)
-    (with_generations (net.resolved_stamps s.book.ledger.entry kind s.net (net.net_resolved kind addresses s.net) s.book.ledger.generations)
-    (record s { net = net.net_resolved kind addresses s.net }))
-
-abbrev pub readdressed_by : Option Config → List Address → StateSeen → StateSeen
-readdressed_by None addresses s = s
-readdressed_by (Some config) addresses s = readdressed_to config.kind addresses s
-
-abbrev pub readdressed : List Address → StateSeen → StateSeen
-readdressed addresses s = readdressed_by s.held addresses s
-
 abbrev pub configured_by : Config → StateSeen → StateSeen
 configured_by config s = record s { book = book_followed config.throttle s.book; held = Some config }
-
-abbrev pub misconfigured : StateSeen → StateSeen
-misconfigured s = record s { unconfigured = is_none s.held }
 
 abbrev pub unresolved : StateSeen → StateSeen
 unresolved s = record s { resolver = false; unconfigured = s.unconfigured || is_none s.held }
@@ -352,10 +284,6 @@ dialed s = record s { net = net.net_dialed s.book.moment (next_word s) s.net }
 abbrev pub dial_draw : Option Dialing → StateSeen → StateSeen
 dial_draw None s = s
 dial_draw (Some d) s = drawn_if d.drew s
-
-abbrev pub dial_reply : Option Dialing → Reply
-dial_reply None = reply.NotYet
-dial_reply (Some d) = reply.Dial d.sub d.address d.until
 
 abbrev pub dial_taken : StateSeen → StateSeen
 dial_taken s = dial_draw (net.dial_answer s.book.moment (next_word s) s.net) (dialed s)
@@ -447,54 +375,9 @@ pub record Moved : Type 0 where
   pub state : StateSeen
   pub moved : Bool
 
-abbrev pub stays : StateSeen → Moved
-stays s = record { state = s; moved = false }
-
-abbrev pub moves : StateSeen → Moved
-moves s = record { state = s; moved = true }
-
-abbrev pub placed_as : ℕ → ℕ → Placed → StateSeen → StateSeen
-placed_as number row at s =
-    with_book (book_placed row at number s.book) number
-    (record (unqueued number row s) { links = placed_in at.link row (limit_at (slot_at s.book number)) s.links; outstanding = insert_key pair_cmp s.outstanding (at.link, row) })
-
-abbrev pub placed_on : ℕ → ℕ → ℕ → ℕ → Option ℕ → StateSeen → Moved
-placed_on number row generation sub None s = stays s
-placed_on number row generation sub (Some link) s =
-    if takes_rows link s.links
-    then moves (placed_as number row (record { entry = s.book.ledger.entry; moment = s.book.moment; generation = generation; sub = sub; link = link }) s)
-    else stays s
-
 abbrev pub pick_failed : ℕ → ℕ → StateSeen → StateSeen
 pick_failed number row s =
     sealed (told_acts (book_acted (call.pick_failed row s.book.moment (next_word s)) number s.book) number row (unqueued number row s))
-
-abbrev pub picked : ℕ → ℕ → ℕ → Pick → StateSeen → Moved
-picked number row generation (pick.Place sub) s = placed_on number row generation sub (net_lists.link_of s.net.links sub) s
-picked number row generation pick.Wait s = stays s
-picked number row generation pick.Fail s = moves (pick_failed number row s)
-
-abbrev pub served_by : ℕ → ℕ → Option Asked → StateSeen → Moved
-served_by number row None s = stays s
-served_by number row (Some a) s = picked number row a.generation a.pick (asked_by row a (record s { net = net.net_asked s.net }))
-
-abbrev pub served : ℕ → ℕ → StateSeen → Moved
-served number row s = served_by number row (net.net_answer s.net) s
-
--- one pass over the queue: each pair stands behind the one before, and there are fewer than 2^96 pairs
-abbrev pub also : Bool → Moved → Moved
-also moved m = record m { moved = moved || m.moved }
-
-abbrev pub pass_on : (ℕ × ℕ → Moved → Moved) → Option (ℕ × ℕ) → Moved → Moved
-pass_on further None m = m
-pass_on further (Some p) m = further p (also m.moved (served p.0 p.1 m.state))
-
-abbrev pub pass : ℕ → ℕ × ℕ → Moved → Moved
-pass zero last m = m
-pass (suc n) last m = pass_on (pass n) (next_served last m.state) m
-
-abbrev pub queue_served : StateSeen → Moved
-queue_served s = pass (2 ^ 96) (0, 0) (stays s)
 
 -- a round: due attempts, then the queue
 abbrev pub dues_made : List (ℕ × ℕ) → StateSeen → Moved
@@ -502,20 +385,3 @@ dues_made calls s = record { state = all_made (due_keys 0 calls) s; moved = nat_
 
 abbrev pub round_made : StateSeen → Moved
 round_made s = dues_made (sorted_into [] (due_keys s.book.moment s.dues)) (dues_taken s)
-
-abbrev pub round_on : Moved → Moved
-round_on m = also m.moved (queue_served m.state)
-
-abbrev pub round : StateSeen → Moved
-round s = round_on (round_made s)
-
--- rounds until nothing moves; the count is never reached
-abbrev pub rounds_on : (StateSeen → StateSeen) → Moved → StateSeen
-rounds_on further m = if m.moved then further m.state else m.state
-
-abbrev pub rounds : ℕ → StateSeen → StateSeen
-rounds zero s = s
-rounds (suc n) s = rounds_on (rounds n) (round s)
-
-abbrev pub settled : StateSeen → StateSeen
-settled s = rounds 18446744073709551615 (bare_served (net_settled (clocked s)))
