@@ -176,7 +176,7 @@ read_below [] i r e = absurd (cc)
 read_below (x ∷ rows) zero r e = omega arith
 read_below (x ∷ rows) (suc i) r e = let rest : i < length rows = read_below rows i r e in omega (arith, rest)
 
-row_below : (rows : List Row) (p : ℕ) (r : Row) → row_in rows p ≡ Some r → p ≤ length rows
+pub row_below : (rows : List Row) (p : ℕ) (r : Row) → row_in rows p ≡ Some r → p ≤ length rows
 row_below rows zero r e = absurd (cc)
 row_below rows (suc p) r e = let less : p < length rows = read_below rows p r e in omega (arith, less)
 

@@ -1,17 +1,33 @@
+mod Alike
 pub mod Chains
+mod Commitments
 mod Counting
 mod Cuts
 mod Delivery
+mod Ending
 pub mod Feeding
 mod Final
+mod Finding
+mod Following
+mod Going
 mod Hedges
+mod Holding
 mod Keeping
+mod KeptReasons
+mod Leaving
 mod Licensing
+mod Limits
 mod Making
 mod Moved
+mod Moves
+mod NamedRows
 mod Numbers
+mod Outstanding
+mod Reasons
 mod Refusals
 mod Room
 mod Rows
 mod Standing
+mod Stopping
+mod Timed
 mod Told

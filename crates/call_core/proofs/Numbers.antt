@@ -127,7 +127,7 @@ judged_sent plans.None a number is_alone end above word = refl
 judged_sent (plans.Retry policy) a number is_alone end above word = refl
 judged_sent (plans.Hedge policy) a number is_alone end above word = refl
 
-judged_stopped : (plan : CallPlan) (a : Attempts) (number : ℕ) (is_alone : Bool) (end : RowEnd) (above : Bool) (word : ℕ) → a.stopped ≡ true → (judged plan a number is_alone end above word).attempts.stopped ≡ true
+pub judged_stopped : (plan : CallPlan) (a : Attempts) (number : ℕ) (is_alone : Bool) (end : RowEnd) (above : Bool) (word : ℕ) → a.stopped ≡ true → (judged plan a number is_alone end above word).attempts.stopped ≡ true
 judged_stopped plans.None a number is_alone end above word e = e
 judged_stopped (plans.Retry policy) a number is_alone end above word e = e
 judged_stopped (plans.Hedge policy) a number is_alone end above word e = ap (λ (b : Bool). b || hedging.stops policy end above) e
@@ -172,7 +172,7 @@ below_by_sent : (policy : HedgePolicy) (a : Attempts) (due : ℕ) (b : Bool) →
 below_by_sent policy a due true h = below_forced policy.max a.sent a.forced due a.stopped (nat_le policy.max a.sent) (nat_le policy.max a.sent) refl h
 below_by_sent policy a due false h = below_hedge policy a due (nat_le policy.max a.sent) refl h
 
-below_most : (plan : CallPlan) (a : Attempts) (due : ℕ) → next_of_plan plan a ≡ Some due → nat_le (most_attempts plan) a.sent ≡ false
+pub below_most : (plan : CallPlan) (a : Attempts) (due : ℕ) → next_of_plan plan a ≡ Some due → nat_le (most_attempts plan) a.sent ≡ false
 below_most plans.None a due h = below_forced 1 a.sent a.forced due a.stopped (nat_le 1 a.sent) (nat_le 1 a.sent) refl h
 below_most (plans.Retry policy) a due h = below_forced policy.max a.sent a.forced due a.stopped (nat_le policy.max a.sent) (nat_le policy.max a.sent) refl h
 below_most (plans.Hedge policy) a due h = below_by_sent policy a due (a.sent == 0) h

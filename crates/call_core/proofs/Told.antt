@@ -40,7 +40,7 @@ off_alone q place [] off = tt
 off_alone q place (l ∷ live) off = off_one_kept q l (kept_alone place live) (is_row place l) off.0 (off_alone q place live off.1)
 
 -- a row that has an end
-has_ended : (owner : ℕ) (rows : List Row) (l : LiveRow) (end : RowEnd) → IsStanding owner rows l → HasEnd (changed_at (ended_row end) rows l.place) l.place end
+pub has_ended : (owner : ℕ) (rows : List Row) (l : LiveRow) (end : RowEnd) → IsStanding owner rows l → HasEnd (changed_at (ended_row end) rows l.place) l.place end
 has_ended owner rows l end one = record {
   row = ended_row end one.row;
   there = row_changed_same (ended_row end) rows l.place one.row one.there;
@@ -50,7 +50,7 @@ has_ended owner rows l end one = record {
 has_same : (rows after : List Row) (q : ℕ) (end : RowEnd) → row_in after q ≡ row_in rows q → HasEnd rows q end → HasEnd after q end
 has_same rows after q end same has = record { row = has.row; there = same ∙ has.there; ended = has.ended }
 
-has_end : (why : EndCause) (moment q : ℕ) (end : RowEnd) (s : Stepped) → IsOff q s.call.live → HasEnd s.ledger.rows q end → HasEnd (step.ended_as why moment s).ledger.rows q end
+pub has_end : (why : EndCause) (moment q : ℕ) (end : RowEnd) (s : Stepped) → IsOff q s.call.live → HasEnd s.ledger.rows q end → HasEnd (step.ended_as why moment s).ledger.rows q end
 has_end why moment q end s off has =
     has_same s.ledger.rows (step.ended_as why moment s).ledger.rows q end (off_cuts None moment (count_of s.tokens) q s.call.live s.ledger off) has
 
@@ -61,7 +61,7 @@ has_commit moment q end s has = record {
   ended = has.ended;
 }
 
-has_closed_if : (closes : Bool) (moment q : ℕ) (end : RowEnd) (s : Stepped) → IsOff q s.call.live → HasEnd s.ledger.rows q end → HasEnd (step.closed_if closes q moment s).ledger.rows q end
+pub has_closed_if : (closes : Bool) (moment q : ℕ) (end : RowEnd) (s : Stepped) → IsOff q s.call.live → HasEnd s.ledger.rows q end → HasEnd (step.closed_if closes q moment s).ledger.rows q end
 has_closed_if false moment q end s off has = has
 has_closed_if true moment q end s off has =
     has_end ends.Row moment q end (step.committed q moment s) (off_alone q q s.call.live off) (has_commit moment q end s has)

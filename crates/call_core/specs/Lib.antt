@@ -1,5 +1,14 @@
+pub mod Commitments
+pub mod Following
+pub mod Going
+pub mod Holding
 pub mod Laws
+pub mod Leaving
 pub mod Numbering
+pub mod Orders
+pub mod Outstanding
 pub mod Parts
+pub mod Reasons
 pub mod Rows
 pub mod Steps
+pub mod Stopping

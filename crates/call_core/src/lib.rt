@@ -15,6 +15,7 @@ mod judge;
 mod laws;
 mod live;
 mod outbox;
+mod outcomes;
 mod state;
 mod take;
 mod tokens;
@@ -31,4 +32,10 @@ pub use laws::{
     retries_follow_their_license, tokens_count_ends,
 };
 pub use live::LiveRow;
+pub use outcomes::{
+    calls_are_committed_once, calls_go_on, committed_calls_hear_one_row, ended_rows_hold_tokens,
+    limits_end_calls, other_rows_are_over, outstanding_rows_are_live, rows_are_in_order,
+    rows_have_reasons, stopped_calls_make_no_attempt, takes_leave_rows,
+    unseen_attempts_are_retried, waiting_items_stay,
+};
 pub use state::CallState;

@@ -1,0 +1,29 @@
+use Rattle.call_core.specs.Parts.{pick_end}
+use Rattle.call_core.specs.Stopping.{IsStopped}
+use Rattle.call_core.proofs.Chains.{chain_closed_by, chain_configured, chain_ended_at, chain_news, chain_placed, chain_sent, chain_timed_out}
+use Rattle.call_core.proofs.Stopping.{stopped_chain, stopped_due}
+use Rattle.call_core.proofs.outcomes.stopped_calls_make_no_attempt.Goals as goal
+
+pub returns-clause-configured : goal.returns-clause-configured
+returns-clause-configured c = λ chosen moment s limit. chain_configured (λ s t. IsStopped s → IsStopped t) stopped_chain chosen moment s limit
+
+pub returns-clause-sent : goal.returns-clause-sent
+returns-clause-sent c = λ message moment s. chain_sent (λ s t. IsStopped s → IsStopped t) stopped_chain message moment s
+
+pub returns-clause-closed : goal.returns-clause-closed
+returns-clause-closed c = λ why moment s. chain_closed_by (λ s t. IsStopped s → IsStopped t) stopped_chain why moment s
+
+pub returns-clause-timed_out : goal.returns-clause-timed_out
+returns-clause-timed_out c = λ moment s. chain_timed_out (λ s t. IsStopped s → IsStopped t) stopped_chain moment s
+
+pub returns-clause-placed : goal.returns-clause-placed
+returns-clause-placed c = λ row at s e. chain_placed (λ s t. IsStopped s → IsStopped t) stopped_chain row at s e
+
+pub returns-clause-failed : goal.returns-clause-failed
+returns-clause-failed c = λ row moment word s. chain_ended_at (λ s t. IsStopped s → IsStopped t) stopped_chain row pick_end moment word s
+
+pub returns-clause-heard : goal.returns-clause-heard
+returns-clause-heard c = λ row told moment word s. chain_news (λ s t. IsStopped s → IsStopped t) stopped_chain row told moment word s
+
+pub returns-clause-made : goal.returns-clause-made
+returns-clause-made c = stopped_due

@@ -1,0 +1,172 @@
+// How a call goes on, and how it comes out, whatever was done to it.
+ghost use Rattle.std.specs.Prelude.{◌≡◌, ◌≤◌, ◌<◌, ℕ, true, false, Option, None, Some, is_some, List, ◌∷◌, length};
+ghost use Rattle.grpc_base.specs.Requests.{RequestSeen};
+ghost use Rattle.grpc_base.specs.declared.event.EndCause.{EndCause};
+ghost use Rattle.grpc_base.specs.declared.event.EndCause.TheVariants as ends;
+ghost use Rattle.grpc_base.specs.declared.event.Reply.TheVariants as reply;
+ghost use Rattle.grpc_base.specs.declared.fields.Field.{Field};
+ghost use Rattle.grpc_base.specs.declared.plan.Chosen.{Chosen};
+ghost use Rattle.attempt_ledger.specs.Ends.{is_cut};
+ghost use Rattle.attempt_ledger.specs.Numbering.{most_attempts};
+ghost use Rattle.attempt_ledger.specs.declared.ledger.Ledger.{Ledger};
+ghost use Rattle.attempt_ledger.specs.declared.news.EndNews.{EndNews};
+ghost use Rattle.attempt_ledger.specs.declared.news.News.{News};
+ghost use Rattle.attempt_ledger.specs.declared.news.News.TheVariants as news;
+ghost use Rattle.attempt_ledger.specs.declared.row.Placed.{Placed};
+ghost use Rattle.attempt_ledger.specs.declared.row.Row.{Row};
+ghost use Rattle.a6_numbers.specs.Throttling.{Bucket};
+ghost use Rattle.call_core.specs.declared.act.CallAct.{CallAct};
+ghost use Rattle.call_core.specs.declared.live.LiveRow.{LiveRow};
+ghost use Rattle.call_core.specs.declared.state.CallState.{CallState};
+ghost use Rattle.call_core.specs.Commitments.{IsCommittedOnce, KeepsCommitments};
+ghost use Rattle.call_core.specs.Following.{IsRetried, is_retried};
+ghost use Rattle.call_core.specs.Going.{IsGoing};
+ghost use Rattle.call_core.specs.Holding.{HoldsTokens};
+ghost use Rattle.call_core.specs.Leaving.{IsSameCall};
+ghost use Rattle.call_core.specs.Laws.{IsKept, came, message_items, waiting};
+ghost use Rattle.call_core.specs.Numbering.{IsNumbered};
+ghost use Rattle.call_core.specs.Orders.{AreTimed, IsFair, KeepsTimes};
+ghost use Rattle.call_core.specs.Outstanding.{AreHeld, AreOverBut};
+ghost use Rattle.call_core.specs.Parts.{count_of, find_live, is_by_row};
+ghost use Rattle.call_core.specs.Reasons.{HasReasons, KeepsReasons};
+ghost use Rattle.call_core.specs.Rows.{IsApart, IsTied, KeepsRows, row_in};
+ghost use Rattle.call_core.specs.Steps.{Stepped, closed_by, configured, deadline_at, ended_at, fed_row, finished, heard_head, heard_news, lent, made_due, new_call, pick_failed, placed_at, send_refusal, sent, taken, timed_out};
+ghost use Rattle.call_core.specs.Stopping.{IsStopped};
+
+/// A law for proofs: no call that runs stands still. A row of it is queued or outstanding, or an attempt is due; and a call that
+/// doesn't hedge makes one attempt at a time. The call does nothing.
+pub fn calls_go_on()
+    ensures begun { (number : ℕ) (request : RequestSeen) (begun : ℕ) → IsGoing (new_call number request begun) }
+    ensures configured { (chosen : Chosen) (moment : ℕ) (s : Stepped) → 1 ≤ most_attempts chosen.plan → IsKept s.call → IsGoing s.call → IsGoing (configured chosen moment s).call }
+    ensures sent { (message : List ℕ) (moment : ℕ) (s : Stepped) → IsKept s.call → IsGoing s.call → IsGoing (sent message moment s).call }
+    ensures closed { (why : EndCause) (moment : ℕ) (s : Stepped) → is_by_row why ≡ false → IsKept s.call → IsGoing s.call → IsGoing (closed_by why moment s).call }
+    ensures timed_out { (moment : ℕ) (s : Stepped) → IsKept s.call → IsGoing s.call → IsGoing (timed_out moment s).call }
+    ensures placed { (row : ℕ) (at : Placed) (s : Stepped) → at.entry ≡ s.ledger.entry → IsKept s.call → IsGoing s.call → IsGoing (placed_at row at s).call }
+    ensures failed { (row moment word : ℕ) (s : Stepped) → IsKept s.call → IsGoing s.call → IsGoing (pick_failed row moment word s).call }
+    ensures heard { (row : ℕ) (told : News) (moment word : ℕ) (s : Stepped) → IsKept s.call → IsGoing s.call → IsGoing (heard_news row told moment word s).call }
+    ensures made { (moment : ℕ) (s : Stepped) → IsKept s.call → IsGoing s.call → IsGoing (made_due moment s).call }
+{}
+
+/// A law for proofs: each outstanding row of a call is one of its live rows. The call does nothing.
+pub fn outstanding_rows_are_live()
+    ensures begun { (number : ℕ) (request : RequestSeen) (begun : ℕ) (ledger : Ledger) (tokens : Option Bucket) (acts : List CallAct) → ((place : ℕ) (row : Row) → row_in ledger.rows place ≡ Some row → row.call ≡ number → ⊥) → AreHeld (lent (new_call number request begun) ledger tokens acts) }
+    ensures elsewhere { (s : Stepped) (ledger : Ledger) → KeepsRows s.call.number ledger.rows s.ledger.rows → AreHeld s → AreHeld (record s { ledger = ledger }) }
+    ensures configured { (chosen : Chosen) (moment : ℕ) (s : Stepped) → IsApart s → AreHeld s → AreHeld (configured chosen moment s) }
+    ensures sent { (message : List ℕ) (moment : ℕ) (s : Stepped) → IsApart s → AreHeld s → AreHeld (sent message moment s) }
+    ensures closed { (why : EndCause) (moment : ℕ) (s : Stepped) → is_by_row why ≡ false → IsApart s → AreHeld s → AreHeld (closed_by why moment s) }
+    ensures timed_out { (moment : ℕ) (s : Stepped) → IsApart s → AreHeld s → AreHeld (timed_out moment s) }
+    ensures placed { (row : ℕ) (at : Placed) (s : Stepped) → at.entry ≡ s.ledger.entry → IsApart s → AreHeld s → AreHeld (placed_at row at s) }
+    ensures failed { (row moment word : ℕ) (s : Stepped) → IsApart s → AreHeld s → AreHeld (pick_failed row moment word s) }
+    ensures heard { (row : ℕ) (told : News) (moment word : ℕ) (s : Stepped) → IsApart s → AreHeld s → AreHeld (heard_news row told moment word s) }
+    ensures made { (moment : ℕ) (s : Stepped) → IsApart s → AreHeld s → AreHeld (made_due moment s) }
+{}
+
+/// A law for proofs: of a committed call every row that was placed has ended, but for the one to which it is committed; and of a
+/// call that ended every one. The call does nothing.
+pub fn other_rows_are_over()
+    ensures committed { (place : ℕ) (s : Stepped) → IsKept s.call → AreHeld s → s.call.attempts.committed ≡ Some place → AreOverBut (Some place) s }
+    ensures ended { (s : Stepped) → IsKept s.call → AreHeld s → is_some s.call.ended ≡ true → AreOverBut None s }
+{}
+
+/// A law for proofs: a call is committed to one row, or to a chain of transparent retries; and where it ended by its row, that row has
+/// an end that isn't a cut. The call does nothing.
+pub fn calls_are_committed_once()
+    ensures begun { (number : ℕ) (request : RequestSeen) (begun : ℕ) (ledger : Ledger) (tokens : Option Bucket) (acts : List CallAct) → ((place : ℕ) (row : Row) → row_in ledger.rows place ≡ Some row → row.call ≡ number → ⊥) → IsCommittedOnce (lent (new_call number request begun) ledger tokens acts) }
+    ensures elsewhere { (s : Stepped) (ledger : Ledger) → KeepsCommitments s.call.number s.ledger.rows ledger.rows → IsCommittedOnce s → IsCommittedOnce (record s { ledger = ledger }) }
+    ensures configured { (chosen : Chosen) (moment : ℕ) (s : Stepped) → IsKept s.call → IsApart s → IsCommittedOnce s → IsCommittedOnce (configured chosen moment s) }
+    ensures sent { (message : List ℕ) (moment : ℕ) (s : Stepped) → IsKept s.call → IsApart s → IsCommittedOnce s → IsCommittedOnce (sent message moment s) }
+    ensures closed { (why : EndCause) (moment : ℕ) (s : Stepped) → is_by_row why ≡ false → IsKept s.call → IsApart s → IsCommittedOnce s → IsCommittedOnce (closed_by why moment s) }
+    ensures timed_out { (moment : ℕ) (s : Stepped) → IsKept s.call → IsApart s → IsCommittedOnce s → IsCommittedOnce (timed_out moment s) }
+    ensures placed { (row : ℕ) (at : Placed) (s : Stepped) → at.entry ≡ s.ledger.entry → IsKept s.call → IsApart s → IsCommittedOnce s → IsCommittedOnce (placed_at row at s) }
+    ensures failed { (row moment word : ℕ) (s : Stepped) → IsKept s.call → IsApart s → IsCommittedOnce s → IsCommittedOnce (pick_failed row moment word s) }
+    ensures heard { (row : ℕ) (told : News) (moment word : ℕ) (s : Stepped) → ((tag : ℕ) (end : EndNews) → told ≡ news.Ended tag end → is_cut end.cause ≡ false) → IsKept s.call → IsApart s → IsCommittedOnce s → IsCommittedOnce (heard_news row told moment word s) }
+    ensures made { (moment : ℕ) (s : Stepped) → IsKept s.call → IsApart s → IsCommittedOnce s → IsCommittedOnce (made_due moment s) }
+{}
+
+/// A law for proofs: each row of a call was due, was placed and ended in this order, if moments don't fall. The call does nothing.
+pub fn rows_are_in_order()
+    ensures begun { (number : ℕ) (request : RequestSeen) (begun : ℕ) (ledger : Ledger) (tokens : Option Bucket) (acts : List CallAct) → ((place : ℕ) (row : Row) → row_in ledger.rows place ≡ Some row → row.call ≡ number → ⊥) → AreTimed begun (lent (new_call number request begun) ledger tokens acts) }
+    ensures elsewhere { (now : ℕ) (s : Stepped) (ledger : Ledger) → KeepsTimes s.call.number s.ledger.rows ledger.rows → AreTimed now s → AreTimed now (record s { ledger = ledger }) }
+    ensures configured { (chosen : Chosen) (moment : ℕ) (s : Stepped) (now : ℕ) → now ≤ moment → IsApart s → AreTimed now s → AreTimed moment (configured chosen moment s) }
+    ensures sent { (message : List ℕ) (moment : ℕ) (s : Stepped) (now : ℕ) → now ≤ moment → IsApart s → AreTimed now s → AreTimed moment (sent message moment s) }
+    ensures closed { (why : EndCause) (moment : ℕ) (s : Stepped) → is_by_row why ≡ false → (now : ℕ) → now ≤ moment → IsApart s → AreTimed now s → AreTimed moment (closed_by why moment s) }
+    ensures timed_out { (moment : ℕ) (s : Stepped) (now : ℕ) → now ≤ moment → IsApart s → AreTimed now s → AreTimed moment (timed_out moment s) }
+    ensures placed { (row : ℕ) (at : Placed) (s : Stepped) → at.entry ≡ s.ledger.entry → (now : ℕ) → now ≤ at.moment → IsApart s → AreTimed now s → AreTimed at.moment (placed_at row at s) }
+    ensures failed { (row moment word : ℕ) (s : Stepped) (now : ℕ) → now ≤ moment → IsApart s → AreTimed now s → AreTimed moment (pick_failed row moment word s) }
+    ensures heard { (row : ℕ) (told : News) (moment word : ℕ) (s : Stepped) → ((tag : ℕ) (end : EndNews) (live : LiveRow) → told ≡ news.Ended tag end → find_live row s.call.live ≡ Some live → IsFair live end) → (now : ℕ) → now ≤ moment → IsApart s → AreTimed now s → AreTimed moment (heard_news row told moment word s) }
+    ensures made { (moment : ℕ) (s : Stepped) (now : ℕ) → now ≤ moment → IsApart s → AreTimed now s → AreTimed moment (made_due moment s) }
+{}
+
+/// A law for proofs: a deadline ends a call at its moment and not before; and so does a message above the limit, when it is sent or
+/// when the limit comes. The call does nothing.
+pub fn limits_end_calls()
+    ensures deadline { (deadline moment : ℕ) (s : Stepped) → s.call.ended ≡ None → deadline_at s.call ≡ Some deadline → deadline ≤ moment → (timed_out moment s).call.ended ≡ Some ends.Deadline }
+    ensures before { (deadline moment : ℕ) (s : Stepped) → deadline_at s.call ≡ Some deadline → moment < deadline → timed_out moment s ≡ s }
+    ensures never { (moment : ℕ) (s : Stepped) → deadline_at s.call ≡ None → timed_out moment s ≡ s }
+    ensures sent { (chosen : Chosen) (message : List ℕ) (moment : ℕ) (s : Stepped) → send_refusal s.call ≡ None → s.call.chosen ≡ Some chosen → chosen.request < length message → (sent message moment s).call.ended ≡ Some ends.Request }
+    ensures late { (chosen : Chosen) (moment : ℕ) (s : Stepped) → s.call.ended ≡ None → s.call.chosen ≡ None → chosen.request < s.call.longest → (configured chosen moment s).call.ended ≡ Some ends.Request }
+{}
+
+/// A law for proofs: the head of a live row commits the call to it and comes first; and of a committed call nothing that is told of
+/// another row changes anything. The call does nothing.
+pub fn committed_calls_hear_one_row()
+    ensures head { (row : ℕ) (live : LiveRow) (meta : List Field) (moment : ℕ) (s : Stepped) → find_live row s.call.live ≡ Some live → came (heard_head row meta moment s).call ≡ reply.Head meta ∷ message_items s.call.inbox.messages }
+    ensures commits { (row : ℕ) (live : LiveRow) (meta : List Field) (moment : ℕ) (s : Stepped) → IsKept s.call → find_live row s.call.live ≡ Some live → (heard_head row meta moment s).call.attempts.committed ≡ Some row }
+    ensures placed { (row place : ℕ) (at : Placed) (s : Stepped) → IsKept s.call → s.call.attempts.committed ≡ Some place → (row ≡ place → ⊥) → placed_at row at s ≡ s }
+    ensures heard { (row place : ℕ) (told : News) (moment word : ℕ) (s : Stepped) → IsKept s.call → s.call.attempts.committed ≡ Some place → (row ≡ place → ⊥) → heard_news row told moment word s ≡ s }
+{}
+
+/// A law for proofs: what waits for the application stays as it is whatever is done to other calls. The call does nothing.
+pub fn waiting_items_stay()
+    ensures { (s : Stepped) (ledger : Ledger) → KeepsCommitments s.call.number s.ledger.rows ledger.rows → IsCommittedOnce s → waiting ledger s.call ≡ waiting s.ledger s.call }
+{}
+
+/// A law for proofs: the end of a row holds the tokens as they are after it. The call does nothing.
+pub fn ended_rows_hold_tokens()
+    ensures { (row : ℕ) (live : LiveRow) (told : EndNews) (moment word : ℕ) (s : Stepped) → IsTied s → find_live row s.call.live ≡ Some live → HoldsTokens (ended_at row told moment word s).ledger.rows live.place (count_of (ended_at row told moment word s).tokens) }
+{}
+
+/// A law for proofs: each row of a call has its reason among the rows before it. A retry follows an end that licenses it, a hedge the
+/// delay since a placing or an end that forces it, and a transparent retry an attempt that the server can't have seen; each is due at
+/// the moment that follows from it. The call does nothing.
+pub fn rows_have_reasons()
+    ensures begun { (number : ℕ) (request : RequestSeen) (begun : ℕ) (ledger : Ledger) (tokens : Option Bucket) (acts : List CallAct) → ((place : ℕ) (row : Row) → row_in ledger.rows place ≡ Some row → row.call ≡ number → ⊥) → HasReasons (lent (new_call number request begun) ledger tokens acts) }
+    ensures elsewhere { (s : Stepped) (ledger : Ledger) → KeepsReasons s.call.number s.ledger.rows ledger.rows → HasReasons s → HasReasons (record s { ledger = ledger }) }
+    ensures configured { (chosen : Chosen) (moment : ℕ) (s : Stepped) → IsGoing s.call → IsNumbered s → IsApart s → HasReasons s → HasReasons (configured chosen moment s) }
+    ensures sent { (message : List ℕ) (moment : ℕ) (s : Stepped) → IsGoing s.call → IsNumbered s → IsApart s → HasReasons s → HasReasons (sent message moment s) }
+    ensures closed { (why : EndCause) (moment : ℕ) (s : Stepped) → is_by_row why ≡ false → IsGoing s.call → IsNumbered s → IsApart s → HasReasons s → HasReasons (closed_by why moment s) }
+    ensures timed_out { (moment : ℕ) (s : Stepped) → IsGoing s.call → IsNumbered s → IsApart s → HasReasons s → HasReasons (timed_out moment s) }
+    ensures placed { (row : ℕ) (at : Placed) (s : Stepped) → at.entry ≡ s.ledger.entry → IsGoing s.call → IsNumbered s → IsApart s → HasReasons s → HasReasons (placed_at row at s) }
+    ensures failed { (row moment word : ℕ) (s : Stepped) → IsGoing s.call → IsNumbered s → IsApart s → HasReasons s → HasReasons (pick_failed row moment word s) }
+    ensures heard { (row : ℕ) (told : News) (moment word : ℕ) (s : Stepped) → IsGoing s.call → IsNumbered s → IsApart s → HasReasons s → HasReasons (heard_news row told moment word s) }
+    ensures made { (moment : ℕ) (s : Stepped) → IsGoing s.call → IsNumbered s → IsApart s → HasReasons s → HasReasons (made_due moment s) }
+{}
+
+/// A law for proofs: a transparent retry follows the end of an attempt exactly where the request never left the client, or where the
+/// server can't have seen it, once a call and before the commitment. The call does nothing.
+pub fn unseen_attempts_are_retried()
+    ensures retried { (row : ℕ) (live : LiveRow) (told : EndNews) (moment word : ℕ) (s : Stepped) → find_live row s.call.live ≡ Some live → is_retried told s.call.attempts ≡ true → IsRetried live moment s (ended_at row told moment word s) }
+    ensures counted { (row : ℕ) (live : LiveRow) (told : EndNews) (moment word : ℕ) (s : Stepped) → find_live row s.call.live ≡ Some live → is_retried told s.call.attempts ≡ false → length (ended_at row told moment word s).ledger.rows ≡ length s.ledger.rows }
+{}
+
+/// A law for proofs: a call in which hedging stopped, or which is committed or over, makes no further attempt, whatever is done to it,
+/// transparent retries aside. The call does nothing.
+pub fn stopped_calls_make_no_attempt()
+    ensures configured { (chosen : Chosen) (moment : ℕ) (s : Stepped) → most_attempts chosen.plan ≤ 4294967295 → IsStopped s → IsStopped (configured chosen moment s) }
+    ensures sent { (message : List ℕ) (moment : ℕ) (s : Stepped) → IsStopped s → IsStopped (sent message moment s) }
+    ensures closed { (why : EndCause) (moment : ℕ) (s : Stepped) → IsStopped s → IsStopped (closed_by why moment s) }
+    ensures timed_out { (moment : ℕ) (s : Stepped) → IsStopped s → IsStopped (timed_out moment s) }
+    ensures placed { (row : ℕ) (at : Placed) (s : Stepped) → at.entry ≡ s.ledger.entry → IsStopped s → IsStopped (placed_at row at s) }
+    ensures failed { (row moment word : ℕ) (s : Stepped) → IsStopped s → IsStopped (pick_failed row moment word s) }
+    ensures heard { (row : ℕ) (told : News) (moment word : ℕ) (s : Stepped) → IsStopped s → IsStopped (heard_news row told moment word s) }
+    ensures made { (moment : ℕ) (s : Stepped) → IsStopped s → made_due moment s ≡ s }
+{}
+
+/// A law for proofs: to feed a row, to finish and to take leave of a call all that the laws over its rows speak of. The call does
+/// nothing.
+pub fn takes_leave_rows()
+    ensures fed { (row len : ℕ) (call : CallState) → IsSameCall call (fed_row row len call) }
+    ensures finished { (call : CallState) → IsSameCall call (finished call) }
+    ensures taken { (call : CallState) → IsSameCall call (taken call) }
+    ensures going { (old new : CallState) → IsSameCall old new → IsGoing old → IsGoing new }
+{}
