@@ -1,5 +1,5 @@
 -- What the book lends links: both sizes of a header list, and the lines behind the bytes that a link takes.
-use Rattle.std.proofs.Common.{◌≡◌, ◌∙◌, ◌≤◌, ◌<◌, ℕ, zero, suc, ◌+◌, ◌==◌, Bool, true, false, nat_lt, if◌then◌else◌, List, [], ◌∷◌, length, map, drop, refl, sym, ap, inl, inr, subst, slice_get, Option, Some, None, Result, Ok, Err, IfOk, OnOk, OnErr}
+use Rattle.std.proofs.Common.{◌≡◌, ◌∙◌, ◌≤◌, ℕ, zero, suc, ◌+◌, ◌==◌, Bool, true, false, nat_lt, if◌then◌else◌, List, [], ◌∷◌, length, drop, refl, sym, ap, inl, inr, subst, slice_get, Option, Some, None, Result, Ok, Err, IfOk, OnOk, OnErr}
 use Rattle.std.specs.Option.{option_map, option_map_or}
 use Rattle.std.proofs.Math.Path.{fun_ext}
 use Rattle.std.proofs.lemmas.Bool.{cases_Bool, cases_eq, eq-eqb, ltb-false, ne_eqb}
@@ -11,8 +11,9 @@ use Rattle.call_core.specs.declared.state.CallState.{CallState}
 use Rattle.grpc_meta.specs.RequestFields as request
 use Rattle.h2_hpack.specs.Tables as hpack
 use Rattle.h2_link.specs.Feeds.{Line, fed}
+use Rattle.channel_core.specs.Feeding.{IsFed}
 use Rattle.ledger_stamps.specs.Steps.{changed, changed_at, index_at}
-use Rattle.channel_core.specs.Books.{IsSameBook, call_of, finished_at, head_for, head_of, lines_of, row_at, slot_at, slot_of_tag, without_bytes}
+use Rattle.channel_core.specs.Books.{call_of, finished_at, head_for, head_of, lines_of, row_at, slot_at, slot_of_tag}
 use Rattle.channel_core.specs.Tables.{changed_call, changed_call_at, changed_call_on, fed_call, left_at, numbered, with_call}
 use Rattle.channel_core.specs.declared.state.book.Book.{Book}
 use Rattle.channel_core.specs.declared.state.slots.CallSlot.{CallSlot}
@@ -85,23 +86,13 @@ number_other {X} f xs (suc k) (suc j) ne =
       | inr past ↦ ap (λ l. slice_get l j) (ap D past)
     ]
 
--- all but the bytes is as it was
-changed_same : (row len : ℕ) (calls : List CallSlot) (k : ℕ) → map without_bytes (changed (fed_slot row len) calls k) ≡ map without_bytes calls
-changed_same row len [] k = refl
-changed_same row len (x ∷ calls) zero = refl
-changed_same row len (x ∷ calls) (suc k) = ap (λ l. without_bytes x ∷ l) (changed_same row len calls k)
-
-fed_same : (row len : ℕ) (calls : List CallSlot) (o : Option ℕ) → map without_bytes (option_map_or (λ i. changed (fed_slot row len) calls i) o calls) ≡ map without_bytes calls
-fed_same row len calls None = refl
-fed_same row len calls (Some k) = changed_same row len calls k
-
-pub same_fed : {T E : Type 0} (row len call : ℕ) (b : Book) (calls : List CallSlot) (r : Result T E) → OnOk r (calls ≡ changed_call (fed_call row len) b.calls call) → OnErr r (calls ≡ b.calls)
-    → IsSameBook b (record b { calls = calls })
-same_fed row len call b calls (Ok u) new err = record {
-  rest = refl;
-  calls = sym (ap (map without_bytes) (new ∙ put_call (fed_call row len) b.calls call) ∙ fed_same row len b.calls (index_at call (length b.calls)));
-}
-same_fed row len call b calls (Err e) new err = record { rest = refl; calls = sym (ap (map without_bytes) err) }
+-- a feed that comes through takes bytes of one row, and another none
+pub book_is_fed : {T E : Type 0} (tag len call : ℕ) (b : Book) (calls : List CallSlot) (r : Result T E) → call ≡ call_of (row_at b tag) → OnOk r (calls ≡ changed_call (fed_call tag len) b.calls call)
+    → OnErr r (calls ≡ b.calls) → IsFed b (record b { calls = calls })
+book_is_fed tag len call b calls (Ok u) there new err =
+    let P : List CallSlot → Book = λ c. record b { calls = c } in
+    ((tag, len) ∷ [], ap P new ∙ ap (λ k. record b { calls = changed_call (fed_call tag len) b.calls k }) there)
+book_is_fed tag len call b calls (Err e) there new err = let P : List CallSlot → Book = λ c. record b { calls = c } in ([], ap P err)
 
 -- the line of a tag
 abbrev line : List Field → Bool → List ℕ → Line

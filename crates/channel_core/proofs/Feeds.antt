@@ -1,13 +1,16 @@
 -- What links drain of what they are lent.
-use Rattle.std.proofs.Common.{◌≡◌, ◌∙◌, ℕ, zero, suc, ◌<◌, true, List, [], ◌∷◌, length, refl, sym, ap, slice_set, slice_get, get_or, Option, Some, None, Result, Ok, Err, IfOk}
+use Rattle.std.proofs.Common.{◌≡◌, ◌∙◌, ℕ, zero, suc, ◌<◌, ◌↔◌, true, not, ◌&&◌, nat_le, is_some, IsTrue, List, [], ◌∷◌, length, refl, sym, ap, slice_set, slice_get, get_or, Option, Some, None, Result, Ok, Err, IfOk, inl, inr}
 use Rattle.std.specs.List.{AllByRecursion}
+use Rattle.std.proofs.lemmas.Bool.{cases_Bool, leb-false}
 use Rattle.h2_link.specs.Feeds.{Holds, Line}
 use Rattle.h2_link.specs.Wire.{Wire}
+use Rattle.h2_link.specs.declared.fault.DrainFault.{DrainFault}
+use Rattle.h2_link.specs.declared.fault.DrainFault.TheVariants as fault
 use Rattle.h2_link.specs.declared.live.LiveStream.{LiveStream}
 use Rattle.h2_link.specs.declared.news.Drained.{Drained}
 use Rattle.channel_core.specs.Tables.{DrainGives, SlotDrains, SlotGives, drains_at, numbered}
 use Rattle.channel_core.specs.declared.state.links.LinkSlot.{LinkSlot}
-use Rattle.ledger_stamps.specs.Steps.{changed, changed_at, index_at}
+use Rattle.ledger_stamps.specs.Steps.{changed, index_at}
 use Rattle.channel_core.proofs.Places.{changed_there, number_none, number_there, set-changed, there}
 
 -- where every tag is held, so are those of any link
@@ -20,6 +23,16 @@ holds_all w g held = record {
   waiting = each (λ t. (g t).held ≡ true) held w.waiting;
   live = each (λ (s : LiveStream). (g s.tag).held ≡ true) (λ s. held s.tag) w.live;
 }
+
+-- a drain that comes through is of a link that is not broken, with room enough
+pub may_drain : {X D : Type 0} (room : ℕ) (broken : Option X) (r : Result D DrainFault) (d : D) → r ≡ Ok d → ((r ≡ Err fault.Gone) ↔ IsTrue (is_some broken))
+    → ((r ≡ Err fault.RoomTooSmall) ↔ ((broken ≡ None) × (room < 16393))) → (not (is_some broken) && nat_le 16393 room) ≡ true
+may_drain room (Some b) r d is gone small = let e : r ≡ Err fault.Gone = gone.1 refl in absurd (let no : ⊥ = (cc) in no)
+may_drain room None r d is gone small =
+    elim (cases_Bool (nat_le 16393 room)) [
+      | inl fits ↦ fits
+      | inr short ↦ let e : r ≡ Err fault.RoomTooSmall = small.1 (refl, leb-false 16393 room short) in absurd (let no : ⊥ = (cc) in no)
+    ]
 
 -- a drain of a link is one of the table
 pub drained_at : {E : Type 0} (room : ℕ) (links : List LinkSlot) (index : ℕ) (lines lines_after : ℕ → Line) (x y : LinkSlot) (r : Result (Option Drained) E) → index < length links → x ≡ get_or links index x

@@ -1,9 +1,8 @@
 -- What a link hears, and the table that it stands in.
-use Rattle.std.proofs.Common.{◌≡◌, ◌∙◌, ℕ, Bool, true, false, if◌then◌else◌, List, length, refl, sym, ap, slice_get, Option, Some, None}
-use Rattle.std.specs.Option.{option_map, option_map_or}
-use Rattle.grpc_link.specs.declared.link.GrpcArrival.{GrpcArrival}
+use Rattle.std.proofs.Common.{◌≡◌, ◌∙◌, ℕ, true, false, if◌then◌else◌, List, length, refl, sym, ap, slice_get, Option, Some, None}
+use Rattle.std.specs.Option.{option_map}
 use Rattle.ledger_stamps.specs.Steps.{changed, changed_at, index_at}
-use Rattle.channel_core.specs.Tables.{Heard, arrival_at, arrival_by, arrival_of, heard_at, heard_by, heard_in, heard_link, hears_at, links_heard, numbered, with_link}
+use Rattle.channel_core.specs.Tables.{arrival_at, arrival_by, arrival_of, heard_at, heard_by, heard_in, heard_link, hears_at, links_heard, numbered, with_link}
 use Rattle.channel_core.specs.declared.state.links.LinkSlot.{LinkSlot}
 use Rattle.channel_core.proofs.Places.{changed_if, number_none, number_there, unchanged_if}
 

@@ -1,4 +1,12 @@
+pub mod Answering
+pub mod Arriving
 pub mod BookLaws
+pub mod DrainLaws
 pub mod Feeds
 pub mod Hearing
+pub mod LookLaws
 pub mod Places
+pub mod Readdressing
+pub mod Replies
+pub mod SettlingLaws
+pub mod SteppingLaws

@@ -1,12 +1,10 @@
 -- Nobody has to believe these steps: what the code does to the calls and the ledger, one definition for each function.
-use Rattle.std.specs.Prelude.{codes, ℕ, ◌+◌, ◌-◌, ◌==◌, Bool, true, false, not, ◌&&◌, nat_lt, min, max, if◌then◌else◌, Option, Some, None, List, [], ◌∷◌, ◌++◌, length, map, ◌≡◌}
-use Rattle.std.specs.Option.{is_some, is_none, option_map, option_map_or}
+use Rattle.std.specs.Prelude.{codes, ℕ, ◌+◌, ◌-◌, Bool, true, false, min, max, if◌then◌else◌, Option, Some, None, List, [], ◌∷◌, ◌++◌, length}
+use Rattle.std.specs.Option.{is_some, is_none, option_map}
 use Rattle.grpc_base.specs.Limits.{duration_limit}
 use Rattle.grpc_base.specs.Requests.{RequestSeen}
 use Rattle.grpc_base.specs.declared.event.Refusal.{Refusal}
 use Rattle.grpc_base.specs.declared.event.Refusal.TheVariants as refusal
-use Rattle.grpc_base.specs.declared.event.Reply.{Reply}
-use Rattle.grpc_base.specs.declared.event.Reply.TheVariants as reply
 use Rattle.grpc_base.specs.declared.fields.Field.{Field}
 use Rattle.grpc_base.specs.declared.plan.Chosen.{Chosen}
 use Rattle.grpc_base.specs.declared.plan.Throttle.{Throttle}
@@ -19,12 +17,12 @@ use Rattle.attempt_ledger.specs.declared.row.RowEnd.{RowEnd}
 use Rattle.a6_numbers.specs.Throttling.{Bucket}
 use Rattle.call_core.specs.declared.act.CallAct.{CallAct}
 use Rattle.call_core.specs.Steps as step
-use Rattle.call_core.specs.Steps.{fresh_buffer, Stepped, configured, deadline_at, lent, new_call, next_due, waits}
+use Rattle.call_core.specs.Steps.{Stepped, configured, deadline_at, lent, new_call, next_due, waits}
 use Rattle.ledger_stamps.specs.Steps.{begun_call}
 use Rattle.h2_link.specs.Feeds.{Line}
 use Rattle.channel_core.specs.declared.state.book.Book.{Book}
 use Rattle.channel_core.specs.declared.state.slots.CallSlot.{CallSlot}
-use Rattle.channel_core.specs.Tables.{Acted, acted, cancel_reply_of, changed_call, changed_slot, fed_call, finish_reply_of, followed, last_run, left_at, numbered, send_reply_of, take_reply_of, tokens_in, with_bucket, with_timers, with_tokens, without_due}
+use Rattle.channel_core.specs.Tables.{Acted, acted, changed_call, changed_slot, followed, last_run, left_at, numbered, tokens_in, with_bucket, with_timers, with_tokens, without_due}
 
 -- the empty ledger
 abbrev pub no_ledger : Ledger
@@ -219,11 +217,3 @@ lines_of b tag = record {
   left = left_at tag (slot_of_tag b tag);
   finished = finished_at (slot_of_tag b tag);
 }
-
--- all but the bytes that calls have still to send
-abbrev pub without_bytes : CallSlot → CallSlot
-without_bytes slot = record slot { call = record slot.call { buffer = fresh_buffer } }
-
-pub record IsSameBook (f g : Book) : Type 0 where
-  pub rest : record f { calls = [] } ≡ record g { calls = [] }
-  pub calls : map without_bytes f.calls ≡ map without_bytes g.calls

@@ -6,7 +6,8 @@ use Rattle.attempt_ledger.specs.declared.row.Row.{Row}
 use Rattle.h2_link.specs.declared.news.Drained.{Drained}
 use Rattle.ledger_stamps.specs.Steps.{changed_at, streamed_row}
 use Rattle.channel_core.specs.declared.state.book.Book.{Book}
-use Rattle.channel_core.specs.Books.{IsSameBook, lines_of}
+use Rattle.channel_core.specs.Books.{lines_of}
+use Rattle.channel_core.specs.Feeding.{IsFed}
 use Rattle.channel_core.specs.States.{StateSeen}
 use Rattle.channel_core.specs.Tables.{DrainGives, pinged_in}
 
@@ -33,7 +34,7 @@ octets_by (Some drained) = drained.octets
 pub record DrainLeaves (link room : ℕ) (s : StateSeen) (r : Reply) (t : StateSeen) : Type 0 where
   pub drained : Option Drained
   pub fed : Book
-  pub same : IsSameBook s.book fed
+  pub feeds : IsFed s.book fed
   pub gives : DrainGives room s.links link (lines_of s.book) drained t.links (lines_of fed)
   pub reply_is : r ≡ reply.Octets (octets_by drained)
   pub state_is : t ≡ record s { links = t.links; book = with_streams (opened_by drained) fed }

@@ -1,10 +1,14 @@
+pub mod Applying
+pub mod Arrivals
 pub mod Books
 pub mod Core
 pub mod Draining
+pub mod Feeding
 pub mod Messages
 pub mod Response
 pub mod Said
 pub mod Sent
+pub mod Settling
 pub mod Sizes
 pub mod States
 pub mod Steps

@@ -1,5 +1,6 @@
 -- The channel but for its journal, as contracts see it.
 use Rattle.std.specs.Prelude.{ℕ, Bool, Option, List}
+use Rattle.grpc_base.specs.declared.event.Reply.{Reply}
 use Rattle.service_config.specs.declared.config.Config.{Config}
 use Rattle.channel_net.specs.Steps.{NetSeen}
 use Rattle.channel_core.specs.declared.state.book.Book.{Book}
@@ -30,3 +31,8 @@ pub record StateSeen : Type 0 where
   pub impatient : List (ℕ × ℕ)
   -- links with resets that are not sealed
   pub resets : List ℕ
+
+-- what an event leaves, and its answer
+pub record Answered : Type 0 where
+  pub state : StateSeen
+  pub reply : Reply

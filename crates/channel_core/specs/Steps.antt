@@ -1,38 +1,26 @@
 -- Nobody has to believe these steps: what the code does to the channel, one definition for each function.
-use Rattle.std.specs.Prelude.{◌≡◌, ℕ, zero, suc, ◌+◌, ◌*◌, ◌^◌, ◌%◌, ◌==◌, Bool, true, false, not, ◌&&◌, ◌||◌, nat_lt, nat_le, min, if◌then◌else◌, Option, Some, None, List, [], ◌∷◌, ◌++◌, length, map, drop}
-use Rattle.std.specs.Option.{is_some, is_none, option_map, option_map_or}
+use Rattle.std.specs.Prelude.{ℕ, ◌+◌, ◌*◌, ◌^◌, ◌%◌, ◌==◌, Bool, true, false, not, ◌&&◌, ◌||◌, nat_lt, if◌then◌else◌, Option, Some, None, List, [], ◌∷◌, ◌++◌, length}
+use Rattle.std.specs.Option.{is_some, is_none}
 use Rattle.std.specs.BTreeMap.{insert_entry}
 use Rattle.std.specs.BTreeSet.{insert_key}
 use Rattle.std.specs.Ordering.{nat_cmp}
 use Rattle.std.specs.Set.{remove_key}
 use Rattle.grpc_base.specs.Requests.{RequestSeen}
-use Rattle.grpc_base.specs.declared.address.Address.{Address}
-use Rattle.grpc_base.specs.declared.event.ConfigFault.{ConfigFault}
 use Rattle.grpc_base.specs.declared.event.Conn.{Conn}
 use Rattle.grpc_base.specs.declared.event.Conn.TheVariants as conn
 use Rattle.grpc_base.specs.declared.event.EndCause.{EndCause}
 use Rattle.grpc_base.specs.declared.event.EndCause.TheVariants as ends
-use Rattle.grpc_base.specs.declared.event.Event.{Event}
-use Rattle.grpc_base.specs.declared.event.Event.TheVariants as event
-use Rattle.grpc_base.specs.declared.event.Refusal.{Refusal}
-use Rattle.grpc_base.specs.declared.event.Refusal.TheVariants as refusal
-use Rattle.grpc_base.specs.declared.event.Reply.{Reply}
-use Rattle.grpc_base.specs.declared.event.Reply.TheVariants as reply
 use Rattle.grpc_base.specs.declared.code.Code.TheVariants as code
 use Rattle.grpc_base.specs.declared.plan.Chosen.{Chosen}
 use Rattle.grpc_base.specs.declared.plan.Pushback.TheVariants as pushback
-use Rattle.grpc_base.specs.declared.kind.Kind.{Kind}
-use Rattle.grpc_base.specs.declared.kind.Pick.{Pick}
-use Rattle.grpc_base.specs.declared.kind.Pick.TheVariants as pick
 use Rattle.attempt_ledger.specs.declared.ledger.Ask.{Ask}
 use Rattle.attempt_ledger.specs.declared.ledger.Generation.{Generation}
 use Rattle.attempt_ledger.specs.declared.ledger.LinkSeen.{LinkSeen}
 use Rattle.attempt_ledger.specs.declared.news.EndNews.{EndNews}
 use Rattle.attempt_ledger.specs.declared.news.News.{News}
 use Rattle.attempt_ledger.specs.declared.news.News.TheVariants as news
-use Rattle.attempt_ledger.specs.declared.row.Placed.{Placed}
 use Rattle.attempt_ledger.specs.declared.row.RowCause.TheVariants as cause
-use Rattle.picker_gate.specs.Pairs.{first_due, is_same, next_behind, next_moment, pair_cmp}
+use Rattle.picker_gate.specs.Pairs.{is_same, next_behind, pair_cmp}
 use Rattle.service_config.specs.declared.config.Config.{Config}
 use Rattle.service_config.specs.Choice.{chosen_for}
 use Rattle.channel_net.specs.declared.replies.Asked.{Asked}
@@ -40,16 +28,15 @@ use Rattle.channel_net.specs.declared.replies.Dialing.{Dialing}
 use Rattle.channel_net.specs.Lists as net_lists
 use Rattle.channel_net.specs.Steps as net
 use Rattle.channel_net.specs.Steps.{NetSeen, NetLeft}
-use Rattle.ledger_stamps.specs.Steps.{changed_at, gone_link, new_link, read_link, streamed_row}
+use Rattle.ledger_stamps.specs.Steps.{changed_at, gone_link}
 use Rattle.call_core.specs.declared.act.CallAct.{CallAct}
 use Rattle.call_core.specs.declared.act.CallAct.TheVariants as act
 use Rattle.call_core.specs.Steps as call
-use Rattle.channel_core.specs.declared.state.book.Book.{Book}
 use Rattle.channel_core.specs.declared.state.slots.CallSlot.{CallSlot}
-use Rattle.channel_core.specs.Books.{BookActs, begun_step, book_acted, book_asked, book_begun, book_configured, book_followed, book_placed, call_of, deadline_of, deadline_set, due_at, due_forgotten, due_set, has_drawn, has_ended, has_stream, is_live_at, lacks_call, limit_at, link_at, link_of, row_at, slot_at, timers_set, waits_at}
+use Rattle.channel_core.specs.Books.{BookActs, book_acted, book_asked, book_begun, book_configured, book_followed, call_of, deadline_of, deadline_set, due_at, due_forgotten, due_set, has_drawn, has_stream, link_at, link_of, row_at, slot_at, timers_set, waits_at}
 use Rattle.channel_core.specs.States.{StateSeen}
-use Rattle.channel_core.specs.Timing.{due_keys, earlier, first_pair, later, number_of, sorted_into, timer_moved}
-use Rattle.channel_core.specs.Tables.{Heard, buried_in, has_link, heard_in, is_dead, is_retiring, pinged_in, placed_in, reset_in, retired_in, sealed_in, takes_rows}
+use Rattle.channel_core.specs.Timing.{due_keys, first_pair, later, number_of, sorted_into, timer_moved}
+use Rattle.channel_core.specs.Tables.{buried_in, is_dead, is_retiring, reset_in, retired_in, sealed_in}
 
 -- the list of the ledger's links changes
 abbrev pub with_ledger_links : List LinkSeen → StateSeen → StateSeen
@@ -173,7 +160,7 @@ abbrev pub all_timed_out : List ℕ → StateSeen → StateSeen
 all_timed_out [] s = s
 all_timed_out (key ∷ calls) s = all_timed_out calls (timed_out (number_of key) s)
 
-abbrev pub overdue_ended : StateSeen → StateSeen
+unfoldable pub overdue_ended : StateSeen → StateSeen
 overdue_ended s = all_timed_out (due_keys s.book.moment s.deadlines) (record s { deadlines = later s.book.moment s.deadlines })
 
 -- draws
@@ -299,10 +286,10 @@ limits_passed (link ∷ links) s = limits_passed links (limit_passed link s)
 abbrev pub clocked_to : NetLeft → StateSeen → StateSeen
 clocked_to l s = limits_passed l.gone (record s { net = l.net })
 
-abbrev pub clocked : StateSeen → StateSeen
+unfoldable pub clocked : StateSeen → StateSeen
 clocked s = clocked_to (net.net_clocked s.book.moment s.net) s
 
-abbrev pub net_settled : StateSeen → StateSeen
+unfoldable pub net_settled : StateSeen → StateSeen
 net_settled s = links_left (net.net_settled s.net) (with_generations (net.settled_stamps s.book.ledger.entry s.net s.book.ledger.generations) s)
 
 -- calls without a configuration
@@ -326,7 +313,7 @@ abbrev pub all_unconfigured : List ℕ → StateSeen → StateSeen
 all_unconfigured [] s = s
 all_unconfigured (key ∷ calls) s = all_unconfigured calls (closed ends.NoConfig (number_of key) s)
 
-abbrev pub bare_served : StateSeen → StateSeen
+unfoldable pub bare_served : StateSeen → StateSeen
 bare_served s =
     if is_some s.held then all_configured (due_keys 0 s.bare) (record s { bare = later 0 s.bare; impatient = [] })
     else if s.unconfigured then all_unconfigured (due_keys 0 s.impatient) (record s { impatient = later 0 s.impatient })

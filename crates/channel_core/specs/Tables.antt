@@ -1,5 +1,5 @@
 -- Nobody has to believe these steps: what the code does to the tables of calls, buckets and links, one definition for each function.
-use Rattle.std.specs.Prelude.{◌≡◌, ℕ, zero, suc, ◌+◌, ◌-◌, ◌==◌, Bool, true, false, not, ◌&&◌, ◌||◌, nat_le, if◌then◌else◌, Option, Some, None, List, [], ◌∷◌, ◌++◌, length, slice_get, slice_set}
+use Rattle.std.specs.Prelude.{◌≡◌, ℕ, zero, suc, ◌-◌, ◌==◌, Bool, true, false, not, ◌&&◌, ◌||◌, nat_le, if◌then◌else◌, Option, Some, None, List, [], ◌∷◌, ◌++◌, length, slice_get, slice_set}
 use Rattle.std.specs.Option.{is_none, is_some, option_map, option_map_or}
 use Rattle.grpc_base.specs.ErrorCodes.{cancel}
 use Rattle.grpc_base.specs.declared.event.Reply.{Reply}
@@ -278,6 +278,7 @@ abbrev pub with_drained : Wire → List TagReader → LinkSlot → LinkSlot
 with_drained wire readers slot = record slot { link = record { link = record slot.link.link { wire = wire }; readers = readers } }
 
 pub record DrainsOn (room : ℕ) (slot : LinkSlot) (lines : ℕ → Line) (drained : Drained) (after : LinkSlot) (lines_after : ℕ → Line) : Type 0 where
+  pub may : drains_at room (Some slot) ≡ true
   pub sends : Drains room slot.link.link.wire lines drained.octets after.link.link.wire lines_after
   pub opened : drained.opened ≡ opened_between slot.link.link.wire after.link.link.wire
   pub readers : after.link.readers ≡ opened_all drained.opened slot.link.readers

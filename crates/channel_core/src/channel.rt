@@ -1,9 +1,12 @@
 // The channel: one step for each event.
-ghost use Rattle.std.specs.Prelude.{◌≡◌, ◌≤◌, ◌<◌, ◌↔◌, ℕ, true, false, Err, IfOk, IsTrue, map};
+ghost use Rattle.std.specs.Prelude.{◌≡◌, ◌≤◌, ◌<◌, ◌↔◌, ℕ, List, [], true, false, Err, IfOk, IsTrue, length, map};
 ghost use Rattle.grpc_base.specs.Authorities.{IsAuthority};
-ghost use Rattle.grpc_base.specs.Posts.{HasNoRoom};
+ghost use Rattle.grpc_base.specs.Posts.{HasNoRoom, MayReply};
+ghost use Rattle.grpc_base.specs.declared.event.Event.TheVariants as event;
+ghost use Rattle.grpc_base.specs.declared.event.Reply.TheVariants as reply;
 ghost use Rattle.policy_rack.specs.Kinds.{are_ready};
-ghost use Rattle.channel_core.specs.Core.{IsFull, IsNew, Steps, last_state, ledger_in};
+ghost use Rattle.channel_core.specs.Applying.{can_drain_in};
+ghost use Rattle.channel_core.specs.Core.{IsFull, IsNewBy, Steps, WouldReply, ledger_in, view_of};
 
 use crate::bytes_of::{entry_bytes, event_bytes};
 use crate::kept::Kept;
@@ -74,7 +77,7 @@ impl<P: Balancer> ChannelCore<P> {
     pub fn new(alloc: Global, authority: Text, policies: Vec<P>) -> Result<ChannelCore<P>, NoMemory>
         requires authority { IsAuthority authority }
         requires policies { are_ready (map P.seen policies.items) ≡ true }
-        ensures { IfOk result (IsNew authority) }
+        ensures { IfOk result (IsNewBy alloc authority (map P.seen policies.items)) }
     {
         let state = State::new(alloc, authority, policies)?;
         Ok(ChannelCore {
@@ -92,6 +95,8 @@ impl<P: Balancer> ChannelCore<P> {
     /// a drain gave; before it is made, a drain counts with the smaller of its room and 1,048,576.
     pub fn step(&mut self, stamped: Stamped) -> Result<Reply, CoreError>
         ensures ok { IfOk result (Steps self.old self.new stamped) }
+        // The reply is one that the event may get.
+        ensures may { IfOk result (MayReply stamped.event) }
 
         // No room in the journal.
         ensures full { (entries bytes : ℕ) → (result ≡ Err (CoreError.SessionFull entries bytes)) ↔ IsFull self.old stamped.event entries bytes }
@@ -155,8 +160,7 @@ impl<P: Balancer> ChannelCore<P> {
 
     /// The channel's state after the last step, and what it waits for.
     pub fn view(&self) -> View
-        ensures state { result.state ≡ last_state self.now.journal.entries }
-        ensures spent { result.spent ≡ self.now.spent }
+        ensures { result ≡ view_of self.now }
     {
         View {
             state: self.journal.last_state(),
@@ -167,18 +171,25 @@ impl<P: Balancer> ChannelCore<P> {
         }
     }
 
-    /// Whether a Drain of this link would give bytes.
-    pub fn can_drain(&self, link: u32) -> bool {
+    /// Whether a Drain of this link would give bytes, with room for the largest frame, 16,393 bytes.
+    pub fn can_drain(&self, link: u32) -> bool
+        ensures value { result ≡ can_drain_in link self.now.state }
+        ensures nothing { result ≡ false → (room : ℕ) (octets : List ℕ) → WouldReply self.now (event.Drain link room) (reply.Octets octets) → octets ≡ [] }
+    {
         self.state.can_drain(link)
     }
 
     /// Whether a Take of this call, at the moment of the last step, would be answered with other than NotYet.
-    pub fn can_take(&self, call: u32) -> bool {
+    pub fn can_take(&self, call: u32) -> bool
+        ensures { (result ≡ false) ↔ WouldReply self.now (event.Take call) reply.NotYet }
+    {
         self.state.can_take(call)
     }
 
     /// Whether a Send of a message of so many bytes, at the moment of the last step, would be answered with other than Full.
-    pub fn can_send(&self, call: u32, len: u32) -> bool {
+    pub fn can_send(&self, call: u32, len: u32) -> bool
+        ensures { (message : List ℕ) → length message ≡ len → (result ≡ false) ↔ ((held : ℕ) × WouldReply self.now (event.Send call message) (reply.Full held)) }
+    {
         self.state.can_send(call, len)
     }
 }

@@ -1,8 +1,9 @@
 // The channel but for its journal: what each of the sixteen events does, and how the channel settles after it.
 ghost use Rattle.std.specs.Prelude.{◌≡◌, IfOk, OnOk, map, true};
-ghost use Rattle.channel_core.specs.Books.{no_ledger};
 ghost use Rattle.grpc_base.specs.Authorities.{IsAuthority};
 ghost use Rattle.policy_rack.specs.Kinds.{are_ready};
+ghost use Rattle.channel_core.specs.Applying as applying;
+ghost use Rattle.channel_core.specs.Books.{can_take_at, slot_at};
 ghost use Rattle.channel_core.specs.Steps as steps;
 
 mod acts;
@@ -94,8 +95,7 @@ impl<P: Balancer> State<P> {
     pub fn new(alloc: Global, authority: Text, policies: Vec<P>) -> Result<State<P>, NoMemory>
         requires authority { IsAuthority authority }
         requires policies { are_ready (map P.seen policies.items) ≡ true }
-        ensures authority { IfOk result (λ s. s.book.authority ≡ authority) }
-        ensures ledger { IfOk result (λ s. s.book.ledger ≡ no_ledger) }
+        ensures { IfOk result (λ s. s ≡ applying.new_state alloc authority (map P.seen policies.items)) }
     {
         let book = Book::new(alloc, Authority::new(authority), Moment::new(0).unwrap())?;
         Ok(State {
@@ -127,17 +127,26 @@ impl<P: Balancer> State<P> {
         moment: Moment,
         word: u64,
         event: &Event,
-    ) -> Result<Reply, NoMemory> {
-        self.book.begin_step(entry, moment);
-        self.word = word;
-        self.drawn = 0;
+    ) -> Result<Reply, NoMemory>
+        ensures { IfOk result (applying.Stepped entry moment word event.now self.old self.new) }
+    {
+        self.begin_step(entry, moment, word);
         self.end_overdue()?;
         let reply = self.apply(event)?;
         self.settle()?;
         Ok(reply)
     }
 
+    fn begin_step(&mut self, entry: u64, moment: Moment, word: u64)
+        ensures { self.new ≡ applying.begun_at entry moment word self.old }
+    {
+        self.book.begin_step(entry, moment);
+        self.word = word;
+        self.drawn = 0;
+    }
+
     /// Ends the calls whose deadline has come, the earliest first.
+    #[tactic(auto, unfolding(crate::specs::Steps::overdue_ended))]
     fn end_overdue(&mut self) -> Result<(), NoMemory>
         ensures { OnOk result (self.new ≡ steps.overdue_ended self.old) }
     {
@@ -155,7 +164,10 @@ impl<P: Balancer> State<P> {
         Ok(())
     }
 
-    fn apply(&mut self, event: &Event) -> Result<Reply, NoMemory> {
+    /// Answers an event: refuses it, or applies it.
+    fn apply(&mut self, event: &Event) -> Result<Reply, NoMemory>
+        ensures { IfOk result (applying.Answers event.now self.old self.new) }
+    {
         match self.refused(event) {
             Some(refusal) => Ok(Reply::Refused { refusal }),
             None => self.applied(event),
@@ -163,32 +175,52 @@ impl<P: Balancer> State<P> {
     }
 
     /// The first refusal that stands, of those that the channel itself tells.
-    fn refused(&self, event: &Event) -> Option<Refusal> {
+    fn refused(&self, event: &Event) -> Option<Refusal>
+        ensures { result ≡ applying.refusal_of event.now self.now }
+    {
         match event {
             Event::Tick | Event::Shutdown => None,
             Event::Take { call } => self.book.lacks_call(*call),
             _ if self.shut => Some(Refusal::Shut),
+            _ => self.refused_open(event),
+        }
+    }
+
+    /// The first refusal that stands, of a channel that is not shut.
+    fn refused_open(&self, event: &Event) -> Option<Refusal>
+        ensures { result ≡ applying.open_refusal event.now self.now }
+    {
+        match event {
             Event::Send { call, message: _ } | Event::Finish { call } | Event::Cancel { call } => {
                 self.book.lacks_call(*call)
             }
             Event::Arrived { link, piece: _ }
             | Event::LinkLost { link }
             | Event::Ping { link, word: _ } => self.lacks_link(*link),
-            Event::Drain { link, room } => match self.lacks_link(*link) {
-                Some(refusal) => Some(refusal),
-                None if *room < LEAST_ROOM => Some(Refusal::RoomTooSmall),
-                None => None,
-            },
+            Event::Drain { link, room } => self.refused_drain(*link, *room),
             _ => None,
         }
     }
 
-    fn applied(&mut self, event: &Event) -> Result<Reply, NoMemory> {
+    fn refused_drain(&self, link: u32, room: u32) -> Option<Refusal>
+        ensures { result ≡ applying.or_room room (applying.link_refusal link self.now) }
+    {
+        match self.lacks_link(link) {
+            Some(refusal) => Some(refusal),
+            None if room < LEAST_ROOM => Some(Refusal::RoomTooSmall),
+            None => None,
+        }
+    }
+
+    /// Applies an event that is not refused.
+    fn applied(&mut self, event: &Event) -> Result<Reply, NoMemory>
+        ensures { IfOk result (applying.Applies event.now self.old self.new) }
+    {
         match event {
             Event::Begin { request } => self.begin(request),
             Event::Send { call, message } => self.send(*call, message),
-            Event::Finish { call } => Ok(self.book.finish(*call)),
-            Event::Take { call } => self.book.take(*call),
+            Event::Finish { call } => Ok(self.finish(*call)),
+            Event::Take { call } => self.take(*call),
             Event::Cancel { call } => self.cancel(*call),
             Event::Resolved { addresses, config } => {
                 self.resolved(addresses.as_list(), config.as_ref())
@@ -207,7 +239,9 @@ impl<P: Balancer> State<P> {
     }
 
     /// The channel's connectivity state.
-    pub fn conn(&self) -> Conn {
+    pub fn conn(&self) -> Conn
+        ensures { result ≡ applying.conn_of self.now }
+    {
         if self.shut {
             return Conn::Shutdown;
         }
@@ -226,12 +260,16 @@ impl<P: Balancer> State<P> {
     }
 
     /// Whether a new result of the resolver is wanted.
-    pub fn wants_resolution(&self) -> bool {
+    pub fn wants_resolution(&self) -> bool
+        ensures { result ≡ self.now.resolver }
+    {
         self.resolver.wants_resolution()
     }
 
     /// The next moment at which something is due, in nanoseconds.
-    pub fn next(&self) -> Option<u64> {
+    pub fn next(&self) -> Option<u64>
+        ensures { result ≡ applying.next_of self.now }
+    {
         earlier(
             earlier(self.dues.next(), self.deadlines.next()),
             self.net.next(),
@@ -239,22 +277,30 @@ impl<P: Balancer> State<P> {
     }
 
     /// Whether an address waits to be dialled.
-    pub fn dialable(&self) -> bool {
+    pub fn dialable(&self) -> bool
+        ensures { result ≡ applying.is_dialable_in self.now }
+    {
         self.net.dialable()
     }
 
     /// Whether a take of this call would be answered with something.
-    pub fn can_take(&self, call: u32) -> bool {
+    pub fn can_take(&self, call: u32) -> bool
+        ensures { result ≡ can_take_at (slot_at self.now.book call) }
+    {
         self.book.can_take(call)
     }
 
     /// Whether a message of so many bytes would not find the call full.
-    pub fn can_send(&self, call: u32, len: u32) -> bool {
-        self.book.can_send(call, len)
+    pub fn can_send(&self, call: u32, len: u32) -> bool
+        ensures { result ≡ applying.can_send_in len call self.now }
+    {
+        self.shut || self.book.can_send(call, len)
     }
 
     /// Whether a drain of this link would not be refused, and would give something.
-    pub fn can_drain(&self, link: u32) -> bool {
+    pub fn can_drain(&self, link: u32) -> bool
+        ensures { result ≡ applying.can_drain_in link self.now }
+    {
         !self.shut && self.lacks_link(link).is_none() && self.links.can_drain(link, &self.book)
     }
 }

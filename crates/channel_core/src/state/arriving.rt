@@ -1,6 +1,9 @@
 // What comes on links.
-ghost use Rattle.std.specs.Prelude.{◌≡◌, ◌<◌, ◌≤◌, [], length, IfOk, OnOk};
+ghost use Rattle.std.specs.Prelude.{◌≡◌, ◌<◌, ◌≤◌, [], drop, length, IfOk, IfSome, OnOk};
+ghost use Rattle.std.specs.Option.{option_map};
+ghost use Rattle.channel_core.specs.Arrivals as arrivals;
 ghost use Rattle.channel_core.specs.Steps as steps;
+ghost use Rattle.channel_core.specs.Tables.{heard_in};
 
 use crate::state::State;
 use attempt_ledger::{EndNews, News, RowCause};
@@ -12,33 +15,48 @@ use std::collections::BTreeMap;
 
 impl<P: Balancer> State<P> {
     /// Applies a piece frame by frame: what one frame causes is done before the next is read.
-    pub fn arrived(&mut self, link: u32, piece: &[u8]) -> Result<Reply, NoMemory> {
+    pub fn arrived(&mut self, link: u32, piece: &[u8]) -> Result<Reply, NoMemory>
+        ensures state { OnOk result (self.new ≡ (arrivals.arrived link piece.now self.old).state) }
+        ensures reply { IfOk result (λ r. r ≡ (arrivals.arrived link piece.now self.old).reply) }
+    {
         let mut rest = piece;
         while !rest.is_empty() {
-            let taken = self.frame_arrived(link, rest)?;
-            if taken == 0 {
+            let Some(taken) = self.frame_arrived(link, rest)? else {
                 return Ok(Reply::Done);
-            }
-            rest = &rest[taken..];
+            };
+            rest = bytes_after(rest, taken);
         }
         Ok(Reply::Done)
     }
 
-    /// Applies the bytes up to the end of one frame, and tells how many these are; none where the link is dead.
-    fn frame_arrived(&mut self, link: u32, piece: &[u8]) -> Result<usize, NoMemory>
+    /// Applies the bytes up to the end of one frame, and tells how many these are; None where the link is dead.
+    fn frame_arrived(&mut self, link: u32, piece: &[u8]) -> Result<Option<usize>, NoMemory>
         requires { 0 < length piece.now }
-        ensures { IfOk result (λ taken. taken ≤ length piece.now) }
+        ensures state { OnOk result (self.new ≡ arrivals.frame_heard_if link (heard_in link piece.now self.old.links) self.old) }
+        ensures taken { IfOk result (λ n. n ≡ option_map (λ h. h.taken) (heard_in link piece.now self.old.links)) }
+        ensures within { IfOk result (λ n. IfSome n (λ taken. (1 ≤ taken) × (taken ≤ length piece.now))) }
     {
-        let Some(arrival) = self.links.arrived(link, piece)? else {
-            return Ok(0);
-        };
-        link_read(&mut self.book.ledger.links, link, arrival.read);
-        self.hear(link, arrival.news)?;
-        Ok(arrival.taken)
+        match self.links.arrived(link, piece)? {
+            Some(arrival) => {
+                self.hear_frame(link, arrival.read, arrival.news)?;
+                Ok(Some(arrival.taken))
+            }
+            None => Ok(None),
+        }
+    }
+
+    /// The ledger is told how far a link is read before the news of the frame are heard.
+    fn hear_frame(&mut self, link: u32, read: u64, news: Items<News>) -> Result<(), NoMemory>
+        ensures { OnOk result (self.new ≡ arrivals.heard link news (arrivals.read_to link read self.old)) }
+    {
+        link_read(&mut self.book.ledger.links, link, read);
+        self.hear(link, news)
     }
 
     /// The news of one frame. Ends are applied by the rows' places.
-    fn hear(&mut self, link: u32, news: Items<News>) -> Result<(), NoMemory> {
+    fn hear(&mut self, link: u32, news: Items<News>) -> Result<(), NoMemory>
+        ensures { OnOk result (self.new ≡ arrivals.heard link news self.old) }
+    {
         let ends = self.hear_all(link, news)?;
         self.end_all_on(link, ends)?;
         self.seal_one(link);
@@ -48,7 +66,8 @@ impl<P: Balancer> State<P> {
 
     /// All news but the ends, which it gives by the rows' places.
     fn hear_all(&mut self, link: u32, news: Items<News>) -> Result<BTreeMap<u64, EndNews>, NoMemory>
-        ensures { IfOk result (λ ends. ends.entries ≡ steps.ends_kept news []) }
+        ensures state { OnOk result (self.new ≡ arrivals.heard_all link news self.old) }
+        ensures ends { IfOk result (λ ends. ends.entries ≡ steps.ends_kept news []) }
     {
         let mut ends = BTreeMap::new(self.alloc);
         let mut rest = news.into_vec().into_iter();
@@ -58,7 +77,9 @@ impl<P: Balancer> State<P> {
         Ok(ends)
     }
 
-    fn end_all_on(&mut self, link: u32, ends: BTreeMap<u64, EndNews>) -> Result<(), NoMemory> {
+    fn end_all_on(&mut self, link: u32, ends: BTreeMap<u64, EndNews>) -> Result<(), NoMemory>
+        ensures { OnOk result (self.new ≡ arrivals.all_ended_on link ends.entries self.old) }
+    {
         let mut ends = ends;
         while let Some((row, end)) = ends.pop_first() {
             self.end_on(link, row, end)?;
@@ -72,7 +93,8 @@ impl<P: Balancer> State<P> {
         news: News,
         ends: &mut BTreeMap<u64, EndNews>,
     ) -> Result<(), NoMemory>
-        ensures { OnOk result (ends.new.entries ≡ steps.end_kept news ends.old.entries) }
+        ensures state { OnOk result (self.new ≡ arrivals.heard_one link news self.old) }
+        ensures ends { OnOk result (ends.new.entries ≡ steps.end_kept news ends.old.entries) }
     {
         match news {
             News::Ready => {
@@ -137,7 +159,9 @@ impl<P: Balancer> State<P> {
     }
 
     /// An attempt on a link ended, unless it was cut meanwhile.
-    fn end_on(&mut self, link: u32, row: u64, end: EndNews) -> Result<(), NoMemory> {
+    fn end_on(&mut self, link: u32, row: u64, end: EndNews) -> Result<(), NoMemory>
+        ensures { OnOk result (self.new ≡ arrivals.ended_on link row end self.old) }
+    {
         if self.book.has_ended(row) {
             return Ok(());
         }
@@ -147,21 +171,28 @@ impl<P: Balancer> State<P> {
         Ok(())
     }
 
-    pub fn link_lost(&mut self, link: u32) -> Result<Reply, NoMemory> {
+    pub fn link_lost(&mut self, link: u32) -> Result<Reply, NoMemory>
+        ensures state { OnOk result (self.new ≡ (arrivals.link_lost link self.old).state) }
+        ensures reply { IfOk result (λ r. r ≡ (arrivals.link_lost link self.old).reply) }
+    {
         self.lose(link, true)?;
         Ok(Reply::Done)
     }
 
     /// A link is lost or broken, and with it each attempt on it. `each` says whether what one attempt's loss causes is complete
     /// before the next one's.
-    fn lose(&mut self, link: u32, each: bool) -> Result<(), NoMemory> {
+    fn lose(&mut self, link: u32, each: bool) -> Result<(), NoMemory>
+        ensures { OnOk result (self.new ≡ arrivals.lost link each self.old) }
+    {
         self.bury(link);
         self.lose_rows(link, each)?;
         self.stamp_gone(link);
         Ok(())
     }
 
-    fn lose_rows(&mut self, link: u32, each: bool) -> Result<(), NoMemory> {
+    fn lose_rows(&mut self, link: u32, each: bool) -> Result<(), NoMemory>
+        ensures { OnOk result (self.new ≡ arrivals.rows_lost arrivals.most_rows link each 0 self.old) }
+    {
         let mut last = 0;
         // There are fewer rows than this.
         for _row in 0..u64::MAX {
@@ -184,7 +215,9 @@ impl<P: Balancer> State<P> {
         }
     }
 
-    fn lose_row(&mut self, link: u32, row: u64, each: bool) -> Result<(), NoMemory> {
+    fn lose_row(&mut self, link: u32, row: u64, each: bool) -> Result<(), NoMemory>
+        ensures { OnOk result (self.new ≡ arrivals.lost_row link each row self.old) }
+    {
         let end = self.loss_of(link, row);
         self.end_on(link, row, end)?;
         if each {
@@ -203,6 +236,14 @@ impl<P: Balancer> State<P> {
         };
         loss(self.alloc, self.book.has_stream(row), seen)
     }
+}
+
+/// The bytes after the first ones.
+fn bytes_after(piece: &[u8], taken: usize) -> &[u8]
+    requires { taken ≤ length piece.now }
+    ensures { result.now ≡ drop taken piece.now }
+{
+    &piece[taken..]
 }
 
 fn loss(alloc: Global, was_sent: bool, seen: u64) -> EndNews

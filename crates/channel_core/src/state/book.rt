@@ -480,16 +480,16 @@ fn blank_request(alloc: Global) -> Result<Fields, NoMemory>
 }
 
 impl Feed for Book {
-    ghost use Rattle.std.proofs.Common.{refl, ◌∙◌};
-    ghost use Rattle.channel_core.specs.Books.{lines_of, IsSameBook};
+    ghost use Rattle.channel_core.specs.Books.{lines_of};
+    ghost use Rattle.channel_core.specs.Feeding.{IsFed, fed_on, fed_self};
 
     ghost lines = { lines_of };
 
-    ghost same = { IsSameBook };
+    ghost same = { IsFed };
 
-    ghost same_self = { λ b. record { rest = refl; calls = refl } };
+    ghost same_self = { fed_self };
 
-    ghost same_on = { λ f g h p q. record { rest = p.rest ∙ q.rest; calls = p.calls ∙ q.calls } };
+    ghost same_on = { fed_on };
 
     fn head(&mut self, tag: u64) -> Result<Fields, NoMemory> {
         match self.row(tag) {

@@ -1,5 +1,10 @@
 // What the resolver and the dialers tell.
 ghost use Rattle.std.specs.Prelude.{◌≡◌, IfOk, OnOk};
+ghost use Rattle.std.specs.Option.{option_copied};
+ghost use Rattle.grpc_base.specs.declared.event.Reply.TheVariants as reply;
+ghost use Rattle.service_config.specs.Reading.{config_of};
+ghost use Rattle.channel_core.specs.Applying as applying;
+ghost use Rattle.channel_core.specs.Arrivals as arrivals;
 ghost use Rattle.channel_core.specs.Steps as steps;
 
 use crate::state::State;
@@ -18,21 +23,32 @@ impl<P: Balancer> State<P> {
         &mut self,
         addresses: &AddressList,
         config: Option<&Octets>,
-    ) -> Result<Reply, NoMemory> {
+    ) -> Result<Reply, NoMemory>
+        ensures state { OnOk result (self.new ≡ (applying.resolved addresses.now (option_copied config.entry) self.old).state) }
+        ensures reply { IfOk result (λ r. r ≡ (applying.resolved addresses.now (option_copied config.entry) self.old).reply) }
+    {
         self.resolver.accept(addresses);
-        let reply = match read(self.alloc, config, self.net.kinds()) {
-            Ok(config) => {
-                self.hold(config)?;
-                Reply::Done
-            }
-            Err(ConfigFault::NoMemory) => return Err(NoMemory),
-            Err(fault) => {
-                self.unconfigured = self.held.is_none();
-                Reply::BadConfig { fault }
-            }
-        };
+        let read = read(self.alloc, config, self.net.kinds())?;
+        let reply = self.take_config(read)?;
         self.readdress(addresses)?;
         Ok(reply)
+    }
+
+    /// Holds the config that was read, or tells its fault.
+    fn take_config(&mut self, read: Result<Config, ConfigFault>) -> Result<Reply, NoMemory>
+        ensures state { OnOk result (self.new ≡ (applying.config_taken read self.old).state) }
+        ensures reply { IfOk result (λ r. r ≡ (applying.config_taken read self.old).reply) }
+    {
+        match read {
+            Ok(config) => {
+                self.hold(config)?;
+                Ok(Reply::Done)
+            }
+            Err(fault) => {
+                self.unconfigured = self.held.is_none();
+                Ok(Reply::BadConfig { fault })
+            }
+        }
     }
 
     fn hold(&mut self, config: Config) -> Result<(), NoMemory>
@@ -44,17 +60,27 @@ impl<P: Balancer> State<P> {
     }
 
     /// The addresses go to the generation of the config's kind.
-    fn readdress(&mut self, addresses: &AddressList) -> Result<(), NoMemory> {
-        match &self.held {
-            Some(config) => {
-                let kind = config.kind;
-                self.readdress_to(kind, addresses)
-            }
+    fn readdress(&mut self, addresses: &AddressList) -> Result<(), NoMemory>
+        ensures { OnOk result (self.new ≡ applying.readdressed addresses.now self.old) }
+    {
+        match self.kind_held() {
+            Some(kind) => self.readdress_to(kind, addresses),
             None => Ok(()),
         }
     }
 
-    fn readdress_to(&mut self, kind: Kind, addresses: &AddressList) -> Result<(), NoMemory> {
+    fn kind_held(&self) -> Option<Kind>
+        ensures { result ≡ applying.kind_held self.now }
+    {
+        match &self.held {
+            Some(config) => Some(config.kind),
+            None => None,
+        }
+    }
+
+    fn readdress_to(&mut self, kind: Kind, addresses: &AddressList) -> Result<(), NoMemory>
+        ensures { OnOk result (self.new ≡ applying.readdressed_to kind addresses.now self.old) }
+    {
         let entry = self.book.ledger.entry;
         let shut = self
             .net
@@ -64,7 +90,8 @@ impl<P: Balancer> State<P> {
     }
 
     pub fn resolve_failed(&mut self) -> Reply
-        ensures { self.new ≡ steps.unresolved self.old }
+        ensures state { self.new ≡ (arrivals.resolve_failed self.old).state }
+        ensures reply { result ≡ (arrivals.resolve_failed self.old).reply }
     {
         self.resolver.refuse();
         if self.held.is_none() {
@@ -74,7 +101,8 @@ impl<P: Balancer> State<P> {
     }
 
     pub fn take_dial(&mut self) -> Reply
-        ensures state { self.new ≡ steps.dial_taken self.old }
+        ensures state { self.new ≡ (arrivals.dial_asked self.old).state }
+        ensures reply { result ≡ (arrivals.dial_asked self.old).reply }
     {
         let word = self.next_word();
         match self.net.dial(self.book.moment, word) {
@@ -106,20 +134,40 @@ impl<P: Balancer> State<P> {
         }
     }
 
-    pub fn link_up(&mut self, sub: u32) -> Result<Reply, NoMemory> {
-        let link = self.links.count().saturating_add(1);
+    pub fn link_up(&mut self, sub: u32) -> Result<Reply, NoMemory>
+        ensures state { OnOk result (self.new ≡ (arrivals.linked_up sub self.old).state) }
+        ensures reply { IfOk result (λ r. r ≡ (arrivals.linked_up sub self.old).reply) }
+    {
+        let link = self.next_link();
         match self.net.up(sub, link) {
-            Ok(()) => {}
-            Err(LinkFault::Refused(refusal)) => return Ok(Reply::Refused { refusal }),
-            Err(LinkFault::NoMemory) => return Err(NoMemory),
+            Ok(()) => self.join_link(sub, link),
+            Err(LinkFault::Refused(refusal)) => Ok(Reply::Refused { refusal }),
+            Err(LinkFault::NoMemory) => Err(NoMemory),
         }
+    }
+
+    /// The number of the next link; 4,294,967,295 where there were as many.
+    fn next_link(&self) -> u32
+        ensures { result ≡ arrivals.next_link self.now }
+    {
+        self.links.count().saturating_add(1)
+    }
+
+    /// A new link stands in the table and in the ledger.
+    fn join_link(&mut self, sub: u32, link: u32) -> Result<Reply, NoMemory>
+        ensures state { OnOk result (self.new ≡ arrivals.joined sub self.old) }
+        ensures reply { IfOk result (λ r. r ≡ reply.Link link) }
+    {
         self.links.add()?;
         let entry = self.book.ledger.entry;
         let _number = add_link(&mut self.book.ledger.links, sub, entry)?;
         Ok(Reply::Link { link })
     }
 
-    pub fn dial_failed(&mut self, sub: u32) -> Reply {
+    pub fn dial_failed(&mut self, sub: u32) -> Reply
+        ensures state { self.new ≡ (arrivals.dial_failed_by sub self.old).state }
+        ensures reply { result ≡ (arrivals.dial_failed_by sub self.old).reply }
+    {
         match self.net.dial_failed(sub) {
             Ok(()) => {
                 self.resolver.want();
@@ -129,26 +177,48 @@ impl<P: Balancer> State<P> {
         }
     }
 
-    pub fn shut_down(&mut self) -> Result<Reply, NoMemory> {
+    pub fn shut_down(&mut self) -> Result<Reply, NoMemory>
+        ensures state { OnOk result (self.new ≡ applying.shut_down self.old) }
+        ensures reply { IfOk result (λ r. r ≡ reply.Done) }
+    {
         if self.shut {
             return Ok(Reply::Done);
         }
         self.shut = true;
         self.close_all()?;
-        let entry = self.book.ledger.entry;
-        let shut = self.net.shut(&mut self.book.ledger.generations, entry)?;
-        self.stamp_all_gone(shut);
+        self.close_net()?;
         Ok(Reply::Done)
     }
 
-    fn close_all(&mut self) -> Result<(), NoMemory> {
-        for index in 0..self.book.calls.count() {
-            self.close(number_of(index as u64).saturating_add(1), EndCause::Shut)?;
+    #[tactic(auto, using(crate::proofs::SettlingLaws::closed_step))]
+    fn close_all(&mut self) -> Result<(), NoMemory>
+        ensures { OnOk result (self.new ≡ applying.all_closed self.old) }
+    {
+        let count = self.book.calls.count();
+        for index in 0..count {
+            self.close_at(index)?;
         }
         Ok(())
     }
 
-    pub fn lacks_link(&self, link: u32) -> Option<Refusal> {
+    fn close_at(&mut self, index: usize) -> Result<(), NoMemory>
+        ensures { OnOk result (self.new ≡ applying.closed_at index self.old) }
+    {
+        self.close(number_of(index as u64).saturating_add(1), EndCause::Shut)
+    }
+
+    fn close_net(&mut self) -> Result<(), NoMemory>
+        ensures { OnOk result (self.new ≡ applying.net_closed self.old) }
+    {
+        let entry = self.book.ledger.entry;
+        let shut = self.net.shut(&mut self.book.ledger.generations, entry)?;
+        self.stamp_all_gone(shut);
+        Ok(())
+    }
+
+    pub fn lacks_link(&self, link: u32) -> Option<Refusal>
+        ensures { result ≡ applying.link_refusal link self.now }
+    {
         if !self.links.has(link) {
             Some(Refusal::NoSuchLink)
         } else if self.is_gone(link) {
@@ -162,9 +232,30 @@ impl<P: Balancer> State<P> {
 /// What the words of one step's draws differ by: 2^64 over the golden ratio.
 const STRIDE: u64 = 0x9E37_79B9_7F4A_7C15;
 
-fn read(alloc: Global, config: Option<&Octets>, kinds: KindSet) -> Result<Config, ConfigFault> {
+/// The config that a result of the resolver brings, the empty one where it brings none; or its fault.
+fn read(
+    alloc: Global,
+    config: Option<&Octets>,
+    kinds: KindSet,
+) -> Result<Result<Config, ConfigFault>, NoMemory>
+    ensures { IfOk result (λ read. read ≡ applying.config_read kinds (option_copied config.entry)) }
+{
     match config {
-        Some(text) => read_config(alloc, text.as_slice(), kinds),
-        None => Ok(Config::empty(alloc)),
+        Some(text) => read_text(alloc, text, kinds),
+        None => Ok(Ok(Config::empty(alloc))),
+    }
+}
+
+fn read_text(
+    alloc: Global,
+    text: &Octets,
+    kinds: KindSet,
+) -> Result<Result<Config, ConfigFault>, NoMemory>
+    ensures { IfOk result (λ read. read ≡ config_of kinds text.now) }
+{
+    match read_config(alloc, text.as_slice(), kinds) {
+        Ok(config) => Ok(Ok(config)),
+        Err(ConfigFault::NoMemory) => Err(NoMemory),
+        Err(fault) => Ok(Err(fault)),
     }
 }

@@ -1,7 +1,9 @@
 // How the channel settles after an event, until nothing changes.
-ghost use Rattle.std.specs.Prelude.{◌≡◌, IfOk, OnOk};
+ghost use Rattle.std.specs.Prelude.{◌≡◌, ◌||◌, false, IfOk, OnOk};
+ghost use Rattle.channel_core.specs.Settling as settling;
 ghost use Rattle.channel_core.specs.Steps as steps;
-ghost use Rattle.channel_core.specs.Books.{slot_at};
+ghost use Rattle.channel_core.specs.Books.{limit_at, slot_at};
+ghost use Rattle.channel_core.specs.Tables.{takes_rows};
 
 use crate::state::State;
 use crate::state::timers::{first_pair, number_of, sort_calls, take_due};
@@ -17,11 +19,28 @@ use std::alloc::Global;
 const MOST: u64 = u64::MAX;
 
 impl<P: Balancer> State<P> {
-    pub fn settle(&mut self) -> Result<(), NoMemory> {
+    pub fn settle(&mut self) -> Result<(), NoMemory>
+        ensures { OnOk result (self.new ≡ settling.settled self.old) }
+    {
+        self.prepare()?;
+        self.move_all(MOST)
+    }
+
+    /// The dial limits and backoffs that are over, what the policies wish, and the calls without a configuration.
+    fn prepare(&mut self) -> Result<(), NoMemory>
+        ensures { OnOk result (self.new ≡ settling.prepared self.old) }
+    {
         self.pass_limits()?;
         self.settle_net()?;
-        self.serve_bare()?;
-        for _round in 0..MOST {
+        self.serve_bare()
+    }
+
+    /// Rounds until nothing moves, but no more than so many.
+    #[tactic(auto, using(crate::proofs::SettlingLaws::rounds_step), unfolding(crate::specs::Settling::rounds))]
+    fn move_all(&mut self, most: u64) -> Result<(), NoMemory>
+        ensures { OnOk result (self.new ≡ settling.rounds most self.old) }
+    {
+        for _round in 0..most {
             if !self.move_on()? {
                 return Ok(());
             }
@@ -30,6 +49,7 @@ impl<P: Balancer> State<P> {
     }
 
     /// The dial limits and backoffs that are over.
+    #[tactic(auto, unfolding(crate::specs::Steps::clocked))]
     fn pass_limits(&mut self) -> Result<(), NoMemory>
         ensures { OnOk result (self.new ≡ steps.clocked self.old) }
     {
@@ -55,6 +75,7 @@ impl<P: Balancer> State<P> {
         self.stamp_gone(link);
     }
 
+    #[tactic(auto, unfolding(crate::specs::Steps::net_settled))]
     fn settle_net(&mut self) -> Result<(), NoMemory>
         ensures { OnOk result (self.new ≡ steps.net_settled self.old) }
     {
@@ -65,6 +86,7 @@ impl<P: Balancer> State<P> {
     }
 
     /// Calls without a configuration get one or end, by their numbers.
+    #[tactic(auto, unfolding(crate::specs::Steps::bare_served))]
     fn serve_bare(&mut self) -> Result<(), NoMemory>
         ensures { OnOk result (self.new ≡ steps.bare_served self.old) }
     {
@@ -125,10 +147,13 @@ impl<P: Balancer> State<P> {
 
     /// One round: each call whose due moment has come makes one attempt, by the calls' numbers, and then the queue is served by
     /// call and row. Answers whether there was anything to do.
-    fn move_on(&mut self) -> Result<bool, NoMemory> {
+    fn move_on(&mut self) -> Result<bool, NoMemory>
+        ensures state { OnOk result (self.new ≡ (settling.round self.old).state) }
+        ensures moved { IfOk result (λ moved. moved ≡ (settling.round self.old).moved) }
+    {
         let made = self.make_due()?;
-        let served = self.serve_queued()?;
-        Ok(made || served)
+        let served = self.serve_queued(MOST)?;
+        Ok(either(made, served))
     }
 
     fn make_due(&mut self) -> Result<bool, NoMemory>
@@ -176,20 +201,25 @@ impl<P: Balancer> State<P> {
         Ok(())
     }
 
-    /// Serves the queue by call and row; whether any attempt left it.
-    fn serve_queued(&mut self) -> Result<bool, NoMemory> {
-        let mut served = false;
-        let mut last = (0, 0);
-        for _turn in 0..MOST {
-            let Some((call, row)) = self.next_served(last.0, last.1) else {
-                return Ok(served);
+    /// Serves the queue by call and row, but no more than so many attempts; whether any attempt left it.
+    #[tactic(auto, using(crate::proofs::SettlingLaws::passed_step), unfolding(crate::specs::Settling::passed))]
+    fn serve_queued(&mut self, most: u64) -> Result<bool, NoMemory>
+        ensures state { OnOk result (self.new ≡ (settling.passed most (0, 0) (settling.stays self.old)).state) }
+        ensures moved { IfOk result (λ moved. moved ≡ (settling.passed most (0, 0) (settling.stays self.old)).moved) }
+    {
+        let mut moved = false;
+        let mut call = 0;
+        let mut row = 0;
+        for _turn in 0..most {
+            let Some((next_call, next_row)) = self.next_served(call, row) else {
+                return Ok(moved);
             };
-            last = (call, row);
-            if self.serve(call, row)? {
-                served = true;
-            }
+            call = next_call;
+            row = next_row;
+            let served = self.serve(call, row)?;
+            moved = either(moved, served);
         }
-        Ok(served)
+        Ok(moved)
     }
 
     /// The first attempt after another that is to be served in the state of the current policy.
@@ -206,7 +236,10 @@ impl<P: Balancer> State<P> {
         }
     }
 
-    fn serve(&mut self, call: u32, row: u64) -> Result<bool, NoMemory> {
+    fn serve(&mut self, call: u32, row: u64) -> Result<bool, NoMemory>
+        ensures state { OnOk result (self.new ≡ (settling.served call row self.old).state) }
+        ensures moved { IfOk result (λ moved. moved ≡ (settling.served call row self.old).moved) }
+    {
         let Some(asked) = self.net.ask() else {
             return Ok(false);
         };
@@ -235,7 +268,10 @@ impl<P: Balancer> State<P> {
         row: u64,
         generation: u32,
         pick: Pick,
-    ) -> Result<bool, NoMemory> {
+    ) -> Result<bool, NoMemory>
+        ensures state { OnOk result (self.new ≡ (settling.picked call row generation pick self.old).state) }
+        ensures moved { IfOk result (λ moved. moved ≡ (settling.picked call row generation pick self.old).moved) }
+    {
         match pick {
             Pick::Place(sub) => self.place(call, row, generation, sub),
             Pick::Wait => Ok(false),
@@ -246,14 +282,13 @@ impl<P: Balancer> State<P> {
         }
     }
 
-    fn place(&mut self, call: u32, row: u64, generation: u32, sub: u32) -> Result<bool, NoMemory> {
+    fn place(&mut self, call: u32, row: u64, generation: u32, sub: u32) -> Result<bool, NoMemory>
+        ensures state { OnOk result (self.new ≡ (settling.placed call row generation sub self.old).state) }
+        ensures moved { IfOk result (λ moved. moved ≡ (settling.placed call row generation sub self.old).moved) }
+    {
         let Some(link) = self.net.link_of(sub) else {
             return Ok(false);
         };
-        let limit = self.book.response_limit(call);
-        if !self.links.place(link, row, limit)? {
-            return Ok(false);
-        }
         let at = Placed {
             entry: self.book.ledger.entry,
             moment: self.book.moment,
@@ -261,12 +296,27 @@ impl<P: Balancer> State<P> {
             sub,
             link,
         };
+        if !self.offer(call, row, link)? {
+            return Ok(false);
+        }
         self.settle_in(call, row, at)?;
         Ok(true)
     }
 
+    /// Offers an attempt to a link; whether the link took it.
+    fn offer(&mut self, call: u32, row: u64, link: u32) -> Result<bool, NoMemory>
+        ensures state { OnOk result (self.new ≡ settling.offered link row (limit_at (slot_at self.old.book call)) self.old) }
+        ensures taken { IfOk result (λ taken. taken ≡ takes_rows link self.old.links) }
+    {
+        let limit = self.book.response_limit(call);
+        let taken = self.links.place(link, row, limit)?;
+        Ok(taken)
+    }
+
     /// An attempt that a link took leaves the queue and is outstanding.
-    fn settle_in(&mut self, call: u32, row: u64, at: Placed) -> Result<(), NoMemory> {
+    fn settle_in(&mut self, call: u32, row: u64, at: Placed) -> Result<(), NoMemory>
+        ensures { OnOk result (self.new ≡ settling.settled_in call row at self.old) }
+    {
         self.unqueue(call, row);
         self.outstanding.join(at.link, row)?;
         let acts = self.book.placed(call, row, at)?;
@@ -285,4 +335,10 @@ impl<P: Balancer> State<P> {
         self.seal();
         Ok(())
     }
+}
+
+fn either(one: bool, other: bool) -> bool
+    ensures { result ≡ (one || other) }
+{
+    one || other
 }

@@ -1,4 +1,4 @@
-use Rattle.std.proofs.Common.{◌≡◌, length, drop, []}
+use Rattle.std.proofs.Common.{◌≡◌, drop}
 use Rattle.channel_core.specs.Steps as steps
 use Rattle.channel_core.proofs.state.State.forget_all.Given as goal
 

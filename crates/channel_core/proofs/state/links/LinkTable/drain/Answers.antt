@@ -1,4 +1,4 @@
-use Rattle.std.proofs.Common.{◌≡◌, ◌∙◌, ℕ, List, Option, Some, None, IfOk, length, ap, arith, subst, sym}
+use Rattle.std.proofs.Common.{◌≡◌, ◌∙◌, List, Some, None, IfOk, length, ap, arith, subst, sym}
 use Rattle.channel_core.specs.Tables.{DrainGives}
 use Rattle.channel_core.specs.declared.state.links.LinkSlot.{LinkSlot}
 use Rattle.ledger_stamps.specs.Steps.{index_at}
