@@ -1,10 +1,10 @@
 // The worker that makes the calls of a script.
-ghost use Rattle.std.specs.Prelude.{◌≡◌, [], ◌∷◌, ℕ, MatchOption, IfErr, OnOk, IfOk, true, false};
+ghost use Rattle.std.specs.Prelude.{◌≡◌, [], ◌∷◌, ℕ, MatchOption, IfErr, OnErr, OnOk, IfOk, true, false};
 ghost use Rattle.grpc_base.specs.Posts.{AddsEntry};
 ghost use Rattle.grpc_base.specs.declared.event.Event.TheVariants as event;
 ghost use Rattle.grpc_base.specs.declared.event.Reply.{Reply};
 ghost use Rattle.grpc_base.specs.declared.event.Reply.TheVariants as reply;
-ghost use Rattle.live_pump.specs.Calls.{GoesOn, MakesLine, MakesLines, SendsAll, TakesAll, call_of, ends_takes};
+ghost use Rattle.live_pump.specs.Calls.{GoesOn, GoesOnFront, LineFront, LinesFront, MakesLine, MakesLines, SendsAll, SendsFront, TakesAll, TakesFront, call_of, ends_takes};
 ghost use Rattle.live_pump.specs.Pumps.{HandleSeen};
 ghost use Rattle.live_pump.specs.Workers.{IsCauseOf};
 
@@ -15,6 +15,7 @@ use std::sync::Wait;
 fn send<P: Caller>(post: &mut P, call: u32, message: &Octets) -> Result<Reply, PostError>
     ensures sent { IfOk result (λ r. AddsEntry (P.made post.old) (P.made post.new) (event.Send call message.now) r × (P.errors post.new ≡ P.errors post.old)) }
     ensures error { IfErr result (λ e. let before : HandleSeen = record { made = P.made post.old; errors = P.errors post.old; last = P.last_error post.old } in let after : HandleSeen = record { made = P.made post.new; errors = P.errors post.new; last = P.last_error post.new } in IsCauseOf e before after) }
+    ensures front { OnErr result (P.made post.new ≡ P.made post.old) }
 {
     let message = match message.share() {
         Ok(message) => message,
@@ -31,9 +32,11 @@ fn first_message(messages: &[Octets]) -> Option<(&Octets, &[Octets])>
 }
 
 /// Sends each message.
+#[tactic(auto, using(crate::proofs::CallLaws::sends_done, crate::proofs::CallLaws::sends_failed))]
 fn send_all<P: Caller>(post: &mut P, call: u32, messages: &[Octets]) -> Result<(), PostError>
     ensures sent { OnOk result (SendsAll call messages.now (P.made post.old) (P.made post.new) × (P.errors post.new ≡ P.errors post.old)) }
     ensures error { IfErr result (λ e. let before : HandleSeen = record { made = P.made post.old; errors = P.errors post.old; last = P.last_error post.old } in let after : HandleSeen = record { made = P.made post.new; errors = P.errors post.new; last = P.last_error post.new } in IsCauseOf e before after) }
+    ensures front { OnErr result (SendsFront call messages.now (P.made post.old) (P.made post.new)) }
 {
     let mut rest = messages;
     while let Some((message, later)) = first_message(rest) {
@@ -54,6 +57,7 @@ fn ends_takes(reply: &Reply) -> bool
 fn take_one<P: Caller>(post: &mut P, call: u32) -> Result<bool, PostError>
     ensures taken { IfOk result (λ ended. (r : Reply) × AddsEntry (P.made post.old) (P.made post.new) (event.Take call) r × (ended ≡ ends_takes r) × (P.errors post.new ≡ P.errors post.old)) }
     ensures error { IfErr result (λ e. let before : HandleSeen = record { made = P.made post.old; errors = P.errors post.old; last = P.last_error post.old } in let after : HandleSeen = record { made = P.made post.new; errors = P.errors post.new; last = P.last_error post.new } in IsCauseOf e before after) }
+    ensures front { OnErr result (P.made post.new ≡ P.made post.old) }
 {
     let reply = post.await_take(call)?;
     Ok(ends_takes(&reply))
@@ -63,6 +67,7 @@ fn take_one<P: Caller>(post: &mut P, call: u32) -> Result<bool, PostError>
 fn take_all<W: Wait, P: Caller>(rt: &W, post: &mut P, call: u32) -> Result<(), PostError>
     ensures taken { OnOk result (TakesAll call (P.made post.old) (P.made post.new) × (P.errors post.new ≡ P.errors post.old)) }
     ensures error { IfErr result (λ e. let before : HandleSeen = record { made = P.made post.old; errors = P.errors post.old; last = P.last_error post.old } in let after : HandleSeen = record { made = P.made post.new; errors = P.errors post.new; last = P.last_error post.new } in IsCauseOf e before after) }
+    ensures front { OnErr result (TakesFront call (P.made post.old) (P.made post.new)) }
 {
     for _ in rt.forever() {
         if take_one(post, call)? {
@@ -76,6 +81,7 @@ fn take_all<W: Wait, P: Caller>(rt: &W, post: &mut P, call: u32) -> Result<(), P
 fn begin<P: Caller>(post: &mut P, line: &CallLine) -> Result<Option<u32>, PostError>
     ensures begun { IfOk result (λ call. (r : Reply) × AddsEntry (P.made post.old) (P.made post.new) (event.Begin line.now.request) r × (call ≡ call_of r) × (P.errors post.new ≡ P.errors post.old)) }
     ensures error { IfErr result (λ e. let before : HandleSeen = record { made = P.made post.old; errors = P.errors post.old; last = P.last_error post.old } in let after : HandleSeen = record { made = P.made post.new; errors = P.errors post.new; last = P.last_error post.new } in IsCauseOf e before after) }
+    ensures front { OnErr result (P.made post.new ≡ P.made post.old) }
 {
     let request = match line.request.copy() {
         Ok(request) => request,
@@ -99,6 +105,7 @@ fn call_of(reply: &Reply) -> Option<u32>
 fn finish<P: Caller>(post: &mut P, call: u32) -> Result<(), PostError>
     ensures finished { OnOk result ((r : Reply) × AddsEntry (P.made post.old) (P.made post.new) (event.Finish call) r × (P.errors post.new ≡ P.errors post.old)) }
     ensures error { IfErr result (λ e. let before : HandleSeen = record { made = P.made post.old; errors = P.errors post.old; last = P.last_error post.old } in let after : HandleSeen = record { made = P.made post.new; errors = P.errors post.new; last = P.last_error post.new } in IsCauseOf e before after) }
+    ensures front { OnErr result (P.made post.new ≡ P.made post.old) }
 {
     match post.post(Event::Finish { call }) {
         Ok(_) => Ok(()),
@@ -107,6 +114,7 @@ fn finish<P: Caller>(post: &mut P, call: u32) -> Result<(), PostError>
 }
 
 /// Makes the call of a line that was begun.
+#[tactic(auto, using(crate::proofs::CallLaws::finish_failed, crate::proofs::CallLaws::takes_failed))]
 fn make_call<W: Wait, P: Caller>(
     rt: &W,
     post: &mut P,
@@ -115,6 +123,7 @@ fn make_call<W: Wait, P: Caller>(
 ) -> Result<(), PostError>
     ensures made { OnOk result (GoesOn line.now call (P.made post.old) (P.made post.new) × (P.errors post.new ≡ P.errors post.old)) }
     ensures error { IfErr result (λ e. let before : HandleSeen = record { made = P.made post.old; errors = P.errors post.old; last = P.last_error post.old } in let after : HandleSeen = record { made = P.made post.new; errors = P.errors post.new; last = P.last_error post.new } in IsCauseOf e before after) }
+    ensures front { OnErr result (GoesOnFront line.now call (P.made post.old) (P.made post.new)) }
 {
     send_all(post, call, line.messages.as_slice())?;
     finish(post, call)?;
@@ -123,10 +132,11 @@ fn make_call<W: Wait, P: Caller>(
 
 /// Makes the call of a line: its Begin, a Send for each message, its Finish, and Takes up to the end. A refused Begin
 /// or Take ends the line.
-#[tactic(auto, using(crate::proofs::CallLaws::line_refused, crate::proofs::CallLaws::line_made))]
+#[tactic(auto, using(crate::proofs::CallLaws::line_refused, crate::proofs::CallLaws::line_made, crate::proofs::CallLaws::line_begun))]
 fn make_line<W: Wait, P: Caller>(rt: &W, post: &mut P, line: &CallLine) -> Result<(), PostError>
     ensures made { OnOk result (MakesLine line.now (P.made post.old) (P.made post.new) × (P.errors post.new ≡ P.errors post.old)) }
     ensures error { IfErr result (λ e. let before : HandleSeen = record { made = P.made post.old; errors = P.errors post.old; last = P.last_error post.old } in let after : HandleSeen = record { made = P.made post.new; errors = P.errors post.new; last = P.last_error post.new } in IsCauseOf e before after) }
+    ensures front { OnErr result (LineFront line.now (P.made post.old) (P.made post.new)) }
 {
     match begin(post, line)? {
         Some(call) => make_call(rt, post, line, call),
@@ -145,6 +155,7 @@ fn first_line(calls: &[CallLine]) -> Option<(&CallLine, &[CallLine])>
 /// Takes up to the end. Each Send waits for room, and each Take for something to take. A refused Send or Finish is
 /// passed over, and a refused Begin or Take ends its line. The first post that fails ends the work; it is told, or
 /// that the worker found no memory itself.
+#[tactic(auto, using(crate::proofs::CallLaws::lines_done, crate::proofs::CallLaws::lines_failed))]
 pub fn call_worker<W: Wait, P: Caller>(
     rt: &W,
     post: &mut P,
@@ -152,6 +163,7 @@ pub fn call_worker<W: Wait, P: Caller>(
 ) -> Result<(), PostError>
     ensures made { OnOk result (MakesLines calls.now (P.made post.old) (P.made post.new) × (P.errors post.new ≡ P.errors post.old)) }
     ensures error { IfErr result (λ e. let before : HandleSeen = record { made = P.made post.old; errors = P.errors post.old; last = P.last_error post.old } in let after : HandleSeen = record { made = P.made post.new; errors = P.errors post.new; last = P.last_error post.new } in IsCauseOf e before after) }
+    ensures front { OnErr result (LinesFront calls.now (P.made post.old) (P.made post.new)) }
 {
     let mut rest = calls;
     while let Some((line, later)) = first_line(rest) {

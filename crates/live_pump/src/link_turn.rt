@@ -1,9 +1,11 @@
 // One turn of one link that a worker keeps open.
-ghost use Rattle.std.specs.Prelude.{◌≡◌, ◌≤◌, [], ℕ, true, false, Some};
+ghost use Rattle.std.specs.Prelude.{◌≡◌, ◌≤◌, ℕ, true, false, Some, All, length};
 ghost use Rattle.grpc_base.specs.Counts.{one_more};
 ghost use Rattle.grpc_base.specs.declared.tender.Tend.{Tend};
-ghost use Rattle.live_pump.specs.Pumps.{HandleSeen};
+ghost use Rattle.live_pump.specs.Pumps.{HandleSeen, OutSeen};
+ghost use Rattle.live_pump.specs.Runs.{Closes, ClosesUnless, Eyes, PumpsLink, TurnsLink, eyes_of};
 ghost use Rattle.live_pump.specs.Workers.{HasNotFallen, Tells, TendsTo, is_going};
+ghost use Rattle.live_pump.specs.declared.link_turn.OpenLink.{OpenLink};
 
 use crate::Pumped;
 use crate::pumped::post_to;
@@ -39,6 +41,15 @@ fn tend_link<P: Post, C: Clock, T: Tender>(
     }
 }
 
+/// Tells the tender of bytes that came on a link.
+fn tell_tender<C: Clock, T: Tender>(clock: &C, tender: &mut T, link: u32, came: bool)
+    ensures { (T.turns tender.new ≡ T.turns tender.old) × (T.last_turn tender.new ≡ T.last_turn tender.old) }
+{
+    if came {
+        tender.heard(link, clock.now());
+    }
+}
+
 /// Writes what the channel has for a link, reads it once, tells the tender of bytes that came, and asks it.
 fn pump_link<P: Post + Glance, I: LinkIn, O: LinkOut, C: Clock, T: Tender>(
     alloc: Global,
@@ -49,17 +60,16 @@ fn pump_link<P: Post + Glance, I: LinkIn, O: LinkOut, C: Clock, T: Tender>(
 ) -> Pumped
     ensures looks { HasNotFallen (P.looks post.old) (P.looks post.new) }
     ensures tells { let before : HandleSeen = record { made = P.made post.old; errors = P.errors post.old; last = P.last_error post.old } in let after : HandleSeen = record { made = P.made post.new; errors = P.errors post.new; last = P.last_error post.new } in Tells before after result }
+    ensures pumped { let eyes : Eyes P T I O = eyes_of P.made P.errors P.last_error P.last_look T.turns T.last_turn I.left I.faults I.quiet O.taken O.faults O.closed in PumpsLink eyes (record { post = post.old; tender = tender.old }) kept.old (record { post = post.new; tender = tender.new }) kept.new result }
 {
     let link = kept.link;
     let wrote = pump_out(post, &mut kept.output, link);
-    if wrote != Pumped::Going {
+    if !wrote.is_going() {
         return wrote;
     }
     let (read, came) = pump_read(alloc, post, &mut kept.input, link);
-    if came {
-        tender.heard(link, clock.now());
-    }
-    if read != Pumped::Going {
+    tell_tender(clock, tender, link, came);
+    if !read.is_going() {
         return read;
     }
     tend_link(post, clock, tender, link)
@@ -76,26 +86,36 @@ pub(crate) fn turn_link<P: Post + Glance, I: LinkIn, O: LinkOut, C: Clock, T: Te
     ensures looks { HasNotFallen (P.looks post.old) (P.looks post.new) }
     ensures tells { let before : HandleSeen = record { made = P.made post.old; errors = P.errors post.old; last = P.last_error post.old } in let after : HandleSeen = record { made = P.made post.new; errors = P.errors post.new; last = P.last_error post.new } in Tells before after result }
     ensures closed { is_going result ≡ false → O.closed kept.new.output ≡ true }
+    ensures turned { let eyes : Eyes P T I O = eyes_of P.made P.errors P.last_error P.last_look T.turns T.last_turn I.left I.faults I.quiet O.taken O.faults O.closed in TurnsLink eyes (record { post = post.old; tender = tender.old }) kept.old (record { post = post.new; tender = tender.new }) kept.new result }
 {
     let answer = pump_link(alloc, post, clock, tender, kept);
-    if answer != Pumped::Going {
-        kept.output.close();
-    }
+    close_unless(answer.is_going(), kept);
     answer
 }
 
 /// Closes a link.
-fn close_link<I: LinkIn, O: LinkOut>(kept: &mut OpenLink<I, O>)
-    ensures { O.closed kept.new.output ≡ true }
+pub(crate) fn close_link<I: LinkIn, O: LinkOut>(kept: &mut OpenLink<I, O>)
+    ensures { Closes (λ (o : O). let seen : OutSeen = record { taken = O.taken o; faults = O.faults o } in seen) O.closed kept.old kept.new }
 {
     kept.output.close();
 }
 
+/// Closes a link unless it goes on.
+fn close_unless<I: LinkIn, O: LinkOut>(going: bool, kept: &mut OpenLink<I, O>)
+    ensures { ClosesUnless (λ (o : O). let seen : OutSeen = record { taken = O.taken o; faults = O.faults o } in seen) O.closed going kept.old kept.new }
+{
+    if going {
+        return;
+    }
+    close_link(kept);
+}
+
 /// Closes the links that are left.
 pub(crate) fn close_links<I: LinkIn, O: LinkOut>(links: &mut Vec<OpenLink<I, O>>)
-    ensures { links.new.items ≡ [] }
+    ensures closed { All (λ (k : OpenLink I O). O.closed k.output ≡ true) links.new.items }
+    ensures same_many { length links.new.items ≡ length links.old.items }
 {
-    while let Some(mut kept) = links.pop() {
-        close_link(&mut kept);
+    for left in links.iter_mut() {
+        close_link(left);
     }
 }

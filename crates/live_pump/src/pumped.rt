@@ -1,7 +1,8 @@
 // What the pumps answer, and how one event is posted.
 ghost use Rattle.std.specs.Prelude.{◌≡◌, true};
 ghost use Rattle.live_pump.specs.Pumps.{HandleSeen, PostsTo, answer_of};
-ghost use Rattle.live_pump.specs.Workers.{Tells, is_quiet};
+ghost use Rattle.live_pump.specs.Runs.{error_of, is_given_up};
+ghost use Rattle.live_pump.specs.Workers.{Tells, is_going, is_quiet};
 
 use grpc_base::{Event, Post, PostError, Reply};
 
@@ -18,6 +19,32 @@ pub enum Pumped {
     Failed(PostError),
     /// The channel is shut down; a worker alone answers so.
     Shut,
+}
+
+impl Pumped {
+    /// Whether the link goes on.
+    pub(crate) fn is_going(&self) -> bool
+        ensures { result ≡ is_going self.now }
+    {
+        matches!(self, Pumped::Going)
+    }
+
+    /// Whether the link is lost or gone.
+    pub(crate) fn is_given_up(&self) -> bool
+        ensures { result ≡ is_given_up self.now }
+    {
+        !matches!(self, Pumped::Going | Pumped::Failed(_))
+    }
+
+    /// The error that is told.
+    pub(crate) fn error(&self) -> Option<PostError>
+        ensures { result ≡ error_of self.now }
+    {
+        match self {
+            Pumped::Failed(error) => Some(*error),
+            _ => None,
+        }
+    }
 }
 
 /// The answer after a post: the refusal, the error, or `done` where it was not refused.

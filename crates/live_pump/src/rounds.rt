@@ -1,10 +1,14 @@
 // The worker that keeps links open and moves their bytes.
-ghost use Rattle.std.specs.Prelude.{◌≡◌, ◌≤◌, [], ℕ, Some, None, Option, true, min};
+ghost use Rattle.std.specs.Prelude.{◌≡◌, ◌≤◌, ◌<◌, ◌⊎◌, ◌++◌, ◌∷◌, ◌+◌, [], ℕ, List, Some, None, Option, OnOk, OnErr, IfOk, IfErr, MatchResult, true, length, take, drop};
 ghost use Rattle.grpc_base.specs.Counts.{Rises};
-ghost use Rattle.live_pump.specs.Pumps.{HandleSeen};
+ghost use Rattle.grpc_base.specs.declared.event.Conn.TheVariants as conn;
+ghost use Rattle.grpc_base.specs.declared.post.PostError.{PostError};
+ghost use Rattle.live_pump.specs.Pumps.{HandleSeen, OutSeen};
+ghost use Rattle.live_pump.specs.Runs.{Closes, DialsLink, Eyes, IsCaused, RoundOf, RunsOn, RunsTo, Site, TurnsLinks, eyes_of, is_shut};
 ghost use Rattle.live_pump.specs.Workers.{Ends, HasNotFallen, Parts, Rounds};
+ghost use Rattle.live_pump.specs.declared.link_turn.OpenLink.{OpenLink};
 
-use crate::link_turn::{OpenLink, close_links, turn_link};
+use crate::link_turn::{OpenLink, close_link, close_links, turn_link};
 use crate::{DialTurn, Pumped, dial_once, tick_if_due};
 use gate_io::{Clock, Dialer, LinkIn, LinkOut};
 use grpc_base::{Conn, Glance, NoMemory, Post, PostError, Tender};
@@ -21,11 +25,15 @@ fn keep_link<I: LinkIn, O: LinkOut, C: Clock, T: Tender>(
     tender: &mut T,
     links: &mut Vec<OpenLink<I, O>>,
     opened: OpenLink<I, O>,
-) -> Result<(), NoMemory> {
+) -> Result<(), NoMemory>
+    ensures kept { OnOk result (links.new.items ≡ links.old.items ++ opened ∷ []) }
+    ensures unkept { OnErr result ((links.new.items ≡ links.old.items ++ opened ∷ []) ⊎ ((links.new.items ≡ links.old.items) × (closed : OpenLink I O) × Closes (λ (o : O). let seen : OutSeen = record { taken = O.taken o; faults = O.faults o } in seen) O.closed opened closed)) }
+    ensures turns { (T.turns tender.new ≡ T.turns tender.old) × (T.last_turn tender.new ≡ T.last_turn tender.old) }
+{
     let link = opened.link;
     if let Err(failed) = links.push(opened) {
         let mut unkept = failed.value;
-        unkept.output.close();
+        close_link(&mut unkept);
         return Err(NoMemory);
     }
     tender.opened(link, clock.now())
@@ -41,6 +49,7 @@ fn dial_part<P: Post + Glance, N: Dialer, C: Clock, T: Tender>(
 ) -> Option<PostError>
     ensures part { let before : HandleSeen = record { made = P.made post.old; errors = P.errors post.old; last = P.last_error post.old } in let after : HandleSeen = record { made = P.made post.new; errors = P.errors post.new; last = P.last_error post.new } in Parts before after result }
     ensures looks { HasNotFallen (P.looks post.old) (P.looks post.new) }
+    ensures dialled { let eyes : Eyes P T N.In N.Out = eyes_of P.made P.errors P.last_error P.last_look T.turns T.last_turn N.In.LinkIn.left N.In.LinkIn.faults N.In.LinkIn.quiet N.Out.LinkOut.taken N.Out.LinkOut.faults N.Out.LinkOut.closed in DialsLink eyes (λ (d : N). record { coming = N.coming d; faults = N.faults d }) (record { site = record { post = post.old; tender = tender.old }; dialer = dialer.old; links = links.old.items }) (record { site = record { post = post.new; tender = tender.new }; dialer = dialer.new; links = links.new.items }) result }
 {
     match dial_once(post, dialer) {
         DialTurn::Opened {
@@ -59,7 +68,36 @@ fn dial_part<P: Post + Glance, N: Dialer, C: Clock, T: Tender>(
             }
         }
         DialTurn::Failed(error) => Some(error),
-        _ => None,
+        DialTurn::Nothing | DialTurn::Refused { .. } | DialTurn::Gone { .. } => None,
+    }
+}
+
+/// A turn of the link at a place. It is given up where it is lost or gone. Gives how many links were passed: one that
+/// goes on.
+fn turn_at<P: Post + Glance, I: LinkIn, O: LinkOut, C: Clock, T: Tender>(
+    alloc: Global,
+    post: &mut P,
+    clock: &C,
+    tender: &mut T,
+    links: &mut Vec<OpenLink<I, O>>,
+    at: usize,
+) -> Result<usize, PostError>
+    requires { at < length links.old.items }
+    ensures part { let before : HandleSeen = record { made = P.made post.old; errors = P.errors post.old; last = P.last_error post.old } in let after : HandleSeen = record { made = P.made post.new; errors = P.errors post.new; last = P.last_error post.new } in MatchResult result (λ _. Parts before after None) (λ error. Parts before after (Some error)) }
+    ensures looks { HasNotFallen (P.looks post.old) (P.looks post.new) }
+    ensures passed { IfOk result (λ passed. (at + passed ≤ length links.new.items) × (length links.new.items + 1 ≡ length links.old.items + passed)) }
+    ensures turned { IfOk result (λ passed. (after : Site P T) (left : List (OpenLink I O)) (end : Option PostError) → let eyes : Eyes P T I O = eyes_of P.made P.errors P.last_error P.last_look T.turns T.last_turn I.left I.faults I.quiet O.taken O.faults O.closed in TurnsLinks eyes (take (at + passed) links.new.items) (record { post = post.new; tender = tender.new }) (drop (at + passed) links.new.items) after left end → TurnsLinks eyes (take at links.old.items) (record { post = post.old; tender = tender.old }) (drop at links.old.items) after left end) }
+    ensures ended { IfErr result (λ error. let eyes : Eyes P T I O = eyes_of P.made P.errors P.last_error P.last_look T.turns T.last_turn I.left I.faults I.quiet O.taken O.faults O.closed in TurnsLinks eyes (take at links.old.items) (record { post = post.old; tender = tender.old }) (drop at links.old.items) (record { post = post.new; tender = tender.new }) links.new.items (Some error)) }
+{
+    let kept = &mut links[at];
+    let answer = turn_link(alloc, post, clock, tender, kept);
+    if answer.is_given_up() {
+        drop(links.remove(at));
+        return Ok(0);
+    }
+    match answer.error() {
+        Some(error) => Err(error),
+        None => Ok(1),
     }
 }
 
@@ -73,16 +111,23 @@ fn links_part<P: Post + Glance, I: LinkIn, O: LinkOut, C: Clock, T: Tender>(
 ) -> Option<PostError>
     ensures part { let before : HandleSeen = record { made = P.made post.old; errors = P.errors post.old; last = P.last_error post.old } in let after : HandleSeen = record { made = P.made post.new; errors = P.errors post.new; last = P.last_error post.new } in Parts before after result }
     ensures looks { HasNotFallen (P.looks post.old) (P.looks post.new) }
+    ensures turned { let eyes : Eyes P T I O = eyes_of P.made P.errors P.last_error P.last_look T.turns T.last_turn I.left I.faults I.quiet O.taken O.faults O.closed in TurnsLinks eyes [] (record { post = post.old; tender = tender.old }) links.old.items (record { post = post.new; tender = tender.new }) links.new.items result }
 {
     let mut at = 0;
     while at < links.len() {
-        match turn_link(alloc, post, clock, tender, &mut links[at]) {
-            Pumped::Going => at += 1,
-            Pumped::Failed(error) => return Some(error),
-            _ => drop(links.remove(at)),
+        match turn_at(alloc, post, clock, tender, links, at) {
+            Ok(passed) => at += passed,
+            Err(error) => return Some(error),
         }
     }
     None
+}
+
+fn is_shut(state: Conn) -> bool
+    ensures value { result ≡ is_shut state }
+    ensures shut { result ≡ true → state ≡ conn.Shutdown }
+{
+    matches!(state, Conn::Shutdown)
 }
 
 /// One round: a look, a dial, a turn of each link, and a tick.
@@ -96,8 +141,10 @@ fn round<P: Post + Glance, N: Dialer, C: Clock, T: Tender>(
 ) -> Option<Pumped>
     ensures round { let before : HandleSeen = record { made = P.made post.old; errors = P.errors post.old; last = P.last_error post.old } in let after : HandleSeen = record { made = P.made post.new; errors = P.errors post.new; last = P.last_error post.new } in Rounds before after (P.last_look post.new) result }
     ensures looks { Rises (P.looks post.old) (P.looks post.new) }
+    ensures parts { let eyes : Eyes P T N.In N.Out = eyes_of P.made P.errors P.last_error P.last_look T.turns T.last_turn N.In.LinkIn.left N.In.LinkIn.faults N.In.LinkIn.quiet N.Out.LinkOut.taken N.Out.LinkOut.faults N.Out.LinkOut.closed in RoundOf eyes (λ (d : N). record { coming = N.coming d; faults = N.faults d }) (C.may_give clock.now) (record { site = record { post = post.old; tender = tender.old }; dialer = dialer.old; links = links.old.items }) (record { site = record { post = post.new; tender = tender.new }; dialer = dialer.new; links = links.new.items }) result }
 {
-    if post.glance().state == Conn::Shutdown {
+    let view = post.glance();
+    if is_shut(view.state) {
         return Some(Pumped::Shut);
     }
     if let Some(error) = dial_part(post, dialer, clock, tender, links) {
@@ -109,7 +156,8 @@ fn round<P: Post + Glance, N: Dialer, C: Clock, T: Tender>(
     if links.is_empty() {
         yield_now();
     }
-    match tick_if_due(post, clock) {
+    let ticked = tick_if_due(post, clock);
+    match ticked {
         Ok(_) => None,
         Err(error) => Some(Pumped::Failed(error)),
     }
@@ -127,10 +175,12 @@ fn make_rounds<W: Wait, P: Post + Glance, N: Dialer, C: Clock, T: Tender>(
 ) -> Pumped
     ensures end { let before : HandleSeen = record { made = P.made post.old; errors = P.errors post.old; last = P.last_error post.old } in let after : HandleSeen = record { made = P.made post.new; errors = P.errors post.new; last = P.last_error post.new } in Ends before after (P.last_look post.new) result }
     ensures looks { Rises (P.looks post.old) (P.looks post.new) }
+    ensures run { let eyes : Eyes P T N.In N.Out = eyes_of P.made P.errors P.last_error P.last_look T.turns T.last_turn N.In.LinkIn.left N.In.LinkIn.faults N.In.LinkIn.quiet N.Out.LinkOut.taken N.Out.LinkOut.faults N.Out.LinkOut.closed in RunsTo eyes (λ (d : N). record { coming = N.coming d; faults = N.faults d }) (C.may_give clock.now) (record { site = record { post = post.old; tender = tender.old }; dialer = dialer.old; links = links.old.items }) (record { post = post.new; tender = tender.new }) dialer.new result }
     ensures left { links.new.items ≡ [] }
 {
     let end = run_rounds(rt, alloc, post, dialer, clock, tender, links);
     close_links(links);
+    links.clear();
     end
 }
 
@@ -146,6 +196,7 @@ fn run_rounds<W: Wait, P: Post + Glance, N: Dialer, C: Clock, T: Tender>(
 ) -> Pumped
     ensures end { let before : HandleSeen = record { made = P.made post.old; errors = P.errors post.old; last = P.last_error post.old } in let after : HandleSeen = record { made = P.made post.new; errors = P.errors post.new; last = P.last_error post.new } in Ends before after (P.last_look post.new) result }
     ensures looks { Rises (P.looks post.old) (P.looks post.new) }
+    ensures run { let eyes : Eyes P T N.In N.Out = eyes_of P.made P.errors P.last_error P.last_look T.turns T.last_turn N.In.LinkIn.left N.In.LinkIn.faults N.In.LinkIn.quiet N.Out.LinkOut.taken N.Out.LinkOut.faults N.Out.LinkOut.closed in RunsOn eyes (λ (d : N). record { coming = N.coming d; faults = N.faults d }) (C.may_give clock.now) (record { site = record { post = post.old; tender = tender.old }; dialer = dialer.old; links = links.old.items }) (record { site = record { post = post.new; tender = tender.new }; dialer = dialer.new; links = links.new.items }) result }
 {
     for _ in rt.forever() {
         if let Some(end) = round(alloc, post, dialer, clock, tender, links) {
@@ -169,6 +220,8 @@ pub fn net_worker<W: Wait, P: Post + Glance, N: Dialer, C: Clock, T: Tender>(
 ) -> Pumped
     ensures end { let before : HandleSeen = record { made = P.made post.old; errors = P.errors post.old; last = P.last_error post.old } in let after : HandleSeen = record { made = P.made post.new; errors = P.errors post.new; last = P.last_error post.new } in Ends before after (P.last_look post.new) result }
     ensures looks { Rises (P.looks post.old) (P.looks post.new) }
+    ensures run { let eyes : Eyes P T N.In N.Out = eyes_of P.made P.errors P.last_error P.last_look T.turns T.last_turn N.In.LinkIn.left N.In.LinkIn.faults N.In.LinkIn.quiet N.Out.LinkOut.taken N.Out.LinkOut.faults N.Out.LinkOut.closed in RunsTo eyes (λ (d : N). record { coming = N.coming d; faults = N.faults d }) (C.may_give clock.now) (record { site = record { post = post.old; tender = tender.old }; dialer = dialer.old; links = [] }) (record { post = post.new; tender = tender.new }) dialer.new result }
+    ensures causes { let eyes : Eyes P T N.In N.Out = eyes_of P.made P.errors P.last_error P.last_look T.turns T.last_turn N.In.LinkIn.left N.In.LinkIn.faults N.In.LinkIn.quiet N.Out.LinkOut.taken N.Out.LinkOut.faults N.Out.LinkOut.closed in IsCaused eyes (eyes.handle post.old) (eyes.handle post.new) }
 {
     let mut links = Vec::new(alloc);
     make_rounds(rt, alloc, post, dialer, clock, tender, &mut links)

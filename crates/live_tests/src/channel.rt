@@ -25,6 +25,8 @@ pub struct Plan {
     pub fails: bool,
     /// When something is due.
     pub due: Option<u64>,
+    /// Whether it wants a new result of the resolver.
+    pub wanted: bool,
     /// How many messages a call gives before it ends.
     pub messages: u32,
     /// How many looks show it before it is shut down.
@@ -41,6 +43,7 @@ impl Plan {
             refuses: false,
             fails: false,
             due: None,
+            wanted: false,
             messages: 0,
             glances: u64::MAX,
         }
@@ -264,7 +267,7 @@ impl Glance for Channel {
         }
         let view = View {
             state,
-            wants_resolution: false,
+            wants_resolution: self.plan.wanted,
             next: self.plan.due,
             dialable: self.plan.dials > 0,
             spent: false,

@@ -3,8 +3,12 @@
 
 mod channel;
 #[cfg(test)]
+mod dns_watch_tests;
+#[cfg(test)]
 mod keepalive_core_tests;
 #[cfg(test)]
 mod live_pump_tests;
+#[cfg(test)]
+mod names;
 
 pub use channel::{Channel, Plan};

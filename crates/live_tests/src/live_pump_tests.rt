@@ -1,44 +1,17 @@
 // Each pump over links and posts that fail, as tables; and the worker that keeps links open.
+use crate::names::names;
 use crate::{Channel, Plan};
 use gate_io::{
     LinkIn, LinkOut, ListClock, MemDialer, MemLink, MemLinkIn, MemLinkOut, MemSink, MemSource,
 };
-use grpc_base::{CallLine, Event, Items, Metadata, NoTender, Octets, PostError, Request, Text};
+use grpc_base::{CallLine, Items, Metadata, NoTender, Octets, PostError, Request, Text};
 use keepalive_core::{KeepRule, KeepTable};
 use live_pump::{
     DialTurn, Pumped, call_worker, dial_once, net_worker, pump_in, pump_out, tick_if_due,
 };
 use std::alloc::{AllocError, Global};
+use std::sync::Wait;
 use std::test::Fail;
-
-/// A short name of an event.
-fn name(event: &Event) -> &'static str {
-    match event {
-        Event::TakeDial => "dial",
-        Event::LinkUp { .. } => "up",
-        Event::DialFailed { .. } => "down",
-        Event::Arrived { .. } => "arrived",
-        Event::LinkLost { .. } => "lost",
-        Event::Drain { .. } => "drain",
-        Event::Ping { .. } => "ping",
-        Event::Tick => "tick",
-        Event::Begin { .. } => "begin",
-        Event::Send { .. } => "send",
-        Event::Finish { .. } => "finish",
-        Event::Take { .. } => "take",
-        _ => "other",
-    }
-}
-
-/// The names of the events that a channel got.
-fn names(alloc: Global, channel: &Channel) -> Result<String, AllocError> {
-    let mut all = String::new(alloc);
-    for entry in channel.entries.as_slice() {
-        all.push_str(name(&entry.event))?;
-        all.push_str(" ")?;
-    }
-    Ok(all)
-}
 
 /// What comes on a link: these bytes; the calls in `failing` fail.
 fn input(
@@ -306,6 +279,63 @@ fn a_worker_makes_rounds_until_the_channel_is_shut(rt: HostRuntime) -> Result<()
         names(alloc, &channel)?.as_str(),
         "dial up arrived arrived arrived "
     );
+    Ok(())
+}
+
+/// How a worker of three rounds ends, and what it posts, where these calls of its dialer and of its one link fail: the
+/// dial, a read or a write, counted from 1.
+fn run<W: Wait>(
+    rt: &W,
+    alloc: Global,
+    dial: u64,
+    read: u64,
+    write: u64,
+) -> Result<(Pumped, String), Fail> {
+    let mut rounds = plan(false, false);
+    rounds.dials = 1;
+    rounds.glances = 9;
+    let Some(mut channel) = Channel::new(alloc, rounds) else {
+        return Err(Fail::new("0 is no moment"));
+    };
+    let mut links = Vec::new(alloc);
+    links.push(MemLink {
+        input: input(alloc, b"settings and more", false, &[read])?,
+        output: output(alloc, &[write])?,
+    })?;
+    let end = net_worker(
+        rt,
+        alloc,
+        &mut channel,
+        &mut MemDialer::new(links, vec![in alloc; dial]?),
+        &ListClock::new(vec![in alloc; 0]?),
+        &mut NoTender::new(),
+    );
+    Ok((end, names(alloc, &channel)?))
+}
+
+#[test]
+fn a_device_that_fails_once_in_a_run_is_told_once(rt: HostRuntime) -> Result<(), Fail> {
+    // A drain is written in two pieces, so the third write is the second round's first.
+    for (dial, read, write, posted) in [
+        (
+            0,
+            0,
+            0,
+            "dial up drain arrived drain arrived drain arrived ",
+        ),
+        (1, 0, 0, "dial down "),
+        (0, 1, 0, "dial up drain lost "),
+        (0, 2, 0, "dial up drain arrived drain lost "),
+        (0, 3, 0, "dial up drain arrived drain arrived drain lost "),
+        (0, 0, 1, "dial up drain lost "),
+        (0, 0, 2, "dial up drain lost "),
+        (0, 0, 3, "dial up drain arrived drain lost "),
+        (0, 0, 6, "dial up drain arrived drain arrived drain lost "),
+    ] {
+        let row = (dial, read, write);
+        let (end, all) = run(&rt, rt.alloc(), dial, read, write)?;
+        assert_eq!(rt; (row, end, all.as_str()), (row, Pumped::Shut, posted));
+    }
     Ok(())
 }
 

@@ -1,13 +1,14 @@
-use Rattle.std.proofs.Common.{◌≡◌, List, length}
-use Rattle.grpc_base.specs.declared.event.Entry.{Entry}
+use Rattle.std.proofs.Common.{◌≡◌, ◌++◌, ℕ, List, length}
 use Rattle.live_pump.specs.Calls.{SendsAll}
 use Rattle.live_pump.proofs.calls.send_all.Given as goal
 
--- once the rest is sent, all is
+-- what is done was sent, and the rest is left
 abbrev pub invariant-loop-message : goal.invariant-loop-message
 invariant-loop-message g l = record {
   errors : g.P.Post.errors l.post ≡ g.P.Post.errors l.fn.post;
-  sent : (after : List Entry) → SendsAll l.call l.rest (g.P.Post.made l.post) after → SendsAll l.call l.messages (g.P.Post.made l.fn.post) after;
+  done : List (List ℕ);
+  parts : l.messages ≡ done ++ l.rest;
+  so_far : SendsAll l.call done (g.P.Post.made l.fn.post) (g.P.Post.made l.post);
 }
 
 abbrev pub decreases-loop-message : goal.decreases-loop-message

@@ -1,0 +1,46 @@
+use Rattle.std.proofs.Common.{rules, inl, inr, refl}
+use Rattle.live_pump.specs.Runs.{Eyes, eyes_of}
+use Rattle.live_pump.proofs.RunLaws.{reads_on, same_tender, writes_on}
+use Rattle.live_pump.proofs.link_turn.pump_link.Goals as goal
+
+pub returns-then-not-is_going-clause-pumped : goal.returns-then-not-is_going-clause-pumped
+returns-then-not-is_going-clause-pumped g c = inl (record {
+  over = search rules;
+  number = refl;
+  writes = c.pump_out-wrote.ensures.posted;
+  input = refl;
+  tender = refl;
+})
+
+pub returns-then-not-is_going-2-clause-pumped : goal.returns-then-not-is_going-2-clause-pumped
+returns-then-not-is_going-2-clause-pumped g c =
+    let eyes : Eyes g.row.P.Denot g.row.T.Denot g.row.I.Denot g.row.O.Denot = eyes_of g.P.Post.made g.P.Post.errors g.P.Post.last_error g.P.Post.last_look g.T.Tender.turns g.T.Tender.last_turn
+    g.I.LinkIn.left g.I.LinkIn.faults g.I.LinkIn.quiet g.O.LinkOut.taken g.O.LinkOut.faults g.O.LinkOut.closed in
+    inr (inl (record {
+      over = search rules;
+      number = refl;
+      wrote = c.pump_out-wrote.new.post;
+      writes = writes_on eyes c.args.kept.now.link c.args.post.now c.args.kept.now.output c.pump_out-wrote.new.post c.pump_out-wrote.new.output c.pump_out-wrote.result (search rules) c.pump_out-wrote.ensures.posted;
+      reads = c.pump_read-read.ensures.posted;
+      turns = same_tender _ _ _ _ c.tell_tender.ensures.0 c.tell_tender.ensures.1;
+    }))
+
+pub returns-clause-pumped : goal.returns-clause-pumped
+returns-clause-pumped g c =
+    let eyes : Eyes g.row.P.Denot g.row.T.Denot g.row.I.Denot g.row.O.Denot = eyes_of g.P.Post.made g.P.Post.errors g.P.Post.last_error g.P.Post.last_look g.T.Tender.turns g.T.Tender.last_turn
+    g.I.LinkIn.left g.I.LinkIn.faults g.I.LinkIn.quiet g.O.LinkOut.taken g.O.LinkOut.faults g.O.LinkOut.closed in
+    inr (inr (record {
+      number = refl;
+      wrote = c.pump_out-wrote.new.post;
+      read = c.pump_read-read.new.post;
+      told = c.tell_tender.new.tender;
+      writes = writes_on eyes c.args.kept.now.link c.args.post.now c.args.kept.now.output c.pump_out-wrote.new.post c.pump_out-wrote.new.output c.pump_out-wrote.result (search rules) c.pump_out-wrote.ensures.posted;
+      reads = reads_on eyes c.args.kept.now.link c.pump_out-wrote.new.post c.args.kept.now.input c.pump_read-read.new.post c.pump_read-read.new.input c.pump_read-read.result.0 (search rules) c.pump_read-read.ensures.posted;
+      turns = same_tender _ _ _ _ c.tell_tender.ensures.0 c.tell_tender.ensures.1;
+      asks = (
+        c.tend_link.ensures.posted.0,
+        c.tend_link.ensures.posted.1,
+        same_tender _ _ _ _ c.tend_link.ensures.turns c.tend_link.ensures.posted.3,
+        c.tend_link.ensures.posted.4,
+      );
+    }))
