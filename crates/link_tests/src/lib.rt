@@ -1,0 +1,15 @@
+// Tests of the public calls of links and of the news of attempts.
+#![tactic(auto)]
+
+#[cfg(test)]
+mod bench;
+#[cfg(test)]
+mod grpc_link_tests;
+#[cfg(test)]
+mod h2_link_tests;
+#[cfg(test)]
+mod long_tests;
+#[cfg(test)]
+mod told;
+#[cfg(test)]
+mod vector_tests;
