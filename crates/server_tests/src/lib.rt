@@ -1,0 +1,7 @@
+// Tests of the scripted server by whole exchanges.
+#![tactic(auto)]
+
+#[cfg(test)]
+mod exchange;
+#[cfg(test)]
+mod loop_server_tests;
