@@ -8,6 +8,7 @@ use Rattle.grpc_base.specs.declared.event.Event.{Event}
 use Rattle.grpc_base.specs.declared.event.Reply.{Reply}
 use Rattle.grpc_base.specs.declared.event.Stamped.{Stamped}
 use Rattle.grpc_base.specs.Posts.{HasNoRoom, event_bytes}
+use Rattle.channel_core.specs.Applying.{conn_of}
 use Rattle.channel_core.specs.Core.{CoreSeen, IsFull, IsNew, Runs, Steps, last_moment, moment_of}
 use Rattle.channel_core.specs.Sizes.{counted, journal_bytes}
 use Rattle.attempt_ledger.specs.declared.journal.Journal.{Journal}
@@ -66,7 +67,7 @@ IsRunning-full old all core new left rest s running e full =
 
 -- the entry of a step
 abbrev entry_of : (old new : CoreSeen) (s : Stamped) (r : Reply) → Steps old new s r → Entry
-entry_of old new s r step = record { moment = moment_of old.journal.entries s; word = s.word; event = s.event; reply = r; state = step.state }
+entry_of old new s r step = record { moment = moment_of old.journal.entries s; word = s.word; event = s.event; reply = r; state = conn_of new.state }
 
 -- the last moment of a journal with one entry more
 at_last : (xs : List Entry) (e : Entry) → slice_get (xs ++ e ∷ []) (length xs) ≡ Some e
@@ -126,9 +127,9 @@ pub entries_of : (authority : List ℕ) (old : CoreSeen) (events : List Stamped)
 entries_of authority old events new is_new runs =
     let more : Adds old events new = adds old events new runs in
     record {
-      events_are = more.events_are ∙ ap (λ (es : List Entry). map (λ (x : Entry). x.event) es ++ map (λ (x : Stamped). x.event) events) is_new.journal;
-      words_are = more.words_are ∙ ap (λ (es : List Entry). map (λ (x : Entry). x.word) es ++ map (λ (x : Stamped). x.word) events) is_new.journal;
+      events_are = more.events_are ∙ ap (λ (es : List Entry). map (λ (x : Entry). x.event) es ++ map (λ (x : Stamped). x.event) events) is_new.2.journal;
+      words_are = more.words_are ∙ ap (λ (es : List Entry). map (λ (x : Entry). x.word) es ++ map (λ (x : Stamped). x.word) events) is_new.2.journal;
       moments_are =
           more.moments_are
-          ∙ ap (λ (es : List Entry). map (λ (x : Entry). x.moment) es ++ highest_so_far (last_moment es) (map (λ (x : Stamped). x.moment) events)) is_new.journal;
+          ∙ ap (λ (es : List Entry). map (λ (x : Entry). x.moment) es ++ highest_so_far (last_moment es) (map (λ (x : Stamped). x.moment) events)) is_new.2.journal;
     }

@@ -2,6 +2,7 @@
 #![tactic(auto)]
 
 mod config_mode;
+mod help;
 mod input;
 mod migrate;
 mod ran;

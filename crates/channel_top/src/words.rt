@@ -3,6 +3,7 @@ ghost use Rattle.std.specs.Prelude.{◌≡◌, ◌↔◌, ℕ, List, map, string
 ghost use Rattle.clap.specs.Words.{app_of, FailsBy};
 ghost use Rattle.channel_top.specs.Words.{AskForText, IsAlone, IsAskedBy, app_for, dashes, kinds_at, mode_named, mode_of};
 
+use crate::help;
 use clap::error::ErrorKind;
 use clap::{ArgMatches, Command, Error};
 use std::alloc::Global;
@@ -93,23 +94,19 @@ fn command<'a>(alloc: Global, mode: Option<Mode>) -> Command<'a>
     match mode {
         Some(Mode::Replay) => Command::new(alloc, "grpcc replay")
             .version(VERSION)
-            .about("Reads a script, runs the channel on it and writes the report.")
+            .about(help::of_replay())
             .override_usage("grpcc replay < SCRIPT"),
         Some(Mode::Config) => Command::new(alloc, "grpcc config")
             .version(VERSION)
-            .about("Reads a service config (JSON) and writes its reading.")
+            .about(help::of_config())
             .override_usage("grpcc config < CONFIG"),
         Some(Mode::Migrate) => Command::new(alloc, "grpcc migrate")
             .version(VERSION)
-            .about(
-                "Reads a script or a report of either version and writes the script of version 2.",
-            )
+            .about(help::of_migrate())
             .override_usage("grpcc migrate < REPORT"),
         None => Command::new(alloc, "grpcc")
             .version(VERSION)
-            .about(
-                "A gRPC client channel. Modes:\n  replay   reads a script, runs it and writes the report\n  config   reads a service config and writes its reading\n  migrate  reads a script or a report and writes the script of version 2",
-            )
+            .about(help::of_program())
             .override_usage("grpcc MODE < INPUT")
             .no_binary_name(true),
     }

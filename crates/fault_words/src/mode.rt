@@ -1,0 +1,48 @@
+// The modes of the program, as its words name them.
+
+/// A mode.
+#[derive(Clone, Copy, PartialEq, Eq)]
+pub enum Mode {
+    Replay,
+    Config,
+    Migrate,
+}
+
+impl Mode {
+    /// All modes, in the order in which help names them.
+    pub const ALL: [Mode; 3] = [Mode::Replay, Mode::Config, Mode::Migrate];
+
+    /// Its first word.
+    pub fn name(self) -> &'static str {
+        match self {
+            Mode::Replay => "replay",
+            Mode::Config => "config",
+            Mode::Migrate => "migrate",
+        }
+    }
+
+    /// What its words may be.
+    pub fn takes(self) -> &'static str {
+        match self {
+            Mode::Replay => "takes no words; it reads standard input: grpcc replay < f.script",
+            Mode::Config => "takes no words; it reads standard input: grpcc config < f.json",
+            Mode::Migrate => "takes no words; it reads standard input: grpcc migrate < f.report",
+        }
+    }
+
+    /// The mode of this name.
+    pub fn named(word: &[u8]) -> Option<Mode> {
+        Mode::ALL
+            .iter()
+            .copied()
+            .find(|mode| mode.name().as_bytes() == word)
+    }
+
+    /// The mode that the words name.
+    pub fn of_words(words: &[String]) -> Option<Mode> {
+        let [first, ..] = words else {
+            return None;
+        };
+        Mode::named(first.as_bytes())
+    }
+}
