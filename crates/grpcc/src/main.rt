@@ -1,6 +1,10 @@
-// The program: hands its words and its standard streams to the top call, and ends with its status.
+// The program: hands its words and its standard streams to the top call, says on standard error what went wrong, and ends with
+// its status.
 #![tactic(auto)]
 
+mod remember;
+
+use crate::remember::{Fronted, Remembering, tell};
 use channel_top::run_channel;
 use gate_io::{Sink, Source, StdSink, StdSource};
 use grpc_base::NoMemory;
@@ -78,15 +82,28 @@ fn run<S: Source, K: Sink>(
 
 fn main(rt: HostRuntime) -> ExitCode {
     let alloc: Global = rt.alloc();
-    let words = match words(&rt) {
-        Ok(words) => words,
-        Err(NoWords::NotText) => Vec::new(alloc),
+    let (words, are_text) = match words(&rt) {
+        Ok(words) => (words, true),
+        Err(NoWords::NotText) => (Vec::new(alloc), false),
         Err(NoWords::NoMemory) => return ExitCode::from(NO_MEMORY),
     };
-    let mut script = StdSource::new(rt.reader());
-    let mut report = StdSink::new(io::writer(&rt));
-    match run(alloc, words.as_slice(), &mut script, &mut report) {
-        Ok(status) => ExitCode::from(status),
-        Err(_) => ExitCode::from(NO_MEMORY),
-    }
+    let mut input = Remembering::new(alloc, words.as_slice(), rt.reader());
+    let mut output = Fronted::new(io::writer(&rt));
+    let ended = run(
+        alloc,
+        words.as_slice(),
+        &mut StdSource::new(&mut input),
+        &mut StdSink::new(&mut output),
+    );
+    let status = ended.unwrap_or(NO_MEMORY);
+    tell(
+        &rt,
+        alloc,
+        status,
+        words.as_slice(),
+        are_text,
+        &input,
+        &output,
+    );
+    ExitCode::from(status)
 }
