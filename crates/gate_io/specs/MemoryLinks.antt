@@ -1,9 +1,16 @@
--- Links in memory that are to be opened.
-use Rattle.std.specs.Prelude.{ℕ, Option, Some, None, List, map}
+-- Links in memory: what a read gives, and links that are to be opened.
+use Rattle.std.specs.Prelude.{◌≡◌, ℕ, Option, Some, None, List, length, map, min}
 use Rattle.gate_io.specs.declared.link.Dialed.{Dialed}
 use Rattle.gate_io.specs.declared.link.Dialed.TheVariants as dialed
+use Rattle.gate_io.specs.declared.link.LinkRead.{LinkRead}
+use Rattle.gate_io.specs.declared.link.LinkRead.TheVariants as link
 use Rattle.gate_io.specs.declared.memory_dialer.MemLink.{MemLink}
-use Rattle.gate_io.specs.Memory.{LinkInSeen, LinkOutSeen}
+use Rattle.gate_io.specs.Memory.{LinkInSeen, LinkOutSeen, SourceSeen}
+
+-- a read of a link gives as much as its source has left, as fits and as one read gives
+abbrev pub LinkGivesMost : SourceSeen → ℕ → LinkRead → Type 0
+LinkGivesMost before room (link.Got n) = n ≡ min (min (length before.left) room) before.most
+LinkGivesMost before room _ = Unit {0}
 
 -- the bytes that each of these links has left
 abbrev pub lefts_of : List MemLink → List (List ℕ)

@@ -120,6 +120,7 @@ impl Dialer for MemDialer {
         ensures next { (i : LinkInSeen) (o : LinkOutSeen) → result ≡ dialed.Open i o → self.old.links ≡ record { input = i; output = o } ∷ self.new.links }
         ensures same { result ≡ dialed.Failed → self.new.links ≡ self.old.links }
         ensures fails { (result ≡ dialed.Failed) ↔ (FailsNext self.old.failing self.old.calls ⊎ (self.old.links ≡ [])) }
+        ensures calls { (self.new.calls ≡ one_more self.old.calls) × (self.new.failing ≡ self.old.failing) }
     {
         opened(self.links.next())
     }
@@ -166,6 +167,7 @@ impl Listener for MemListener {
         ensures failed { result ≡ false → self.new.links.faults ≡ one_more self.old.links.faults }
         ensures told { result ≡ self.old.opens }
         ensures same { (self.new.opens ≡ self.old.opens) × (self.new.links.links ≡ self.old.links.links) }
+        ensures calls { (self.new.links.calls ≡ self.old.links.calls) × (self.new.links.failing ≡ self.old.links.failing) }
     {
         if !self.opens {
             self.links.fail();
@@ -178,6 +180,7 @@ impl Listener for MemListener {
         ensures next { (i : LinkInSeen) (o : LinkOutSeen) → result ≡ dialed.Open i o → self.old.links.links ≡ record { input = i; output = o } ∷ self.new.links.links }
         ensures same { result ≡ dialed.Failed → self.new.links.links ≡ self.old.links.links }
         ensures fails { (result ≡ dialed.Failed) ↔ (FailsNext self.old.links.failing self.old.links.calls ⊎ (self.old.links.links ≡ [])) }
+        ensures calls { (self.new.links.calls ≡ one_more self.old.links.calls) × (self.new.links.failing ≡ self.old.links.failing) × (self.new.opens ≡ self.old.opens) }
     {
         opened(self.links.next())
     }

@@ -1,8 +1,9 @@
 // Links in memory, which fail at the calls that they are told to fail at.
-ghost use Rattle.std.specs.Prelude.{◌≡◌, ◌<◌, ◌↔◌, ◌⊎◌, Some, false, true, length};
+ghost use Rattle.std.specs.Prelude.{◌≡◌, ◌<◌, ◌↔◌, ◌⊎◌, [], Some, false, true, length};
 ghost use Rattle.gate_io.specs.Memory.{FailsNext, TakesMost};
 ghost use Rattle.gate_io.specs.Outside.{Writes, CountsWrite, one_more};
 ghost use Rattle.gate_io.specs.Links.{CountsFaults, CountsQuiet, LinkReads};
+ghost use Rattle.gate_io.specs.MemoryLinks.{LinkGivesMost};
 
 use crate::{LinkIn, LinkOut, LinkRead, MemSink, MemSource, ReadAnswer, Sink, Source, WriteAnswer};
 use std::marker::Model;
@@ -50,7 +51,8 @@ impl LinkIn for MemLinkIn {
         ensures faults { CountsFaults self.old.source.faults self.new.source.faults result }
         ensures quiet { CountsQuiet self.old.quiet self.new.quiet result }
         ensures failed { (result ≡ LinkRead.Failed) ↔ FailsNext self.old.source.failing self.old.source.calls }
-        ensures open { result ≡ LinkRead.Quiet → self.old.ends ≡ false }
+        ensures most { LinkGivesMost self.old.source (length buf.old) result }
+        ensures open { result ≡ LinkRead.Quiet → (self.old.ends ≡ false) × (self.old.source.left ≡ []) }
         ensures ended { result ≡ LinkRead.End → self.old.ends ≡ true }
         ensures calls { self.new.source.calls ≡ one_more self.old.source.calls }
         ensures same { (self.new.ends ≡ self.old.ends) × (self.new.source.failing ≡ self.old.source.failing) × (self.new.source.most ≡ self.old.source.most) }
@@ -147,6 +149,8 @@ impl LinkOut for MemLinkOut {
         ensures late { self.old.closed ≡ true → (result ≡ WriteAnswer.Failed) × (self.new.sink ≡ self.old.sink) }
         ensures failed { self.old.closed ≡ false → ((result ≡ WriteAnswer.Failed) ↔ (FailsNext self.old.sink.failing self.old.sink.calls ⊎ (self.new.sink.wanting ≡ true))) }
         ensures most { TakesMost self.old.sink (length piece.now) result }
+        ensures calls { self.old.closed ≡ false → self.new.sink.calls ≡ one_more self.old.sink.calls }
+        ensures same { (self.new.sink.failing ≡ self.old.sink.failing) × (self.new.sink.most ≡ self.old.sink.most) }
     {
         if self.closed {
             self.faults = self.faults.saturating_add(1);

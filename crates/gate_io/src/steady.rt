@@ -1,5 +1,5 @@
 // A source and a sink that never fail: their count of faults is always 0.
-ghost use Rattle.std.specs.Prelude.{◌≡◌, Some, None};
+ghost use Rattle.std.specs.Prelude.{◌≡◌, ◌+◌, Some, None, length, min};
 
 use crate::copied::copy_front;
 use crate::{ReadAnswer, Sink, Source, WriteAnswer};
@@ -53,14 +53,28 @@ pub struct SteadySink {
     count: u64,
 }
 
+impl Model for SteadySink {
+    ghost use Rattle.std.specs.Prelude.{ℕ};
+
+    ghost Value = { ℕ };
+
+    ghost view = { λ s. s.count };
+
+    ghost inverse = { λ n. record { count = n } };
+}
+
 impl SteadySink {
     /// A sink that has taken nothing.
-    pub fn new() -> SteadySink {
+    pub fn new() -> SteadySink
+        ensures { result ≡ 0 }
+    {
         SteadySink { count: 0 }
     }
 
     /// How many bytes were taken; the count stands still at its type's end.
-    pub fn count(&self) -> u64 {
+    pub fn count(&self) -> u64
+        ensures { result ≡ self.now }
+    {
         self.count
     }
 }
@@ -70,7 +84,10 @@ impl Sink for SteadySink {
 
     ghost faults = { λ _. 0 };
 
-    fn write(&mut self, piece: &[u8]) -> WriteAnswer {
+    fn write(&mut self, piece: &[u8]) -> WriteAnswer
+        ensures whole { result ≡ WriteAnswer.Took (length piece.now) }
+        ensures counted { self.new ≡ min (self.old + length piece.now) 18446744073709551615 }
+    {
         self.count = self.count.saturating_add(piece.len() as u64);
         WriteAnswer::Took(piece.len())
     }
