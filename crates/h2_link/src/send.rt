@@ -1,5 +1,5 @@
 // The frames that a link sends, one at a time.
-ghost use Rattle.std.specs.Prelude.{◌≡◌, ◌≢◌, ◌<◌, ◌≤◌, ◌^◌, ◌++◌, ◌∷◌, ℕ, [], true, if◌then◌else◌, is_some, length, slice_get, min, pos, ◌+ℤ◌, ◌-ℤ◌, IfOk, OnOk, IfSome, Some};
+ghost use Rattle.std.specs.Prelude.{◌≡◌, ◌≢◌, ◌<◌, ◌≤◌, ◌^◌, ◌++◌, ◌∷◌, ℕ, [], true, false, if◌then◌else◌, is_some, length, slice_get, min, pos, ◌+ℤ◌, ◌-ℤ◌, IfOk, OnOk, IfSome, Some};
 ghost use Rattle.h2_frame.specs.Frames.{written};
 ghost use Rattle.h2_frame.specs.Sent.{headers_frame};
 ghost use Rattle.h2_hpack.specs.Encoding.{block_bytes, size_update_to_zero};
@@ -113,7 +113,7 @@ fn write_head(
     Ok(())
 }
 
-/// What a stream may send of so many bytes that are left.
+/// What a stream may send of so many bytes that are left, where its END_STREAM was not sent.
 fn share_of(
     window: u32,
     initial: &WindowSize,
@@ -121,12 +121,10 @@ fn share_of(
     left: u64,
     finished: bool,
 ) -> Option<(u32, bool)>
+    requires { stream.now.finished ≡ false }
     ensures share { result ≡ share_of window initial.now stream.now left finished }
     ensures within { IfSome result (λ x. (x.0 ≤ left) × (x.0 ≤ window) × (x.0 ≤ 16384) × (x.0 ≤ or_zero (send_window initial.now stream.now))) }
 {
-    if stream.finished {
-        return None;
-    }
     let len = least_of(window, own_window(initial, stream), left);
     let ends = finished && len == left;
     if 0 < len || ends {
@@ -173,7 +171,7 @@ impl State {
         !self.retiring && is_below && self.opened < STREAM_LIMIT
     }
 
-    /// The stream that sends DATA next.
+    /// The stream that sends DATA next. The feed is not asked about a stream whose END_STREAM was sent.
     fn sender<F: Feed>(&self, feed: &F) -> Option<Share>
         requires holds { Holds self.now (F.lines feed.now) }
         ensures share { result ≡ sender self.now.window self.now.initial (F.lines feed.now) 0 self.now.live }
@@ -182,6 +180,9 @@ impl State {
         let window = self.window;
         let size = self.initial;
         for (place, stream) in self.live.as_slice().iter().enumerate() {
+            if stream.finished {
+                continue;
+            }
             let (left, finished) = feed.ready(stream.tag);
             if let Some((len, ends)) = share_of(window, &size, stream, left, finished) {
                 return Some(Share {
