@@ -1,2 +1,4 @@
-pub mod ResponseLaws
+pub mod CutLaws
 pub mod LinkLaws
+pub mod ResponseLaws
+pub mod TagLaws

@@ -92,3 +92,17 @@ opened_one tag readers = opened_at tag readers (found tag readers)
 abbrev pub opened_all : List (ℕ × ℕ) → List TagReader → List TagReader
 opened_all [] readers = readers
 opened_all (x ∷ opened) readers = opened_all opened (opened_one x.0 readers)
+
+-- the reader of a tag, where it has one
+abbrev pub reader_in : ℕ → List TagReader → Option ReaderSeen
+reader_in tag [] = None
+reader_in tag (t ∷ readers) = if t.tag == tag then Some t.reader else reader_in tag readers
+
+-- what a reader tells of news of its tag, and the reader then: none once the response is over
+abbrev pub news_by : ℕ → LinkNews → Option ReaderSeen → List News
+news_by tag n None = []
+news_by tag n (Some r) = (stepped r tag n).news
+
+abbrev pub reader_by : ℕ → LinkNews → Option ReaderSeen → Option ReaderSeen
+reader_by tag n None = None
+reader_by tag n (Some r) = if (stepped r tag n).reader.over then None else Some (stepped r tag n).reader

@@ -1,6 +1,8 @@
-// What holds of every response; nothing runs.
-ghost use Rattle.std.specs.Prelude.{◌≡◌, ℕ, [], false, true};
+// What holds of every response and of every link; nothing runs.
+ghost use Rattle.std.specs.Prelude.{◌≡◌, ◌≢◌, ◌++◌, ℕ, List, [], None, false, true};
+ghost use Rattle.h2_frame.specs.Readings.{Partial, reading_of};
 ghost use Rattle.h2_link.specs.declared.news.LinkNews.{LinkNews};
+ghost use Rattle.grpc_link.specs.Links.{GrpcSeen, found, link_heard, news_by, reader_by, reader_in, told_of, without};
 ghost use Rattle.grpc_link.specs.Readers.{reader_for, stepped};
 ghost use Rattle.grpc_link.specs.Response.{Response, gained, heard, is_over, seen_by};
 
@@ -12,4 +14,21 @@ pub fn news_are_what_responses_gain()
     ensures over { (limit tag : ℕ) (r : Response) (n : LinkNews) → is_over r ≡ true → (stepped (reader_for limit r) tag n).news ≡ [] }
     ensures reader { (limit tag : ℕ) (r : Response) (n : LinkNews) →
         (stepped (reader_for limit r) tag n).reader ≡ reader_for limit (heard limit r n) }
+{}
+
+/// What a link tells does not depend on how its bytes are cut: what a piece shows, it shows whatever follows it, and a piece
+/// that shows nothing tells nothing and goes into what the next one shows.
+pub fn pieces_join()
+    ensures stays { (g : GrpcSeen) (front more : List ℕ) → reading_of (g.link.rest ++ front) ≢ Partial → link_heard g (front ++ more) ≡ link_heard g front }
+    ensures goes_on { (g : GrpcSeen) (front more : List ℕ) → reading_of (g.link.rest ++ front) ≡ Partial → link_heard g (front ++ more) ≡ link_heard (link_heard g front).link more }
+    ensures nothing { (g : GrpcSeen) (front : List ℕ) → reading_of (g.link.rest ++ front) ≡ Partial → (link_heard g front).news ≡ [] }
+{}
+
+/// What the link tells of one tag is told by the reader of that tag, and leaves every other reader as it was.
+pub fn tags_are_kept_apart()
+    ensures news { (g : GrpcSeen) (tag : ℕ) (n : LinkNews) → (told_of g tag n (found tag g.readers)).news ≡ news_by tag n (reader_in tag g.readers) }
+    ensures own { (g : GrpcSeen) (tag : ℕ) (n : LinkNews) → reader_in tag (without tag g.readers) ≡ None →
+        reader_in tag (told_of g tag n (found tag g.readers)).link.readers ≡ reader_by tag n (reader_in tag g.readers) }
+    ensures others { (g : GrpcSeen) (tag other : ℕ) (n : LinkNews) → tag ≢ other →
+        reader_in other (told_of g tag n (found tag g.readers)).link.readers ≡ reader_in other g.readers }
 {}

@@ -7,6 +7,6 @@ mod link;
 mod reader;
 mod readers;
 
-pub use laws::news_are_what_responses_gain;
+pub use laws::{news_are_what_responses_gain, pieces_join, tags_are_kept_apart};
 pub use link::{GrpcArrival, GrpcLink};
 pub use reader::ResponseReader;
