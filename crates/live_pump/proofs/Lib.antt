@@ -1,6 +1,8 @@
 pub mod CallLaws
 pub mod CauseLaws
 pub mod DialLaws
+pub mod FrontLaws
+pub mod FrontLists
 pub mod HandleLaws
 pub mod PumpLaws
 pub mod RunLaws

@@ -1,5 +1,6 @@
 pub mod Calls
 pub mod Dials
+pub mod Fronts
 pub mod Pumps
 pub mod Runs
 pub mod Ticks

@@ -3,6 +3,7 @@ ghost use Rattle.std.specs.Prelude.{◌≡◌, ◌≤◌, ◌<◌, ◌⊎◌, �
 ghost use Rattle.grpc_base.specs.Counts.{Rises};
 ghost use Rattle.grpc_base.specs.declared.event.Conn.TheVariants as conn;
 ghost use Rattle.grpc_base.specs.declared.post.PostError.{PostError};
+ghost use Rattle.live_pump.specs.Fronts.{ArrivesInFront};
 ghost use Rattle.live_pump.specs.Pumps.{HandleSeen, OutSeen};
 ghost use Rattle.live_pump.specs.Runs.{Closes, DialsLink, Eyes, IsCaused, RoundOf, RunsOn, RunsTo, Site, TurnsLinks, eyes_of, is_shut};
 ghost use Rattle.live_pump.specs.Workers.{Ends, HasNotFallen, Parts, Rounds};
@@ -222,6 +223,7 @@ pub fn net_worker<W: Wait, P: Post + Glance, N: Dialer, C: Clock, T: Tender>(
     ensures looks { Rises (P.looks post.old) (P.looks post.new) }
     ensures run { let eyes : Eyes P T N.In N.Out = eyes_of P.made P.errors P.last_error P.last_look T.turns T.last_turn N.In.LinkIn.left N.In.LinkIn.faults N.In.LinkIn.quiet N.Out.LinkOut.taken N.Out.LinkOut.faults N.Out.LinkOut.closed in RunsTo eyes (λ (d : N). record { coming = N.coming d; faults = N.faults d }) (C.may_give clock.now) (record { site = record { post = post.old; tender = tender.old }; dialer = dialer.old; links = [] }) (record { post = post.new; tender = tender.new }) dialer.new result }
     ensures causes { let eyes : Eyes P T N.In N.Out = eyes_of P.made P.errors P.last_error P.last_look T.turns T.last_turn N.In.LinkIn.left N.In.LinkIn.faults N.In.LinkIn.quiet N.Out.LinkOut.taken N.Out.LinkOut.faults N.Out.LinkOut.closed in IsCaused eyes (eyes.handle post.old) (eyes.handle post.new) }
+    ensures fronts { let before : HandleSeen = record { made = P.made post.old; errors = P.errors post.old; last = P.last_error post.old } in let after : HandleSeen = record { made = P.made post.new; errors = P.errors post.new; last = P.last_error post.new } in ArrivesInFront (N.coming dialer.old) before after }
 {
     let mut links = Vec::new(alloc);
     make_rounds(rt, alloc, post, dialer, clock, tender, &mut links)
