@@ -1,1 +1,3 @@
 pub mod KeepLaws
+pub mod NextLaws
+pub mod TableLaws

@@ -2,9 +2,10 @@
 ghost use Rattle.std.specs.Prelude.{◌≡◌, ◌≤◌, ◌↔◌, ◌++◌, ◌∷◌, [], ℕ, Err, IfOk, OnOk, OnErr, None, Some, length, slice_get, slice_set};
 ghost use Rattle.grpc_base.specs.Counts.{one_more};
 ghost use Rattle.grpc_base.specs.Limits.{moment_limit};
-ghost use Rattle.keepalive_core.specs.Keepalive.{IsKeepRule, stand_after};
-ghost use Rattle.keepalive_core.specs.Table.{place_of, tend_in, tend_of};
+ghost use Rattle.keepalive_core.specs.Keepalive.{IsKeepRule, stand_after, stand_next};
+ghost use Rattle.keepalive_core.specs.Table.{changed_in, opened_in, place_of, tend_in, tend_of, turned};
 ghost use Rattle.keepalive_core.specs.declared.rule.KeepFault.TheVariants as fault;
+ghost use Rattle.keepalive_core.specs.declared.rule.KeepKind.TheVariants as kind;
 
 use crate::keepalive::is_rule;
 use crate::{KeepFault, KeepRule, KeepTurn, Keepalive};
@@ -61,6 +62,7 @@ impl KeepTable {
     fn tend(&mut self, link: u32, moment: u64) -> Tend
         requires { moment ≤ moment_limit }
         ensures answer { result ≡ tend_in self.old.links link moment }
+        ensures links { self.new.links ≡ changed_in link (turned moment) self.old.links }
         ensures same { (self.new.rule ≡ self.old.rule) × (self.new.turns ≡ self.old.turns) × (self.new.last ≡ self.old.last) }
     {
         let at = find(self.links.as_slice(), link);
@@ -103,7 +105,13 @@ impl Tender for KeepTable {
 
     ghost last_turn = { λ t. t.last };
 
-    fn opened(&mut self, link: u32, moment: u64) -> Result<(), NoMemory> {
+    fn opened(&mut self, link: u32, moment: u64) -> Result<(), NoMemory>
+        requires { moment ≤ moment_limit }
+        ensures turns { (self.new.turns ≡ self.old.turns) × (self.new.last ≡ self.old.last) }
+        ensures links { OnOk result (self.new.links ≡ opened_in link (stand_after self.old.rule moment []) self.old.links) }
+        ensures unopened { OnErr result (self.new.links ≡ self.old.links) }
+        ensures rule { self.new.rule ≡ self.old.rule }
+    {
         let keep = Keepalive::of_rule(self.rule, moment);
         let at = find(self.links.as_slice(), link);
         if at < self.links.len() {
@@ -114,7 +122,12 @@ impl Tender for KeepTable {
         Ok(())
     }
 
-    fn heard(&mut self, link: u32, moment: u64) {
+    fn heard(&mut self, link: u32, moment: u64)
+        requires { moment ≤ moment_limit }
+        ensures turns { (self.new.turns ≡ self.old.turns) × (self.new.last ≡ self.old.last) }
+        ensures links { self.new.links ≡ changed_in link (λ k. stand_next k kind.Octets moment) self.old.links }
+        ensures rule { self.new.rule ≡ self.old.rule }
+    {
         let at = find(self.links.as_slice(), link);
         if at < self.links.len() {
             self.links[at].keep.octets(moment);
@@ -125,6 +138,8 @@ impl Tender for KeepTable {
         requires { moment ≤ moment_limit }
         ensures turns { (self.new.turns ≡ one_more self.old.turns) × (self.new.last ≡ Some (record { link = link; moment = moment; answer = result })) }
         ensures answer { result ≡ tend_in self.old.links link moment }
+        ensures links { self.new.links ≡ changed_in link (turned moment) self.old.links }
+        ensures rule { self.new.rule ≡ self.old.rule }
     {
         let answer = self.tend(link, moment);
         self.turns = self.turns.saturating_add(1);
