@@ -4,6 +4,7 @@ mod Commitments
 mod Counting
 mod Cuts
 mod Delivery
+mod EachRow
 mod Ending
 pub mod Feeding
 mod Final
@@ -26,6 +27,11 @@ mod Outstanding
 mod Reasons
 mod Refusals
 mod Room
+mod RowChains
+mod RowHedges
+mod RowNumbers
+mod RowSplits
+mod RowTokens
 mod Rows
 mod Standing
 mod Stopping

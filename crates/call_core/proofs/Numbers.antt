@@ -122,7 +122,7 @@ numbered_like s t number rows chosen sent stopped old = record {
 }
 
 -- what an end means for the attempts
-judged_sent : (plan : CallPlan) (a : Attempts) (number : ℕ) (is_alone : Bool) (end : RowEnd) (above : Bool) (word : ℕ) → (judged plan a number is_alone end above word).attempts.sent ≡ a.sent
+pub judged_sent : (plan : CallPlan) (a : Attempts) (number : ℕ) (is_alone : Bool) (end : RowEnd) (above : Bool) (word : ℕ) → (judged plan a number is_alone end above word).attempts.sent ≡ a.sent
 judged_sent plans.None a number is_alone end above word = refl
 judged_sent (plans.Retry policy) a number is_alone end above word = refl
 judged_sent (plans.Hedge policy) a number is_alone end above word = refl

@@ -9,6 +9,8 @@ pub mod Orders
 pub mod Outstanding
 pub mod Parts
 pub mod Reasons
+pub mod RowChains
+pub mod RowLaws
 pub mod Rows
 pub mod Steps
 pub mod Stopping

@@ -16,6 +16,7 @@ mod laws;
 mod live;
 mod outbox;
 mod outcomes;
+mod row_laws;
 mod state;
 mod take;
 mod tokens;
@@ -37,5 +38,8 @@ pub use outcomes::{
     limits_end_calls, other_rows_are_over, outstanding_rows_are_live, rows_are_in_order,
     rows_have_reasons, stopped_calls_make_no_attempt, takes_leave_rows,
     unseen_attempts_are_retried, waiting_items_stay,
+};
+pub use row_laws::{
+    rows_are_chained, rows_keep_hedging, rows_keep_numbering, rows_keep_throttling,
 };
 pub use state::CallState;

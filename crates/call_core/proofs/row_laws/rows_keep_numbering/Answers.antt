@@ -1,0 +1,5 @@
+use Rattle.call_core.proofs.RowNumbers.{never_misnumbered}
+use Rattle.call_core.proofs.row_laws.rows_keep_numbering.Goals as goal
+
+pub returns : goal.returns
+returns c = never_misnumbered

@@ -1,0 +1,78 @@
+// The rows of a call keep the laws of attempts among themselves, as `attempt_ledger::check_rows` decides them.
+ghost use Rattle.std.specs.Prelude.{◌≡◌, ◌≤◌, ℕ, true, false, Option, Some, List};
+ghost use Rattle.grpc_base.specs.Requests.{RequestSeen};
+ghost use Rattle.grpc_base.specs.declared.event.EndCause.{EndCause};
+ghost use Rattle.grpc_base.specs.declared.plan.Chosen.{Chosen};
+ghost use Rattle.attempt_ledger.specs.declared.ledger.Ledger.{Ledger};
+ghost use Rattle.attempt_ledger.specs.Ends.{is_stop};
+ghost use Rattle.attempt_ledger.specs.declared.news.EndNews.{EndNews};
+ghost use Rattle.attempt_ledger.specs.declared.news.News.{News};
+ghost use Rattle.attempt_ledger.specs.declared.news.News.TheVariants as news;
+ghost use Rattle.attempt_ledger.specs.declared.row.Placed.{Placed};
+ghost use Rattle.attempt_ledger.specs.declared.row.Row.{Row};
+ghost use Rattle.a6_numbers.specs.Throttling.{Bucket};
+ghost use Rattle.call_core.specs.declared.act.CallAct.{CallAct};
+ghost use Rattle.call_core.specs.Commitments.{IsRowOf};
+ghost use Rattle.call_core.specs.Laws.{IsKept};
+ghost use Rattle.call_core.specs.Numbering.{IsNumbered};
+ghost use Rattle.call_core.specs.Orders.{AreTimed};
+ghost use Rattle.call_core.specs.Parts.{is_by_row, is_followed};
+ghost use Rattle.call_core.specs.Reasons.{HasReasons};
+ghost use Rattle.call_core.specs.RowChains.{AreChained, KeepsChains};
+ghost use Rattle.call_core.specs.RowLaws.{AreHedged, AreOwnTokens, AreThrottled, HasNoRows, IsFollowedAt, KeepsEnds, KeepsHedges, NeverBreaks};
+ghost use Rattle.call_core.specs.Rows.{IsApart, row_in};
+ghost use Rattle.call_core.specs.Steps.{Stepped, closed_by, configured, heard_news, lent, made_due, new_call, pick_failed, placed_at, sent, timed_out};
+
+/// A law for proofs: no row of a call breaks the law of numbering, where its attempts are numbered and its rows are in order. The
+/// call does nothing.
+pub fn rows_keep_numbering()
+    ensures { (chosen : Chosen) (now : ℕ) (s : Stepped) → s.call.chosen ≡ Some chosen → IsNumbered s → AreTimed now s → NeverBreaks 8 chosen s }
+{}
+
+/// A law for proofs: the count of tokens after each end of a call's rows is one that its bucket can have, so no row breaks the law of
+/// throttling, if the call is lent the tokens of its configuration. The call does nothing.
+pub fn rows_keep_throttling()
+    ensures law { (chosen : Chosen) (s : Stepped) → s.call.chosen ≡ Some chosen → AreThrottled s → NeverBreaks 12 chosen s }
+    ensures begun { (number : ℕ) (request : RequestSeen) (begun : ℕ) (ledger : Ledger) (tokens : Option Bucket) (acts : List CallAct) → ((place : ℕ) (row : Row) → row_in ledger.rows place ≡ Some row → row.call ≡ number → ⊥) → AreThrottled (lent (new_call number request begun) ledger tokens acts) }
+    ensures elsewhere { (s : Stepped) (ledger : Ledger) → KeepsEnds s.call.number s.ledger.rows ledger.rows → AreThrottled s → AreThrottled (record s { ledger = ledger }) }
+    ensures configured { (chosen : Chosen) (moment : ℕ) (s : Stepped) → IsKept s.call → IsApart s → AreOwnTokens s.tokens s.call.chosen → AreThrottled s → AreThrottled (configured chosen moment s) }
+    ensures sent { (message : List ℕ) (moment : ℕ) (s : Stepped) → IsKept s.call → IsApart s → AreOwnTokens s.tokens s.call.chosen → AreThrottled s → AreThrottled (sent message moment s) }
+    ensures closed { (why : EndCause) (moment : ℕ) (s : Stepped) → is_by_row why ≡ false → IsKept s.call → IsApart s → AreOwnTokens s.tokens s.call.chosen → AreThrottled s → AreThrottled (closed_by why moment s) }
+    ensures timed_out { (moment : ℕ) (s : Stepped) → IsKept s.call → IsApart s → AreOwnTokens s.tokens s.call.chosen → AreThrottled s → AreThrottled (timed_out moment s) }
+    ensures placed { (row : ℕ) (at : Placed) (s : Stepped) → at.entry ≡ s.ledger.entry → IsKept s.call → IsApart s → AreOwnTokens s.tokens s.call.chosen → AreThrottled s → AreThrottled (placed_at row at s) }
+    ensures failed { (row moment word : ℕ) (s : Stepped) → IsKept s.call → IsApart s → AreOwnTokens s.tokens s.call.chosen → AreThrottled s → AreThrottled (pick_failed row moment word s) }
+    ensures heard { (row : ℕ) (told : News) (moment word : ℕ) (s : Stepped) → IsKept s.call → IsApart s → AreOwnTokens s.tokens s.call.chosen → AreThrottled s → AreThrottled (heard_news row told moment word s) }
+    ensures made { (moment : ℕ) (s : Stepped) → IsKept s.call → IsApart s → AreOwnTokens s.tokens s.call.chosen → AreThrottled s → AreThrottled (made_due moment s) }
+{}
+
+/// A law for proofs: no hedge is due after an end that stops hedging, and each has what makes it due before it, so no row breaks the law of
+/// hedging, if an end that a transparent retry follows forbids nothing. The call does nothing.
+pub fn rows_keep_hedging()
+    ensures law { (chosen : Chosen) (s : Stepped) → s.call.chosen ≡ Some chosen → HasReasons s → AreHedged s → NeverBreaks 10 chosen s }
+    ensures begun { (number : ℕ) (request : RequestSeen) (begun : ℕ) (ledger : Ledger) (tokens : Option Bucket) (acts : List CallAct) → AreHedged (lent (new_call number request begun) ledger tokens acts) }
+    ensures elsewhere { (s : Stepped) (ledger : Ledger) → KeepsHedges s.call.number s.ledger.rows ledger.rows → AreHedged s → AreHedged (record s { ledger = ledger }) }
+    ensures configured { (chosen : Chosen) (moment : ℕ) (s : Stepped) → (now : ℕ) → now ≤ moment → IsKept s.call → IsApart s → AreTimed now s → HasNoRows s → AreHedged s → AreHedged (configured chosen moment s) }
+    ensures sent { (message : List ℕ) (moment : ℕ) (s : Stepped) → (now : ℕ) → now ≤ moment → IsKept s.call → IsApart s → AreTimed now s → HasNoRows s → AreHedged s → AreHedged (sent message moment s) }
+    ensures closed { (why : EndCause) (moment : ℕ) (s : Stepped) → is_by_row why ≡ false → (now : ℕ) → now ≤ moment → IsKept s.call → IsApart s → AreTimed now s → HasNoRows s → AreHedged s → AreHedged (closed_by why moment s) }
+    ensures timed_out { (moment : ℕ) (s : Stepped) → (now : ℕ) → now ≤ moment → IsKept s.call → IsApart s → AreTimed now s → HasNoRows s → AreHedged s → AreHedged (timed_out moment s) }
+    ensures placed { (row : ℕ) (at : Placed) (s : Stepped) → at.entry ≡ s.ledger.entry → (now : ℕ) → now ≤ at.moment → IsKept s.call → IsApart s → AreTimed now s → HasNoRows s → AreHedged s → AreHedged (placed_at row at s) }
+    ensures failed { (row moment word : ℕ) (s : Stepped) → (now : ℕ) → now ≤ moment → IsKept s.call → IsApart s → AreTimed now s → HasNoRows s → AreHedged s → AreHedged (pick_failed row moment word s) }
+    ensures heard { (row : ℕ) (told : News) (moment word : ℕ) (s : Stepped) → ((tag : ℕ) (end : EndNews) → told ≡ news.Ended tag end → is_followed s.call.attempts end.cause end.unseen ≡ true → is_stop end.pushback ≡ false) → (now : ℕ) → now ≤ moment → IsKept s.call → IsApart s → AreTimed now s → HasNoRows s → AreHedged s → AreHedged (heard_news row told moment word s) }
+    ensures made { (moment : ℕ) (s : Stepped) → (now : ℕ) → now ≤ moment → IsKept s.call → IsApart s → AreTimed now s → HasNoRows s → AreHedged s → AreHedged (made_due moment s) }
+{}
+
+/// A law for proofs: of the rows of one number each later one is a transparent retry, so that one end of them counts at most, and a live
+/// row is the last of its number. The call does nothing.
+pub fn rows_are_chained()
+    ensures counted { (s : Stepped) → AreChained s → (place other : ℕ) (row next : Row) → IsRowOf s.call.number s.ledger.rows place row → IsRowOf s.call.number s.ledger.rows other next → next.number ≡ row.number → (IsFollowedAt s.call.number s.ledger.rows place row.number → ⊥) → (IsFollowedAt s.call.number s.ledger.rows other next.number → ⊥) → place ≡ other }
+    ensures begun { (number : ℕ) (request : RequestSeen) (begun : ℕ) (ledger : Ledger) (tokens : Option Bucket) (acts : List CallAct) → ((place : ℕ) (row : Row) → row_in ledger.rows place ≡ Some row → row.call ≡ number → ⊥) → AreChained (lent (new_call number request begun) ledger tokens acts) }
+    ensures elsewhere { (s : Stepped) (ledger : Ledger) → KeepsChains s.call.number s.ledger.rows ledger.rows → AreChained s → AreChained (record s { ledger = ledger }) }
+    ensures configured { (chosen : Chosen) (moment : ℕ) (s : Stepped) → IsNumbered s → IsApart s → AreChained s → AreChained (configured chosen moment s) }
+    ensures sent { (message : List ℕ) (moment : ℕ) (s : Stepped) → IsNumbered s → IsApart s → AreChained s → AreChained (sent message moment s) }
+    ensures closed { (why : EndCause) (moment : ℕ) (s : Stepped) → is_by_row why ≡ false → IsNumbered s → IsApart s → AreChained s → AreChained (closed_by why moment s) }
+    ensures timed_out { (moment : ℕ) (s : Stepped) → IsNumbered s → IsApart s → AreChained s → AreChained (timed_out moment s) }
+    ensures placed { (row : ℕ) (at : Placed) (s : Stepped) → at.entry ≡ s.ledger.entry → IsNumbered s → IsApart s → AreChained s → AreChained (placed_at row at s) }
+    ensures failed { (row moment word : ℕ) (s : Stepped) → IsNumbered s → IsApart s → AreChained s → AreChained (pick_failed row moment word s) }
+    ensures heard { (row : ℕ) (told : News) (moment word : ℕ) (s : Stepped) → IsNumbered s → IsApart s → AreChained s → AreChained (heard_news row told moment word s) }
+    ensures made { (moment : ℕ) (s : Stepped) → IsNumbered s → IsApart s → AreChained s → AreChained (made_due moment s) }
+{}
