@@ -23,7 +23,7 @@ use Rattle.call_core.specs.Steps.{Stepped, cut_all, cut_row, cut_unless, judged_
 use Rattle.call_core.proofs.Standing.{row_last}
 
 -- the test is the one of the standard
-retried_by : (a : Attempts) (why : RowCause) (unseen : Bool) → is_followed a why unseen ≡ (is_unsent why || (is_by_peer why && unseen && not (is_some a.committed) && not a.is_refusal_followed))
+pub retried_by : (a : Attempts) (why : RowCause) (unseen : Bool) → is_followed a why unseen ≡ (is_unsent why || (is_by_peer why && unseen && not (is_some a.committed) && not a.is_refusal_followed))
 retried_by a causes.Unsent unseen = refl
 retried_by a causes.Goaway unseen = refl
 retried_by a causes.Reset unseen = refl

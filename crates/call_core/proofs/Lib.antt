@@ -28,10 +28,15 @@ mod Reasons
 mod Refusals
 mod Room
 mod RowChains
+mod RowFollowers
+mod RowFollowing
 mod RowHedges
+mod RowMade
 mod RowNumbers
+mod RowRetries
 mod RowSplits
 mod RowTokens
+mod RowWrites
 mod Rows
 mod Standing
 mod Stopping

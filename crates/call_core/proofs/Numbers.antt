@@ -177,7 +177,7 @@ below_most plans.None a due h = below_forced 1 a.sent a.forced due a.stopped (na
 below_most (plans.Retry policy) a due h = below_forced policy.max a.sent a.forced due a.stopped (nat_le policy.max a.sent) (nat_le policy.max a.sent) refl h
 below_most (plans.Hedge policy) a due h = below_by_sent policy a due (a.sent == 0) h
 
-not_transparent : (plan : CallPlan) (b : Bool) → is_transparent (if b then kind.First else later_kind plan) ≡ false
+pub not_transparent : (plan : CallPlan) (b : Bool) → is_transparent (if b then kind.First else later_kind plan) ≡ false
 not_transparent plan true = refl
 not_transparent plans.None false = refl
 not_transparent (plans.Retry policy) false = refl

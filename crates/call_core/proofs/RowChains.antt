@@ -204,7 +204,7 @@ more_within : (owner sent : ℕ) (rows : List Row) (x row : Row) (place : ℕ) �
 more_within owner sent rows x row place new old call (inl there) = old place row (record { there = there; call = call })
 more_within owner sent rows x row place new old call (inr both) = subst (λ (r : Row). r.number ≤ sent) (sym both.1) new
 
-abbrev AreKinds : ℕ → List Row → Type 0
+abbrev pub AreKinds : ℕ → List Row → Type 0
 AreKinds owner rows = (place other : ℕ) (row next : Row) → IsRowOf owner rows place row → IsRowOf owner rows other next → place < other → next.number ≡ row.number → is_transparent next.kind ≡ true
 
 more_kinds : (owner : ℕ) (rows : List Row) (x row next : Row) (place other : ℕ) → ((r : Row) (p : ℕ) → IsRowOf owner rows p r → x.number ≡ r.number → is_transparent x.kind ≡ true) → AreKinds owner rows → row.call ≡ owner → next.call ≡ owner → place < other → next.number ≡ row.number → (row_in rows place ≡ Some row) ⊎ ((place ≡ length rows + 1) × (row ≡ x)) → (row_in rows other ≡ Some next) ⊎ ((other ≡ length rows + 1) × (next ≡ x)) → is_transparent next.kind ≡ true

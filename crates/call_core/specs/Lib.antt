@@ -10,6 +10,7 @@ pub mod Outstanding
 pub mod Parts
 pub mod Reasons
 pub mod RowChains
+pub mod RowFollowers
 pub mod RowLaws
 pub mod Rows
 pub mod Steps

@@ -41,5 +41,6 @@ pub use outcomes::{
 };
 pub use row_laws::{
     rows_are_chained, rows_keep_hedging, rows_keep_numbering, rows_keep_throttling,
+    rows_keep_transparent_retries,
 };
 pub use state::CallState;

@@ -12,13 +12,15 @@ ghost use Rattle.attempt_ledger.specs.declared.row.Placed.{Placed};
 ghost use Rattle.attempt_ledger.specs.declared.row.Row.{Row};
 ghost use Rattle.a6_numbers.specs.Throttling.{Bucket};
 ghost use Rattle.call_core.specs.declared.act.CallAct.{CallAct};
-ghost use Rattle.call_core.specs.Commitments.{IsRowOf};
+ghost use Rattle.call_core.specs.declared.live.LiveRow.{LiveRow};
+ghost use Rattle.call_core.specs.Commitments.{IsCommittedOnce, IsRowOf};
 ghost use Rattle.call_core.specs.Laws.{IsKept};
 ghost use Rattle.call_core.specs.Numbering.{IsNumbered};
 ghost use Rattle.call_core.specs.Orders.{AreTimed};
-ghost use Rattle.call_core.specs.Parts.{is_by_row, is_followed};
+ghost use Rattle.call_core.specs.Parts.{find_live, is_by_row, is_followed};
 ghost use Rattle.call_core.specs.Reasons.{HasReasons};
 ghost use Rattle.call_core.specs.RowChains.{AreChained, KeepsChains};
+ghost use Rattle.call_core.specs.RowFollowers.{AreFollowing, IsTold, KeepsFollowers};
 ghost use Rattle.call_core.specs.RowLaws.{AreHedged, AreOwnTokens, AreThrottled, HasNoRows, IsFollowedAt, KeepsEnds, KeepsHedges, NeverBreaks};
 ghost use Rattle.call_core.specs.Rows.{IsApart, row_in};
 ghost use Rattle.call_core.specs.Steps.{Stepped, closed_by, configured, heard_news, lent, made_due, new_call, pick_failed, placed_at, sent, timed_out};
@@ -75,4 +77,22 @@ pub fn rows_are_chained()
     ensures failed { (row moment word : ℕ) (s : Stepped) → IsNumbered s → IsApart s → AreChained s → AreChained (pick_failed row moment word s) }
     ensures heard { (row : ℕ) (told : News) (moment word : ℕ) (s : Stepped) → IsNumbered s → IsApart s → AreChained s → AreChained (heard_news row told moment word s) }
     ensures made { (moment : ℕ) (s : Stepped) → IsNumbered s → IsApart s → AreChained s → AreChained (made_due moment s) }
+{}
+
+/// A law for proofs: an end is followed by a transparent retry where the request never left the client, and once a call where the peer
+/// refused it unseen before the commitment; the retry follows the nearest row of its number, is due at its end, and takes over its
+/// commitment. So no row breaks the law of transparent retries, if entries don't fall and the news of one entry come in the order of
+/// their bytes. The call does nothing.
+pub fn rows_keep_transparent_retries()
+    ensures law { (chosen : Chosen) (at : ℕ) (s : Stepped) → AreFollowing at s → NeverBreaks 11 chosen s }
+    ensures begun { (number : ℕ) (request : RequestSeen) (begun : ℕ) (ledger : Ledger) (tokens : Option Bucket) (acts : List CallAct) → ((place : ℕ) (row : Row) → row_in ledger.rows place ≡ Some row → row.call ≡ number → ⊥) → AreFollowing ledger.entry (lent (new_call number request begun) ledger tokens acts) }
+    ensures elsewhere { (at : ℕ) (s : Stepped) (ledger : Ledger) → KeepsFollowers s.call.number s.ledger.rows ledger.rows → AreFollowing at s → AreFollowing at (record s { ledger = ledger }) }
+    ensures configured { (chosen : Chosen) (moment : ℕ) (s : Stepped) → (at : ℕ) → at ≤ s.ledger.entry → IsKept s.call → IsApart s → IsCommittedOnce s → AreChained s → AreFollowing at s → AreFollowing s.ledger.entry (configured chosen moment s) }
+    ensures sent { (message : List ℕ) (moment : ℕ) (s : Stepped) → (at : ℕ) → at ≤ s.ledger.entry → IsKept s.call → IsApart s → IsCommittedOnce s → AreChained s → AreFollowing at s → AreFollowing s.ledger.entry (sent message moment s) }
+    ensures closed { (why : EndCause) (moment : ℕ) (s : Stepped) → is_by_row why ≡ false → (at : ℕ) → at ≤ s.ledger.entry → IsKept s.call → IsApart s → IsCommittedOnce s → AreChained s → AreFollowing at s → AreFollowing s.ledger.entry (closed_by why moment s) }
+    ensures timed_out { (moment : ℕ) (s : Stepped) → (at : ℕ) → at ≤ s.ledger.entry → IsKept s.call → IsApart s → IsCommittedOnce s → AreChained s → AreFollowing at s → AreFollowing s.ledger.entry (timed_out moment s) }
+    ensures placed { (row : ℕ) (placed : Placed) (s : Stepped) → placed.entry ≡ s.ledger.entry → (at : ℕ) → at ≤ s.ledger.entry → IsKept s.call → IsApart s → IsCommittedOnce s → AreChained s → AreFollowing at s → AreFollowing s.ledger.entry (placed_at row placed s) }
+    ensures failed { (row moment word : ℕ) (s : Stepped) → (at : ℕ) → at ≤ s.ledger.entry → IsKept s.call → IsApart s → IsCommittedOnce s → AreChained s → AreFollowing at s → AreFollowing s.ledger.entry (pick_failed row moment word s) }
+    ensures heard { (row : ℕ) (told : News) (moment word : ℕ) (s : Stepped) → ((tag : ℕ) (end : EndNews) (live : LiveRow) → told ≡ news.Ended tag end → find_live row s.call.live ≡ Some live → IsTold s live end) → (at : ℕ) → at ≤ s.ledger.entry → IsKept s.call → IsApart s → IsCommittedOnce s → AreChained s → AreFollowing at s → AreFollowing s.ledger.entry (heard_news row told moment word s) }
+    ensures made { (moment : ℕ) (s : Stepped) → (at : ℕ) → at ≤ s.ledger.entry → IsKept s.call → IsApart s → IsCommittedOnce s → AreChained s → AreFollowing at s → AreFollowing s.ledger.entry (made_due moment s) }
 {}
