@@ -47,7 +47,7 @@ use Rattle.call_core.proofs.Keeping.{not_stopped}
 use Rattle.call_core.proofs.KeptReasons.{AreKept, kept_committed, kept_like, kept_more, kept_placed, kept_write}
 use Rattle.call_core.proofs.Moves.{Moves}
 use Rattle.call_core.proofs.Numbers.{judged_stopped}
-use Rattle.call_core.proofs.RowSplits.{IsSplit, IsSome, any_before, followed_in, some_found, split_of, split_place, split_row}
+use Rattle.call_core.proofs.RowSplits.{IsSome, IsSplit, and_parts, any_before, followed_in, not_true, some_found, split_of, split_place, split_row}
 use Rattle.call_core.proofs.Standing.{found_stands, row_changed_same, row_last}
 
 -- later rows
@@ -408,19 +408,11 @@ not_found : (b : Bool) → (b ≡ true → ⊥) → b ≡ false
 not_found true never = absurd (never refl)
 not_found false never = refl
 
-bool_parts : (a b : Bool) → (a && b) ≡ true → (a ≡ true) × (b ≡ true)
-bool_parts true b e = (refl, e)
-bool_parts false b e = absurd (cc)
-
-not_false : (b : Bool) → not b ≡ true → b ≡ false
-not_false true e = absurd (cc)
-not_false false e = refl
-
 over_by : (policy : HedgePolicy) (owner : ℕ) (rows before : List Row) (row : Row) (after : List Row) (end : RowEnd) (split : IsSplit owner rows before row after) (stop outside : Bool) → is_stop end.pushback ≡ stop → (not (has_code policy.codes end.code) && not (is_followed row after)) ≡ outside → (stop || outside) ≡ true → EndsHedging policy owner rows (split_place split.pre) row.number end
 over_by policy owner rows before row after end split true outside s o e = inl s
 over_by policy owner rows before row after end split false true s o e =
-    let both : (not (has_code policy.codes end.code) ≡ true) × (not (is_followed row after) ≡ true) = bool_parts (not (has_code policy.codes end.code)) (not (is_followed row after)) o in
-    inr (not_false (has_code policy.codes end.code) both.0, λ f. let no : true ≡ false = sym (followed_in owner rows before row after split f) ∙ not_false (is_followed row after) both.1 in cc)
+    let both : (not (has_code policy.codes end.code) ≡ true) × (not (is_followed row after) ≡ true) = and_parts (not (has_code policy.codes end.code)) (not (is_followed row after)) o in
+    inr (not_true (has_code policy.codes end.code) both.0, λ f. let no : true ≡ false = sym (followed_in owner rows before row after split f) ∙ not_true (is_followed row after) both.1 in cc)
 over_by policy owner rows before row after end split false false s o e = absurd (cc)
 
 ended_some : (test : RowEnd → Bool) (o : Option RowEnd) → option_map_or test o false ≡ true → (end : RowEnd) × ((o ≡ Some end) × (test end ≡ true))
@@ -436,7 +428,7 @@ never_over policy s place hedge plan hedged is why e =
     let ended : (end : RowEnd) × ((found.row.ended ≡ Some end) × (ends_hedging policy hedge.due found.row found.after end ≡ true)) = ended_some (ends_hedging policy hedge.due found.row found.after) found.row.ended found.passes in
     let end : RowEnd = ended.0 in
     let both : (nat_lt end.moment hedge.due ≡ true) × ((is_stop end.pushback || (not (has_code policy.codes end.code) && not (is_followed found.row found.after))) ≡ true) =
-    bool_parts (nat_lt end.moment hedge.due) (is_stop end.pushback || (not (has_code policy.codes end.code) && not (is_followed found.row found.after))) ended.1.1 in
+    and_parts (nat_lt end.moment hedge.due) (is_stop end.pushback || (not (has_code policy.codes end.code) && not (is_followed found.row found.after))) ended.1.1 in
     let early : end.moment < hedge.due = ltb-true end.moment hedge.due both.0 in
     let late : hedge.due ≤ end.moment =
     (hedged.ends policy plan (split_place split.pre) found.row (split_row owner rows found.before found.row found.after split) end ended.1.0

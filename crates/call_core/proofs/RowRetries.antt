@@ -17,15 +17,11 @@ use Rattle.call_core.specs.RowLaws.{IsFollowedAt, NeverBreaks, rows_of}
 use Rattle.call_core.specs.Rows.{row_in}
 use Rattle.call_core.specs.Steps.{Stepped}
 use Rattle.call_core.proofs.RowFollowers.{follows_by, one_end}
-use Rattle.call_core.proofs.RowSplits.{IsSome, IsSplit, any_own, followed_in, some_found, split_of, split_place, split_row}
+use Rattle.call_core.proofs.RowSplits.{IsSome, IsSplit, and_parts, any_own, followed_in, some_found, split_of, split_place, split_row}
 
 -- booleans
 both_of : (a b : Bool) → a ≡ true → b ≡ true → (a && b) ≡ true
 both_of a b e f = ap (λ (x : Bool). x && b) e ∙ f
-
-parts : (a b : Bool) → (a && b) ≡ true → (a ≡ true) × (b ≡ true)
-parts true b e = (refl, e)
-parts false b e = absurd (cc)
 
 first_or : (a b : Bool) → a ≡ true → (a || b) ≡ true
 first_or true b e = refl
@@ -42,10 +38,6 @@ either false b e = inr e
 is_not : (b : Bool) → (b ≡ true → ⊥) → b ≡ false
 is_not true never = absurd (never refl)
 is_not false never = refl
-
-not_of : (b : Bool) → not b ≡ true → b ≡ false
-not_of true e = absurd (cc)
-not_of false e = refl
 
 -- a row of the call that passes a test, in the call's own list
 record IsOwn (test : Row → Bool) (owner : ℕ) (rows : List Row) : Type 0 where
@@ -165,12 +157,12 @@ never_before end i e = first_case (either (nat_lt end.entry end.entry) ((end.ent
   where
     third_case : (nat_lt end.seen end.seen ≡ true) ⊎ (((end.seen == end.seen) && nat_lt i i) ≡ true) → ⊥
     third_case (inl h) = never_less end.seen h
-    third_case (inr h) = never_less i (parts (end.seen == end.seen) (nat_lt i i) h).1
+    third_case (inr h) = never_less i (and_parts (end.seen == end.seen) (nat_lt i i) h).1
 
     first_case : (nat_lt end.entry end.entry ≡ true) ⊎ (((end.entry == end.entry) && (nat_lt end.seen end.seen || ((end.seen == end.seen) && nat_lt i i))) ≡ true) → ⊥
     first_case (inl h) = never_less end.entry h
     first_case (inr h) =
-        third_case (either (nat_lt end.seen end.seen) ((end.seen == end.seen) && nat_lt i i) (parts (end.entry == end.entry) (nat_lt end.seen end.seen || ((end.seen == end.seen) && nat_lt i i)) h).1)
+        third_case (either (nat_lt end.seen end.seen) ((end.seen == end.seen) && nat_lt i i) (and_parts (end.entry == end.entry) (nat_lt end.seen end.seen || ((end.seen == end.seen) && nat_lt i i)) h).1)
 
 -- places of the ledger and of the call's list are in one order
 before_places : (earlier end : RowEnd) (p q i j : ℕ) → (p < q → i < j) → comes_before earlier p end q ≡ true → comes_before earlier i end j ≡ true
@@ -179,7 +171,7 @@ before_places earlier end p q i j order e = entry_case (either (nat_lt earlier.e
     seen_case : (nat_lt earlier.seen end.seen ≡ true) ⊎ (((earlier.seen == end.seen) && nat_lt p q) ≡ true) → (nat_lt earlier.seen end.seen || ((earlier.seen == end.seen) && nat_lt i j)) ≡ true
     seen_case (inl h) = first_or (nat_lt earlier.seen end.seen) ((earlier.seen == end.seen) && nat_lt i j) h
     seen_case (inr h) =
-        let both : ((earlier.seen == end.seen) ≡ true) × (nat_lt p q ≡ true) = parts (earlier.seen == end.seen) (nat_lt p q) h in
+        let both : ((earlier.seen == end.seen) ≡ true) × (nat_lt p q ≡ true) = and_parts (earlier.seen == end.seen) (nat_lt p q) h in
         second_or (nat_lt earlier.seen end.seen) ((earlier.seen == end.seen) && nat_lt i j)
         (both_of (earlier.seen == end.seen) (nat_lt i j) both.0 (lt-ltb i j (order (ltb-true p q both.1))))
 
@@ -187,7 +179,7 @@ before_places earlier end p q i j order e = entry_case (either (nat_lt earlier.e
     entry_case (inl h) = first_or (nat_lt earlier.entry end.entry) ((earlier.entry == end.entry) && (nat_lt earlier.seen end.seen || ((earlier.seen == end.seen) && nat_lt i j))) h
     entry_case (inr h) =
         let both : ((earlier.entry == end.entry) ≡ true) × ((nat_lt earlier.seen end.seen || ((earlier.seen == end.seen) && nat_lt p q)) ≡ true) =
-        parts (earlier.entry == end.entry) (nat_lt earlier.seen end.seen || ((earlier.seen == end.seen) && nat_lt p q)) h in
+        and_parts (earlier.entry == end.entry) (nat_lt earlier.seen end.seen || ((earlier.seen == end.seen) && nat_lt p q)) h in
         second_or (nat_lt earlier.entry end.entry) ((earlier.entry == end.entry) && (nat_lt earlier.seen end.seen || ((earlier.seen == end.seen) && nat_lt i j)))
         (both_of (earlier.entry == end.entry) (nat_lt earlier.seen end.seen || ((earlier.seen == end.seen) && nat_lt i j)) both.0
         (seen_case (either (nat_lt earlier.seen end.seen) ((earlier.seen == end.seen) && nat_lt p q) both.1)))
@@ -247,7 +239,7 @@ list_at owner rows i row call cut = ap (rows_of owner) cut.together ∙ own_midd
 followed_out : (owner : ℕ) (rows before : List Row) (row : Row) (after : List Row) → (split : IsSplit owner rows before row after) → is_followed row after ≡ true → IsFollowedAt owner rows (split_place split.pre) row.number
 followed_out owner rows before row after split e =
     let found : IsOwn (is_follower row) owner split.post = own_of (is_follower row) owner split.post (ap (λ (l : List Row). list_any (is_follower row) l) split.back ∙ e) in
-    let both : (is_transparent found.row.kind ≡ true) × ((found.row.number == row.number) ≡ true) = parts (is_transparent found.row.kind) (found.row.number == row.number) found.passes in
+    let both : (is_transparent found.row.kind ≡ true) × ((found.row.number == row.number) ≡ true) = and_parts (is_transparent found.row.kind) (found.row.number == row.number) found.passes in
     let there : slice_get rows (suc (length split.pre + found.at)) ≡ Some found.row =
     ap (λ (l : List Row). slice_get l (suc (length split.pre + found.at))) split.together ∙ get_rest split.pre row split.post found.at (suc (length split.pre + found.at)) refl ∙ found.there in
     record {
@@ -298,7 +290,7 @@ allowed : (at owner : ℕ) (rows : List Row) (is_spent : Bool) (newest : Option 
 allowed at owner rows is_spent newest place row f i cut same old follows (inl e) =
     first_or (is_unsent f.end.cause) (is_refused f.end && may_follow (rows_of owner rows) f.end (length (rows_of owner cut.pre))) e
 allowed at owner rows is_spent newest place row f i cut same old follows (inr e) =
-    let by_peer : is_by_peer f.end.cause ≡ true = (parts f.end.unseen (is_by_peer f.end.cause) e).1 in
+    let by_peer : is_by_peer f.end.cause ≡ true = (and_parts f.end.unseen (is_by_peer f.end.cause) e).1 in
     let spent : IsSpentBy owner rows f.before f.end = record { has = f.has; by_peer = by_peer; followed = follows } in
     let first : is_retry_taken (rows_of owner rows) f.end (length (rows_of owner cut.pre)) ≡ false =
     is_not (is_retry_taken (rows_of owner rows) f.end (length (rows_of owner cut.pre))) (λ h. only_once at owner rows is_spent newest place row f i cut same old follows by_peer h) in
@@ -411,13 +403,13 @@ true_false false e h = let no : false ≡ true = e in cc
 excused : (owner : ℕ) (rows before : List Row) (row : Row) (after : List Row) (end : RowEnd) (split : IsSplit owner rows before row after) → must_follow (rows_of owner rows) end (length before) ≡ true → IsTakenBefore owner rows (split_place split.pre) end ⊎ IsCommittedBy owner rows end.entry → ⊥
 excused owner rows before row after end split must (inl t) =
     let both : (may_follow (rows_of owner rows) end (length before) ≡ true) × (not (list_any (is_committed_at end.entry) (rows_of owner rows)) ≡ true) =
-    parts (may_follow (rows_of owner rows) end (length before)) (not (list_any (is_committed_at end.entry) (rows_of owner rows))) must in
+    and_parts (may_follow (rows_of owner rows) end (length before)) (not (list_any (is_committed_at end.entry) (rows_of owner rows))) must in
     true_false (is_retry_taken (rows_of owner rows) end (length before)) (taken_in owner rows before row after end split t)
-    (parts (not (is_retry_taken (rows_of owner rows) end (length before))) (not (list_any (is_committed_before end.entry) (rows_of owner rows))) both.0).0
+    (and_parts (not (is_retry_taken (rows_of owner rows) end (length before))) (not (list_any (is_committed_before end.entry) (rows_of owner rows))) both.0).0
 excused owner rows before row after end split must (inr c) =
     let both : (may_follow (rows_of owner rows) end (length before) ≡ true) × (not (list_any (is_committed_at end.entry) (rows_of owner rows)) ≡ true) =
-    parts (may_follow (rows_of owner rows) end (length before)) (not (list_any (is_committed_at end.entry) (rows_of owner rows))) must in
-    committed_no both.1 (parts (not (is_retry_taken (rows_of owner rows) end (length before))) (not (list_any (is_committed_before end.entry) (rows_of owner rows))) both.0).1 (committed_in owner rows end.entry c)
+    and_parts (may_follow (rows_of owner rows) end (length before)) (not (list_any (is_committed_at end.entry) (rows_of owner rows))) must in
+    committed_no both.1 (and_parts (not (is_retry_taken (rows_of owner rows) end (length before))) (not (list_any (is_committed_before end.entry) (rows_of owner rows))) both.0).1 (committed_in owner rows end.entry c)
   where
     committed_no : not (list_any (is_committed_at end.entry) (rows_of owner rows)) ≡ true → not (list_any (is_committed_before end.entry) (rows_of owner rows)) ≡ true → (list_any (is_committed_before end.entry) (rows_of owner rows) ≡ true) ⊎ (list_any (is_committed_at end.entry) (rows_of owner rows) ≡ true) → ⊥
     committed_no at before_it (inl e) = true_false (list_any (is_committed_before end.entry) (rows_of owner rows)) e before_it
@@ -430,7 +422,7 @@ needed_case owner rows before row after end split must (inr why) = absurd (excus
 needed : (owner : ℕ) (rows before : List Row) (row : Row) (after : List Row) (end : RowEnd) (split : IsSplit owner rows before row after) → IsFollowedDuly owner rows (split_place split.pre) row.number end → (is_unsent end.cause ≡ true) ⊎ ((is_refused end && must_follow (rows_of owner rows) end (length before)) ≡ true) → is_followed row after ≡ true
 needed owner rows before row after end split duly (inl e) = followed_in owner rows before row after split (duly.unsent e)
 needed owner rows before row after end split duly (inr e) =
-    let both : (is_refused end ≡ true) × (must_follow (rows_of owner rows) end (length before) ≡ true) = parts (is_refused end) (must_follow (rows_of owner rows) end (length before)) e in
+    let both : (is_refused end ≡ true) × (must_follow (rows_of owner rows) end (length before) ≡ true) = and_parts (is_refused end) (must_follow (rows_of owner rows) end (length before)) e in
     needed_case owner rows before row after end split both.1 (duly.refused both.0)
 
 row_transparent : (at owner : ℕ) (rows : List Row) (is_spent : Bool) (newest : Option ℕ) (before : List Row) (row : Row) (after : List Row) → HaveFollowers at owner rows is_spent newest → rows_of owner rows ≡ before ++ row ∷ after → KeepsTransparent (rows_of owner rows) before row after

@@ -1,5 +1,5 @@
 -- The rows of a call as a list of their own, and as places of the ledger.
-use Rattle.std.proofs.Common.{◌≡◌, ◌<◌, ℕ, zero, suc, ◌+◌, Bool, true, false, ◌&&◌, ◌||◌, ◌==◌, if◌then◌else◌, length, Some, None, List, [], ◌∷◌, ◌++◌, refl, sym, ap, subst, ◌∙◌, arith, eq-eqb, slice_get}
+use Rattle.std.proofs.Common.{◌≡◌, ◌<◌, ℕ, zero, suc, ◌+◌, Bool, true, false, not, ◌&&◌, ◌||◌, ◌==◌, if◌then◌else◌, length, Option, Some, None, IfSome, List, [], ◌∷◌, ◌++◌, refl, sym, ap, subst, ◌∙◌, arith, eq-eqb, slice_get}
 use Rattle.std.proofs.lemmas.Bool.{eqb-true}
 use Rattle.std.specs.List.{list_any}
 use Rattle.attempt_ledger.specs.Ends.{is_followed, is_follower, some_row_from}
@@ -7,6 +7,19 @@ use Rattle.attempt_ledger.specs.declared.row.Row.{Row}
 use Rattle.call_core.specs.Commitments.{IsRowOf}
 use Rattle.attempt_ledger.specs.Numbering.{is_transparent}
 use Rattle.call_core.specs.RowLaws.{IsFollowedAt, rows_of}
+
+-- clauses
+pub if_some : {X : Type 0} (o : Option X) (P : X → Type 0) → ((x : X) → o ≡ Some x → P x) → IfSome o P
+if_some None P h = tt
+if_some (Some x) P h = h x refl
+
+pub and_parts : (a b : Bool) → (a && b) ≡ true → (a ≡ true) × (b ≡ true)
+and_parts true b e = (refl, e)
+and_parts false b e = absurd (cc)
+
+pub not_true : (b : Bool) → not b ≡ true → b ≡ false
+not_true true e = absurd (cc)
+not_true false e = refl
 
 -- a row of the call's list, with what stands before and behind it in the ledger
 pub record IsSplit (owner : ℕ) (rows before : List Row) (row : Row) (after : List Row) : Type 0 where

@@ -44,7 +44,7 @@ use Rattle.call_core.proofs.EachRow.{EachRow, EndOf, TakesCuts, counted_back, ea
 use Rattle.call_core.proofs.Keeping.{found_some, not_stopped}
 use Rattle.call_core.proofs.KeptReasons.{AreKept, kept_committed, kept_like, kept_more, kept_placed, kept_write}
 use Rattle.call_core.proofs.Moves.{Moves}
-use Rattle.call_core.proofs.RowSplits.{IsSplit, followed_in, split_of, split_place, split_row}
+use Rattle.call_core.proofs.RowSplits.{IsSplit, and_parts, followed_in, if_some, not_true, split_of, split_place, split_row}
 use Rattle.call_core.proofs.Standing.{found_stands, row_changed_same, row_last}
 use Rattle.call_core.specs.Reasons.{IsKeptRow}
 
@@ -444,18 +444,6 @@ throttled_elsewhere s ledger keeps old = record {
 }
 
 -- the law
-if_some : {X : Type 0} (o : Option X) (P : X → Type 0) → ((x : X) → o ≡ Some x → P x) → IfSome o P
-if_some None P h = tt
-if_some (Some x) P h = h x refl
-
-and_parts : (a b : Bool) → (a && b) ≡ true → (a ≡ true) × (b ≡ true)
-and_parts true b e = (refl, e)
-and_parts false b e = absurd (cc)
-
-not_true : (b : Bool) → not b ≡ true → b ≡ false
-not_true true e = absurd (cc)
-not_true false e = refl
-
 counted_at : (owner : ℕ) (rows before : List Row) (row : Row) (after : List Row) (end : RowEnd) → (split : IsSplit owner rows before row after) → is_counted row after end ≡ true → IsCountedAt owner rows (split_place split.pre) row.number end
 counted_at owner rows before row after end split e =
     let both : (not (is_cut end.cause) ≡ true) × (not (is_followed row after) ≡ true) = and_parts (not (is_cut end.cause)) (not (is_followed row after)) e in
