@@ -35,7 +35,7 @@ retried_by a causes.Pick unseen = refl
 retried_by a causes.Cut unseen = refl
 
 -- writes leave the number of rows
-length_changed : (f : Row → Row) (rows : List Row) (i : ℕ) → length (changed f rows i) ≡ length rows
+pub length_changed : (f : Row → Row) (rows : List Row) (i : ℕ) → length (changed f rows i) ≡ length rows
 length_changed f [] i = refl
 length_changed f (r ∷ rows) zero = refl
 length_changed f (r ∷ rows) (suc i) = ap suc (length_changed f rows i)
@@ -44,7 +44,7 @@ length_index : (f : Row → Row) (rows : List Row) (i : ℕ) (b : Bool) → leng
 length_index f rows i true = length_changed f rows i
 length_index f rows i false = refl
 
-length_at : (f : Row → Row) (rows : List Row) (place : ℕ) → length (changed_at f rows place) ≡ length rows
+pub length_at : (f : Row → Row) (rows : List Row) (place : ℕ) → length (changed_at f rows place) ≡ length rows
 length_at f rows zero = refl
 length_at f rows (suc i) = length_index f rows i (nat_lt i (length rows))
 

@@ -31,11 +31,17 @@ mod RowChains
 mod RowFollowers
 mod RowFollowing
 mod RowHedges
+mod RowJudged
+mod RowLicensed
+mod RowLicenses
+mod RowLicensing
 mod RowMade
 mod RowNumbers
+mod RowRetried
 mod RowRetries
 mod RowSplits
 mod RowTokens
+mod RowWords
 mod RowWrites
 mod Rows
 mod Standing

@@ -45,7 +45,7 @@ use Rattle.call_core.proofs.RowWrites.{cuts_fair, ended_fair, following_later, p
 use Rattle.call_core.proofs.Standing.{found_stands}
 
 -- a live row isn't followed
-live_unfollowed : (place : ℕ) (row : LiveRow) (s : Stepped) → find_live place s.call.live ≡ Some row → IsApart s → AreChained s → IsUnfollowed s.call.number s.ledger.rows row.place
+pub live_unfollowed : (place : ℕ) (row : LiveRow) (s : Stepped) → find_live place s.call.live ≡ Some row → IsApart s → AreChained s → IsUnfollowed s.call.number s.ledger.rows row.place
 live_unfollowed place row s f apart chained = λ r is follows.
     let one : IsStanding s.call.number s.ledger.rows row = found_stands s.call.number s.ledger.rows place s.call.live row apart.tied f in
     let same : one.row ≡ r = one_row s.call.number s.ledger.rows row.place one.row r (record { there = one.there; call = one.call }) is in
@@ -261,7 +261,7 @@ free_when : (why : RowCause) (unseen : Bool) (a : Attempts) → is_by_peer why �
 free_when why unseen a by (inl e) = absurd (unsent_peer why e by)
 free_when why unseen a by (inr r) = r
 
-none_stamped : (s : Stepped) → IsCommittedOnce s → s.call.attempts.committed ≡ None → (q : ℕ) (other : Row) → IsRowOf s.call.number s.ledger.rows q other → other.committed ≡ None
+pub none_stamped : (s : Stepped) → IsCommittedOnce s → s.call.attempts.committed ≡ None → (q : ℕ) (other : Row) → IsRowOf s.call.number s.ledger.rows q other → other.committed ≡ None
 none_stamped s once free q other is = none_case other.committed refl
   where
     none_case : (o : Option ℕ) → other.committed ≡ o → other.committed ≡ None

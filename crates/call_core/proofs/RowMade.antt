@@ -30,20 +30,20 @@ plain_back owner rows x place number plain f = back_case (row_split rows x f.lat
     back_case (inr both) = absurd (let no : true ≡ false = sym f.kind ∙ ap (λ (r : Row). is_transparent r.kind) both.1 ∙ plain in cc)
 
 -- the rows with one more: a row of them is an old one or the new one
-abbrev IsOldOr : ℕ → List Row → Row → ℕ → Row → Type 0
+abbrev pub IsOldOr : ℕ → List Row → Row → ℕ → Row → Type 0
 IsOldOr owner rows x place row = IsRowOf owner rows place row ⊎ ((place ≡ length rows + 1) × (row ≡ x))
 
 old_or : (owner : ℕ) (rows : List Row) (x row : Row) (place : ℕ) → row.call ≡ owner → (row_in rows place ≡ Some row) ⊎ ((place ≡ length rows + 1) × (row ≡ x)) → IsOldOr owner rows x place row
 old_or owner rows x row place call (inl there) = inl (record { there = there; call = call })
 old_or owner rows x row place call (inr both) = inr both
 
-which : (owner : ℕ) (rows : List Row) (x row : Row) (place : ℕ) → IsRowOf owner (rows ++ x ∷ []) place row → IsOldOr owner rows x place row
+pub which : (owner : ℕ) (rows : List Row) (x row : Row) (place : ℕ) → IsRowOf owner (rows ++ x ∷ []) place row → IsOldOr owner rows x place row
 which owner rows x row place is = old_or owner rows x row place is.call (row_split rows x place row is.there)
 
-more_row : (owner : ℕ) (rows : List Row) (x row : Row) (place : ℕ) → IsRowOf owner rows place row → IsRowOf owner (rows ++ x ∷ []) place row
+pub more_row : (owner : ℕ) (rows : List Row) (x row : Row) (place : ℕ) → IsRowOf owner rows place row → IsRowOf owner (rows ++ x ∷ []) place row
 more_row owner rows x row place is = record { there = row_more rows x place row is.there; call = is.call }
 
-more_follow : (owner : ℕ) (rows : List Row) (x : Row) (place number : ℕ) → IsFollowedAt owner rows place number → IsFollowedAt owner (rows ++ x ∷ []) place number
+pub more_follow : (owner : ℕ) (rows : List Row) (x : Row) (place number : ℕ) → IsFollowedAt owner rows place number → IsFollowedAt owner (rows ++ x ∷ []) place number
 more_follow owner rows x place number f = record { later = f.later; order = f.order; next = f.next; is = more_row owner rows x f.next f.later f.is; kind = f.kind; same = f.same }
 
 more_spent : (owner : ℕ) (rows : List Row) (x : Row) (place : ℕ) (end : RowEnd) → IsSpentBy owner rows place end → IsSpentBy owner (rows ++ x ∷ []) place end
@@ -139,7 +139,7 @@ plain_more at owner rows x is_spent newest none free plain within old = record {
     last_case place e row f (inr both) = let at : place ≡ length rows + 1 = both.0 in let le : place ≤ length rows = within place e in omega (arith, at, le)
 
 -- a transparent retry follows the end of a row
-committed_same : (owner : ℕ) (rows after : List Row) (place : ℕ) (old new : Row) → AreLike IsNamed rows after → IsRowOf owner rows place old → IsRowOf owner after place new → new.committed ≡ old.committed
+pub committed_same : (owner : ℕ) (rows after : List Row) (place : ℕ) (old new : Row) → AreLike IsNamed rows after → IsRowOf owner rows place old → IsRowOf owner after place new → new.committed ≡ old.committed
 committed_same owner rows after place old new named is_old is_new =
     let now : IsNowRow IsNamed old (row_in after place) = like_to IsNamed (row_in rows place) (row_in after place) old (named place) is_old.there in
     let both : Some now.row ≡ Some new = sym now.there ∙ is_new.there in

@@ -35,17 +35,17 @@ either : (a b : Bool) → (a || b) ≡ true → (a ≡ true) ⊎ (b ≡ true)
 either true b e = inl refl
 either false b e = inr e
 
-is_not : (b : Bool) → (b ≡ true → ⊥) → b ≡ false
+pub is_not : (b : Bool) → (b ≡ true → ⊥) → b ≡ false
 is_not true never = absurd (never refl)
 is_not false never = refl
 
 -- a row of the call that passes a test, in the call's own list
-record IsOwn (test : Row → Bool) (owner : ℕ) (rows : List Row) : Type 0 where
-  at : ℕ
-  row : Row
-  there : slice_get rows at ≡ Some row
-  call : row.call ≡ owner
-  passes : test row ≡ true
+pub record IsOwn (test : Row → Bool) (owner : ℕ) (rows : List Row) : Type 0 where
+  pub at : ℕ
+  pub row : Row
+  pub there : slice_get rows at ≡ Some row
+  pub call : row.call ≡ owner
+  pub passes : test row ≡ true
 
 own_behind : (test : Row → Bool) (owner : ℕ) (x : Row) (rows : List Row) → IsOwn test owner rows → IsOwn test owner (x ∷ rows)
 own_behind test owner x rows old = record { at = suc old.at; row = old.row; there = old.there; call = old.call; passes = old.passes }
@@ -58,7 +58,7 @@ own_one : (test : Row → Bool) (owner : ℕ) (x : Row) (rows : List Row) (b : B
 own_one test owner x rows true t rest e = own_split test owner x rows t rest (either (test x) (list_any test (rows_of owner rows)) e)
 own_one test owner x rows false t rest e = own_behind test owner x rows (rest e)
 
-own_of : (test : Row → Bool) (owner : ℕ) (rows : List Row) → list_any test (rows_of owner rows) ≡ true → IsOwn test owner rows
+pub own_of : (test : Row → Bool) (owner : ℕ) (rows : List Row) → list_any test (rows_of owner rows) ≡ true → IsOwn test owner rows
 own_of test owner [] e = absurd (cc)
 own_of test owner (x ∷ rows) e = own_one test owner x rows (x.call == owner) refl (own_of test owner rows) e
 
@@ -66,16 +66,16 @@ own_row : (test : Row → Bool) (owner : ℕ) (rows : List Row) (own : IsOwn tes
 own_row test owner rows own = record { there = own.there; call = own.call }
 
 -- the rows before and behind a place
-record IsCut (rows : List Row) (i : ℕ) (row : Row) : Type 0 where
-  pre : List Row
-  post : List Row
-  together : rows ≡ pre ++ row ∷ post
-  len : length pre ≡ i
+pub record IsCut (rows : List Row) (i : ℕ) (row : Row) : Type 0 where
+  pub pre : List Row
+  pub post : List Row
+  pub together : rows ≡ pre ++ row ∷ post
+  pub len : length pre ≡ i
 
 cut_behind : (x row : Row) (rows : List Row) (i : ℕ) → IsCut rows i row → IsCut (x ∷ rows) (suc i) row
 cut_behind x row rows i old = record { pre = x ∷ old.pre; post = old.post; together = ap (λ (l : List Row). x ∷ l) old.together; len = ap suc old.len }
 
-cut_at : (rows : List Row) (i : ℕ) (row : Row) → slice_get rows i ≡ Some row → IsCut rows i row
+pub cut_at : (rows : List Row) (i : ℕ) (row : Row) → slice_get rows i ≡ Some row → IsCut rows i row
 cut_at [] i row e = absurd (cc)
 cut_at (x ∷ rows) zero row e = let same : x ≡ row = (cc) in record { pre = []; post = rows; together = ap (λ (r : Row). r ∷ rows) same; len = refl }
 cut_at (x ∷ rows) (suc i) row e = cut_behind x row rows i (cut_at rows i row e)
@@ -97,7 +97,7 @@ some_at test from (x ∷ before) row after e =
 zero_more : (n : ℕ) → 0 + n ≡ n
 zero_more n = omega arith
 
-some_in : (test : ℕ → Row → List Row → Bool) (before : List Row) (row : Row) (after : List Row) → test (length before) row after ≡ true → some_row test (before ++ row ∷ after) ≡ true
+pub some_in : (test : ℕ → Row → List Row → Bool) (before : List Row) (row : Row) (after : List Row) → test (length before) row after ≡ true → some_row test (before ++ row ∷ after) ≡ true
 some_in test before row after e = some_at test 0 before row after (subst (λ (k : ℕ). test k row after ≡ true) (sym (zero_more (length before))) e)
 
 passes_at : (test : ℕ → Row → List Row → Bool) (rows : List Row) (found : IsSome test 0 rows) → test (length found.before) found.row found.after ≡ true
@@ -137,10 +137,10 @@ within_of (y ∷ pre) x post (w ∷ other) row behind e h =
     within_more a old = record { rest = old.rest; together = ap (λ (r : Row). r ∷ pre) a ∙ ap (λ (l : List Row). w ∷ l) old.together }
 
 -- ends
-ended_some : (test : RowEnd → Bool) (row : Row) (end : RowEnd) → row.ended ≡ Some end → test end ≡ true → ended_by test row ≡ true
+pub ended_some : (test : RowEnd → Bool) (row : Row) (end : RowEnd) → row.ended ≡ Some end → test end ≡ true → ended_by test row ≡ true
 ended_some test row end e h = ap (λ (o : Option RowEnd). option_map_or test o false) e ∙ h
 
-ended_has : (test : RowEnd → Bool) (o : Option RowEnd) → option_map_or test o false ≡ true → (end : RowEnd) × ((o ≡ Some end) × (test end ≡ true))
+pub ended_has : (test : RowEnd → Bool) (o : Option RowEnd) → option_map_or test o false ≡ true → (end : RowEnd) × ((o ≡ Some end) × (test end ≡ true))
 ended_has test None e = absurd (cc)
 ended_has test (Some end) e = (end, (refl, e))
 
@@ -207,7 +207,7 @@ get_front [] ys j row e = absurd (cc)
 get_front (x ∷ xs) ys zero row e = e
 get_front (x ∷ xs) ys (suc j) row e = get_front xs ys j row e
 
-get_rest : (xs : List Row) (x : Row) (ys : List Row) (k j : ℕ) → j ≡ suc (length xs + k) → slice_get (xs ++ x ∷ ys) j ≡ slice_get ys k
+pub get_rest : (xs : List Row) (x : Row) (ys : List Row) (k j : ℕ) → j ≡ suc (length xs + k) → slice_get (xs ++ x ∷ ys) j ≡ slice_get ys k
 get_rest [] x ys k j e = let same : j ≡ suc k = omega (arith, e) in ap (λ (n : ℕ). slice_get (x ∷ ys) n) same
 get_rest (y ∷ xs) x ys k zero e = absurd (let no : 0 ≡ suc (suc (length xs) + k) = e in omega (arith, no))
 get_rest (y ∷ xs) x ys k (suc j) e =
@@ -219,24 +219,24 @@ within_len (y ∷ ys) zero row e = omega arith
 within_len (y ∷ ys) (suc k) row e = let rest : k < length ys = within_len ys k row e in omega (arith, rest)
 
 -- a place counts from 1
-record IsPlace (rows : List Row) (place : ℕ) (row : Row) : Type 0 where
-  index : ℕ
-  same : place ≡ suc index
-  there : slice_get rows index ≡ Some row
+pub record IsPlace (rows : List Row) (place : ℕ) (row : Row) : Type 0 where
+  pub index : ℕ
+  pub same : place ≡ suc index
+  pub there : slice_get rows index ≡ Some row
 
-place_of : (rows : List Row) (place : ℕ) (row : Row) → row_in rows place ≡ Some row → IsPlace rows place row
+pub place_of : (rows : List Row) (place : ℕ) (row : Row) → row_in rows place ≡ Some row → IsPlace rows place row
 place_of rows zero row e = absurd (cc)
 place_of rows (suc i) row e = record { index = i; same = refl; there = e }
 
 -- a row at a place splits the call's list
-abbrev split_at : (owner : ℕ) (rows : List Row) (i : ℕ) (row : Row) → row.call ≡ owner → (cut : IsCut rows i row) → IsSplit owner rows (rows_of owner cut.pre) row (rows_of owner cut.post)
+abbrev pub split_at : (owner : ℕ) (rows : List Row) (i : ℕ) (row : Row) → row.call ≡ owner → (cut : IsCut rows i row) → IsSplit owner rows (rows_of owner cut.pre) row (rows_of owner cut.post)
 split_at owner rows i row call cut = record { pre = cut.pre; post = cut.post; together = cut.together; call = call; front = refl; back = refl }
 
-list_at : (owner : ℕ) (rows : List Row) (i : ℕ) (row : Row) → row.call ≡ owner → (cut : IsCut rows i row) → rows_of owner rows ≡ rows_of owner cut.pre ++ row ∷ rows_of owner cut.post
+pub list_at : (owner : ℕ) (rows : List Row) (i : ℕ) (row : Row) → row.call ≡ owner → (cut : IsCut rows i row) → rows_of owner rows ≡ rows_of owner cut.pre ++ row ∷ rows_of owner cut.post
 list_at owner rows i row call cut = ap (rows_of owner) cut.together ∙ own_middle owner cut.pre row cut.post call
 
 -- what follows in the call's list follows in the ledger
-followed_out : (owner : ℕ) (rows before : List Row) (row : Row) (after : List Row) → (split : IsSplit owner rows before row after) → is_followed row after ≡ true → IsFollowedAt owner rows (split_place split.pre) row.number
+pub followed_out : (owner : ℕ) (rows before : List Row) (row : Row) (after : List Row) → (split : IsSplit owner rows before row after) → is_followed row after ≡ true → IsFollowedAt owner rows (split_place split.pre) row.number
 followed_out owner rows before row after split e =
     let found : IsOwn (is_follower row) owner split.post = own_of (is_follower row) owner split.post (ap (λ (l : List Row). list_any (is_follower row) l) split.back ∙ e) in
     let both : (is_transparent found.row.kind ≡ true) × ((found.row.number == row.number) ≡ true) = and_parts (is_transparent found.row.kind) (found.row.number == row.number) found.passes in

@@ -202,7 +202,7 @@ end_kept : (why : EndCause) (moment : ℕ) (s : Stepped) → AreKept s.call.numb
 end_kept why moment s =
     kept_like s.call.number s.ledger.rows (step.ended_as why moment s).ledger.rows (all_cut IsKeptRow kept_write None moment (count_of s.tokens) s.call.live s.ledger)
 
-own_fits : (tokens : Option Bucket) (o : Option Chosen) (chosen : Chosen) → o ≡ Some chosen → AreOwnTokens tokens o → FitsTokens chosen.throttle tokens
+pub own_fits : (tokens : Option Bucket) (o : Option Chosen) (chosen : Chosen) → o ≡ Some chosen → AreOwnTokens tokens o → FitsTokens chosen.throttle tokens
 own_fits tokens o chosen e own = subst (λ (x : Option Chosen). AreOwnTokens tokens x) e own
 
 no_cuts : (moment : ℕ) (tokens : Option ℕ) → TakesCuts (λ place row. ⊥) moment tokens
@@ -260,7 +260,7 @@ row_ends chosen row end s known fits tokens_is old =
 plan_known : (o : Option Chosen) (chosen : Chosen) → o ≡ Some chosen → parts.plan_of o ≡ chosen.plan
 plan_known o chosen e = ap parts.plan_of e
 
-own_settled : (told : EndNews) (s : Stepped) → AreOwnTokens s.tokens s.call.chosen → AreOwnTokens (settled told s).tokens s.call.chosen
+pub own_settled : (told : EndNews) (s : Stepped) → AreOwnTokens s.tokens s.call.chosen → AreOwnTokens (settled told s).tokens s.call.chosen
 own_settled told s own = own_case s.call.chosen own
   where
     own_case : (o : Option Chosen) → AreOwnTokens s.tokens o → AreOwnTokens (settled told s).tokens o

@@ -66,8 +66,8 @@ stamp_kept at stamp None e = absurd (cc)
 stamp_kept at stamp (Some x) e = e
 
 -- the row at a place after a write to one, as a case of both
-record IsWritten (f : Row → Row) (place q : ℕ) (old new : Row) : Type 0 where
-  is : ((place ≡ q) × (new ≡ f old)) ⊎ ((place ≡ q → ⊥) × (new ≡ old))
+pub record IsWritten (f : Row → Row) (place q : ℕ) (old new : Row) : Type 0 where
+  pub is : ((place ≡ q) × (new ≡ f old)) ⊎ ((place ≡ q → ⊥) × (new ≡ old))
 
 written_one : (owner : ℕ) (f : Row → Row) (rows : List Row) (place q : ℕ) (old new : Row) (b : Bool) → (place == q) ≡ b → IsRowOf owner rows q old → IsRowOf owner (changed_at f rows place) q new → IsWritten f place q old new
 written_one owner f rows place q old new true t is_old is_new =
@@ -82,7 +82,7 @@ written_one owner f rows place q old new false t is_old is_new =
     let equal : new ≡ old = (cc) in
     record { is = inr (off, equal) }
 
-written : (owner : ℕ) (f : Row → Row) (rows : List Row) (place q : ℕ) (old new : Row) → IsRowOf owner rows q old → IsRowOf owner (changed_at f rows place) q new → IsWritten f place q old new
+pub written : (owner : ℕ) (f : Row → Row) (rows : List Row) (place q : ℕ) (old new : Row) → IsRowOf owner rows q old → IsRowOf owner (changed_at f rows place) q new → IsWritten f place q old new
 written owner f rows place q old new is_old is_new = written_one owner f rows place q old new (place == q) refl is_old is_new
 
 stamp_back : (at place q : ℕ) (old new : Row) (stamp : ℕ) → ((place ≡ q) × (new ≡ committed_row at old)) ⊎ ((place ≡ q → ⊥) × (new ≡ old)) → new.committed ≡ Some stamp → (old.committed ≡ Some stamp) ⊎ (stamp ≡ at)

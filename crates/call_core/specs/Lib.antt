@@ -12,6 +12,7 @@ pub mod Reasons
 pub mod RowChains
 pub mod RowFollowers
 pub mod RowLaws
+pub mod RowLicenses
 pub mod Rows
 pub mod Steps
 pub mod Stopping

@@ -40,7 +40,7 @@ pub use outcomes::{
     unseen_attempts_are_retried, waiting_items_stay,
 };
 pub use row_laws::{
-    rows_are_chained, rows_keep_hedging, rows_keep_numbering, rows_keep_throttling,
-    rows_keep_transparent_retries,
+    rows_are_chained, rows_keep_hedging, rows_keep_numbering, rows_keep_retries,
+    rows_keep_throttling, rows_keep_transparent_retries,
 };
 pub use state::CallState;

@@ -4,7 +4,7 @@ ghost use Rattle.grpc_base.specs.Requests.{RequestSeen};
 ghost use Rattle.grpc_base.specs.declared.event.EndCause.{EndCause};
 ghost use Rattle.grpc_base.specs.declared.plan.Chosen.{Chosen};
 ghost use Rattle.attempt_ledger.specs.declared.ledger.Ledger.{Ledger};
-ghost use Rattle.attempt_ledger.specs.Ends.{is_stop};
+ghost use Rattle.attempt_ledger.specs.Ends.{is_cut, is_stop};
 ghost use Rattle.attempt_ledger.specs.declared.news.EndNews.{EndNews};
 ghost use Rattle.attempt_ledger.specs.declared.news.News.{News};
 ghost use Rattle.attempt_ledger.specs.declared.news.News.TheVariants as news;
@@ -22,6 +22,7 @@ ghost use Rattle.call_core.specs.Reasons.{HasReasons};
 ghost use Rattle.call_core.specs.RowChains.{AreChained, KeepsChains};
 ghost use Rattle.call_core.specs.RowFollowers.{AreFollowing, IsTold, KeepsFollowers};
 ghost use Rattle.call_core.specs.RowLaws.{AreHedged, AreOwnTokens, AreThrottled, HasNoRows, IsFollowedAt, KeepsEnds, KeepsHedges, NeverBreaks};
+ghost use Rattle.call_core.specs.RowLicenses.{AreLicensed, IsSound};
 ghost use Rattle.call_core.specs.Rows.{IsApart, row_in};
 ghost use Rattle.call_core.specs.Steps.{Stepped, closed_by, configured, heard_news, lent, made_due, new_call, pick_failed, placed_at, sent, timed_out};
 
@@ -95,4 +96,20 @@ pub fn rows_keep_transparent_retries()
     ensures failed { (row moment word : ℕ) (s : Stepped) → (at : ℕ) → at ≤ s.ledger.entry → IsKept s.call → IsApart s → IsCommittedOnce s → AreChained s → AreFollowing at s → AreFollowing s.ledger.entry (pick_failed row moment word s) }
     ensures heard { (row : ℕ) (told : News) (moment word : ℕ) (s : Stepped) → ((tag : ℕ) (end : EndNews) (live : LiveRow) → told ≡ news.Ended tag end → find_live row s.call.live ≡ Some live → IsTold s live end) → (at : ℕ) → at ≤ s.ledger.entry → IsKept s.call → IsApart s → IsCommittedOnce s → AreChained s → AreFollowing at s → AreFollowing s.ledger.entry (heard_news row told moment word s) }
     ensures made { (moment : ℕ) (s : Stepped) → (at : ℕ) → at ≤ s.ledger.entry → IsKept s.call → IsApart s → IsCommittedOnce s → AreChained s → AreFollowing at s → AreFollowing s.ledger.entry (made_due moment s) }
+{}
+
+/// A law for proofs: each retry follows an end that licenses it and is due at its moment, a random word is drawn just where there is a
+/// wait, and an end that licenses nothing commits its row. So no row breaks the law of retries. The call does nothing.
+pub fn rows_keep_retries()
+    ensures law { (chosen : Chosen) (s : Stepped) → s.call.chosen ≡ Some chosen → HasReasons s → AreChained s → AreLicensed s → NeverBreaks 9 chosen s }
+    ensures begun { (number : ℕ) (request : RequestSeen) (begun : ℕ) (ledger : Ledger) (tokens : Option Bucket) (acts : List CallAct) → AreLicensed (lent (new_call number request begun) ledger tokens acts) }
+    ensures elsewhere { (s : Stepped) (ledger : Ledger) → KeepsFollowers s.call.number s.ledger.rows ledger.rows → AreChained s → AreLicensed s → AreLicensed (record s { ledger = ledger }) }
+    ensures configured { (chosen : Chosen) (moment : ℕ) (s : Stepped) → IsSound s → AreLicensed s → AreLicensed (configured chosen moment s) }
+    ensures sent { (message : List ℕ) (moment : ℕ) (s : Stepped) → IsSound s → AreLicensed s → AreLicensed (sent message moment s) }
+    ensures closed { (why : EndCause) (moment : ℕ) (s : Stepped) → is_by_row why ≡ false → IsSound s → AreLicensed s → AreLicensed (closed_by why moment s) }
+    ensures timed_out { (moment : ℕ) (s : Stepped) → IsSound s → AreLicensed s → AreLicensed (timed_out moment s) }
+    ensures placed { (row : ℕ) (at : Placed) (s : Stepped) → at.entry ≡ s.ledger.entry → IsSound s → AreLicensed s → AreLicensed (placed_at row at s) }
+    ensures failed { (row moment word : ℕ) (s : Stepped) → IsSound s → AreLicensed s → AreLicensed (pick_failed row moment word s) }
+    ensures heard { (row : ℕ) (told : News) (moment word : ℕ) (s : Stepped) → ((tag : ℕ) (end : EndNews) → told ≡ news.Ended tag end → is_cut end.cause ≡ false) → IsSound s → AreLicensed s → AreLicensed (heard_news row told moment word s) }
+    ensures made { (moment : ℕ) (s : Stepped) → IsSound s → AreLicensed s → AreLicensed (made_due moment s) }
 {}
