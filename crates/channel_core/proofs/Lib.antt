@@ -1,6 +1,10 @@
 pub mod Answering
 pub mod Arriving
 pub mod BookLaws
+pub mod Carrying
+pub mod CarryingSteps
+pub mod Counting
+pub mod Dating
 pub mod DrainLaws
 pub mod Feeds
 pub mod Hearing
@@ -9,4 +13,6 @@ pub mod Places
 pub mod Readdressing
 pub mod Replies
 pub mod SettlingLaws
+pub mod Stamping
 pub mod SteppingLaws
+pub mod Timely

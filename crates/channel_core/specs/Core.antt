@@ -23,10 +23,7 @@ pub record CoreSeen : Type 0 where
   pub state : StateSeen
   pub spent : Bool
 
--- the authority of its requests, and its ledger
-abbrev pub authority_in : CoreSeen → List ℕ
-authority_in core = core.state.book.authority
-
+-- its ledger
 abbrev pub ledger_in : CoreSeen → Ledger
 ledger_in core = core.state.book.ledger
 

@@ -4,6 +4,7 @@ pub mod Books
 pub mod Core
 pub mod Draining
 pub mod Feeding
+pub mod Laws
 pub mod Messages
 pub mod Response
 pub mod Said

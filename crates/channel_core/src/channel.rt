@@ -4,9 +4,10 @@ ghost use Rattle.grpc_base.specs.Authorities.{IsAuthority};
 ghost use Rattle.grpc_base.specs.Posts.{HasNoRoom, MayReply};
 ghost use Rattle.grpc_base.specs.declared.event.Event.TheVariants as event;
 ghost use Rattle.grpc_base.specs.declared.event.Reply.TheVariants as reply;
+ghost use Rattle.ledger_stamps.specs.Later.{Later};
 ghost use Rattle.policy_rack.specs.Kinds.{are_ready};
 ghost use Rattle.channel_core.specs.Applying.{can_drain_in};
-ghost use Rattle.channel_core.specs.Core.{IsFull, IsNewBy, Steps, WouldReply, ledger_in, view_of};
+ghost use Rattle.channel_core.specs.Core.{IsFull, IsNewBy, Steps, WouldReply, ledger_in, next_entry, view_of};
 
 use crate::bytes_of::{entry_bytes, event_bytes};
 use crate::kept::Kept;
@@ -97,6 +98,8 @@ impl<P: Balancer> ChannelCore<P> {
         ensures ok { IfOk result (Steps self.old self.new stamped) }
         // The reply is one that the event may get.
         ensures may { IfOk result (MayReply stamped.event) }
+        // It changes the ledger only as the new entry can.
+        ensures stamped { IfOk result (λ reply. Later (next_entry self.old.journal.entries) (ledger_in self.old) (ledger_in self.new)) }
 
         // No room in the journal.
         ensures full { (entries bytes : ℕ) → (result ≡ Err (CoreError.SessionFull entries bytes)) ↔ IsFull self.old stamped.event entries bytes }

@@ -1,0 +1,14 @@
+// What holds of a channel whatever events it was given.
+ghost use Rattle.std.specs.Prelude.{ℕ, List};
+ghost use Rattle.grpc_base.specs.declared.event.Reply.{Reply};
+ghost use Rattle.grpc_base.specs.declared.event.Stamped.{Stamped};
+ghost use Rattle.ledger_stamps.specs.Later.{Later};
+ghost use Rattle.channel_core.specs.Core.{CoreSeen, IsNew, Runs, Steps, ledger_in, next_entry};
+ghost use Rattle.channel_core.specs.Laws.{IsLawful};
+
+/// A law for proofs: a step changes the ledger only as one entry can, and journal and ledger of a channel are lawful whatever events
+/// it was given. The call does nothing.
+pub fn channels_are_lawful()
+    ensures stamped { (old new : CoreSeen) (s : Stamped) (reply : Reply) → Steps old new s reply → Later (next_entry old.journal.entries) (ledger_in old) (ledger_in new) }
+    ensures lawful { (authority : List ℕ) (new core : CoreSeen) (events : List Stamped) → IsNew authority new → Runs new events core → IsLawful core.journal.entries (ledger_in core) }
+{}
