@@ -11,7 +11,9 @@ use Rattle.resolver_core.specs.declared.any_target.Target.{Target}
 use Rattle.script_text.specs.Report.{report_of}
 use Rattle.script_text.proofs.Passing.{AppendsFront-behind, AppendsFront-more, Passes-all}
 use Rattle.channel_core.specs.Core.{CoreSeen, IsNew, Runs, ledger_in}
+use Rattle.channel_core.specs.Laws.{IsLawful}
 use Rattle.channel_core.specs.Sizes.{journal_bytes}
+use Rattle.channel_core.proofs.Dating.{lawful}
 use Rattle.channel_top.specs.declared.ran.Ran.{Ran}
 use Rattle.channel_top.specs.declared.ran.Ran.TheVariants as ran
 use Rattle.channel_top.specs.Runs.{FillsUp}
@@ -27,6 +29,7 @@ session_of authority new core events journal ledger is_new runs j l = record {
   journal_is = j;
   ledger_is = l;
   entries = subst (λ (x : Journal). AreEntriesOf events x) (sym j) (entries_of authority new events core is_new runs);
+  lawful = subst (λ (x : Journal). IsLawful x.entries ledger) (sym j) (subst (λ (x : Ledger). IsLawful core.journal.entries x) (sym l) (lawful authority new core events is_new runs));
 }
 
 pub report_whole : (target authority : List ℕ) (value : Target) (new core : CoreSeen) (events : List Stamped) (journal : Journal) (ledger : Ledger) → authority ≡ authority_of value → IsNew authority new → Runs new events core → journal ≡ core.journal → ledger ≡ ledger_in core → IsReport target value events (report_of target journal ledger)

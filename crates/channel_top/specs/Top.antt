@@ -9,6 +9,7 @@ use Rattle.attempt_ledger.specs.declared.ledger.Ledger.{Ledger}
 use Rattle.gate_io.specs.Outside.{IsAtEnd, Takes}
 use Rattle.channel_core.specs.Sizes.{journal_bytes}
 use Rattle.channel_core.specs.Core.{CoreSeen, IsNew, Runs, ledger_in}
+use Rattle.channel_core.specs.Laws.{IsLawful}
 use Rattle.channel_top.specs.declared.ran.Ran.{Ran}
 use Rattle.channel_top.specs.declared.ran.Ran.TheVariants as ran
 use Rattle.channel_top.specs.Runs.{RunsTo}
@@ -40,7 +41,8 @@ pub record AreEntriesOf (events : List Stamped) (journal : Journal) : Type 0 whe
   pub words_are : map (λ e. e.word) journal.entries ≡ map (λ s. s.word) events
   pub moments_are : map (λ e. e.moment) journal.entries ≡ highest_so_far 0 (map (λ s. s.moment) events)
 
--- a session: a new channel, whose requests have this authority, ran these events and no other, and this is its journal and ledger
+-- a session: a new channel, whose requests have this authority, ran these events and no other, and this is its journal and ledger,
+-- which are lawful
 pub record IsSession (authority : List ℕ) (events : List Stamped) (journal : Journal) (ledger : Ledger) : Type 0 where
   pub new : CoreSeen
   pub core : CoreSeen
@@ -49,6 +51,7 @@ pub record IsSession (authority : List ℕ) (events : List Stamped) (journal : J
   pub journal_is : journal ≡ core.journal
   pub ledger_is : ledger ≡ ledger_in core
   pub entries : AreEntriesOf events journal
+  pub lawful : IsLawful journal.entries ledger
 
 -- the script of these events is read as them, where none of its lines is too long for a script
 abbrev pub IsScriptAgain : List ℕ → Target → List Stamped → Type 0
