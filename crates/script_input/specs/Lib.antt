@@ -1,3 +1,6 @@
+pub mod AnswersTaken
 pub mod Collecting
+pub mod Feeding
 pub mod Reading
 pub mod Scripts
+pub mod Servers

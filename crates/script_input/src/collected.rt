@@ -1,18 +1,16 @@
 // What has been read of a script: its whole lines, and the bytes of the line that is not whole yet.
 ghost use Rattle.std.specs.Prelude.{◌≡◌, ◌≢◌, ◌≤◌, ◌++◌, ◌∷◌, [], true, false, None, List, ℕ, IfOk, IfErr, IfSome, OnOk, All};
-ghost use Rattle.script_input.specs.Collecting.{HasRead, IsDecided, IsFinished, IsKept, IsKeptLine, IsRead, IsReady, IsReplayRead, IsTold, IsToldOpen, IsUnfinished, Leads, input_fault};
+ghost use Rattle.script_input.specs.Collecting.{HasRead, IsDecided, IsFinished, IsKept, IsKeptLine, IsRead, IsReady, IsReplayRead, IsTold, IsToldOpen, IsUnfinished, Leads};
 ghost use Rattle.script_lines.specs.Lines.{script_limit};
 
-use crate::fault::InputFault;
+use crate::fault::{InputFault, fault_at, fault_of};
 use crate::form::Form;
 use crate::record::{is_record_at, part_of};
 use crate::script::Script;
 use grpc_base::limits::LINE_BYTES;
 use grpc_base::{Stamped, Text, split_at_byte};
 use resolver_core::Target;
-use script_lines::{
-    BadLine, LineFault, ScriptKind, ScriptLine, ScriptReader, UNKNOWN_KIND, test_line,
-};
+use script_lines::{ScriptKind, ScriptLine, ScriptReader, UNKNOWN_KIND, test_line};
 use std::alloc::Global;
 
 /// What the channel line says.
@@ -214,29 +212,5 @@ fn open_fault(reader: &ScriptReader, records: u64, text: &[u8]) -> InputFault
     match test_line(number, text, false) {
         Ok(()) => unreachable!(),
         Err(fault) => fault_at(number, fault),
-    }
-}
-
-/// The fault of the line of a number.
-fn fault_at(number: u64, fault: LineFault) -> InputFault
-    ensures bad { (cause : ℕ) → fault ≡ LineFault.Bad cause → result ≡ InputFault.BadLine number cause }
-    ensures no_memory { fault ≡ LineFault.NoMemory → result ≡ InputFault.NoMemory }
-{
-    match fault {
-        LineFault::Bad { cause } => InputFault::BadLine {
-            line: number,
-            cause,
-        },
-        LineFault::NoMemory => InputFault::NoMemory,
-    }
-}
-
-/// The fault of a bad line.
-fn fault_of(bad: BadLine) -> InputFault
-    ensures { result ≡ input_fault bad }
-{
-    match bad {
-        BadLine::At { line, cause } => InputFault::BadLine { line, cause },
-        BadLine::NoMemory => InputFault::NoMemory,
     }
 }

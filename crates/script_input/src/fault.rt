@@ -1,4 +1,8 @@
 // Why a source gave no script.
+ghost use Rattle.std.specs.Prelude.{◌≡◌, ℕ};
+ghost use Rattle.script_input.specs.Collecting.{input_fault};
+
+use script_lines::{BadLine, LineFault};
 use std::alloc::{AllocError, AllocFailed};
 
 /// Why a source gave no script.
@@ -33,5 +37,29 @@ impl<T: Drop> From<AllocFailed<T>> for InputFault {
 
     fn from(_e: AllocFailed<T>) -> InputFault {
         InputFault::NoMemory
+    }
+}
+
+/// The fault of the line of a number.
+pub fn fault_at(number: u64, fault: LineFault) -> InputFault
+    ensures bad { (cause : ℕ) → fault ≡ LineFault.Bad cause → result ≡ InputFault.BadLine number cause }
+    ensures no_memory { fault ≡ LineFault.NoMemory → result ≡ InputFault.NoMemory }
+{
+    match fault {
+        LineFault::Bad { cause } => InputFault::BadLine {
+            line: number,
+            cause,
+        },
+        LineFault::NoMemory => InputFault::NoMemory,
+    }
+}
+
+/// The fault of a bad line.
+pub fn fault_of(bad: BadLine) -> InputFault
+    ensures { result ≡ input_fault bad }
+{
+    match bad {
+        BadLine::At { line, cause } => InputFault::BadLine { line, cause },
+        BadLine::NoMemory => InputFault::NoMemory,
     }
 }

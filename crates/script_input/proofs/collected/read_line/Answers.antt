@@ -1,4 +1,4 @@
-use Rattle.std.proofs.Common.{ap, arith, sym, ◌+◌, ◌≡◌, ℕ}
+use Rattle.std.proofs.Common.{arith, sym, ◌+◌}
 use Rattle.std.proofs.lemmas.Bool.{true≢false}
 use Rattle.script_input.proofs.LineLaws.{read_done, told_of}
 use Rattle.script_input.proofs.collected.read_line.Goals as goal

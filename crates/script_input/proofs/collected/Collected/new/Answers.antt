@@ -1,4 +1,4 @@
-use Rattle.std.proofs.Common.{[], ap, arith, length, refl, sym, ◌∙◌, ◌∷◌, ◌≡◌, List, ℕ}
+use Rattle.std.proofs.Common.{refl}
 use Rattle.script_input.proofs.StateLaws.{nothing_read}
 use Rattle.script_input.proofs.collected.Collected.new.Goals as goal
 
