@@ -12,7 +12,8 @@ use std::test::Fail;
 /// The most bytes of a step.
 const MOST: usize = 1 << 20;
 
-fn bytes_of(alloc: Global, hex: &str) -> Result<Octets, Fail> {
+/// The bytes that these digits of hex spell; `-` spells none.
+pub fn bytes_of(alloc: Global, hex: &str) -> Result<Octets, Fail> {
     match message_of(alloc, hex.as_bytes(), MOST) {
         Ok(bytes) => Ok(bytes),
         Err(_) => Err("hex".into()),

@@ -4,4 +4,6 @@
 #[cfg(test)]
 mod exchange;
 #[cfg(test)]
+mod link_server_tests;
+#[cfg(test)]
 mod loop_server_tests;
