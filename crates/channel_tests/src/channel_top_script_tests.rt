@@ -2,7 +2,9 @@
 use crate::program::answer;
 use std::alloc::Global;
 use std::process::Abort;
+use std::sync::Wait;
 use std::test::Fail;
+use std::thread::Threads;
 
 /// A script of one call.
 static SCRIPT: &str = "channel 1 ipv4:127.0.0.1:50051
@@ -103,14 +105,14 @@ fn script_with(alloc: Global, number: u64, text: &str, is_end: bool) -> Result<V
 }
 
 /// A script whose bad line of this number is told, for this cause.
-fn expect_told(
-    rt: &impl Abort,
+fn expect_told<R: Threads + Wait + Sync + Abort>(
+    rt: &R,
     alloc: Global,
     script: Vec<u8>,
     line: &str,
     cause: &str,
 ) -> Result<(), Fail> {
-    let (status, report) = answer(alloc, b"replay", script, 50)?;
+    let (status, report) = answer(rt, alloc, b"replay", script, 50)?;
     let want = format!(in alloc; "fault line {line} cause {cause}\n")?;
     assert_eq!(rt; status, 3, "{want}");
     assert!(rt; report.taken() == want.as_bytes(), "{want}");
@@ -118,7 +120,12 @@ fn expect_told(
 }
 
 /// Each record of a table of lines or ends.
-fn expect_all(rt: &impl Abort, alloc: Global, table: &str, are_ends: bool) -> Result<(), Fail> {
+fn expect_all<R: Threads + Wait + Sync + Abort>(
+    rt: &R,
+    alloc: Global,
+    table: &str,
+    are_ends: bool,
+) -> Result<(), Fail> {
     for record in table.lines() {
         let (line, rest) = record.split_once(' ').ok_or("a line")?;
         let (cause, text) = rest.split_once(' ').ok_or("a cause")?;
@@ -140,7 +147,7 @@ fn other_forms_are_run(rt: HostRuntime) -> Result<(), Fail> {
     for record in GOOD.lines() {
         let (line, text) = record.split_once(' ').ok_or("a line")?;
         let script = script_with(alloc, line.parse::<u64>()?, text, false)?;
-        let (status, _report) = answer(alloc, b"replay", script, 50)?;
+        let (status, _report) = answer(&rt, alloc, b"replay", script, 50)?;
         assert_eq!(rt; status, 0, "{record}");
     }
     Ok(())

@@ -1,11 +1,13 @@
 // The top call on whole inputs: every status, and what is written with it.
-use crate::program::{each_policy, run};
+use crate::program::{each_policy, no_listener, run, still_world};
 use channel_top::run_steady;
 use gate_io::{MemSink, MemSource, SteadySink, SteadySource};
 use policy_rack::boxes_ready;
 use std::alloc::Global;
 use std::process::Abort;
+use std::sync::Wait;
 use std::test::Fail;
+use std::thread::Threads;
 
 /// A script of one call, up to its answer.
 const FRONT: &str =
@@ -30,7 +32,11 @@ struct Case {
     failed_write: u64,
 }
 
-fn answer(alloc: Global, case: &Case) -> Result<(u8, MemSink), Fail> {
+fn answer<R: Threads + Wait + Sync>(
+    rt: &R,
+    alloc: Global,
+    case: &Case,
+) -> Result<(u8, MemSink), Fail> {
     let mut text = Vec::new(alloc);
     for part in case.parts {
         text.extend_from_slice(part.as_bytes())?;
@@ -38,7 +44,7 @@ fn answer(alloc: Global, case: &Case) -> Result<(u8, MemSink), Fail> {
     let piece = if case.piece == 0 { 65_536 } else { case.piece };
     let mut script = MemSource::new(text, piece, vec![in alloc; case.failed_read]?);
     let mut report = MemSink::new(alloc, 65_536, vec![in alloc; case.failed_write]?);
-    let status = run(alloc, case.word.as_bytes(), &mut script, &mut report)?;
+    let status = run(rt, alloc, case.word.as_bytes(), &mut script, &mut report)?;
     Ok((status, report))
 }
 
@@ -53,8 +59,14 @@ fn of_parts(word: &'static str, a: &'static str, b: &'static str, c: &'static st
 }
 
 /// What a whole script is answered.
-fn expect(rt: &impl Abort, alloc: Global, case: Case, status: u8, text: &str) -> Result<(), Fail> {
-    let (told, report) = answer(alloc, &case)?;
+fn expect<R: Threads + Wait + Sync + Abort>(
+    rt: &R,
+    alloc: Global,
+    case: Case,
+    status: u8,
+    text: &str,
+) -> Result<(), Fail> {
+    let (told, report) = answer(rt, alloc, &case)?;
     assert_eq!(rt; told, status);
     assert_eq!(rt; report.taken(), text.as_bytes());
     Ok(())
@@ -84,7 +96,7 @@ fn each_fault_is_told_in_one_line(rt: HostRuntime) -> Result<(), Fail> {
 
 #[test]
 fn a_status_that_is_no_number_is_unknown(rt: HostRuntime) -> Result<(), Fail> {
-    let (status, report) = answer(rt.alloc(), &of_parts("replay", FRONT, ODD, TAKE))?;
+    let (status, report) = answer(&rt, rt.alloc(), &of_parts("replay", FRONT, ODD, TAKE))?;
     assert_eq!(rt; status, 0);
     let want =
         b"4 0 take 1 = end 2 - - row\nrow 1 1 first 2 6 1 1 1 1 10 2 - 78 status 10 - -\nend 11 1 1 1\n".as_slice();
@@ -119,7 +131,7 @@ fn a_report_is_migrated(rt: HostRuntime) -> Result<(), Fail> {
     let mut read = of_parts("migrate", OLD_REPORT, "", "");
     read.piece = 64;
     read.failed_read = 2;
-    let (status, report) = answer(alloc, &read)?;
+    let (status, report) = answer(&rt, alloc, &read)?;
     assert_eq!(rt; status, 4);
     assert!(rt; report.taken().is_empty());
     Ok(())
@@ -130,17 +142,17 @@ fn a_fault_of_the_environment_has_its_status(rt: HostRuntime) -> Result<(), Fail
     let mut read = of_parts("replay", FRONT, OK, TAKE);
     read.piece = 64;
     read.failed_read = 2;
-    let (status, report) = answer(rt.alloc(), &read)?;
+    let (status, report) = answer(&rt, rt.alloc(), &read)?;
     assert_eq!(rt; status, 4);
     assert!(rt; report.taken().is_empty());
     let mut write = of_parts("replay", FRONT, OK, TAKE);
     write.failed_write = 1;
-    let (status, report) = answer(rt.alloc(), &write)?;
+    let (status, report) = answer(&rt, rt.alloc(), &write)?;
     assert_eq!(rt; status, 5);
     assert!(rt; report.taken().is_empty());
     let mut words = of_parts("", "", "", "");
     words.failed_write = 1;
-    let (status, _) = answer(rt.alloc(), &words)?;
+    let (status, _) = answer(&rt, rt.alloc(), &words)?;
     assert_eq!(rt; status, 5);
     Ok(())
 }
@@ -154,11 +166,16 @@ fn steady_ends_answer_as_well(rt: HostRuntime) -> Result<(), Fail> {
     if !boxes_ready(&boxes) {
         return Err("no two of one kind, and pick_first among them".into());
     }
+    let world = still_world(rt.alloc())?;
+    let mut listener = no_listener(rt.alloc());
     let status = run_steady(
+        &rt,
         rt.alloc(),
         words.as_slice(),
         &mut script,
         &mut report,
+        world,
+        &mut listener,
         boxes,
     );
     assert_eq!(rt; status, 0);

@@ -4,7 +4,6 @@
 #[cfg(test)]
 mod channel_core_tests;
 #[cfg(test)]
-#[cfg(test)]
 mod channel_top_config_tests;
 #[cfg(test)]
 mod channel_top_script_tests;
@@ -12,5 +11,7 @@ mod channel_top_script_tests;
 mod channel_top_tests;
 #[cfg(test)]
 mod program;
+#[cfg(test)]
+mod serve_tests;
 #[cfg(test)]
 mod slow_channel_tests;

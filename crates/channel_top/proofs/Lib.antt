@@ -1,5 +1,6 @@
 pub mod AgainLaws
 pub mod ConfigLaws
+pub mod OptionLaws
 pub mod ReportLaws
 pub mod RunLaws
 pub mod WordFaults

@@ -1,11 +1,11 @@
 -- What clap answers to the plain words, and what a mode's words are.
 use Rattle.std.proofs.Common.{◌≡◌, ◌≢◌, ℕ, List, [], ◌∷◌, Option, Some, None, Bool, true, false, refl, ap, sym, subst, inl, inr, ◌⊎◌, codes, ◌∙◌}
 use Rattle.std.specs.Str.{bytes_eq}
-use Rattle.std.specs.Prelude.{if◌then◌else◌, IsTrue, ◌↔◌}
-use Rattle.std.proofs.lemmas.Bool.{true≢false}
+use Rattle.std.specs.Prelude.{if◌then◌else◌, IfSome, IfNone}
 use Rattle.std.proofs.lemmas.Slice.Eq.{bytes_eq-Decides}
 use Rattle.clap.proofs.OnLiterals.{clap_on_literals}
-use Rattle.clap.specs.Words.{is_simple_and_free}
+use Rattle.clap.specs.Simple.{is_simple}
+use Rattle.clap.specs.Words.{Row, is_simple_and_free, matches_of}
 use Rattle.clap.specs.Kinds.{Kinds, HasKind, IsAmong}
 use Rattle.clap.specs.Values.{kind_of}
 use Rattle.clap.specs.declared.error.Error.{Error}
@@ -13,68 +13,97 @@ use Rattle.clap.specs.declared.error.kind.ErrorKind.{ErrorKind}
 use Rattle.clap.specs.declared.error.kind.ErrorKind.TheVariants as kind
 use Rattle.channel_top.specs.declared.words.Mode.{Mode}
 use Rattle.channel_top.specs.declared.words.Mode.TheVariants as mode
-use Rattle.channel_top.specs.Words.{AreWrong, AskForText, AskPlainly, IsAlone, IsAskWord, Runs, app_for, dashes, kinds_at, kinds_of, mode_name, mode_named, mode_of}
+use Rattle.channel_top.specs.declared.words.ModeName.{ModeName}
+use Rattle.channel_top.specs.declared.words.ModeName.TheVariants as name
+use Rattle.channel_top.specs.Words.{AreWrong, AskForText, AskPlainly, IsAlone, IsAskWord, IsServeBy, Runs, RunsPlain, app_for, bare_for, dashes, kinds_at, kinds_of, mode_named, mode_of, name_text}
 
 -- each command is of the form whose answers clap tells exactly
-pub is_free : (m : Option Mode) → is_simple_and_free (app_for m) ≡ true
-unfolding clap_on_literals app_for
-is_free (Some mode.Replay) = refl
-is_free (Some mode.Config) = refl
-is_free (Some mode.Migrate) = refl
+pub is_free : (m : Option ModeName) → is_simple_and_free (app_for m) ≡ true
+unfolding clap_on_literals app_for bare_for
+is_free (Some name.Replay) = refl
+is_free (Some name.Config) = refl
+is_free (Some name.Migrate) = refl
+is_free (Some name.Serve) = refl
 is_free None = refl
 
--- the words of a mode are taken
-taken_alone : (m : Mode) → kinds_at (Some m) (mode_name m ∷ []) ≡ []
-unfolding clap_on_literals app_for kinds_at
-taken_alone mode.Replay = refl
-taken_alone mode.Config = refl
-taken_alone mode.Migrate = refl
+pub is_plain : (m : Option ModeName) → is_simple (app_for m) ≡ true
+unfolding clap_on_literals app_for bare_for
+is_plain (Some name.Replay) = refl
+is_plain (Some name.Config) = refl
+is_plain (Some name.Migrate) = refl
+is_plain (Some name.Serve) = refl
+is_plain None = refl
 
-taken_dashes : (m : Mode) → kinds_at (Some m) (mode_name m ∷ dashes ∷ []) ≡ []
-unfolding clap_on_literals app_for kinds_at
-taken_dashes mode.Replay = refl
-taken_dashes mode.Config = refl
-taken_dashes mode.Migrate = refl
+-- the modes without options
+abbrev pub HasNone : ModeName → Type 0
+HasNone name.Serve = ⊥
+HasNone m = Unit {0}
 
-named : (m : Mode) (rest : List (List ℕ)) → mode_of (mode_name m ∷ rest) ≡ Some m
-named mode.Replay rest = refl
-named mode.Config rest = refl
-named mode.Migrate rest = refl
+-- their words are taken
+taken_alone : (m : ModeName) → HasNone m → kinds_at (Some m) (name_text m ∷ []) ≡ []
+unfolding clap_on_literals app_for bare_for kinds_at
+taken_alone name.Replay none = refl
+taken_alone name.Config none = refl
+taken_alone name.Migrate none = refl
+taken_alone name.Serve none = absurd none
 
-taken_of : (m : Mode) (rest : List (List ℕ)) → kinds_at (Some m) (mode_name m ∷ rest) ≡ [] → kinds_of (mode_name m ∷ rest) ≡ []
-taken_of m rest e = ap (λ (o : Option Mode). kinds_at o (mode_name m ∷ rest)) (named m rest) ∙ e
+taken_dashes : (m : ModeName) → HasNone m → kinds_at (Some m) (name_text m ∷ dashes ∷ []) ≡ []
+unfolding clap_on_literals app_for bare_for kinds_at
+taken_dashes name.Replay none = refl
+taken_dashes name.Config none = refl
+taken_dashes name.Migrate none = refl
+taken_dashes name.Serve none = absurd none
+
+named : (m : ModeName) (rest : List (List ℕ)) → mode_of (name_text m ∷ rest) ≡ Some m
+named name.Replay rest = refl
+named name.Config rest = refl
+named name.Migrate rest = refl
+named name.Serve rest = refl
+
+taken_of : (m : ModeName) (rest : List (List ℕ)) → kinds_at (Some m) (name_text m ∷ rest) ≡ [] → kinds_of (name_text m ∷ rest) ≡ []
+taken_of m rest e = ap (λ (o : Option ModeName). kinds_at o (name_text m ∷ rest)) (named m rest) ∙ e
+
+plain_are_taken : (m : ModeName) (words : List (List ℕ)) → HasNone m → RunsPlain m words → kinds_of words ≡ []
+plain_are_taken m words none (inl e) = ap kinds_of e ∙ taken_of m [] (taken_alone m none)
+plain_are_taken m words none (inr e) = ap kinds_of e ∙ taken_of m (dashes ∷ []) (taken_dashes m none)
 
 pub runs_are_taken : (m : Mode) (words : List (List ℕ)) → Runs m words → kinds_of words ≡ []
-runs_are_taken m words (inl e) = ap kinds_of e ∙ taken_of m [] (taken_alone m)
-runs_are_taken m words (inr e) = ap kinds_of e ∙ taken_of m (dashes ∷ []) (taken_dashes m)
+runs_are_taken mode.Replay words runs = plain_are_taken name.Replay words tt runs
+runs_are_taken mode.Config words runs = plain_are_taken name.Config words tt runs
+runs_are_taken mode.Migrate words runs = plain_are_taken name.Migrate words tt runs
+runs_are_taken (mode.Serve port links) words runs = ap (λ (o : Option ModeName). kinds_at o words) runs.named ∙ runs.taken
 
 -- one kind, that of a text
 abbrev IsText : Kinds → Type 0
 IsText kinds = (kinds ≡ kind.DisplayHelp ∷ []) ⊎ (kinds ≡ kind.DisplayVersion ∷ [])
 
 ask_alone : (word : List ℕ) → IsAskWord word → IsText (kinds_of (word ∷ []))
-unfolding clap_on_literals app_for kinds_at
+unfolding clap_on_literals app_for bare_for kinds_at
 ask_alone word (inl e) = inl (ap (λ (w : List ℕ). kinds_of (w ∷ [])) e ∙ refl)
 ask_alone word (inr (inl e)) = inl (ap (λ (w : List ℕ). kinds_of (w ∷ [])) e ∙ refl)
 ask_alone word (inr (inr (inl e))) = inr (ap (λ (w : List ℕ). kinds_of (w ∷ [])) e ∙ refl)
 ask_alone word (inr (inr (inr e))) = inr (ap (λ (w : List ℕ). kinds_of (w ∷ [])) e ∙ refl)
 
-ask_behind : (m : Mode) (word : List ℕ) → IsAskWord word → IsText (kinds_of (mode_name m ∷ word ∷ []))
-unfolding clap_on_literals app_for kinds_at
-ask_behind mode.Replay word (inl e) = inl (ap (λ (w : List ℕ). kinds_of (codes "replay" ∷ w ∷ [])) e ∙ refl)
-ask_behind mode.Replay word (inr (inl e)) = inl (ap (λ (w : List ℕ). kinds_of (codes "replay" ∷ w ∷ [])) e ∙ refl)
-ask_behind mode.Replay word (inr (inr (inl e))) = inr (ap (λ (w : List ℕ). kinds_of (codes "replay" ∷ w ∷ [])) e ∙ refl)
-ask_behind mode.Replay word (inr (inr (inr e))) = inr (ap (λ (w : List ℕ). kinds_of (codes "replay" ∷ w ∷ [])) e ∙ refl)
-ask_behind mode.Config word (inl e) = inl (ap (λ (w : List ℕ). kinds_of (codes "config" ∷ w ∷ [])) e ∙ refl)
-ask_behind mode.Config word (inr (inl e)) = inl (ap (λ (w : List ℕ). kinds_of (codes "config" ∷ w ∷ [])) e ∙ refl)
-ask_behind mode.Config word (inr (inr (inl e))) = inr (ap (λ (w : List ℕ). kinds_of (codes "config" ∷ w ∷ [])) e ∙ refl)
-ask_behind mode.Config word (inr (inr (inr e))) = inr (ap (λ (w : List ℕ). kinds_of (codes "config" ∷ w ∷ [])) e ∙ refl)
-ask_behind mode.Migrate word (inl e) = inl (ap (λ (w : List ℕ). kinds_of (codes "migrate" ∷ w ∷ [])) e ∙ refl)
-ask_behind mode.Migrate word (inr (inl e)) = inl (ap (λ (w : List ℕ). kinds_of (codes "migrate" ∷ w ∷ [])) e ∙ refl)
-ask_behind mode.Migrate word (inr (inr (inl e))) = inr (ap (λ (w : List ℕ). kinds_of (codes "migrate" ∷ w ∷ [])) e ∙ refl)
-ask_behind mode.Migrate word (inr (inr (inr e))) = inr (ap (λ (w : List ℕ). kinds_of (codes "migrate" ∷ w ∷ [])) e ∙ refl)
+ask_behind : (m : ModeName) (word : List ℕ) → IsAskWord word → IsText (kinds_of (name_text m ∷ word ∷ []))
+unfolding clap_on_literals app_for bare_for kinds_at
+ask_behind name.Replay word (inl e) = inl (ap (λ (w : List ℕ). kinds_of (codes "replay" ∷ w ∷ [])) e ∙ refl)
+ask_behind name.Replay word (inr (inl e)) = inl (ap (λ (w : List ℕ). kinds_of (codes "replay" ∷ w ∷ [])) e ∙ refl)
+ask_behind name.Replay word (inr (inr (inl e))) = inr (ap (λ (w : List ℕ). kinds_of (codes "replay" ∷ w ∷ [])) e ∙ refl)
+ask_behind name.Replay word (inr (inr (inr e))) = inr (ap (λ (w : List ℕ). kinds_of (codes "replay" ∷ w ∷ [])) e ∙ refl)
+ask_behind name.Config word (inl e) = inl (ap (λ (w : List ℕ). kinds_of (codes "config" ∷ w ∷ [])) e ∙ refl)
+ask_behind name.Config word (inr (inl e)) = inl (ap (λ (w : List ℕ). kinds_of (codes "config" ∷ w ∷ [])) e ∙ refl)
+ask_behind name.Config word (inr (inr (inl e))) = inr (ap (λ (w : List ℕ). kinds_of (codes "config" ∷ w ∷ [])) e ∙ refl)
+ask_behind name.Config word (inr (inr (inr e))) = inr (ap (λ (w : List ℕ). kinds_of (codes "config" ∷ w ∷ [])) e ∙ refl)
+ask_behind name.Migrate word (inl e) = inl (ap (λ (w : List ℕ). kinds_of (codes "migrate" ∷ w ∷ [])) e ∙ refl)
+ask_behind name.Migrate word (inr (inl e)) = inl (ap (λ (w : List ℕ). kinds_of (codes "migrate" ∷ w ∷ [])) e ∙ refl)
+ask_behind name.Migrate word (inr (inr (inl e))) = inr (ap (λ (w : List ℕ). kinds_of (codes "migrate" ∷ w ∷ [])) e ∙ refl)
+ask_behind name.Migrate word (inr (inr (inr e))) = inr (ap (λ (w : List ℕ). kinds_of (codes "migrate" ∷ w ∷ [])) e ∙ refl)
+ask_behind name.Serve word (inl e) = inl (ap (λ (w : List ℕ). kinds_of (codes "serve" ∷ w ∷ [])) e ∙ refl)
+ask_behind name.Serve word (inr (inl e)) = inl (ap (λ (w : List ℕ). kinds_of (codes "serve" ∷ w ∷ [])) e ∙ refl)
+ask_behind name.Serve word (inr (inr (inl e))) = inr (ap (λ (w : List ℕ). kinds_of (codes "serve" ∷ w ∷ [])) e ∙ refl)
+ask_behind name.Serve word (inr (inr (inr e))) = inr (ap (λ (w : List ℕ). kinds_of (codes "serve" ∷ w ∷ [])) e ∙ refl)
 
-by_place : (words : List (List ℕ)) (word : List ℕ) → IsAskWord word → (words ≡ word ∷ []) ⊎ ((m : Mode) × (words ≡ mode_name m ∷ word ∷ [])) → IsText (kinds_of words)
+by_place : (words : List (List ℕ)) (word : List ℕ) → IsAskWord word → (words ≡ word ∷ []) ⊎ ((m : ModeName) × (words ≡ name_text m ∷ word ∷ [])) → IsText (kinds_of words)
 by_place words word is (inl e) = subst (λ (ws : List (List ℕ)). IsText (kinds_of ws)) (sym e) (ask_alone word is)
 by_place words word is (inr p) = subst (λ (ws : List (List ℕ)). IsText (kinds_of ws)) (sym p.1) (ask_behind p.0 word is)
 
@@ -114,68 +143,124 @@ wrong_of_refused words k memory help version has = (
   (λ p. not_text k (kinds_of words) memory help version has (plain_are_text words p)),
 )
 
+the_some : {X : Type 0} (x y : X) → Some x ≡ Some y → x ≡ y
+the_some x y e = (cc)
+
 -- the mode of a name
-named_is : (word : List ℕ) (m : Mode) → mode_named word ≡ Some m → word ≡ mode_name m
+named_is : (word : List ℕ) (m : ModeName) → mode_named word ≡ Some m → word ≡ name_text m
 named_is word m e = first (bytes_eq word (codes "replay")) refl e
   where
-    third : (b : Bool) → bytes_eq word (codes "migrate") ≡ b → (if b then Some mode.Migrate else None) ≡ Some m → word ≡ mode_name m
-    third true is e = (bytes_eq-Decides word (codes "migrate")).0 is ∙ ap mode_name (the_some mode.Migrate m e)
-      where
-        the_some : (x y : Mode) → Some x ≡ Some y → x ≡ y
-        the_some x y e = (cc)
-    third false is e = absurd (cc)
+    fourth : (b : Bool) → bytes_eq word (codes "serve") ≡ b → (if b then Some name.Serve else None) ≡ Some m → word ≡ name_text m
+    fourth true is e = (bytes_eq-Decides word (codes "serve")).0 is ∙ ap name_text (the_some name.Serve m e)
+    fourth false is e = absurd (cc)
 
-    second : (b : Bool) → bytes_eq word (codes "config") ≡ b → (if b then Some mode.Config else (if bytes_eq word (codes "migrate") then Some mode.Migrate else None)) ≡ Some m → word ≡ mode_name m
-    second true is e = (bytes_eq-Decides word (codes "config")).0 is ∙ ap mode_name (the_some mode.Config m e)
-      where
-        the_some : (x y : Mode) → Some x ≡ Some y → x ≡ y
-        the_some x y e = (cc)
+    third : (b : Bool) → bytes_eq word (codes "migrate") ≡ b → (if b then Some name.Migrate else (if bytes_eq word (codes "serve") then Some name.Serve else None)) ≡ Some m → word ≡ name_text m
+    third true is e = (bytes_eq-Decides word (codes "migrate")).0 is ∙ ap name_text (the_some name.Migrate m e)
+    third false is e = fourth (bytes_eq word (codes "serve")) refl e
+
+    second : (b : Bool) → bytes_eq word (codes "config") ≡ b → (if b then Some name.Config else (if bytes_eq word (codes "migrate") then Some name.Migrate else (if bytes_eq word (codes "serve") then Some name.Serve else None))) ≡ Some m → word ≡ name_text m
+    second true is e = (bytes_eq-Decides word (codes "config")).0 is ∙ ap name_text (the_some name.Config m e)
     second false is e = third (bytes_eq word (codes "migrate")) refl e
 
-    first : (b : Bool) → bytes_eq word (codes "replay") ≡ b → (if b then Some mode.Replay else (if bytes_eq word (codes "config") then Some mode.Config else (if bytes_eq word (codes "migrate") then Some mode.Migrate else None))) ≡ Some m → word ≡ mode_name m
-    first true is e = (bytes_eq-Decides word (codes "replay")).0 is ∙ ap mode_name (the_some mode.Replay m e)
-      where
-        the_some : (x y : Mode) → Some x ≡ Some y → x ≡ y
-        the_some x y e = (cc)
+    first : (b : Bool) → bytes_eq word (codes "replay") ≡ b → (if b then Some name.Replay else (if bytes_eq word (codes "config") then Some name.Config else (if bytes_eq word (codes "migrate") then Some name.Migrate else (if bytes_eq word (codes "serve") then Some name.Serve else None)))) ≡ Some m → word ≡ name_text m
+    first true is e = (bytes_eq-Decides word (codes "replay")).0 is ∙ ap name_text (the_some name.Replay m e)
     first false is e = second (bytes_eq word (codes "config")) refl e
 
--- what runs a mode: its name as the first word, alone
-pub runs_of : (m : Mode) (words : List (List ℕ)) → mode_of words ≡ Some m → IsAlone words → Runs m words
+-- what runs a mode without options: its name as the first word, alone
+runs_of : (m : ModeName) (words : List (List ℕ)) → mode_of words ≡ Some m → IsAlone words → RunsPlain m words
 runs_of m [] e alone = absurd alone
 runs_of m (word ∷ []) e alone = inl (ap (λ (w : List ℕ). w ∷ []) (named_is word m e))
-runs_of m (word ∷ (last ∷ [])) e alone = inr (two word last (mode_name m) dashes (named_is word m e) alone)
+runs_of m (word ∷ (last ∷ [])) e alone = inr (two word last (name_text m) dashes (named_is word m e) alone)
   where
     two : (a b c d : List ℕ) → a ≡ c → b ≡ d → a ∷ b ∷ [] ≡ c ∷ d ∷ []
     two a b c d e f = (cc)
 runs_of m (word ∷ (last ∷ (more ∷ rest))) e alone = absurd alone
 
-pub mode_of_runs : (m : Mode) (words : List (List ℕ)) → Runs m words → mode_of words ≡ Some m
-mode_of_runs m words (inl e) = ap mode_of e ∙ named m []
-mode_of_runs m words (inr e) = ap mode_of e ∙ named m (dashes ∷ [])
+mode_of_plain : (m : ModeName) (words : List (List ℕ)) → RunsPlain m words → mode_of words ≡ Some m
+mode_of_plain m words (inl e) = ap mode_of e ∙ named m []
+mode_of_plain m words (inr e) = ap mode_of e ∙ named m (dashes ∷ [])
 
-pub alone_of_runs : (m : Mode) (words : List (List ℕ)) → Runs m words → IsAlone words
-alone_of_runs m words (inl e) = subst IsAlone (sym e) tt
-alone_of_runs m words (inr e) = subst IsAlone (sym e) refl
+alone_of_plain : (m : ModeName) (words : List (List ℕ)) → RunsPlain m words → IsAlone words
+alone_of_plain m words (inl e) = subst IsAlone (sym e) tt
+alone_of_plain m words (inr e) = subst IsAlone (sym e) refl
+
+-- the name of a mode
+abbrev pub name_of : Mode → ModeName
+name_of mode.Replay = name.Replay
+name_of mode.Config = name.Config
+name_of mode.Migrate = name.Migrate
+name_of (mode.Serve port links) = name.Serve
+
+mode_of_runs : (m : Mode) (words : List (List ℕ)) → Runs m words → mode_of words ≡ Some (name_of m)
+mode_of_runs mode.Replay words runs = mode_of_plain name.Replay words runs
+mode_of_runs mode.Config words runs = mode_of_plain name.Config words runs
+mode_of_runs mode.Migrate words runs = mode_of_plain name.Migrate words runs
+mode_of_runs (mode.Serve port links) words runs = runs.named
+
+alone_of_runs : (m : Mode) (words : List (List ℕ)) → HasNone (name_of m) → Runs m words → IsAlone words
+alone_of_runs mode.Replay words none runs = alone_of_plain name.Replay words runs
+alone_of_runs mode.Config words none runs = alone_of_plain name.Config words runs
+alone_of_runs mode.Migrate words none runs = alone_of_plain name.Migrate words runs
+alone_of_runs (mode.Serve port links) words none runs = absurd none
+
+runs_plain : (m : Mode) (words : List (List ℕ)) → HasNone (name_of m) → RunsPlain (name_of m) words → Runs m words
+runs_plain mode.Replay words none runs = runs
+runs_plain mode.Config words none runs = runs
+runs_plain mode.Migrate words none runs = runs
+runs_plain (mode.Serve port links) words none runs = absurd none
+
+-- the answer of a mode without options
+pub plain_some : (m : Mode) (n : ModeName) (words : List (List ℕ)) (r : Option Mode) → n ≡ name_of m → HasNone (name_of m) → mode_of words ≡ Some n → IfSome r (λ x. (x ≡ m) × IsAlone words) → IfSome r (λ x. Runs x words)
+plain_some m n words None same none is told = tt
+plain_some m n words (Some x) same none is told =
+    subst (λ (y : Mode). Runs y words) (sym told.0) (runs_plain m words none (runs_of (name_of m) words (is ∙ ap (λ (k : ModeName). Some k) same) told.1))
+
+pub plain_none : (n : ModeName) (words : List (List ℕ)) (r : Option Mode) → HasNone n → mode_of words ≡ Some n → IfNone r (IsAlone words → ⊥) → IfNone r ((m : Mode) → Runs m words → ⊥)
+plain_none n words None none is told = λ m runs.
+    let same : n ≡ name_of m = the_some n (name_of m) (sym is ∙ mode_of_runs m words runs) in
+    told (alone_of_runs m words (subst HasNone same none) runs)
+plain_none n words (Some x) none is told = tt
+
+-- the answer of the mode `serve`
+pub serve_some : (n : ModeName) (words : List (List ℕ)) (rows : List Row) (r : Option Mode) → n ≡ name.Serve → mode_of words ≡ Some n → kinds_at (Some n) words ≡ [] → rows ≡ matches_of (app_for (Some n)) words → IfSome r (IsServeBy rows) → IfSome r (λ x. Runs x words)
+serve_some n words rows None same is taken matches told = tt
+serve_some n words rows (Some (mode.Serve port links)) same is taken matches told = record {
+  named = is ∙ ap (λ (k : ModeName). Some k) same;
+  taken = subst (λ (k : ModeName). kinds_at (Some k) words ≡ []) same taken;
+  given = subst (λ (k : ModeName). IsServeBy (matches_of (app_for (Some k)) words) (mode.Serve port links)) same
+      (subst (λ (rs : List Row). IsServeBy rs (mode.Serve port links)) matches told);
+}
+serve_some n words rows (Some m) same is taken matches told = absurd told
+
+pub serve_none : (n : ModeName) (words : List (List ℕ)) (rows : List Row) (r : Option Mode) → n ≡ name.Serve → mode_of words ≡ Some n → rows ≡ matches_of (app_for (Some n)) words → IfNone r ((m : Mode) → IsServeBy rows m → ⊥) → IfNone r ((m : Mode) → Runs m words → ⊥)
+serve_none n words rows (Some x) same is matches told = tt
+serve_none n words rows None same is matches told = by_mode
+  where
+    other : (k : ModeName) → (name.Serve ≡ k → ⊥) → Some n ≡ Some k → ⊥
+    other k apart e = apart (sym same ∙ the_some n k e)
+
+    by_mode : (m : Mode) → Runs m words → ⊥
+    by_mode (mode.Serve port links) runs =
+        told (mode.Serve port links) (subst (λ (rs : List Row). IsServeBy rs (mode.Serve port links)) (sym matches)
+        (subst (λ (k : ModeName). IsServeBy (matches_of (app_for (Some k)) words) (mode.Serve port links)) (sym same) runs.given))
+    by_mode mode.Replay runs = other name.Replay (λ e. absurd (cc)) (sym is ∙ mode_of_runs mode.Replay words runs)
+    by_mode mode.Config runs = other name.Config (λ e. absurd (cc)) (sym is ∙ mode_of_runs mode.Config words runs)
+    by_mode mode.Migrate runs = other name.Migrate (λ e. absurd (cc)) (sym is ∙ mode_of_runs mode.Migrate words runs)
 
 -- words that clap takes at the command of their first word
-pub taken_here : (words : List (List ℕ)) (m : Option Mode) → m ≡ mode_of words → kinds_at m words ≡ [] → kinds_of words ≡ []
-taken_here words m is none = ap (λ (o : Option Mode). kinds_at o words) (sym is) ∙ none
+pub taken_here : (words : List (List ℕ)) (m : Option ModeName) → m ≡ mode_of words → kinds_at m words ≡ [] → kinds_of words ≡ []
+taken_here words m is none = ap (λ (o : Option ModeName). kinds_at o words) (sym is) ∙ none
 
 -- the kind of an answer at that command
-pub refused_here : (words : List (List ℕ)) (m : Option Mode) (k : ErrorKind) (e : Error) → m ≡ mode_of words → k ≡ kind_of e → HasKind (kinds_at m words) e → (k ≡ kind.OutOfMemory) ⊎ IsAmong k (kinds_of words)
+pub refused_here : (words : List (List ℕ)) (m : Option ModeName) (k : ErrorKind) (e : Error) → m ≡ mode_of words → k ≡ kind_of e → HasKind (kinds_at m words) e → (k ≡ kind.OutOfMemory) ⊎ IsAmong k (kinds_of words)
 refused_here words m k e is same has =
-    subst (λ (o : Option Mode). (k ≡ kind.OutOfMemory) ⊎ IsAmong k (kinds_at o words)) is
+    subst (λ (o : Option ModeName). (k ≡ kind.OutOfMemory) ⊎ IsAmong k (kinds_at o words)) is
     (subst (λ (x : ErrorKind). (x ≡ kind.OutOfMemory) ⊎ IsAmong x (kinds_at m words)) (sym same) has)
 
--- words that run a mode, where the test says that they do not
-pub runs_no_mode : (words : List (List ℕ)) (alone : Bool) → (IsTrue alone ↔ IsAlone words) → alone ≡ false → (m : Mode) → Runs m words → ⊥
-runs_no_mode words true test e m runs = absurd (cc)
-runs_no_mode words false test e m runs = true≢false (sym (test.1 (alone_of_runs m words runs)))
-
-pub names_no_mode : (words : List (List ℕ)) (o : Option Mode) → o ≡ mode_of words → o ≡ None → (m : Mode) → Runs m words → ⊥
-names_no_mode words o is none m runs = some_none m (sym (mode_of_runs m words runs) ∙ sym is ∙ none)
+pub names_no_mode : (words : List (List ℕ)) (o : Option ModeName) → o ≡ mode_of words → o ≡ None → (m : Mode) → Runs m words → ⊥
+names_no_mode words o is none m runs = some_none (name_of m) (sym (mode_of_runs m words runs) ∙ sym is ∙ none)
   where
-    some_none : (x : Mode) → Some x ≡ None → ⊥
+    some_none : (x : ModeName) → Some x ≡ None → ⊥
     some_none x e = (cc)
 
 -- an answer with a text is not for want of memory

@@ -34,6 +34,8 @@ output_of kinds mode.Config words left left' runs text (inl done) = inl (inl (mo
 output_of kinds mode.Config words left left' runs text (inr fault) = inr (inr (inl (mode.Config, runs, fault)))
 output_of kinds mode.Migrate words left left' runs text (inl done) = inl (inl (mode.Migrate, runs, done))
 output_of kinds mode.Migrate words left left' runs text (inr fault) = inr (inr (inl (mode.Migrate, runs, fault)))
+output_of kinds (mode.Serve port links) words left left' runs text (inl done) = inl (inl (mode.Serve port links, runs, done))
+output_of kinds (mode.Serve port links) words left left' runs text (inr fault) = inr (inr (inl (mode.Serve port links, runs, fault)))
 
 -- the output of the mode `replay` is that of its mode
 pub replay_output : (kinds : KindsSeen) (m : Mode) (left left' : Option (List ℕ)) → m ≡ mode.Replay → (text : List ℕ) → IsReplayText left left' text → IsOutputIn kinds m left left' text

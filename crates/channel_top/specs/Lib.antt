@@ -1,8 +1,10 @@
 pub mod ConfigMode
 pub mod Ending
+pub mod Links
 pub mod Migrate
 pub mod Modes
 pub mod Runs
+pub mod Serve
 pub mod Top
 pub mod Words
 pub mod Writing

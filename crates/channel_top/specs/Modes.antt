@@ -4,6 +4,7 @@ use Rattle.grpc_base.specs.Kinds.{KindsSeen}
 use Rattle.channel_top.specs.Top.{EndsFull, IsDone, IsReplayText, StopsAtRead, TellsBadLine}
 use Rattle.channel_top.specs.ConfigMode.{IsConfigDone, IsConfigText, StopsInConfig, TellsConfigFault}
 use Rattle.channel_top.specs.Migrate.{IsMigrateText, IsMigrated, StopsInReport, TellsBadReport}
+use Rattle.channel_top.specs.Serve.{EndsUnheard, IsServeText, IsServed, StopsInServer, TellsBadAnswer}
 use Rattle.channel_top.specs.Words.{AreWrong, AskForText, Runs}
 use Rattle.channel_top.specs.declared.words.Mode.{Mode}
 use Rattle.channel_top.specs.declared.words.Mode.TheVariants as mode
@@ -13,24 +14,28 @@ abbrev pub IsDoneIn : KindsSeen → Mode → Option (List ℕ) → Option (List 
 IsDoneIn kinds mode.Replay left left' text = IsDone left left' text
 IsDoneIn kinds mode.Config left left' text = IsConfigDone kinds left left' text
 IsDoneIn kinds mode.Migrate left left' text = IsMigrated left left' text
+IsDoneIn kinds (mode.Serve port links) left left' text = IsServed links left left' text
 
 -- this text of a mode tells the fault of its input
 abbrev pub TellsFaultIn : KindsSeen → Mode → Option (List ℕ) → Option (List ℕ) → List ℕ → Type 0
 TellsFaultIn kinds mode.Replay left left' text = TellsBadLine left left' text
 TellsFaultIn kinds mode.Config left left' text = TellsConfigFault kinds left left' text
 TellsFaultIn kinds mode.Migrate left left' text = TellsBadReport left left' text
+TellsFaultIn kinds (mode.Serve port links) left left' text = TellsBadAnswer left left' text
 
 -- a read failed in a mode
 abbrev pub StopsIn : Mode → Option (List ℕ) → Option (List ℕ) → Option (List ℕ) → Option (List ℕ) → ℕ → ℕ → Type 0
 StopsIn mode.Replay left left' taken taken' faults faults' = StopsAtRead left left' taken taken' faults faults'
 StopsIn mode.Config left left' taken taken' faults faults' = StopsInConfig left left' taken taken' faults faults'
 StopsIn mode.Migrate left left' taken taken' faults faults' = StopsInReport left left' taken taken' faults faults'
+StopsIn (mode.Serve port links) left left' taken taken' faults faults' = StopsInServer left left' taken taken' faults faults'
 
 -- the output of a mode, by what it read
 abbrev pub IsOutputIn : KindsSeen → Mode → Option (List ℕ) → Option (List ℕ) → List ℕ → Type 0
 IsOutputIn kinds mode.Replay left left' text = IsReplayText left left' text
 IsOutputIn kinds mode.Config left left' text = IsConfigText kinds left left' text
 IsOutputIn kinds mode.Migrate left left' text = IsMigrateText left left' text
+IsOutputIn kinds (mode.Serve port links) left left' text = IsServeText links left left' text
 
 -- the line that tells wrong words
 abbrev pub words_fault_text : List ℕ
@@ -53,6 +58,14 @@ TellsFault kinds words left left' text = (m : Mode) × Runs m words × TellsFaul
 -- status 7: the words run a session, and its journal has no room for an event
 abbrev pub EndsSession : List (List ℕ) → Option (List ℕ) → Option (List ℕ) → List ℕ → Type 0
 EndsSession words left left' text = Runs mode.Replay words × EndsFull left left' text
+
+-- status 8: the words run the mode that listens, and a call of the listener failed
+abbrev pub UnheardIn : Mode → Option (List ℕ) → Option (List ℕ) → Option (List ℕ) → Option (List ℕ) → ℕ → ℕ → Type 0
+UnheardIn (mode.Serve port links) left left' taken taken' faults faults' = EndsUnheard left left' taken taken' faults faults'
+UnheardIn m left left' taken taken' faults faults' = ⊥
+
+abbrev pub Unheard : List (List ℕ) → Option (List ℕ) → Option (List ℕ) → Option (List ℕ) → Option (List ℕ) → ℕ → ℕ → Type 0
+Unheard words left left' taken taken' faults faults' = (m : Mode) × Runs m words × UnheardIn m left left' taken taken' faults faults'
 
 -- status 4: a read failed in the mode that the words run
 abbrev pub StopsReading : List (List ℕ) → Option (List ℕ) → Option (List ℕ) → Option (List ℕ) → Option (List ℕ) → ℕ → ℕ → Type 0

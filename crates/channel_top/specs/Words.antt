@@ -1,41 +1,43 @@
 -- What the words of a command line ask for: a mode, or the text of help or of the version.
 use Rattle.std.specs.Prelude.{◌≡◌, ◌⊎◌, ℕ, true, if◌then◌else◌, Option, Some, None, List, [], ◌∷◌, codes, Result, Ok, Err}
 use Rattle.std.specs.Str.{bytes_eq}
-use Rattle.clap.specs.Words.{App, fault_of, new_app}
+use Rattle.std.specs.Str.Parse.{digits_value, without_leading_plus}
+use Rattle.clap.specs.Values.{IsUnsignedIn}
+use Rattle.clap.specs.Words.{App, Row, Rule, fault_of, matches_of, new_app, new_rule, one_of, with_rule}
 use Rattle.clap.specs.Kinds.{Kinds, IsAmong}
 use Rattle.clap.specs.declared.error.kind.ErrorKind.TheVariants as kind
 use Rattle.channel_top.specs.declared.words.Mode.{Mode}
 use Rattle.channel_top.specs.declared.words.Mode.TheVariants as mode
+use Rattle.channel_top.specs.declared.words.ModeName.{ModeName}
+use Rattle.channel_top.specs.declared.words.ModeName.TheVariants as name
 use Rattle.channel_top.specs.declared.words.Asked.{Asked}
 use Rattle.channel_top.specs.declared.words.Asked.TheVariants as asked
 use Rattle.channel_top.specs.declared.words.WordsFault.{WordsFault}
 use Rattle.channel_top.specs.declared.words.WordsFault.TheVariants as fault
 
 -- the first word of a mode
-abbrev pub mode_name : Mode → List ℕ
-mode_name mode.Replay = codes "replay"
-mode_name mode.Config = codes "config"
-mode_name mode.Migrate = codes "migrate"
+abbrev pub name_text : ModeName → List ℕ
+name_text name.Replay = codes "replay"
+name_text name.Config = codes "config"
+name_text name.Migrate = codes "migrate"
+name_text name.Serve = codes "serve"
 
-abbrev pub mode_named : List ℕ → Option Mode
+abbrev pub mode_named : List ℕ → Option ModeName
 mode_named word =
-    if bytes_eq word (mode_name mode.Replay) then Some mode.Replay
-    else if bytes_eq word (mode_name mode.Config) then Some mode.Config
-    else if bytes_eq word (mode_name mode.Migrate) then Some mode.Migrate
+    if bytes_eq word (name_text name.Replay) then Some name.Replay
+    else if bytes_eq word (name_text name.Config) then Some name.Config
+    else if bytes_eq word (name_text name.Migrate) then Some name.Migrate
+    else if bytes_eq word (name_text name.Serve) then Some name.Serve
     else None
 
 -- the mode of the first word, if it is a mode's name
-abbrev pub mode_of : List (List ℕ) → Option Mode
+abbrev pub mode_of : List (List ℕ) → Option ModeName
 mode_of [] = None
 mode_of (word ∷ words) = mode_named word
 
 -- the word behind which no option stands
 abbrev pub dashes : List ℕ
 dashes = codes "--"
-
--- the words run a mode: its name, behind which at most the word stands that ends the options
-abbrev pub Runs : Mode → List (List ℕ) → Type 0
-Runs m words = (words ≡ mode_name m ∷ []) ⊎ (words ≡ mode_name m ∷ dashes ∷ [])
 
 -- nothing stands behind the first word but the end of the options
 abbrev pub IsAlone : List (List ℕ) → Type 0
@@ -44,23 +46,63 @@ IsAlone (word ∷ []) = Unit {0}
 IsAlone (word ∷ (last ∷ [])) = last ≡ dashes
 IsAlone (word ∷ (last ∷ (more ∷ rest))) = ⊥
 
--- a simple command without arguments of its own, which has a version: that of a mode begins at the mode's name; that of the
+-- a simple command without options of its own, which has a version: that of a mode begins at the mode's name; that of the
 -- program, where no mode is named, begins behind the program's name
 abbrev pub app_named : List ℕ → App
 app_named name = record (new_app name) { top = record (new_app name).top { has_version = true } }
 
-unfoldable pub app_for : Option Mode → App
-app_for (Some mode.Replay) = app_named (codes "grpcc replay")
-app_for (Some mode.Config) = app_named (codes "grpcc config")
-app_for (Some mode.Migrate) = app_named (codes "grpcc migrate")
-app_for None = record (app_named (codes "grpcc")) { top = record (app_named (codes "grpcc")).top { no_binary_name = true } }
+-- the command of a mode without its options
+unfoldable pub bare_for : Option ModeName → App
+bare_for (Some name.Replay) = app_named (codes "grpcc replay")
+bare_for (Some name.Config) = app_named (codes "grpcc config")
+bare_for (Some name.Migrate) = app_named (codes "grpcc migrate")
+bare_for (Some name.Serve) = app_named (codes "grpcc serve")
+bare_for None = record (app_named (codes "grpcc")) { top = record (app_named (codes "grpcc")).top { no_binary_name = true } }
+
+-- an option that has to be there and takes one value
+abbrev pub option_rule : List ℕ → Rule
+option_rule id = record (new_rule id) { long = Some id; required = true; value_names = 1 }
+
+-- the command of a mode: its options are those of `serve`
+unfoldable pub app_for : Option ModeName → App
+app_for (Some name.Serve) = with_rule (with_rule (bare_for (Some name.Serve)) (option_rule (codes "port"))) (option_rule (codes "links"))
+app_for m = bare_for m
 
 -- the kinds of error that clap gives for the words at such a command, by clap's own definitions; none where it takes them
-unfoldable pub kinds_at : Option Mode → List (List ℕ) → Kinds
+unfoldable pub kinds_at : Option ModeName → List (List ℕ) → Kinds
 kinds_at m words = fault_of (app_for m) words
 
 abbrev pub kinds_of : List (List ℕ) → Kinds
 kinds_of words = kinds_at (mode_of words) words
+
+-- an option was given a number in decimal within these bounds
+pub record IsOption (id : List ℕ) (low high : ℕ) (rows : List Row) (n : ℕ) : Type 0 where
+  pub text : List ℕ
+  pub given : one_of id rows ≡ Some text
+  pub within : IsUnsignedIn low high text
+  pub value : n ≡ digits_value 10 (without_leading_plus text)
+
+-- the words run a mode without options: its name, behind which at most the word stands that ends the options
+abbrev pub RunsPlain : ModeName → List (List ℕ) → Type 0
+RunsPlain m words = (words ≡ name_text m ∷ []) ⊎ (words ≡ name_text m ∷ dashes ∷ [])
+
+-- the mode `serve` with the values of its options
+abbrev pub IsServeBy : List Row → Mode → Type 0
+IsServeBy rows (mode.Serve port links) = IsOption (codes "port") 0 65535 rows port × IsOption (codes "links") 1 1024 rows links
+IsServeBy rows m = ⊥
+
+-- the words run a mode with options: clap takes them at its command, and their matches there give the options their values
+pub record RunsByOptions (n : ModeName) (IsBy : List Row → Type 0) (words : List (List ℕ)) : Type 0 where
+  pub named : mode_of words ≡ Some n
+  pub taken : kinds_at (Some n) words ≡ []
+  pub given : IsBy (matches_of (app_for (Some n)) words)
+
+-- the words run a mode
+abbrev pub Runs : Mode → List (List ℕ) → Type 0
+Runs mode.Replay words = RunsPlain name.Replay words
+Runs mode.Config words = RunsPlain name.Config words
+Runs mode.Migrate words = RunsPlain name.Migrate words
+Runs (mode.Serve port links) words = RunsByOptions name.Serve (λ rows. IsServeBy rows (mode.Serve port links)) words
 
 -- clap answers the words with the text of help or of the version
 abbrev pub AskForText : List (List ℕ) → Type 0
@@ -71,7 +113,7 @@ abbrev pub IsAskWord : List ℕ → Type 0
 IsAskWord word = (word ≡ codes "--help") ⊎ ((word ≡ codes "-h") ⊎ ((word ≡ codes "--version") ⊎ (word ≡ codes "-V")))
 
 abbrev pub AskPlainly : List (List ℕ) → Type 0
-AskPlainly words = (word : List ℕ) × IsAskWord word × ((words ≡ word ∷ []) ⊎ ((m : Mode) × (words ≡ mode_name m ∷ word ∷ [])))
+AskPlainly words = (word : List ℕ) × IsAskWord word × ((words ≡ word ∷ []) ⊎ ((m : ModeName) × (words ≡ name_text m ∷ word ∷ [])))
 
 -- the words are wrong: they run no mode, and ask for no text in the plain way
 abbrev pub AreWrong : List (List ℕ) → Type 0

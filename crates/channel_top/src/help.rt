@@ -9,6 +9,8 @@ pub fn of_program() -> &'static str {
              grpcc config < examples/service-config.json
   migrate  reads a script or a report and writes the script of version 2
              grpcc migrate < examples/one-call.report
+  serve    reads a server script and serves gRPC calls by it at 127.0.0.1
+             grpcc serve --port 50051 --links 1 < examples/hello.server
 
 Statuses, explained on standard error:
   0  done; the whole output is written
@@ -21,7 +23,8 @@ Statuses, explained on standard error:
   5  a write failed; the output is cut off
              grpcc --help > /dev/full
   6  out of memory; the output is cut off
-  7  the session is full: 1048576 entries or 268435456 bytes"
+  7  the session is full: 1048576 entries or 268435456 bytes
+  8  the port cannot be listened at, or a link was not accepted; nothing is written"
 }
 
 /// Of `replay`: line 1, the form of a line, the events with their fields, and the causes of bad lines.
@@ -112,4 +115,26 @@ pub fn of_migrate() -> &'static str {
 Of each line it takes what stands before the first ' = ', and of a report the lines before the
 first one that begins with 'row ', 'end ' or 'fault '. For the form of a line, and the causes of
 bad lines: grpcc replay --help"
+}
+
+/// Of `serve`: what it does, the form of a line and the parts of an answer.
+pub fn of_serve() -> &'static str {
+    "Reads a server script, listens at a port of 127.0.0.1, says 'listening <port>' on standard error,
+and serves so many links, each as soon as it is accepted. It ends with 'served <links>' when each
+link has ended.
+
+Lines:  answer <path> <n> <parts>
+  <path>   /service/method
+  <n>      the answer to the n-th request of the path; the last one is used again and again
+  <parts>  with commas, in their order:
+             h          a head
+             m<hex>     a message
+             s<code>    trailers with a status; the whole response where no head came
+             p<text>    grpc-retry-pushback-ms of the next status
+             r<code>    RST_STREAM
+             g          GOAWAY with the last stream seen
+             w<k>       a wait until k requests were answered, over all links
+A path without an answer gets status 12. An input of no bytes has no answers.
+
+Causes of bad lines are those of scripts: grpcc replay --help"
 }

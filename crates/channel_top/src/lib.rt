@@ -1,13 +1,16 @@
 // The top call of the program: reads its words and runs the mode that they name.
 #![tactic(auto)]
 
+mod command;
 mod config_mode;
 mod help;
 mod input;
+mod links;
 mod migrate;
 mod ran;
 mod replay;
 mod run;
+mod serve;
 mod session;
 mod tell;
 mod top;

@@ -1,6 +1,7 @@
 // The one-line answers of the program.
 ghost use Rattle.std.specs.Prelude.{◌≡◌, ◌++◌, ◌⊎◌, decimal, Err, IfOk, OnErr, OnOk};
 ghost use Rattle.gate_io.specs.Outside.{Appends, AppendsFront, Rises};
+ghost use Rattle.channel_top.specs.Serve.{served_text};
 ghost use Rattle.channel_top.specs.Top.{line_fault_text};
 ghost use Rattle.script_text.specs.declared.report.ReportFault.TheVariants as unwritten_by;
 
@@ -86,4 +87,24 @@ fn append_number(out: &mut Text, number: u64) -> Result<(), NoMemory>
 {
     let mut buffer = Buffer::new();
     out.append(buffer.format(number).as_bytes())
+}
+
+/// Tells that so many links were served.
+pub fn tell_served<K: Sink>(alloc: Global, links: u32, report: &mut K) -> Result<(), ReportFault>
+    ensures ok { OnOk result (Appends (K.taken report.old) (K.taken report.new) (served_text links)) }
+    ensures err { OnErr result (AppendsFront (K.taken report.old) (K.taken report.new) (served_text links)) }
+    ensures write { (result ≡ Err ReportFault.Write) → Rises (K.faults report.old) (K.faults report.new) }
+{
+    let text = served_line(alloc, links)?;
+    write_text(report, text.as_slice())
+}
+
+/// The line that tells how many links were served.
+fn served_line(alloc: Global, links: u32) -> Result<Text, NoMemory>
+    ensures { IfOk result (λ t. t ≡ served_text links) }
+{
+    let mut text = Text::of_slice(alloc, b"served ")?;
+    append_number(&mut text, u64::from(links))?;
+    text.push(b'\n')?;
+    Ok(text)
 }

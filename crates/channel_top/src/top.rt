@@ -1,21 +1,26 @@
 // The top call of the program.
-ghost use Rattle.std.specs.Prelude.{◌≡◌, ◌⊎◌, Some, None, map, string_bytes, true};
+ghost use Rattle.std.specs.Prelude.{◌≡◌, ◌≢◌, ◌⊎◌, Some, None, map, string_bytes, true};
 ghost use Rattle.gate_io.specs.Outside.{Rises};
-ghost use Rattle.channel_top.specs.Modes.{EndsSession, Finishes, IsDoneIn, IsOutput, IsOutputIn, RefusesWords, StopsIn, StopsReading, TellsFault, TellsFaultIn};
+ghost use Rattle.channel_top.specs.Modes.{EndsSession, Finishes, IsDoneIn, IsOutput, IsOutputIn, RefusesWords, StopsIn, StopsReading, TellsFault, TellsFaultIn, Unheard, UnheardIn};
 ghost use Rattle.channel_top.specs.Writing.{WritesAll, WritesFront, WritesSome};
 ghost use Rattle.policy_rack.specs.Kinds.{are_ready, kinds_of};
 ghost use Rattle.channel_top.specs.Top.{EndsFull};
 ghost use Rattle.channel_top.specs.declared.words.Mode.TheVariants as mode_is;
 
 use crate::config_mode::run_config;
+use crate::links::Place;
 use crate::migrate::run_migrate;
 use crate::replay::run_replay;
+use crate::serve::run_serve;
 use crate::tell::WORDS_FAULT;
 use crate::words::{Asked, Mode, WordsFault, read_words};
-use gate_io::{Sink, Source, SteadySink, SteadySource, write_whole};
+use dns_watch::NamedWorld;
+use gate_io::{Listener, Sink, Source, SteadySink, SteadySource, write_whole};
 use lb_policy::{Balancer, Policy};
 use policy_rack::set_of;
 use std::alloc::Global;
+use std::sync::Wait;
+use std::thread::Threads;
 
 /// Runs the program on the words behind its name, with these policies, of which no two are of one kind and one is `pick_first`.
 ///
@@ -24,6 +29,7 @@ use std::alloc::Global;
 /// | `replay` | reads a script, runs it with these policies and writes the report |
 /// | `config` | reads a service config and writes its reading; the kinds of the policies count as supported |
 /// | `migrate` | reads a script or a report of either version and writes the script of version 2 |
+/// | `serve --port <n> --links <1..1024>` | reads a server script, serves so many links of the listener by it until each has ended, and writes `served <links>`; it may never return |
 /// | `--help`, `--version`, alone or behind a mode | writes that text, and reads nothing |
 ///
 /// | Status | When | Written |
@@ -35,11 +41,15 @@ use std::alloc::Global;
 /// | 5 | a write failed | a front of the output of status 0, 2, 3 or 7 |
 /// | 6 | out of memory | nothing, or such a front |
 /// | 7 | the journal of the session has no room for an event | the report of the events before it, and `fault session full` |
-pub fn run_channel<S: Source, K: Sink>(
+/// | 8 | the listener's `open` or `accept` failed; no call of it was made behind that one | nothing |
+pub fn run_channel<R: Threads + Wait + Sync, S: Source, K: Sink, W: NamedWorld, L: Listener>(
+    rt: &R,
     alloc: Global,
     words: &[String],
     script: &mut S,
     report: &mut K,
+    _world: W,
+    listener: &mut L,
     boxes: Vec<Box<dyn Policy>>,
 ) -> u8
     requires { are_ready (map (λ b. seen b) boxes.items) ≡ true }
@@ -50,18 +60,22 @@ pub fn run_channel<S: Source, K: Sink>(
     ensures writing { result ≡ 5 → Rises (K.faults report.old) (K.faults report.new) × WritesFront (IsOutput (kinds_of (map (λ b. seen b) boxes.items)) (map string_bytes words.now) (S.left script.old) (S.left script.new)) (K.taken report.old) (K.taken report.new) }
     ensures memory { result ≡ 6 → WritesSome (IsOutput (kinds_of (map (λ b. seen b) boxes.items)) (map string_bytes words.now) (S.left script.old) (S.left script.new)) (K.taken report.old) (K.taken report.new) }
     ensures full { result ≡ 7 → WritesAll (EndsSession (map string_bytes words.now) (S.left script.old) (S.left script.new)) (K.taken report.old) (K.taken report.new) }
-    ensures known { (result ≡ 0) ⊎ (result ≡ 2) ⊎ (result ≡ 3) ⊎ (result ≡ 4) ⊎ (result ≡ 5) ⊎ (result ≡ 6) ⊎ (result ≡ 7) }
+    ensures unheard { result ≡ 8 → Unheard (map string_bytes words.now) (S.left script.old) (S.left script.new) (K.taken report.old) (K.taken report.new) (L.faults listener.old) (L.faults listener.new) }
+    ensures heard { result ≢ 6 → result ≢ 8 → L.faults listener.new ≡ L.faults listener.old }
+    ensures known { (result ≡ 0) ⊎ (result ≡ 2) ⊎ (result ≡ 3) ⊎ (result ≡ 4) ⊎ (result ≡ 5) ⊎ (result ≡ 6) ⊎ (result ≡ 7) ⊎ (result ≡ 8) }
 {
-    run_words(alloc, words, boxes, script, report)
+    run_words(rt, alloc, words, boxes, script, report, listener)
 }
 
 /// Runs the program with these policies.
-fn run_words<P: Balancer, S: Source, K: Sink>(
+fn run_words<R: Threads + Wait + Sync, P: Balancer, S: Source, K: Sink, L: Listener>(
+    rt: &R,
     alloc: Global,
     words: &[String],
     policies: Vec<P>,
     script: &mut S,
     report: &mut K,
+    listener: &mut L,
 ) -> u8
     requires { are_ready (map P.seen policies.items) ≡ true }
     ensures done { result ≡ 0 → WritesAll (Finishes (kinds_of (map P.seen policies.items)) (map string_bytes words.now) (S.left script.old) (S.left script.new)) (K.taken report.old) (K.taken report.new) }
@@ -71,11 +85,13 @@ fn run_words<P: Balancer, S: Source, K: Sink>(
     ensures writing { result ≡ 5 → Rises (K.faults report.old) (K.faults report.new) × WritesFront (IsOutput (kinds_of (map P.seen policies.items)) (map string_bytes words.now) (S.left script.old) (S.left script.new)) (K.taken report.old) (K.taken report.new) }
     ensures memory { result ≡ 6 → WritesSome (IsOutput (kinds_of (map P.seen policies.items)) (map string_bytes words.now) (S.left script.old) (S.left script.new)) (K.taken report.old) (K.taken report.new) }
     ensures full { result ≡ 7 → WritesAll (EndsSession (map string_bytes words.now) (S.left script.old) (S.left script.new)) (K.taken report.old) (K.taken report.new) }
-    ensures known { (result ≡ 0) ⊎ (result ≡ 2) ⊎ (result ≡ 3) ⊎ (result ≡ 4) ⊎ (result ≡ 5) ⊎ (result ≡ 6) ⊎ (result ≡ 7) }
+    ensures unheard { result ≡ 8 → Unheard (map string_bytes words.now) (S.left script.old) (S.left script.new) (K.taken report.old) (K.taken report.new) (L.faults listener.old) (L.faults listener.new) }
+    ensures heard { result ≢ 6 → result ≢ 8 → L.faults listener.new ≡ L.faults listener.old }
+    ensures known { (result ≡ 0) ⊎ (result ≡ 2) ⊎ (result ≡ 3) ⊎ (result ≡ 4) ⊎ (result ≡ 5) ⊎ (result ≡ 6) ⊎ (result ≡ 7) ⊎ (result ≡ 8) }
 {
     match read_words(alloc, words) {
         Ok(asked) => match asked {
-            Asked::Run(mode) => run_mode(alloc, mode, policies, script, report),
+            Asked::Run(mode) => run_mode(rt, alloc, mode, policies, script, report, listener),
             Asked::Print(text) => {
                 if write_whole(report, text.as_bytes()) {
                     return 0;
@@ -96,12 +112,14 @@ fn run_words<P: Balancer, S: Source, K: Sink>(
 }
 
 /// Runs a mode.
-fn run_mode<P: Balancer, S: Source, K: Sink>(
+fn run_mode<R: Threads + Wait + Sync, P: Balancer, S: Source, K: Sink, L: Listener>(
+    rt: &R,
     alloc: Global,
     mode: Mode,
     policies: Vec<P>,
     script: &mut S,
     report: &mut K,
+    listener: &mut L,
 ) -> u8
     requires { are_ready (map P.seen policies.items) ≡ true }
     ensures done { result ≡ 0 → WritesAll (IsDoneIn (kinds_of (map P.seen policies.items)) mode (S.left script.old) (S.left script.new)) (K.taken report.old) (K.taken report.new) }
@@ -110,21 +128,29 @@ fn run_mode<P: Balancer, S: Source, K: Sink>(
     ensures writing { result ≡ 5 → Rises (K.faults report.old) (K.faults report.new) × WritesFront (IsOutputIn (kinds_of (map P.seen policies.items)) mode (S.left script.old) (S.left script.new)) (K.taken report.old) (K.taken report.new) }
     ensures memory { result ≡ 6 → WritesSome (IsOutputIn (kinds_of (map P.seen policies.items)) mode (S.left script.old) (S.left script.new)) (K.taken report.old) (K.taken report.new) }
     ensures full { result ≡ 7 → (mode ≡ mode_is.Replay) × WritesAll (EndsFull (S.left script.old) (S.left script.new)) (K.taken report.old) (K.taken report.new) }
-    ensures known { (result ≡ 0) ⊎ (result ≡ 3) ⊎ (result ≡ 4) ⊎ (result ≡ 5) ⊎ (result ≡ 6) ⊎ (result ≡ 7) }
+    ensures unheard { result ≡ 8 → UnheardIn mode (S.left script.old) (S.left script.new) (K.taken report.old) (K.taken report.new) (L.faults listener.old) (L.faults listener.new) }
+    ensures heard { result ≢ 6 → result ≢ 8 → L.faults listener.new ≡ L.faults listener.old }
+    ensures known { (result ≡ 0) ⊎ (result ≡ 3) ⊎ (result ≡ 4) ⊎ (result ≡ 5) ⊎ (result ≡ 6) ⊎ (result ≡ 7) ⊎ (result ≡ 8) }
 {
     match mode {
         Mode::Replay => run_replay(alloc, policies, script, report),
         Mode::Config => run_config(alloc, set_of(policies.as_slice()), script, report),
         Mode::Migrate => run_migrate(alloc, script, report),
+        Mode::Serve { port, links } => {
+            run_serve(rt, alloc, Place { port, links }, script, report, listener)
+        }
     }
 }
 
 /// Runs the program over ends that never fail: statuses 4 and 5 do not occur, and the others are those of `run_channel`.
-pub fn run_steady(
+pub fn run_steady<R: Threads + Wait + Sync, W: NamedWorld, L: Listener>(
+    rt: &R,
     alloc: Global,
     words: &[String],
     script: &mut SteadySource,
     report: &mut SteadySink,
+    world: W,
+    listener: &mut L,
     boxes: Vec<Box<dyn Policy>>,
 ) -> u8
     requires { are_ready (map (λ b. seen b) boxes.items) ≡ true }
@@ -132,7 +158,8 @@ pub fn run_steady(
     ensures words { result ≡ 2 → WritesAll (RefusesWords (map string_bytes words.now) (Some script.old) (Some script.new)) None None }
     ensures fault { result ≡ 3 → WritesAll (TellsFault (kinds_of (map (λ b. seen b) boxes.items)) (map string_bytes words.now) (Some script.old) (Some script.new)) None None }
     ensures full { result ≡ 7 → WritesAll (EndsSession (map string_bytes words.now) (Some script.old) (Some script.new)) None None }
-    ensures known { (result ≡ 0) ⊎ (result ≡ 2) ⊎ (result ≡ 3) ⊎ (result ≡ 6) ⊎ (result ≡ 7) }
+    ensures unheard { result ≡ 8 → Unheard (map string_bytes words.now) (Some script.old) (Some script.new) None None (L.faults listener.old) (L.faults listener.new) }
+    ensures known { (result ≡ 0) ⊎ (result ≡ 2) ⊎ (result ≡ 3) ⊎ (result ≡ 6) ⊎ (result ≡ 7) ⊎ (result ≡ 8) }
 {
-    run_channel(alloc, words, script, report, boxes)
+    run_channel(rt, alloc, words, script, report, world, listener, boxes)
 }

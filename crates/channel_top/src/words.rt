@@ -1,14 +1,22 @@
 // The words of the command line, read by `clap` from the mode on.
-ghost use Rattle.std.specs.Prelude.{◌≡◌, ◌↔◌, ℕ, List, map, string_bytes, IsTrue};
-ghost use Rattle.clap.specs.Words.{app_of, FailsBy};
-ghost use Rattle.channel_top.specs.Words.{AskForText, IsAlone, IsAskedBy, app_for, dashes, kinds_at, mode_named, mode_of};
+ghost use Rattle.std.specs.Prelude.{◌≡◌, ◌≤◌, ◌↔◌, ℕ, List, [], Some, map, string_bytes, IsTrue, IfOk, IfSome, IfNone};
+ghost use Rattle.clap.specs.Words.{FailsBy, found_of, matches_of, rows_of};
+ghost use Rattle.channel_top.specs.declared.words.Mode.{Mode};
+ghost use Rattle.channel_top.specs.Words.{AskForText, IsAlone, IsAskedBy, IsOption, IsServeBy, Runs, app_for, dashes, kinds_at, mode_named, mode_of};
 
-use crate::help;
+use crate::command::command;
 use clap::error::ErrorKind;
-use clap::{ArgMatches, Command, Error};
+use clap::{ArgMatches, Error};
 use std::alloc::Global;
 
-const VERSION: &str = "0.1.0";
+/// The modes of the program, as its first word names them.
+#[derive(Clone, Copy, Debug, PartialEq, Eq)]
+pub enum ModeName {
+    Replay,
+    Config,
+    Migrate,
+    Serve,
+}
 
 /// What the program does.
 #[derive(Clone, Copy, Debug, PartialEq, Eq)]
@@ -19,6 +27,8 @@ pub enum Mode {
     Config,
     /// Reads a script or a report and writes the script of version 2.
     Migrate,
+    /// Reads a server script and serves so many links at a port by it.
+    Serve { port: u16, links: u32 },
 }
 
 /// What the words ask for.
@@ -38,23 +48,26 @@ pub enum WordsFault {
 }
 
 /// The mode of this name.
-fn mode_named(word: &[u8]) -> Option<Mode>
+fn mode_named(word: &[u8]) -> Option<ModeName>
     ensures { result ≡ mode_named word.now }
 {
     if word == b"replay".as_slice() {
-        return Some(Mode::Replay);
+        return Some(ModeName::Replay);
     }
     if word == b"config".as_slice() {
-        return Some(Mode::Config);
+        return Some(ModeName::Config);
     }
     if word == b"migrate".as_slice() {
-        return Some(Mode::Migrate);
+        return Some(ModeName::Migrate);
+    }
+    if word == b"serve".as_slice() {
+        return Some(ModeName::Serve);
     }
     None
 }
 
 /// The mode of the first word.
-fn mode_of(words: &[String]) -> Option<Mode>
+fn mode_of(words: &[String]) -> Option<ModeName>
     ensures { result ≡ mode_of (map string_bytes words.now) }
 {
     let [first, ..] = words else {
@@ -86,41 +99,82 @@ fn is_alone(words: &[String]) -> bool
     is_dashes(last.as_bytes())
 }
 
-/// The command of a mode, or of the program where the first word is no mode.
-#[tactic(auto, unfolding(crate::specs::Words::app_for))]
-fn command<'a>(alloc: Global, mode: Option<Mode>) -> Command<'a>
-    ensures { app_of result ≡ app_for mode }
+/// What `clap` makes of the words at the command of a mode.
+fn parse<'a>(
+    alloc: Global,
+    name: Option<ModeName>,
+    words: &'a [String],
+) -> Result<ArgMatches<'a>, Error>
+    ensures kinds { FailsBy (kinds_at name (map string_bytes words.entry.now)) result }
+    ensures matches { IfOk result (λ m. rows_of (found_of m) ≡ matches_of (app_for name) (map string_bytes words.entry.now)) }
 {
-    match mode {
-        Some(Mode::Replay) => Command::new(alloc, "grpcc replay")
-            .version(VERSION)
-            .about(help::of_replay())
-            .override_usage("grpcc replay < SCRIPT"),
-        Some(Mode::Config) => Command::new(alloc, "grpcc config")
-            .version(VERSION)
-            .about(help::of_config())
-            .override_usage("grpcc config < CONFIG"),
-        Some(Mode::Migrate) => Command::new(alloc, "grpcc migrate")
-            .version(VERSION)
-            .about(help::of_migrate())
-            .override_usage("grpcc migrate < REPORT"),
-        None => Command::new(alloc, "grpcc")
-            .version(VERSION)
-            .about(help::of_program())
-            .override_usage("grpcc MODE < INPUT")
-            .no_binary_name(true),
+    command(alloc, name)?.try_get_matches_from(words)
+}
+
+/// A number, where it is within these bounds.
+fn within(number: u64, low: u64, high: u64) -> Option<u64>
+    ensures some { IfSome result (λ n. (n ≡ number) × (low ≤ n) × (n ≤ high)) }
+    ensures none { IfNone result (low ≤ number → number ≤ high → ⊥) }
+{
+    if number < low || number > high {
+        return None;
+    }
+    Some(number)
+}
+
+/// The number within these bounds that an option was given.
+fn number_at(matches: &ArgMatches<'_>, id: &str, low: u64, high: u64) -> Option<u64>
+    ensures some { IfSome result (IsOption id.now low high (rows_of (found_of matches.now))) }
+    ensures none { IfNone result ((n : ℕ) → IsOption id.now low high (rows_of (found_of matches.now)) n → ⊥) }
+{
+    match matches.get_one::<u64>(id) {
+        Some(number) => within(number, low, high),
+        None => None,
     }
 }
 
-/// What `clap` makes of the words at that command.
-fn parse<'a>(
-    alloc: Global,
-    mode: Option<Mode>,
-    words: &'a [String],
-) -> Result<ArgMatches<'a>, Error>
-    ensures { FailsBy (kinds_at mode (map string_bytes words.entry.now)) result }
+/// The mode `serve` with its options.
+fn serve_of(matches: &ArgMatches<'_>) -> Option<Mode>
+    ensures some { IfSome result (IsServeBy (rows_of (found_of matches.now))) }
+    ensures none { IfNone result ((m : Mode) → IsServeBy (rows_of (found_of matches.now)) m → ⊥) }
 {
-    command(alloc, mode).try_get_matches_from(words)
+    match number_at(matches, "port", 0, 65_535) {
+        Some(port) => match number_at(matches, "links", 1, 1_024) {
+            Some(links) => Some(Mode::Serve {
+                port: port as u16,
+                links: links as u32,
+            }),
+            None => None,
+        },
+        None => None,
+    }
+}
+
+/// A mode without options, where it runs.
+fn plain_of(words: &[String], mode: Mode) -> Option<Mode>
+    ensures some { IfSome result (λ m. (m ≡ mode) × IsAlone (map string_bytes words.now)) }
+    ensures none { IfNone result (IsAlone (map string_bytes words.now) → ⊥) }
+{
+    if is_alone(words) {
+        return Some(mode);
+    }
+    None
+}
+
+/// The mode that words run which `clap` takes, from the mode's name on.
+fn taken_mode(name: ModeName, words: &[String], matches: &ArgMatches<'_>) -> Option<Mode>
+    requires name { mode_of (map string_bytes words.now) ≡ Some name }
+    requires taken { kinds_at (Some name) (map string_bytes words.now) ≡ [] }
+    requires matches { rows_of (found_of matches.now) ≡ matches_of (app_for (Some name)) (map string_bytes words.now) }
+    ensures some { IfSome result (λ m. Runs m (map string_bytes words.now)) }
+    ensures none { IfNone result ((m : Mode) → Runs m (map string_bytes words.now) → ⊥) }
+{
+    match name {
+        ModeName::Replay => plain_of(words, Mode::Replay),
+        ModeName::Config => plain_of(words, Mode::Config),
+        ModeName::Migrate => plain_of(words, Mode::Migrate),
+        ModeName::Serve => serve_of(matches),
+    }
 }
 
 /// The text for the user that an answer of `clap` has, as what is told of any words that ask for a text.
@@ -138,15 +192,13 @@ fn printed(alloc: Global, answer: &Error) -> Result<Asked, WordsFault>
 pub fn read_words(alloc: Global, words: &[String]) -> Result<Asked, WordsFault>
     ensures { IsAskedBy (map string_bytes words.now) result }
 {
-    let mode = mode_of(words);
-    match parse(alloc, mode, words) {
-        Ok(_) => match mode {
-            Some(mode) => {
-                if is_alone(words) {
-                    return Ok(Asked::Run(mode));
-                }
-                Err(WordsFault::Wrong)
-            }
+    let name = mode_of(words);
+    match parse(alloc, name, words) {
+        Ok(matches) => match name {
+            Some(name) => match taken_mode(name, words, &matches) {
+                Some(mode) => Ok(Asked::Run(mode)),
+                None => Err(WordsFault::Wrong),
+            },
             None => Err(WordsFault::Wrong),
         },
         Err(answer) => match answer.kind() {

@@ -10,6 +10,10 @@ use crate::told::{Told, told_by};
 use grpc_base::NoMemory;
 use std::alloc::Global;
 
+/// What is said where a listener failed.
+const UNHEARD: &str =
+    "error: the port cannot be listened at, or a link was not accepted; nothing was written\n";
+
 /// Why a read or a write failed.
 #[derive(Clone, Copy, Debug, PartialEq, Eq)]
 pub enum Failure {
@@ -45,7 +49,7 @@ pub struct Ended<'a> {
 /// | 0 | of `config` the warnings, else nothing |
 /// | 2 | what is wrong with the words |
 /// | 3 | what is wrong with the line or the config, and what would be right |
-/// | 4 to 7 | a sentence; nothing where the reader of the output has gone |
+/// | 4 to 8 | a sentence; nothing where the reader of the output has gone |
 pub fn explain(alloc: Global, ended: &Ended<'_>) -> Result<Vec<u8>, NoMemory> {
     let mut out = Vec::new(alloc);
     match ended.status {
@@ -56,6 +60,7 @@ pub fn explain(alloc: Global, ended: &Ended<'_>) -> Result<Vec<u8>, NoMemory> {
         5 => say_unwritten(&mut out, ended.write)?,
         6 => say(&mut out, &[Text("error: out of memory\n")])?,
         7 => say_full(&mut out)?,
+        8 => say(&mut out, &[Text(UNHEARD)])?,
         _ => {}
     }
     Ok(out)

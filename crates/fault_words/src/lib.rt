@@ -2,6 +2,7 @@
 #![tactic(auto)]
 
 mod address;
+mod answer;
 mod cause;
 mod channel;
 mod command;

@@ -6,11 +6,12 @@ pub enum Mode {
     Replay,
     Config,
     Migrate,
+    Serve,
 }
 
 impl Mode {
     /// All modes, in the order in which help names them.
-    pub const ALL: [Mode; 3] = [Mode::Replay, Mode::Config, Mode::Migrate];
+    pub const ALL: [Mode; 4] = [Mode::Replay, Mode::Config, Mode::Migrate, Mode::Serve];
 
     /// Its first word.
     pub fn name(self) -> &'static str {
@@ -18,6 +19,7 @@ impl Mode {
             Mode::Replay => "replay",
             Mode::Config => "config",
             Mode::Migrate => "migrate",
+            Mode::Serve => "serve",
         }
     }
 
@@ -27,6 +29,9 @@ impl Mode {
             Mode::Replay => "takes no words; it reads standard input: grpcc replay < f.script",
             Mode::Config => "takes no words; it reads standard input: grpcc config < f.json",
             Mode::Migrate => "takes no words; it reads standard input: grpcc migrate < f.report",
+            Mode::Serve => {
+                "takes --port <0..65535> and --links <1..1024>; it reads standard input: grpcc serve --port 50051 --links 1 < f.server"
+            }
         }
     }
 

@@ -1,5 +1,6 @@
 // What is wrong with a line of a script or a report.
 use crate::address::say_target;
+use crate::answer::meaning_in_answer;
 use crate::cause::Cause;
 use crate::channel::say_channel;
 use crate::event::say_event;
@@ -61,8 +62,19 @@ fn say_text(
         Cause::TooLong => Ok(Said::Nothing),
         Cause::TooMany => Ok(Said::Nothing),
         Cause::NotText => say_not_text(out, line),
+        _ if mode == Mode::Serve => say_answer(out, line, cause),
         _ => say_fields(alloc, out, mode, line),
     }
+}
+
+/// Says what is wrong with the line of an answer.
+fn say_answer(out: &mut Vec<u8>, line: &Line<'_>, cause: Cause) -> Result<Said, NoMemory> {
+    let words = match no_fields(line.text) {
+        Some(words) => words,
+        None => meaning_in_answer(cause),
+    };
+    say(out, &[Text(words)])?;
+    Ok(Said::Line)
 }
 
 /// Says what is wrong with the fields of a line.

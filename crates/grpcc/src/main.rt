@@ -2,10 +2,13 @@
 // its status.
 #![tactic(auto)]
 
+mod announced;
 mod remember;
 
+use crate::announced::Announced;
 use crate::remember::{Fronted, Remembering, tell};
 use channel_top::run_channel;
+use dns_watch::TcpNamedWorld;
 use gate_io::{Sink, Source, StdSink, StdSource};
 use grpc_base::NoMemory;
 use lb_kinds::{PickFirst, RoundRobin};
@@ -15,8 +18,12 @@ use policy_rack::boxes_ready;
 use std::alloc::Global;
 use std::env::args;
 use std::io;
+use std::net::{Net, TcpListener, TcpStream};
 use std::process::ExitCode;
 use std::rt::Env;
+use std::sync::Wait;
+use std::thread::Threads;
+use std::time::Clock;
 
 /// The status where memory is wanting.
 const NO_MEMORY: u8 = 6;
@@ -52,32 +59,53 @@ fn words(rt: &(impl Env + AllocGlobal)) -> Result<Vec<String>, NoWords> {
     Ok(words)
 }
 
-/// Runs the top call with these policies, where they may be handed to it.
-fn run_with<S: Source, K: Sink>(
+/// Runs the top call over TCP with these policies, where they may be handed to it.
+fn run_with<R, S: Source, K: Sink>(
+    rt: &R,
     alloc: Global,
     words: &[String],
     script: &mut S,
     report: &mut K,
     boxes: Vec<Box<dyn Policy>>,
-) -> u8 {
+) -> Result<u8, NoMemory>
+where
+    R: Threads + Wait + Net<Stream = TcpStream, Listener = TcpListener> + Clock + Eprint,
+    R: Copy + Send + Sync + Drop,
+{
+    let world = TcpNamedWorld::new(*rt, alloc)?;
     if !boxes_ready(&boxes) {
-        return NO_MEMORY;
+        return Ok(NO_MEMORY);
     }
-    run_channel(alloc, words, script, report, boxes)
+    let mut listener = Announced::new(*rt);
+    Ok(run_channel(
+        rt,
+        alloc,
+        words,
+        script,
+        report,
+        world,
+        &mut listener,
+        boxes,
+    ))
 }
 
 /// Runs the top call with one policy of each kind.
-fn run<S: Source, K: Sink>(
+fn run<R, S: Source, K: Sink>(
+    rt: &R,
     alloc: Global,
     words: &[String],
     script: &mut S,
     report: &mut K,
-) -> Result<u8, NoMemory> {
+) -> Result<u8, NoMemory>
+where
+    R: Threads + Wait + Net<Stream = TcpStream, Listener = TcpListener> + Clock + Eprint,
+    R: Copy + Send + Sync + Drop,
+{
     let mut boxes: Vec<Box<dyn Policy>> = Vec::new(alloc);
     boxes.push(Box::new(alloc, PickFirst::new())?)?;
     boxes.push(Box::new(alloc, RoundRobin::new())?)?;
     boxes.push(Box::new(alloc, Priority::new(TIER_WIDTH).unwrap())?)?;
-    Ok(run_with(alloc, words, script, report, boxes))
+    run_with(rt, alloc, words, script, report, boxes)
 }
 
 fn main(rt: HostRuntime) -> ExitCode {
@@ -90,6 +118,7 @@ fn main(rt: HostRuntime) -> ExitCode {
     let mut input = Remembering::new(alloc, words.as_slice(), rt.reader());
     let mut output = Fronted::new(io::writer(&rt));
     let ended = run(
+        &rt,
         alloc,
         words.as_slice(),
         &mut StdSource::new(&mut input),

@@ -1,0 +1,144 @@
+// The mode `serve` over links that the test holds.
+use crate::program::{each_policy, run_over};
+use gate_io::{
+    Dialed, LinkIn, LinkRead, Listener, MemLink, MemLinkIn, MemLinkOut, MemListener, MemSink,
+    MemSource,
+};
+use std::alloc::Global;
+use std::sync::atomic::{AtomicU64, Ordering};
+use std::test::Fail;
+
+/// The port of the test's words.
+const PORT: u16 = 50_061;
+
+/// After so many reads a link ends though the other one was not read.
+const PATIENCE: u64 = 100_000;
+
+/// A link that is quiet until the other one was read, and then ends.
+#[derive(Drop)]
+struct HeldIn<'a> {
+    own: &'a AtomicU64,
+    other: &'a AtomicU64,
+    quiet: u64,
+}
+
+impl LinkIn for HeldIn<'_> {
+    ghost use Rattle.std.specs.Prelude.{None};
+
+    ghost left = { λ _. None };
+
+    ghost faults = { λ _. 0 };
+
+    ghost quiet = { λ l. l.quiet };
+
+    fn read(&mut self, _buf: &mut [u8]) -> LinkRead {
+        let before = self.own.fetch_add(1, Ordering::SeqCst);
+        if self.other.load(Ordering::SeqCst) > 0 || before >= PATIENCE {
+            return LinkRead::End;
+        }
+        self.quiet = self.quiet.saturating_add(1);
+        LinkRead::Quiet
+    }
+}
+
+/// Two such links, accepted one behind the other.
+#[derive(Drop)]
+struct Pair<'a> {
+    alloc: Global,
+    reads: [&'a AtomicU64; 2],
+    accepted: u64,
+    faults: u64,
+}
+
+impl<'a> Listener for Pair<'a> {
+    type In = HeldIn<'a>;
+
+    type Out = MemLinkOut;
+
+    ghost faults = { λ p. p.faults };
+
+    fn open(&mut self, port: u16) -> bool {
+        if port == PORT {
+            return true;
+        }
+        self.faults = self.faults.saturating_add(1);
+        false
+    }
+
+    fn accept(&mut self) -> Dialed<HeldIn<'a>, MemLinkOut> {
+        let [first, second] = self.reads;
+        let (own, other) = match self.accepted {
+            0 => (first, second),
+            1 => (second, first),
+            _ => {
+                self.faults = self.faults.saturating_add(1);
+                return Dialed::Failed;
+            }
+        };
+        self.accepted += 1;
+        let input = HeldIn {
+            own,
+            other,
+            quiet: 0,
+        };
+        let sink = MemSink::new(self.alloc, 65_536, Vec::new(self.alloc));
+        Dialed::Open(input, MemLinkOut::new(sink))
+    }
+}
+
+/// The status and what was written, of words that serve a script of no bytes at two links; both were read in time.
+#[test]
+fn links_are_served_side_by_side(rt: HostRuntime) -> Result<(), Fail> {
+    let alloc = rt.alloc();
+    let (first, second) = (AtomicU64::new(0), AtomicU64::new(0));
+    let mut listener = Pair {
+        alloc,
+        reads: [&first, &second],
+        accepted: 0,
+        faults: 0,
+    };
+    let mut source = MemSource::new(Vec::new(alloc), 64, Vec::new(alloc));
+    let mut report = MemSink::new(alloc, 64, Vec::new(alloc));
+    let line = b"serve --port 50061 --links 2";
+    let boxes = each_policy(alloc)?;
+    let status = run_over(
+        &rt,
+        alloc,
+        line,
+        &mut source,
+        &mut report,
+        &mut listener,
+        boxes,
+    )?;
+    assert_eq!(rt; status, 0);
+    assert_eq!(rt; report.taken(), b"served 2\n".as_slice());
+    assert!(rt; first.load(Ordering::SeqCst) <= PATIENCE);
+    assert!(rt; second.load(Ordering::SeqCst) <= PATIENCE);
+    Ok(())
+}
+
+#[test]
+fn a_link_that_is_not_accepted_ends_with_8(rt: HostRuntime) -> Result<(), Fail> {
+    let alloc = rt.alloc();
+    let input = MemLinkIn::new(MemSource::new(Vec::new(alloc), 64, Vec::new(alloc)), true);
+    let output = MemLinkOut::new(MemSink::new(alloc, 64, Vec::new(alloc)));
+    let mut links = Vec::new(alloc);
+    links.push(MemLink { input, output })?;
+    let mut listener = MemListener::new(true, links, Vec::new(alloc));
+    let mut source = MemSource::new(Vec::new(alloc), 64, Vec::new(alloc));
+    let mut report = MemSink::new(alloc, 64, Vec::new(alloc));
+    let line = b"serve --port 1 --links 2";
+    let boxes = each_policy(alloc)?;
+    let status = run_over(
+        &rt,
+        alloc,
+        line,
+        &mut source,
+        &mut report,
+        &mut listener,
+        boxes,
+    )?;
+    assert_eq!(rt; status, 8);
+    assert!(rt; report.taken().is_empty());
+    Ok(())
+}

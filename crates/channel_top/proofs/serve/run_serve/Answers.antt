@@ -1,0 +1,26 @@
+use Rattle.std.proofs.Common.{inl, inr, refl, rules, subst}
+use Rattle.script_input.specs.declared.fault.InputFault.{InputFault}
+use Rattle.script_input.specs.Servers.{GivesNoServer}
+use Rattle.channel_top.specs.Serve.{IsServed, served_text}
+use Rattle.channel_top.specs.Top.{line_fault_text}
+use Rattle.channel_top.proofs.serve.run_serve.Goals as goal
+
+pub returns-in-Ok : goal.returns-in-Ok
+returns-in-Ok g c =
+    let done : IsServed c.args.place.links (g.S.Source.left c.args.script.now) (g.S.Source.left c.read_server.new.source) (served_text c.args.place.links) =
+    record { answers = c.in-Ok.read.answers; script = c.in-Ok.ensures.ok; text_is = refl } in
+    record {
+      done = λ zero. (served_text c.args.place.links, done, c.serve_script.ensures.done zero);
+      line = search rules;
+      reading = search rules;
+      writing = λ five. (c.serve_script.ensures.writing five, (served_text c.args.place.links, inl done, c.serve_script.ensures.front (inl five)));
+      memory = λ six. inr (served_text c.args.place.links, inl done, c.serve_script.ensures.front (inr six));
+      unheard = λ eight. record {
+        answers = c.in-Ok.read.answers;
+        script = c.in-Ok.ensures.ok;
+        failed = (c.serve_script.ensures.unheard eight).1;
+        written = (c.serve_script.ensures.unheard eight).0;
+      };
+      heard = c.serve_script.ensures.heard;
+      known = search rules;
+    }

@@ -1,0 +1,42 @@
+// A listener that says on standard error that it listens.
+use gate_io::{Dialed, Listener, TcpIn, TcpListen, TcpOut};
+use std::net::{Net, TcpListener, TcpStream};
+
+/// A listener over TCP that says `listening <port>` on standard error once it is open, so that what calls it can wait for that.
+#[derive(Drop)]
+pub struct Announced<R> {
+    rt: R,
+    listener: TcpListen<R>,
+}
+
+impl<R: Net<Stream = TcpStream, Listener = TcpListener> + Copy> Announced<R> {
+    /// A listener of this runtime that is not open yet.
+    pub fn new(rt: R) -> Announced<R> {
+        Announced {
+            rt,
+            listener: TcpListen::new(rt),
+        }
+    }
+}
+
+impl<R: Net<Stream = TcpStream, Listener = TcpListener> + Eprint + Send + Drop> Listener
+    for Announced<R> {
+    type In = TcpIn;
+
+    type Out = TcpOut;
+
+    ghost faults = { λ a. a.listener.faults };
+
+    fn open(&mut self, port: u16) -> bool {
+        let is_open = self.listener.open(port);
+        if let Some(port) = self.listener.port() {
+            // Where standard error takes nothing, the listener listens all the same.
+            let _ = eprintln!(self.rt; "listening {port}");
+        }
+        is_open
+    }
+
+    fn accept(&mut self) -> Dialed<TcpIn, TcpOut> {
+        self.listener.accept()
+    }
+}
