@@ -43,7 +43,7 @@ fn the_longest_path_is_sent_whole(rt: HostRuntime) -> Result<(), Fail> {
     let name = repeated(alloc, "m", NAME)?;
     let message = repeated(alloc, "78", MESSAGE)?;
     let script = format!(in alloc; "{FRONT}{name}{SENT}{message}{BEHIND}")?;
-    let (status, report) = answer(alloc, b"replay", script.into_bytes(), 65_536)?;
+    let (status, report) = answer(&rt, alloc, b"replay", script.into_bytes(), 65_536)?;
     assert_eq!(rt; status, 0);
     let hex = repeated(alloc, "6d", NAME)?;
     let drained = format!(in alloc; "{HEAD}{hex}{DATA}{message}\n")?;

@@ -53,6 +53,7 @@ const BYTES: Cut = Cut {
 };
 
 /// What was sent, whether the link was closed, and how the serving ended.
+#[derive(Drop)]
 struct Ran {
     output: MemLinkOut,
     done: LinkDone,
