@@ -1,0 +1,4 @@
+pub mod AwaitLaws
+pub mod PostLaws
+pub mod StateLaws
+pub mod WaitLaws

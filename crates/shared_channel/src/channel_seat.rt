@@ -1,0 +1,188 @@
+// A thread's handle of a shared channel, with its clock and its random words.
+ghost use Rattle.std.specs.Prelude.{◌≡◌, ◌+◌, ℕ, Some, IfOk, false};
+ghost use Rattle.grpc_base.specs.Counts.{one_more};
+ghost use Rattle.grpc_base.specs.Posts.{CountsErrors, Posts, is_full, is_not_yet};
+ghost use Rattle.grpc_base.specs.declared.event.Event.TheVariants as event;
+ghost use Rattle.grpc_base.specs.declared.post.Look.TheVariants as look;
+ghost use Rattle.channel_core.specs.Applying.{can_drain_in};
+ghost use Rattle.channel_core.specs.Core.{view_of};
+ghost use Rattle.shared_channel.specs.Turns.{CanSend, CanTake, Looks, TakesPlace, entries_of, words_of};
+
+use crate::jobs::{AtDrain, AtSend, AtTake, AtView, SendStep, Step, TakeStep, moment_of};
+use crate::shared::{Seat, Shared};
+use crate::tally::Tally;
+use gate_io::{Clock, Draws};
+use grpc_base::{Caller, Event, Glance, Look, Octets, Post, PostError, Reply, Stamped, View};
+use lb_policy::Balancer;
+use std::sync::Wait;
+use std::thread::yield_now;
+use turn_lock::{Chronicle, TurnLock};
+
+/// A thread's handle of a shared channel, with the clock and the random words of its entries. Each of its calls but `into_seat`
+/// may wait for other threads.
+#[derive(Drop)]
+pub struct ChannelSeat<'a, P: Balancer, W, C: Clock, D: Draws>
+where
+    Shared<P>: Chronicle,
+{
+    pub(crate) rt: &'a W,
+    pub(crate) lock: &'a TurnLock<Shared<P>>,
+    pub(crate) seat: Seat<P>,
+    pub(crate) clock: &'a C,
+    pub(crate) draws: D,
+    /// The word of its next entry.
+    pub(crate) next: u64,
+    pub(crate) tally: Tally,
+    ghost own: { seat.lock ≡ lock.now },
+}
+
+impl<'a, P: Balancer, W, C: Clock, D: Draws> ChannelSeat<'a, P, W, C, D> {
+    /// Gives the handle of the lock back.
+    pub fn into_seat(self) -> Seat<P>
+        ensures { result ≡ self.entry.seat }
+    {
+        self.seat
+    }
+}
+
+impl<P: Balancer, W: Wait, C: Clock, D: Draws> Post for ChannelSeat<'_, P, W, C, D> {
+    ghost made = { λ s. entries_of s.seat.own };
+
+    ghost errors = { λ s. s.tally.errors };
+
+    ghost last_error = { λ s. s.tally.last_error };
+
+    ghost looks = { λ s. s.tally.looks };
+
+    ghost last_look = { λ s. s.tally.last_look };
+
+    /// One step of the channel, at the clock's moment and with the next random word. The step is the last of a history that begins
+    /// with all that the handle had seen.
+    fn post(&mut self, event: Event) -> Result<Reply, PostError>
+        ensures made { Posts (entries_of self.old.seat.own) (entries_of self.new.seat.own) event result }
+        ensures errors { CountsErrors self.old.tally.errors self.new.tally.errors self.old.tally.last_error self.new.tally.last_error result }
+        ensures looks { (self.new.tally.looks ≡ self.old.tally.looks) × (self.new.tally.last_look ≡ self.old.tally.last_look) }
+        ensures place { TakesPlace (C.may_give self.old.clock.now) (words_of self.old.next (D.words self.old.draws) 0) event result self.old.seat self.new.seat }
+        ensures words { (k : ℕ) → words_of self.new.next (D.words self.new.draws) k ≡ words_of self.old.next (D.words self.old.draws) (k + 1) }
+    {
+        let mut step = Step {
+            stamped: Stamped {
+                moment: moment_of(self.clock.now()),
+                word: self.next,
+                event,
+            },
+        };
+        self.next = self.draws.word();
+        let result = self.lock.turn(self.rt, &mut self.seat, &mut step);
+        self.tally.posted(&result);
+        result
+    }
+}
+
+impl<P: Balancer, W: Wait, C: Clock, D: Draws> Glance for ChannelSeat<'_, P, W, C, D> {
+    fn glance(&mut self) -> View
+        ensures made { entries_of self.new.seat.own ≡ entries_of self.old.seat.own }
+        ensures errors { (self.new.tally.errors ≡ self.old.tally.errors) × (self.new.tally.last_error ≡ self.old.tally.last_error) }
+        ensures looks { (self.new.tally.looks ≡ one_more self.old.tally.looks) × (self.new.tally.last_look ≡ Some (look.Glance result)) }
+        ensures told { Looks (λ core. result ≡ view_of core) self.old.seat self.new.seat }
+    {
+        let view = self.lock.turn(self.rt, &mut self.seat, &mut AtView);
+        self.tally.looked(Look::Glance { view });
+        view
+    }
+
+    fn can_drain(&mut self, link: u32) -> bool
+        ensures made { entries_of self.new.seat.own ≡ entries_of self.old.seat.own }
+        ensures errors { (self.new.tally.errors ≡ self.old.tally.errors) × (self.new.tally.last_error ≡ self.old.tally.last_error) }
+        ensures looks { (self.new.tally.looks ≡ one_more self.old.tally.looks) × (self.new.tally.last_look ≡ Some (look.CanDrain link result)) }
+        ensures told { Looks (λ core. result ≡ can_drain_in link core.state) self.old.seat self.new.seat }
+    {
+        let answer = self
+            .lock
+            .turn(self.rt, &mut self.seat, &mut AtDrain { link });
+        self.tally.looked(Look::CanDrain { link, answer });
+        answer
+    }
+
+    fn can_take(&mut self, call: u32) -> bool
+        ensures made { entries_of self.new.seat.own ≡ entries_of self.old.seat.own }
+        ensures errors { (self.new.tally.errors ≡ self.old.tally.errors) × (self.new.tally.last_error ≡ self.old.tally.last_error) }
+        ensures looks { (self.new.tally.looks ≡ one_more self.old.tally.looks) × (self.new.tally.last_look ≡ Some (look.CanTake call result)) }
+        ensures told { Looks (CanTake call result) self.old.seat self.new.seat }
+    {
+        let answer = self
+            .lock
+            .turn(self.rt, &mut self.seat, &mut AtTake { call });
+        self.tally.looked(Look::CanTake { call, answer });
+        answer
+    }
+
+    fn can_send(&mut self, call: u32, len: u32) -> bool
+        ensures made { entries_of self.new.seat.own ≡ entries_of self.old.seat.own }
+        ensures errors { (self.new.tally.errors ≡ self.old.tally.errors) × (self.new.tally.last_error ≡ self.old.tally.last_error) }
+        ensures looks { (self.new.tally.looks ≡ one_more self.old.tally.looks) × (self.new.tally.last_look ≡ Some (look.CanSend call len result)) }
+        ensures told { Looks (CanSend call len result) self.old.seat self.new.seat }
+    {
+        let answer = self
+            .lock
+            .turn(self.rt, &mut self.seat, &mut AtSend { call, len });
+        self.tally.looked(Look::CanSend { call, len, answer });
+        answer
+    }
+}
+
+impl<P: Balancer, W: Wait, C: Clock, D: Draws> Caller for ChannelSeat<'_, P, W, C, D> {
+    /// One Take, as soon as something has come for the call. The clock is read at each look, and the entry has the last of these
+    /// moments and the next random word.
+    fn await_take(&mut self, call: u32) -> Result<Reply, PostError>
+        ensures made { Posts (entries_of self.old.seat.own) (entries_of self.new.seat.own) (event.Take call) result }
+        ensures come { IfOk result (λ r. is_not_yet r ≡ false) }
+        ensures errors { CountsErrors self.old.tally.errors self.new.tally.errors self.old.tally.last_error self.new.tally.last_error result }
+        ensures looks { (self.new.tally.looks ≡ self.old.tally.looks) × (self.new.tally.last_look ≡ self.old.tally.last_look) }
+        ensures place { TakesPlace (C.may_give self.old.clock.now) (words_of self.old.next (D.words self.old.draws) 0) (event.Take call) result self.old.seat self.new.seat }
+        ensures words { (k : ℕ) → words_of self.new.next (D.words self.new.draws) k ≡ words_of self.old.next (D.words self.old.draws) (k + 1) }
+    {
+        for _ in self.rt.forever() {
+            let mut take = TakeStep {
+                moment: moment_of(self.clock.now()),
+                word: self.next,
+                call,
+            };
+            if let Some(result) = self.lock.turn(self.rt, &mut self.seat, &mut take) {
+                self.next = self.draws.word();
+                self.tally.posted(&result);
+                return result;
+            }
+            yield_now();
+        }
+        unreachable!()
+    }
+
+    /// One Send, as soon as the call has room for the message. The clock is read at each look, and the entry has the last of these
+    /// moments and the next random word.
+    fn await_send(&mut self, call: u32, message: Octets) -> Result<Reply, PostError>
+        ensures made { Posts (entries_of self.old.seat.own) (entries_of self.new.seat.own) (event.Send call message) result }
+        ensures taken { IfOk result (λ r. is_full r ≡ false) }
+        ensures errors { CountsErrors self.old.tally.errors self.new.tally.errors self.old.tally.last_error self.new.tally.last_error result }
+        ensures looks { (self.new.tally.looks ≡ self.old.tally.looks) × (self.new.tally.last_look ≡ self.old.tally.last_look) }
+        ensures place { TakesPlace (C.may_give self.old.clock.now) (words_of self.old.next (D.words self.old.draws) 0) (event.Send call message) result self.old.seat self.new.seat }
+        ensures words { (k : ℕ) → words_of self.new.next (D.words self.new.draws) k ≡ words_of self.old.next (D.words self.old.draws) (k + 1) }
+    {
+        let mut send = SendStep {
+            moment: moment_of(0),
+            word: self.next,
+            call,
+            message,
+        };
+        for _ in self.rt.forever() {
+            send.moment = moment_of(self.clock.now());
+            if let Some(result) = self.lock.turn(self.rt, &mut self.seat, &mut send) {
+                self.next = self.draws.word();
+                self.tally.posted(&result);
+                return result;
+            }
+            yield_now();
+        }
+        unreachable!()
+    }
+}

@@ -1,0 +1,200 @@
+// What is done in one turn at the channel under the lock.
+ghost use Rattle.std.specs.Prelude.{◌≡◌, ◌≤◌};
+ghost use Rattle.grpc_base.specs.Limits.{moment_limit};
+
+use crate::reading::Reading;
+use crate::shared::Shared;
+use grpc_base::{Event, Moment, Octets, PostError, Reply, Stamped, View};
+use lb_policy::Balancer;
+use std::mem;
+use turn_lock::Job;
+
+/// The moment of so many nanoseconds, which are within the limit.
+pub fn moment_of(nanos: u64) -> Moment
+    requires { nanos ≤ moment_limit }
+    ensures { result ≡ nanos }
+{
+    Moment::new(nanos).unwrap()
+}
+
+/// One step. The event is taken by the turn.
+#[derive(Drop)]
+pub struct Step {
+    pub stamped: Stamped,
+}
+
+impl<P: Balancer> Job<Shared<P>> for Step {
+    ghost use Rattle.shared_channel.specs.Turns.{StepGives};
+
+    type Answer = Result<Reply, PostError>;
+
+    ghost runs = { λ job state answer job_after after. StepGives job.stamped state.watched answer after.watched };
+
+    fn run(&mut self, state: &mut Shared<P>) -> Result<Reply, PostError> {
+        let event = mem::replace(&mut self.stamped.event, Event::Tick);
+        state.watched.step(Stamped {
+            moment: self.stamped.moment,
+            word: self.stamped.word,
+            event,
+        })
+    }
+}
+
+/// A Take, where something has come for the call.
+#[derive(Drop)]
+pub struct TakeStep {
+    pub moment: Moment,
+    pub word: u64,
+    pub call: u32,
+}
+
+impl<P: Balancer> Job<Shared<P>> for TakeStep {
+    ghost use Rattle.shared_channel.specs.Turns.{TakeGives};
+
+    type Answer = Option<Result<Reply, PostError>>;
+
+    ghost runs = { λ job state answer job_after after. TakeGives job.moment job.word job.call state.watched answer after.watched };
+
+    fn run(&mut self, state: &mut Shared<P>) -> Option<Result<Reply, PostError>> {
+        if !state.watched.core().can_take(self.call) {
+            return None;
+        }
+        Some(
+            state.watched.step(Stamped {
+                moment: self.moment,
+                word: self.word,
+                event: Event::Take { call: self.call },
+            }),
+        )
+    }
+}
+
+/// A Send, where the call has room for the message. The message is taken by the turn that sends it.
+#[derive(Drop)]
+pub struct SendStep {
+    pub moment: Moment,
+    pub word: u64,
+    pub call: u32,
+    pub message: Octets,
+}
+
+impl<P: Balancer> Job<Shared<P>> for SendStep {
+    ghost use Rattle.std.specs.Prelude.{◌≡◌, MatchOption};
+    ghost use Rattle.shared_channel.specs.Turns.{SendGives};
+
+    type Answer = Option<Result<Reply, PostError>>;
+
+    ghost runs = { λ job state answer job_after after. SendGives job.moment job.word job.call job.message state.watched answer after.watched × MatchOption answer (job_after ≡ job) (λ _. Unit {0}) };
+
+    fn run(&mut self, state: &mut Shared<P>) -> Option<Result<Reply, PostError>> {
+        if let Ok(len) = u32::try_from(self.message.len()) {
+            if !state.watched.core().can_send(self.call, len) {
+                return None;
+            }
+        }
+        let message = mem::replace(&mut self.message, Octets::new());
+        Some(
+            state.watched.step(Stamped {
+                moment: self.moment,
+                word: self.word,
+                event: Event::Send {
+                    call: self.call,
+                    message,
+                },
+            }),
+        )
+    }
+}
+
+/// A look at what the channel waits for.
+#[derive(Drop)]
+pub struct AtView;
+
+impl<P: Balancer> Job<Shared<P>> for AtView {
+    ghost use Rattle.std.specs.Prelude.{◌≡◌};
+    ghost use Rattle.channel_core.specs.Core.{view_of};
+
+    type Answer = View;
+
+    ghost runs = { λ job state answer job_after after. (after ≡ state) × (answer ≡ view_of state.watched) };
+
+    fn run(&mut self, state: &mut Shared<P>) -> View {
+        state.watched.core().view()
+    }
+}
+
+/// Whether a Drain of this link would give bytes.
+#[derive(Drop)]
+pub struct AtDrain {
+    pub link: u32,
+}
+
+impl<P: Balancer> Job<Shared<P>> for AtDrain {
+    ghost use Rattle.std.specs.Prelude.{◌≡◌};
+    ghost use Rattle.channel_core.specs.Applying.{can_drain_in};
+
+    type Answer = bool;
+
+    ghost runs = { λ job state answer job_after after. (after ≡ state) × (answer ≡ can_drain_in job.link state.watched.state) };
+
+    fn run(&mut self, state: &mut Shared<P>) -> bool {
+        state.watched.core().can_drain(self.link)
+    }
+}
+
+/// Whether a Take of this call would be answered with other than NotYet.
+#[derive(Drop)]
+pub struct AtTake {
+    pub call: u32,
+}
+
+impl<P: Balancer> Job<Shared<P>> for AtTake {
+    ghost use Rattle.std.specs.Prelude.{◌≡◌};
+    ghost use Rattle.shared_channel.specs.Turns.{CanTake};
+
+    type Answer = bool;
+
+    ghost runs = { λ job state answer job_after after. (after ≡ state) × CanTake job.call answer state.watched };
+
+    fn run(&mut self, state: &mut Shared<P>) -> bool {
+        state.watched.core().can_take(self.call)
+    }
+}
+
+/// Whether a Send of a message of this length would be answered with other than Full.
+#[derive(Drop)]
+pub struct AtSend {
+    pub call: u32,
+    pub len: u32,
+}
+
+impl<P: Balancer> Job<Shared<P>> for AtSend {
+    ghost use Rattle.std.specs.Prelude.{◌≡◌};
+    ghost use Rattle.shared_channel.specs.Turns.{CanSend};
+
+    type Answer = bool;
+
+    ghost runs = { λ job state answer job_after after. (after ≡ state) × CanSend job.call job.len answer state.watched };
+
+    fn run(&mut self, state: &mut Shared<P>) -> bool {
+        state.watched.core().can_send(self.call, self.len)
+    }
+}
+
+/// Lends the channel to a reading.
+#[derive(Drop)]
+pub struct Lend<'r, R> {
+    pub reading: &'r mut R,
+}
+
+impl<P: Balancer, R: Reading<P>> Job<Shared<P>> for Lend<'_, R> {
+    ghost use Rattle.std.specs.Prelude.{◌≡◌};
+
+    type Answer = R::Answer;
+
+    ghost runs = { λ job state answer job_after after. (after ≡ state) × R.reads job.reading.now state.watched answer job_after.reading.now × (job_after.reading.ghost_name ≡ job.reading.ghost_name) };
+
+    fn run(&mut self, state: &mut Shared<P>) -> R::Answer {
+        self.reading.read(state.watched.core())
+    }
+}

@@ -1,0 +1,17 @@
+// One channel for all threads: its core under a lock at which handles take turns.
+#![tactic(auto)]
+
+mod channel;
+mod channel_seat;
+mod jobs;
+mod reading;
+mod shared;
+mod take;
+mod tally;
+mod watched;
+
+pub use channel::SharedChannel;
+pub use channel_seat::ChannelSeat;
+pub use reading::Reading;
+pub use shared::{Seat, Shared};
+pub use take::TakeFuture;
