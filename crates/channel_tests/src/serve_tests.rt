@@ -45,7 +45,8 @@ impl LinkIn for HeldIn<'_> {
 #[derive(Drop)]
 struct Pair<'a> {
     alloc: Global,
-    reads: [&'a AtomicU64; 2],
+    first: &'a AtomicU64,
+    second: &'a AtomicU64,
     accepted: u64,
     faults: u64,
 }
@@ -66,23 +67,18 @@ impl<'a> Listener for Pair<'a> {
     }
 
     fn accept(&mut self) -> Dialed<HeldIn<'a>, MemLinkOut> {
-        let [first, second] = self.reads;
+        self.accepted = self.accepted.saturating_add(1);
         let (own, other) = match self.accepted {
-            0 => (first, second),
-            1 => (second, first),
+            1 => (self.first, self.second),
+            2 => (self.second, self.first),
             _ => {
                 self.faults = self.faults.saturating_add(1);
                 return Dialed::Failed;
             }
         };
-        self.accepted += 1;
-        let input = HeldIn {
-            own,
-            other,
-            quiet: 0,
-        };
         let sink = MemSink::new(self.alloc, 65_536, Vec::new(self.alloc));
-        Dialed::Open(input, MemLinkOut::new(sink))
+        let quiet = 0;
+        Dialed::Open(HeldIn { own, other, quiet }, MemLinkOut::new(sink))
     }
 }
 
@@ -93,7 +89,8 @@ fn links_are_served_side_by_side(rt: HostRuntime) -> Result<(), Fail> {
     let (first, second) = (AtomicU64::new(0), AtomicU64::new(0));
     let mut listener = Pair {
         alloc,
-        reads: [&first, &second],
+        first: &first,
+        second: &second,
         accepted: 0,
         faults: 0,
     };
