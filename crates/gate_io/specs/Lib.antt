@@ -3,3 +3,4 @@ pub mod Memory
 pub mod MemoryLinks
 pub mod Outside
 pub mod Words
+pub mod Waits

@@ -2,11 +2,13 @@
 ghost use Rattle.std.specs.Prelude.{◌≡◌, ◌<◌, ◌≤◌, ℕ, All, length};
 ghost use Rattle.grpc_base.specs.Limits.{moment_limit};
 
+use crate::Pause;
 use std::marker::Model;
 use std::sync::atomic::{AtomicUsize, Ordering};
+use std::thread::yield_now;
 
-/// What tells the time, in nanoseconds since the beginning of 1970, at most 4,000,000,000,000,000,000.
-/// A clock may go back.
+/// What tells the time, in nanoseconds since the beginning of 1970, at most 4,000,000,000,000,000,000, and lets time
+/// pass. A clock may go back.
 pub trait Clock: Send + Sync + Drop {
     /// The moments that the clock may give.
     ghost may_give: { Self → ℕ → Type 0 };
@@ -15,6 +17,9 @@ pub trait Clock: Send + Sync + Drop {
     fn now(&self) -> u64
         ensures given { may_give self.now result }
         ensures within { result ≤ moment_limit };
+
+    /// Lets the time of a pause pass; a clock that is not the system's only lets other threads run.
+    fn pause(&self, pause: Pause);
 }
 
 /// A clock that gives the moments of a list one after another, and then the last one again and again.
@@ -61,5 +66,9 @@ impl Clock for ListClock {
             at = self.at.fetch_add(1, Ordering::SeqCst);
         }
         self.moments[at.min(last)]
+    }
+
+    fn pause(&self, _: Pause) {
+        yield_now();
     }
 }

@@ -3,7 +3,7 @@ ghost use Rattle.std.specs.Prelude.{◌≡◌, ◌<◌, List, ℕ, Bool, true, f
 ghost use Rattle.gate_io.specs.Outside.{CountsWrite, Writes, one_more};
 ghost use Rattle.gate_io.specs.Links.{AcceptCounts, CountsFaults, CountsQuiet, DialGives, LinkReads};
 
-use crate::WriteAnswer;
+use crate::{Pause, WriteAnswer};
 use grpc_base::Address;
 
 /// What a read of a link answers.
@@ -44,6 +44,13 @@ pub trait LinkIn: Send + Drop {
         ensures bytes { LinkReads (left self.old) (left self.new) (length buf.old) buf.new result }
         ensures faults { CountsFaults (faults self.old) (faults self.new) result }
         ensures quiet { CountsQuiet (quiet self.old) (quiet self.new) result };
+
+    /// Says how long the reads that follow may wait for bytes. A link whose reads wait for nothing passes it over.
+    fn wait_at_most(&mut self, _: Pause)
+        ensures bytes { left self.new ≡ left self.old }
+        ensures faults { faults self.new ≡ faults self.old }
+        ensures quiet { quiet self.new ≡ quiet self.old }
+    {}
 }
 
 /// What goes on a link.

@@ -3,8 +3,9 @@ ghost use Rattle.std.specs.Prelude.{◌≤◌};
 ghost use Rattle.std.specs.Bool.{⊤};
 ghost use Rattle.grpc_base.specs.Limits.{moment_limit};
 
-use crate::Clock;
+use crate::{Clock, Pause};
 use grpc_base::Moment;
+use std::thread::sleep;
 use std::time;
 use std::time::UNIX_EPOCH;
 
@@ -41,5 +42,11 @@ impl<R: time::Clock + Send + Sync + Drop> Clock for StdClock<R> {
 
     fn now(&self) -> u64 {
         nanos_now(&self.rt)
+    }
+
+    fn pause(&self, pause: Pause) {
+        if let Some(time) = pause.time() {
+            sleep(&self.rt, time);
+        }
     }
 }

@@ -4,28 +4,28 @@ ghost use Rattle.gate_io.specs.declared.tcp.Received.{Received};
 ghost use Rattle.gate_io.specs.declared.tcp.Received.TheVariants as received;
 
 use crate::standard::{TRIES, write_some};
-use crate::{LinkIn, LinkOut, LinkRead, WriteAnswer};
+use crate::{LinkIn, LinkOut, LinkRead, Pause, WriteAnswer};
 use std::io;
 use std::io::{ErrorKind, Read};
 use std::net::{Shutdown, TcpStream};
 use std::time::Duration;
 
-/// How many milliseconds a read waits for bytes before it is quiet.
-const READ_WAIT: u64 = 5;
-
 /// How many milliseconds a write waits for a peer that takes nothing before it fails: as long as gRPC's keepalive waits
 /// for an answer where nothing else is set.
 const WRITE_WAIT: u64 = 20_000;
 
-/// What comes over a TCP connection. A read waits at most 5 ms.
+/// What comes over a TCP connection. A read waits at most 5 ms, and less where it is told so.
 #[derive(Debug, Drop)]
 pub struct TcpIn {
     stream: TcpStream,
+    /// How long a read waits.
+    pause: Pause,
     faults: u64,
     quiet: u64,
 }
 
-/// What goes over a TCP connection. A write waits at most 20 s for a peer that takes nothing.
+/// What goes over a TCP connection. A write waits at most 20 s for a peer that takes nothing. Whoever reads the same
+/// connection does so in the same thread: a read that is not to wait changes for its time how writes wait too.
 #[derive(Debug, Drop)]
 pub struct TcpOut {
     stream: TcpStream,
@@ -36,10 +36,11 @@ pub struct TcpOut {
 /// Both ends of a connection: small frames are sent at once, and neither reads nor writes wait without end.
 pub(crate) fn link_over(stream: TcpStream) -> io::Result<(TcpIn, TcpOut)> {
     stream.set_nodelay(true)?;
-    stream.set_read_timeout(Some(Duration::from_millis(READ_WAIT)))?;
+    stream.set_read_timeout(Pause::Long.time())?;
     stream.set_write_timeout(Some(Duration::from_millis(WRITE_WAIT)))?;
     let input = TcpIn {
         stream: stream.try_clone()?,
+        pause: Pause::Long,
         faults: 0,
         quiet: 0,
     };
@@ -77,6 +78,20 @@ fn receive(stream: &mut TcpStream, buf: &mut [u8]) -> Received
     Received::Failed
 }
 
+/// One read that waits for nothing.
+fn receive_now(stream: &mut TcpStream, buf: &mut [u8]) -> Received
+    ensures { (n : ℕ) → result ≡ received.Count n → n ≤ length buf.new }
+{
+    if stream.set_nonblocking(true).is_err() {
+        return Received::Failed;
+    }
+    let got = receive(stream, buf);
+    match stream.set_nonblocking(false) {
+        Ok(()) => got,
+        Err(_) => Received::Failed,
+    }
+}
+
 impl LinkIn for TcpIn {
     ghost left = { λ _. None };
 
@@ -85,7 +100,11 @@ impl LinkIn for TcpIn {
     ghost quiet = { λ l. l.quiet };
 
     fn read(&mut self, buf: &mut [u8]) -> LinkRead {
-        match receive(&mut self.stream, buf) {
+        let got = match self.pause {
+            Pause::None => receive_now(&mut self.stream, buf),
+            Pause::Brief | Pause::Short | Pause::Long => receive(&mut self.stream, buf),
+        };
+        match got {
             Received::Count(0) => LinkRead::End,
             Received::Count(count) => LinkRead::Got(count),
             Received::Quiet => {
@@ -96,6 +115,20 @@ impl LinkIn for TcpIn {
                 self.faults = self.faults.saturating_add(1);
                 LinkRead::Failed
             }
+        }
+    }
+
+    fn wait_at_most(&mut self, pause: Pause) {
+        if pause == self.pause {
+            return;
+        }
+        let told = match pause.time() {
+            Some(time) => self.stream.set_read_timeout(Some(time)),
+            None => Ok(()),
+        };
+        // Where it cannot be told, reads wait as before.
+        if told.is_ok() {
+            self.pause = pause;
         }
     }
 }

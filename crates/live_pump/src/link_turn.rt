@@ -9,8 +9,8 @@ ghost use Rattle.live_pump.specs.declared.link_turn.OpenLink.{OpenLink};
 
 use crate::Pumped;
 use crate::pumped::post_to;
-use crate::pumps::{pump_out, pump_read};
-use gate_io::{Clock, LinkIn, LinkOut};
+use crate::pumps::{read_link, send_link};
+use gate_io::{Clock, LinkIn, LinkOut, Patience};
 use grpc_base::{Event, Glance, Post, Tend, Tender};
 use std::alloc::Global;
 
@@ -56,6 +56,7 @@ fn pump_link<P: Post + Glance, I: LinkIn, O: LinkOut, C: Clock, T: Tender>(
     post: &mut P,
     clock: &C,
     tender: &mut T,
+    patience: &mut Patience,
     kept: &mut OpenLink<I, O>,
 ) -> Pumped
     ensures looks { HasNotFallen (P.looks post.old) (P.looks post.new) }
@@ -63,11 +64,11 @@ fn pump_link<P: Post + Glance, I: LinkIn, O: LinkOut, C: Clock, T: Tender>(
     ensures pumped { let eyes : Eyes P T I O = eyes_of P.made P.errors P.last_error P.last_look T.turns T.last_turn I.left I.faults I.quiet O.taken O.faults O.closed in PumpsLink eyes (record { post = post.old; tender = tender.old }) kept.old (record { post = post.new; tender = tender.new }) kept.new result }
 {
     let link = kept.link;
-    let wrote = pump_out(post, &mut kept.output, link);
+    let wrote = send_link(post, patience, &mut kept.output, link);
     if !wrote.is_going() {
         return wrote;
     }
-    let (read, came) = pump_read(alloc, post, &mut kept.input, link);
+    let (read, came) = read_link(alloc, post, patience, &mut kept.input, link);
     tell_tender(clock, tender, link, came);
     if !read.is_going() {
         return read;
@@ -81,6 +82,7 @@ pub(crate) fn turn_link<P: Post + Glance, I: LinkIn, O: LinkOut, C: Clock, T: Te
     post: &mut P,
     clock: &C,
     tender: &mut T,
+    patience: &mut Patience,
     kept: &mut OpenLink<I, O>,
 ) -> Pumped
     ensures looks { HasNotFallen (P.looks post.old) (P.looks post.new) }
@@ -88,7 +90,7 @@ pub(crate) fn turn_link<P: Post + Glance, I: LinkIn, O: LinkOut, C: Clock, T: Te
     ensures closed { is_going result ≡ false → O.closed kept.new.output ≡ true }
     ensures turned { let eyes : Eyes P T I O = eyes_of P.made P.errors P.last_error P.last_look T.turns T.last_turn I.left I.faults I.quiet O.taken O.faults O.closed in TurnsLink eyes (record { post = post.old; tender = tender.old }) kept.old (record { post = post.new; tender = tender.new }) kept.new result }
 {
-    let answer = pump_link(alloc, post, clock, tender, kept);
+    let answer = pump_link(alloc, post, clock, tender, patience, kept);
     close_unless(answer.is_going(), kept);
     answer
 }

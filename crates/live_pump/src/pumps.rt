@@ -8,7 +8,7 @@ ghost use Rattle.live_pump.specs.Pumps.{Arrives, HandleSeen, InSeen, OutSeen, Pu
 
 use crate::Pumped;
 use crate::pumped::{answer_of, post_to};
-use gate_io::{LinkIn, LinkOut, LinkRead, WriteAnswer};
+use gate_io::{LinkIn, LinkOut, LinkRead, Patience, Pause, WriteAnswer};
 use grpc_base::{Event, Glance, Octets, Post, PostError, Reply};
 use std::alloc::Global;
 
@@ -31,7 +31,7 @@ fn arrived<P: Post>(alloc: Global, post: &mut P, link: u32, piece: &[u8]) -> Pum
 }
 
 /// Reads a link once, posts what came of it, and says whether bytes came.
-pub(crate) fn pump_read<P: Post, I: LinkIn>(
+fn pump_read<P: Post, I: LinkIn>(
     alloc: Global,
     post: &mut P,
     input: &mut I,
@@ -49,6 +49,28 @@ pub(crate) fn pump_read<P: Post, I: LinkIn>(
             (post_to(post, Event::LinkLost { link }, Pumped::Lost), false)
         }
     }
+}
+
+/// Reads a link once without waiting, posts what came of it, and says whether bytes came.
+pub(crate) fn read_link<P: Post, I: LinkIn>(
+    alloc: Global,
+    post: &mut P,
+    patience: &mut Patience,
+    input: &mut I,
+    link: u32,
+) -> (Pumped, bool)
+    ensures posted { let before : HandleSeen = record { made = P.made post.old; errors = P.errors post.old; last = P.last_error post.old } in let after : HandleSeen = record { made = P.made post.new; errors = P.errors post.new; last = P.last_error post.new } in PumpsIn link (record { left = I.left input.old; faults = I.faults input.old; quiet = I.quiet input.old }) (record { left = I.left input.new; faults = I.faults input.new; quiet = I.quiet input.new }) before after result.0 }
+    ensures looks { (P.looks post.new ≡ P.looks post.old) × (P.last_look post.new ≡ P.last_look post.old) }
+    ensures tells { let before : HandleSeen = record { made = P.made post.old; errors = P.errors post.old; last = P.last_error post.old } in let after : HandleSeen = record { made = P.made post.new; errors = P.errors post.new; last = P.last_error post.new } in Tells before after result.0 }
+{
+    input.wait_at_most(Pause::None);
+    let (read, came) = pump_read(alloc, post, input, link);
+    if came {
+        patience.hit();
+    } else {
+        patience.miss();
+    }
+    (read, came)
 }
 
 /// Reads a link once, into 16,384 bytes, and posts what came of it: the bytes as Arrived, LinkLost where the
@@ -118,9 +140,14 @@ fn drain_out<P: Post, O: LinkOut>(post: &mut P, output: &mut O, link: u32) -> Pu
     }
 }
 
-/// Posts a Drain with room for 65,536 bytes exactly where the channel has something to send on the link, and
-/// writes all that it gave. LinkLost is posted where a write failed.
-pub fn pump_out<P: Post + Glance, O: LinkOut>(post: &mut P, output: &mut O, link: u32) -> Pumped
+/// Posts a Drain exactly where the channel has something to send on the link, and writes what it gave; that counts as
+/// a try that found something.
+pub(crate) fn send_link<P: Post + Glance, O: LinkOut>(
+    post: &mut P,
+    patience: &mut Patience,
+    output: &mut O,
+    link: u32,
+) -> Pumped
     ensures posted { let before : HandleSeen = record { made = P.made post.old; errors = P.errors post.old; last = P.last_error post.old } in let after : HandleSeen = record { made = P.made post.new; errors = P.errors post.new; last = P.last_error post.new } in (can : Bool) × (P.last_look post.new ≡ Some (look.CanDrain link can)) × PumpsOut link can (record { taken = O.taken output.old; faults = O.faults output.old }) (record { taken = O.taken output.new; faults = O.faults output.new }) before after result }
     ensures looks { P.looks post.new ≡ one_more (P.looks post.old) }
     ensures closed { O.closed output.new ≡ O.closed output.old }
@@ -129,5 +156,17 @@ pub fn pump_out<P: Post + Glance, O: LinkOut>(post: &mut P, output: &mut O, link
     if !post.can_drain(link) {
         return Pumped::Going;
     }
+    patience.hit();
     drain_out(post, output, link)
+}
+
+/// Posts a Drain with room for 65,536 bytes exactly where the channel has something to send on the link, and
+/// writes all that it gave. LinkLost is posted where a write failed.
+pub fn pump_out<P: Post + Glance, O: LinkOut>(post: &mut P, output: &mut O, link: u32) -> Pumped
+    ensures posted { let before : HandleSeen = record { made = P.made post.old; errors = P.errors post.old; last = P.last_error post.old } in let after : HandleSeen = record { made = P.made post.new; errors = P.errors post.new; last = P.last_error post.new } in (can : Bool) × (P.last_look post.new ≡ Some (look.CanDrain link can)) × PumpsOut link can (record { taken = O.taken output.old; faults = O.faults output.old }) (record { taken = O.taken output.new; faults = O.faults output.new }) before after result }
+    ensures looks { P.looks post.new ≡ one_more (P.looks post.old) }
+    ensures closed { O.closed output.new ≡ O.closed output.old }
+    ensures tells { let before : HandleSeen = record { made = P.made post.old; errors = P.errors post.old; last = P.last_error post.old } in let after : HandleSeen = record { made = P.made post.new; errors = P.errors post.new; last = P.last_error post.new } in Tells before after result }
+{
+    send_link(post, &mut Patience::new(), output, link)
 }

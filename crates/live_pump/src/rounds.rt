@@ -11,11 +11,10 @@ ghost use Rattle.live_pump.specs.declared.link_turn.OpenLink.{OpenLink};
 
 use crate::link_turn::{OpenLink, close_link, close_links, turn_link};
 use crate::{DialTurn, Pumped, dial_once, tick_if_due};
-use gate_io::{Clock, Dialer, LinkIn, LinkOut};
+use gate_io::{Clock, Dialer, LinkIn, LinkOut, Patience};
 use grpc_base::{Conn, Glance, NoMemory, Post, PostError, Tender};
 use std::alloc::Global;
 use std::sync::Wait;
-use std::thread::yield_now;
 
 /// A worker found no memory itself.
 const NO_MEMORY: PostError = PostError::NoMemory { spent: false };
@@ -80,6 +79,7 @@ fn turn_at<P: Post + Glance, I: LinkIn, O: LinkOut, C: Clock, T: Tender>(
     post: &mut P,
     clock: &C,
     tender: &mut T,
+    patience: &mut Patience,
     links: &mut Vec<OpenLink<I, O>>,
     at: usize,
 ) -> Result<usize, PostError>
@@ -91,7 +91,7 @@ fn turn_at<P: Post + Glance, I: LinkIn, O: LinkOut, C: Clock, T: Tender>(
     ensures ended { IfErr result (λ error. let eyes : Eyes P T I O = eyes_of P.made P.errors P.last_error P.last_look T.turns T.last_turn I.left I.faults I.quiet O.taken O.faults O.closed in TurnsLinks eyes (take at links.old.items) (record { post = post.old; tender = tender.old }) (drop at links.old.items) (record { post = post.new; tender = tender.new }) links.new.items (Some error)) }
 {
     let kept = &mut links[at];
-    let answer = turn_link(alloc, post, clock, tender, kept);
+    let answer = turn_link(alloc, post, clock, tender, patience, kept);
     if answer.is_given_up() {
         drop(links.remove(at));
         return Ok(0);
@@ -108,6 +108,7 @@ fn links_part<P: Post + Glance, I: LinkIn, O: LinkOut, C: Clock, T: Tender>(
     post: &mut P,
     clock: &C,
     tender: &mut T,
+    patience: &mut Patience,
     links: &mut Vec<OpenLink<I, O>>,
 ) -> Option<PostError>
     ensures part { let before : HandleSeen = record { made = P.made post.old; errors = P.errors post.old; last = P.last_error post.old } in let after : HandleSeen = record { made = P.made post.new; errors = P.errors post.new; last = P.last_error post.new } in Parts before after result }
@@ -116,7 +117,7 @@ fn links_part<P: Post + Glance, I: LinkIn, O: LinkOut, C: Clock, T: Tender>(
 {
     let mut at = 0;
     while at < links.len() {
-        match turn_at(alloc, post, clock, tender, links, at) {
+        match turn_at(alloc, post, clock, tender, patience, links, at) {
             Ok(passed) => at += passed,
             Err(error) => return Some(error),
         }
@@ -131,6 +132,14 @@ fn is_shut(state: Conn) -> bool
     matches!(state, Conn::Shutdown)
 }
 
+/// Pauses as long as no bytes came lately. A round without links found nothing.
+fn rest<C: Clock>(clock: &C, patience: &mut Patience, links: usize) {
+    if links == 0 {
+        patience.miss();
+    }
+    clock.pause(patience.pause());
+}
+
 /// One round: a look, a dial, a turn of each link, and a tick.
 fn round<P: Post + Glance, N: Dialer, C: Clock, T: Tender>(
     alloc: Global,
@@ -138,6 +147,7 @@ fn round<P: Post + Glance, N: Dialer, C: Clock, T: Tender>(
     dialer: &mut N,
     clock: &C,
     tender: &mut T,
+    patience: &mut Patience,
     links: &mut Vec<OpenLink<N::In, N::Out>>,
 ) -> Option<Pumped>
     ensures round { let before : HandleSeen = record { made = P.made post.old; errors = P.errors post.old; last = P.last_error post.old } in let after : HandleSeen = record { made = P.made post.new; errors = P.errors post.new; last = P.last_error post.new } in Rounds before after (P.last_look post.new) result }
@@ -151,12 +161,10 @@ fn round<P: Post + Glance, N: Dialer, C: Clock, T: Tender>(
     if let Some(error) = dial_part(post, dialer, clock, tender, links) {
         return Some(Pumped::Failed(error));
     }
-    if let Some(error) = links_part(alloc, post, clock, tender, links) {
+    if let Some(error) = links_part(alloc, post, clock, tender, patience, links) {
         return Some(Pumped::Failed(error));
     }
-    if links.is_empty() {
-        yield_now();
-    }
+    rest(clock, patience, links.len());
     let ticked = tick_if_due(post, clock);
     match ticked {
         Ok(_) => None,
@@ -199,8 +207,9 @@ fn run_rounds<W: Wait, P: Post + Glance, N: Dialer, C: Clock, T: Tender>(
     ensures looks { Rises (P.looks post.old) (P.looks post.new) }
     ensures run { let eyes : Eyes P T N.In N.Out = eyes_of P.made P.errors P.last_error P.last_look T.turns T.last_turn N.In.LinkIn.left N.In.LinkIn.faults N.In.LinkIn.quiet N.Out.LinkOut.taken N.Out.LinkOut.faults N.Out.LinkOut.closed in RunsOn eyes (λ (d : N). record { coming = N.coming d; faults = N.faults d }) (C.may_give clock.now) (record { site = record { post = post.old; tender = tender.old }; dialer = dialer.old; links = links.old.items }) (record { site = record { post = post.new; tender = tender.new }; dialer = dialer.new; links = links.new.items }) result }
 {
+    let mut patience = Patience::new();
     for _ in rt.forever() {
-        if let Some(end) = round(alloc, post, dialer, clock, tender, links) {
+        if let Some(end) = round(alloc, post, dialer, clock, tender, &mut patience, links) {
             return end;
         }
     }
@@ -208,7 +217,8 @@ fn run_rounds<W: Wait, P: Post + Glance, N: Dialer, C: Clock, T: Tender>(
 }
 
 /// Keeps links open for a channel: in rounds it looks at the channel, dials, writes and reads each of its links,
-/// asks the tender about each, and ticks. It ends with Shut where the channel was shut down when it looked, and with
+/// asks the tender about each, and ticks. Its reads wait for nothing: the longer no bytes come, the longer it pauses
+/// between rounds, up to 5 ms. It ends with Shut where the channel was shut down when it looked, and with
 /// Failed where a post failed or it found no memory itself. It closes a link that is lost or gone, and at its end
 /// those that are left. It may never return.
 pub fn net_worker<W: Wait, P: Post + Glance, N: Dialer, C: Clock, T: Tender>(

@@ -7,7 +7,7 @@ pub returns-then-not-is_going-clause-pumped : goal.returns-then-not-is_going-cla
 returns-then-not-is_going-clause-pumped g c = inl (record {
   over = search rules;
   number = refl;
-  writes = c.pump_out-wrote.ensures.posted;
+  writes = c.send_link-wrote.ensures.posted;
   input = refl;
   tender = refl;
 })
@@ -19,9 +19,9 @@ returns-then-not-is_going-2-clause-pumped g c =
     inr (inl (record {
       over = search rules;
       number = refl;
-      wrote = c.pump_out-wrote.new.post;
-      writes = writes_on eyes c.args.kept.now.link c.args.post.now c.args.kept.now.output c.pump_out-wrote.new.post c.pump_out-wrote.new.output c.pump_out-wrote.result (search rules) c.pump_out-wrote.ensures.posted;
-      reads = c.pump_read-read.ensures.posted;
+      wrote = c.send_link-wrote.new.post;
+      writes = writes_on eyes c.args.kept.now.link c.args.post.now c.args.kept.now.output c.send_link-wrote.new.post c.send_link-wrote.new.output c.send_link-wrote.result (search rules) c.send_link-wrote.ensures.posted;
+      reads = c.read_link-read.ensures.posted;
       turns = same_tender _ _ _ _ c.tell_tender.ensures.0 c.tell_tender.ensures.1;
     }))
 
@@ -31,11 +31,11 @@ returns-clause-pumped g c =
     g.I.LinkIn.left g.I.LinkIn.faults g.I.LinkIn.quiet g.O.LinkOut.taken g.O.LinkOut.faults g.O.LinkOut.closed in
     inr (inr (record {
       number = refl;
-      wrote = c.pump_out-wrote.new.post;
-      read = c.pump_read-read.new.post;
+      wrote = c.send_link-wrote.new.post;
+      read = c.read_link-read.new.post;
       told = c.tell_tender.new.tender;
-      writes = writes_on eyes c.args.kept.now.link c.args.post.now c.args.kept.now.output c.pump_out-wrote.new.post c.pump_out-wrote.new.output c.pump_out-wrote.result (search rules) c.pump_out-wrote.ensures.posted;
-      reads = reads_on eyes c.args.kept.now.link c.pump_out-wrote.new.post c.args.kept.now.input c.pump_read-read.new.post c.pump_read-read.new.input c.pump_read-read.result.0 (search rules) c.pump_read-read.ensures.posted;
+      writes = writes_on eyes c.args.kept.now.link c.args.post.now c.args.kept.now.output c.send_link-wrote.new.post c.send_link-wrote.new.output c.send_link-wrote.result (search rules) c.send_link-wrote.ensures.posted;
+      reads = reads_on eyes c.args.kept.now.link c.send_link-wrote.new.post c.args.kept.now.input c.read_link-read.new.post c.read_link-read.new.input c.read_link-read.result.0 (search rules) c.read_link-read.ensures.posted;
       turns = same_tender _ _ _ _ c.tell_tender.ensures.0 c.tell_tender.ensures.1;
       asks = (
         c.tend_link.ensures.posted.0,

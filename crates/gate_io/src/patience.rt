@@ -1,0 +1,91 @@
+// How long one waits who tries again and again.
+ghost use Rattle.std.specs.Prelude.{◌≡◌, ℕ};
+ghost use Rattle.grpc_base.specs.Counts.{one_more};
+ghost use Rattle.gate_io.specs.Waits.{pause_after};
+
+use std::marker::Model;
+use std::time::Duration;
+
+/// How long a pause is.
+#[derive(Clone, Copy, Debug, PartialEq, Eq)]
+pub enum Pause {
+    /// No time at all.
+    None,
+    /// 20 microseconds, for which a system's timers mostly take 50 more.
+    Brief,
+    /// 1 ms.
+    Short,
+    /// 5 ms.
+    Long,
+}
+
+impl Pause {
+    /// The time that it takes; None for no time at all.
+    pub(crate) fn time(self) -> Option<Duration> {
+        match self {
+            Pause::None => None,
+            Pause::Brief => Some(Duration::from_micros(20)),
+            Pause::Short => Some(Duration::from_millis(1)),
+            Pause::Long => Some(Duration::from_millis(5)),
+        }
+    }
+}
+
+/// So many tries that found nothing are each behind a brief pause: some hundred microseconds in all.
+const BRIEF_TRIES: u64 = 8;
+
+/// So many more are each behind a short pause.
+const SHORT_TRIES: u64 = 20;
+
+/// Counts tries that found nothing, and tells how long to pause before the next: right after one that found something not
+/// at all, and the longer the more of them found nothing.
+#[derive(Debug, Drop)]
+pub struct Patience {
+    misses: u64,
+}
+
+impl Model for Patience {
+    ghost use Rattle.std.specs.Prelude.{ℕ};
+
+    ghost Value = { ℕ };
+
+    ghost view = { λ p. p.misses };
+}
+
+impl Patience {
+    /// As right after a try that found something.
+    pub fn new() -> Patience
+        ensures { result ≡ 0 }
+    {
+        Patience { misses: 0 }
+    }
+
+    /// A try found something.
+    pub fn hit(&mut self)
+        ensures { self.new ≡ 0 }
+    {
+        self.misses = 0;
+    }
+
+    /// A try found nothing.
+    pub fn miss(&mut self)
+        ensures { self.new ≡ one_more self.old }
+    {
+        self.misses = self.misses.saturating_add(1);
+    }
+
+    /// How long to pause before the next try.
+    pub fn pause(&self) -> Pause
+        ensures { result ≡ pause_after self.now }
+    {
+        if self.misses == 0 {
+            Pause::None
+        } else if self.misses <= BRIEF_TRIES {
+            Pause::Brief
+        } else if self.misses <= BRIEF_TRIES + SHORT_TRIES {
+            Pause::Short
+        } else {
+            Pause::Long
+        }
+    }
+}
