@@ -116,7 +116,7 @@ fn read_from(
     read_end(alloc, limit, messages, &bytes[at..])
 }
 
-// Keeps what is behind the last whole message, with room for the message that it begins.
+// Keeps what is behind the last whole message, with room for the message that it begins once its length is there.
 fn read_end(
     alloc: Global,
     limit: u32,
@@ -131,8 +131,9 @@ fn read_end(
     let fault = match next_message(limit, bytes) {
         NextMessage::Fault { fault } => Some(fault),
         _ => {
-            let length = length_told(bytes).unwrap_or(0);
-            rest.reserve(PREFIX_SIZE + length as usize)?;
+            if let Some(length) = length_told(bytes) {
+                rest.reserve(PREFIX_SIZE + length as usize)?;
+            }
             rest.extend_from_slice(bytes)?;
             None
         }

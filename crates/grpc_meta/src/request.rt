@@ -29,25 +29,44 @@ pub fn request_fields(
     ensures fits { IfOk result (λ fields. list_size fields ≤ list_limit) }
 {
     let mut fields = Fields::new(alloc);
-    push(alloc, &mut fields, b":method", b"POST")?;
-    push(alloc, &mut fields, b":scheme", b"http")?;
+    push_fixed(&mut fields, b":method", b"POST")?;
+    push_fixed(&mut fields, b":scheme", b"http")?;
     push(alloc, &mut fields, b":path", request.path().as_slice())?;
     push(alloc, &mut fields, b":authority", authority.as_slice())?;
     push_timeout(alloc, &mut fields, left)?;
-    push(alloc, &mut fields, b"te", b"trailers")?;
-    push(alloc, &mut fields, b"content-type", b"application/grpc")?;
+    push_fixed(&mut fields, b"te", b"trailers")?;
+    push_fixed(&mut fields, b"content-type", b"application/grpc")?;
     push_attempts(alloc, &mut fields, number)?;
     push_metadata(alloc, &mut fields, request.meta())?;
     Ok(fields)
 }
 
-/// Appends a field.
-fn push(alloc: Global, fields: &mut Fields, name: &[u8], value: &[u8]) -> Result<(), NoMemory>
+/// Appends a field whose name lives as long as the program. Its value is copied.
+fn push(
+    alloc: Global,
+    fields: &mut Fields,
+    name: &'static [u8],
+    value: &[u8],
+) -> Result<(), NoMemory>
     ensures { OnOk result (fields.new ≡ fields.old ++ field name.now value.now ∷ []) }
 {
-    let name = Octets::of_slice(alloc, name)?;
+    let name = Octets::of_static(name);
     let value = Octets::of_slice(alloc, value)?;
     fields.push(Field { name, value })
+}
+
+/// Appends a field whose name and value live as long as the program.
+fn push_fixed(
+    fields: &mut Fields,
+    name: &'static [u8],
+    value: &'static [u8],
+) -> Result<(), NoMemory>
+    ensures { OnOk result (fields.new ≡ fields.old ++ field name.now value.now ∷ []) }
+{
+    fields.push(Field {
+        name: Octets::of_static(name),
+        value: Octets::of_static(value),
+    })
 }
 
 /// Appends the time left, where there is a deadline.

@@ -50,9 +50,11 @@ initial-window-above-its-largest up>1 in>000006040000000000000480000000 broken 3
 initial-window-lifts-a-stream up>1 in>00000408000000000100000001 in>00000604000000000000047fffffff broken 3
 initial-window-at-its-largest up>1 in>00000604000000000000047fffffff out> 000000040100000000
 frame-longer-than-16384 up>1 in>004001 broken 6
+frame-longer-than-16384-with-its-header up>1 in>004001000000000001 broken 6
 settings-of-no-multiple-of-6 up>1 in>0000050400 broken 6
 acknowledgement-with-a-payload up>1 in>0000060401 broken 6
 ping-not-8 up>1 in>0000010600 broken 6
+ping-not-8-with-its-payload up>1 in>00000106000000000000 broken 6
 window-update-not-4 up>1 in>0000050800 broken 6
 reset-not-4 up>1 in>0000030300 broken 6
 priority-not-5 up>1 in>0000040200 broken 6
