@@ -1,9 +1,10 @@
 -- What a write keeps of the reasons of a call's rows.
-use Rattle.std.proofs.Common.{◌≡◌, ℕ, Option, Some, None, List, [], ◌∷◌, ◌++◌, refl, sym, subst, ◌∙◌, ◌⊎◌, inl, inr}
+use Rattle.std.proofs.Common.{◌≡◌, ℕ, Option, Some, None, List, [], ◌∷◌, ◌++◌, refl, sym, ap, subst, ◌∙◌, ◌⊎◌, inl, inr}
 use Rattle.grpc_base.specs.declared.plan.CallPlan.{CallPlan}
 use Rattle.grpc_base.specs.declared.plan.CallPlan.TheVariants as plans
 use Rattle.grpc_base.specs.declared.plan.HedgePolicy.{HedgePolicy}
 use Rattle.grpc_base.specs.declared.plan.RetryPolicy.{RetryPolicy}
+use Rattle.attempt_ledger.specs.Numbering.{is_transparent}
 use Rattle.attempt_ledger.specs.declared.row.Placed.{Placed}
 use Rattle.attempt_ledger.specs.declared.row.Row.{Row}
 use Rattle.attempt_ledger.specs.declared.row.RowKind.{RowKind}
@@ -11,7 +12,7 @@ use Rattle.attempt_ledger.specs.declared.row.RowKind.TheVariants as kind
 use Rattle.ledger_stamps.specs.Steps.{committed_row, placed_row, stamped}
 use Rattle.call_core.specs.declared.attempts.Attempts.{Attempts}
 use Rattle.call_core.specs.Commitments.{IsRowOf}
-use Rattle.call_core.specs.Reasons.{AskedDelay, Forced, HasEnded, HaveReasons, HedgeReason, IsDelayed, IsDelayedBefore, IsFollowing, IsForcedBefore, IsForcedThen, IsKeptAt, IsKeptRow, IsPlacedThen, IsRetryDue, Reason, RetryReason}
+use Rattle.call_core.specs.Reasons.{AskedDelay, Forced, HasEnded, HaveReasons, HedgeReason, IsDelayed, IsDelayedBefore, IsFollowing, IsForcedBefore, IsForcedThen, IsAttemptAt, IsKeptAt, IsKeptRow, IsPlacedThen, IsRetryDue, Reason, RetryReason}
 use Rattle.call_core.specs.Rows.{row_in}
 use Rattle.call_core.proofs.Alike.{AreLike, IsNowRow, IsWrite, WasRow, like_from, like_to}
 use Rattle.call_core.proofs.Standing.{row_more}
@@ -95,13 +96,20 @@ retry_to policy owner rows after number due moment kept e old = record {
   due = e ∙ old.due;
 }
 
-abbrev pub placed_to : (owner : ℕ) (rows after : List Row) (moment : ℕ) → AreKept owner rows after → IsPlacedThen owner rows moment → IsPlacedThen owner after moment
-placed_to owner rows after moment kept old = record {
+abbrev pub attempt_to : (owner : ℕ) (rows after : List Row) (attempt place : ℕ) → AreKept owner rows after → IsAttemptAt owner rows attempt place → IsAttemptAt owner after attempt place
+attempt_to owner rows after attempt place kept old = record {
+  row = (kept place old.row old.is).row;
+  is = (kept place old.row old.is).is;
+  number = (kept place old.row old.is).kept.number ∙ old.number;
+  own = ap is_transparent (kept place old.row old.is).kept.kind ∙ old.own;
+}
+
+abbrev pub placed_to : (owner : ℕ) (rows after : List Row) (attempt moment : ℕ) → AreKept owner rows after → IsPlacedThen owner rows attempt moment → IsPlacedThen owner after attempt moment
+placed_to owner rows after attempt moment kept old = record {
   place = old.place;
-  row = (kept old.place old.row old.is).row;
-  is = (kept old.place old.row old.is).is;
+  has = attempt_to owner rows after attempt old.place kept old.has;
   at = old.at;
-  placed = (kept old.place old.row old.is).kept.placed old.at old.placed;
+  placed = (kept old.place old.has.row old.has.is).kept.placed old.at old.placed;
   moment = old.moment;
 }
 
@@ -113,10 +121,10 @@ forced_to policy owner rows after due moment kept e old = record {
   due = e ∙ old.due;
 }
 
-abbrev delayed_to : (policy : HedgePolicy) (owner : ℕ) (rows after : List Row) (due moment : ℕ) → AreKept owner rows after → moment ≡ due → IsDelayed policy owner rows due → IsDelayed policy owner after moment
-delayed_to policy owner rows after due moment kept e old = record {
+abbrev delayed_to : (policy : HedgePolicy) (owner : ℕ) (rows after : List Row) (attempt due moment : ℕ) → AreKept owner rows after → moment ≡ due → IsDelayed policy owner rows attempt due → IsDelayed policy owner after attempt moment
+delayed_to policy owner rows after attempt due moment kept e old = record {
   since = old.since;
-  placed = placed_to owner rows after old.since kept old.placed;
+  placed = placed_to owner rows after attempt old.since kept old.placed;
   due = e ∙ old.due;
 }
 
@@ -130,16 +138,16 @@ retry_reason (plans.Retry policy) owner rows after place old new kept like reaso
   order = reason.order;
 }
 
-hedge_either : (policy : HedgePolicy) (owner : ℕ) (rows after : List Row) (place due moment : ℕ) → AreKept owner rows after → moment ≡ due → IsForcedBefore policy owner rows place due ⊎ IsDelayedBefore policy owner rows place due → IsForcedBefore policy owner after place moment ⊎ IsDelayedBefore policy owner after place moment
-hedge_either policy owner rows after place due moment kept e (inl forced) =
+hedge_either : (policy : HedgePolicy) (owner : ℕ) (rows after : List Row) (place number now due moment : ℕ) → AreKept owner rows after → now ≡ number → moment ≡ due → IsForcedBefore policy owner rows place due ⊎ IsDelayedBefore policy owner rows place number due → IsForcedBefore policy owner after place moment ⊎ IsDelayedBefore policy owner after place now moment
+hedge_either policy owner rows after place number now due moment kept same e (inl forced) =
     inl (record { why = forced_to policy owner rows after due moment kept e forced.why; order = forced.order })
-hedge_either policy owner rows after place due moment kept e (inr delayed) =
-    inr (record { why = delayed_to policy owner rows after due moment kept e delayed.why; order = delayed.order })
+hedge_either policy owner rows after place number now due moment kept same e (inr delayed) =
+    inr (record { attempt = delayed.attempt; next = same ∙ delayed.next; why = delayed_to policy owner rows after delayed.attempt due moment kept e delayed.why; order = delayed.order })
 
 hedge_reason : (plan : CallPlan) (owner : ℕ) (rows after : List Row) (place : ℕ) (old new : Row) → AreKept owner rows after → IsKeptRow old new → HedgeReason plan owner rows place old → HedgeReason plan owner after place new
 hedge_reason plans.None owner rows after place old new kept like reason = reason
 hedge_reason (plans.Retry policy) owner rows after place old new kept like reason = reason
-hedge_reason (plans.Hedge policy) owner rows after place old new kept like reason = hedge_either policy owner rows after place old.due new.due kept like.due reason
+hedge_reason (plans.Hedge policy) owner rows after place old new kept like reason = hedge_either policy owner rows after place old.number new.number old.due new.due kept like.number like.due reason
 
 following_to : (owner : ℕ) (rows after : List Row) (place : ℕ) (old new : Row) → AreKept owner rows after → IsKeptRow old new → IsFollowing owner rows place old → IsFollowing owner after place new
 following_to owner rows after place old new kept like reason =
@@ -176,12 +184,13 @@ rows_like plan owner rows after like old place row is =
     let was : WasRow IsKeptRow (row_in rows place) row = like_from IsKeptRow (row_in rows place) (row_in after place) row (like place) is.there in
     reason_to plan owner rows after place was.row row (kept_like owner rows after like) was.like (old place was.row (record { there = was.there; call = sym was.like.call ∙ is.call }))
 
-pub have_like : (plan : CallPlan) (owner : ℕ) (rows after : List Row) (a b : Attempts) → AreLike IsKeptRow rows after → b.forced ≡ a.forced → b.placed ≡ a.placed → b.delayed ≡ a.delayed → b.sent ≡ a.sent → HaveReasons plan owner rows a → HaveReasons plan owner after b
-have_like plan owner rows after a b like forced placed delayed sent old =
+pub have_like : (plan : CallPlan) (owner : ℕ) (rows after : List Row) (a b : Attempts) → AreLike IsKeptRow rows after → b.forced ≡ a.forced → b.newest ≡ a.newest → b.placed ≡ a.placed → b.delayed ≡ a.delayed → b.sent ≡ a.sent → HaveReasons plan owner rows a → HaveReasons plan owner after b
+have_like plan owner rows after a b like forced newest placed delayed sent old =
     let kept : AreKept owner rows after = kept_like owner rows after like in
     record {
       rows = rows_like plan owner rows after like old.rows;
       forced = λ due e. subst (λ (k : ℕ). Forced plan owner after k due) (sym sent) (forced_plan plan owner rows after a.sent due kept (old.forced due (sym forced ∙ e)));
-      placed = λ moment e. placed_to owner rows after moment kept (old.placed moment (sym placed ∙ e));
+      newest = λ place e. subst (λ (k : ℕ). IsAttemptAt owner after k place) (sym sent) (attempt_to owner rows after a.sent place kept (old.newest place (sym newest ∙ e)));
+      placed = λ moment e. subst (λ (k : ℕ). IsPlacedThen owner after k moment) (sym sent) (placed_to owner rows after a.sent moment kept (old.placed moment (sym placed ∙ e)));
       delayed = subst (λ (k : ℕ). (k ≡ 0) ⊎ AskedDelay owner after k) (sym delayed) (none_or_asked owner rows after a.delayed kept old.delayed);
     }

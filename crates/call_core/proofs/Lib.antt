@@ -4,6 +4,7 @@ mod Commitments
 mod Counting
 mod Cuts
 mod Delivery
+mod Dues
 mod EachRow
 mod Ending
 pub mod Feeding

@@ -1,7 +1,7 @@
 -- Every row of a call but the first attempt has its reason among the rows before it.
 use Rattle.std.proofs.Common.{◌≡◌, ◌≤◌, ◌<◌, ℕ, zero, suc, ◌+◌, ◌-◌, Bool, true, false, not, ◌&&◌, ◌==◌, if◌then◌else◌, min, max, length, Option, Some, None, is_some, List, [], ◌∷◌, ◌++◌, refl, sym, ap, subst, ◌∙◌, ◌⊎◌, inl, inr, arith, eq-eqb}
 use Rattle.std.proofs.Math.Nat.{max-eq_left, min-eq_left}
-use Rattle.std.proofs.lemmas.Bool.{leb-false}
+use Rattle.std.proofs.lemmas.Bool.{eqb-true, leb-false}
 use Rattle.std.specs.Option.{option_map, option_map_or}
 use Rattle.grpc_base.specs.Codes.{has_code}
 use Rattle.grpc_base.specs.Requests.{RequestSeen}
@@ -16,7 +16,7 @@ use Rattle.grpc_base.specs.declared.plan.Pushback.{Pushback}
 use Rattle.grpc_base.specs.declared.plan.Pushback.TheVariants as pushback
 use Rattle.grpc_base.specs.declared.plan.RetryPolicy.{RetryPolicy}
 use Rattle.attempt_ledger.specs.Ends.{delay_of}
-use Rattle.attempt_ledger.specs.Numbering.{most_attempts}
+use Rattle.attempt_ledger.specs.Numbering.{is_transparent, most_attempts}
 use Rattle.attempt_ledger.specs.TransparentRows.{is_by_peer, is_unsent}
 use Rattle.attempt_ledger.specs.declared.ledger.Ledger.{Ledger}
 use Rattle.attempt_ledger.specs.declared.news.EndNews.{EndNews}
@@ -42,7 +42,7 @@ use Rattle.call_core.specs.Commitments.{IsRowOf}
 use Rattle.call_core.specs.Going.{IsGoing, hedges}
 use Rattle.call_core.specs.Numbering.{IsNumbered}
 use Rattle.call_core.specs.Parts.{committed_buffer, count_of, delayed_after, due_of, find_live, from_one, furthest, has_none, hedge_of, is_above, is_followed, judged, kind_of_next, later_kind, lasted_attempts, names, next_forced, next_of_plan, plan_of, pushed_over, row_end, stopped_attempts, word_of}
-use Rattle.call_core.specs.Reasons.{AskedDelay, Forced, HasEnded, HasReasons, HaveReasons, IsDelayed, IsDelayedBefore, IsForcedBefore, IsForcedThen, IsKeptRow, IsPlacedThen, IsRetryDue, IsRetryReason, KeepsReasons, Reason, WasKeptAt}
+use Rattle.call_core.specs.Reasons.{AskedDelay, Forced, HasEnded, HasReasons, HaveReasons, IsAttemptAt, IsDelayed, IsDelayedBefore, IsForcedBefore, IsForcedThen, IsKeptRow, IsPlacedThen, IsRetryDue, IsRetryReason, KeepsReasons, Reason, WasKeptAt}
 use Rattle.call_core.specs.Rows.{IsApart, IsOnLink, IsStanding, row_in}
 use Rattle.call_core.specs.Steps as step
 use Rattle.call_core.specs.Steps.{Stepped, call_plan, is_committed_live, judged_of, left_live, new_call, new_row, next_due, settled, stamp_if, with_chosen, with_judged, with_message}
@@ -51,9 +51,9 @@ use Rattle.call_core.proofs.Cuts.{row_below}
 use Rattle.call_core.proofs.Going.{alone_found, due_forced}
 use Rattle.call_core.proofs.Keeping.{found_some}
 use Rattle.call_core.proofs.Moves.{Moves}
-use Rattle.call_core.proofs.Numbers.{below_most}
-use Rattle.call_core.proofs.Standing.{found_stands, row_changed_same, row_more}
-use Rattle.call_core.proofs.KeptReasons.{AreKept, forced_plan, have_like, kept_committed, kept_like, kept_more, kept_placed, kept_write, none_or_asked, placed_to, reason_of, reason_to, rows_like}
+use Rattle.call_core.proofs.Numbers.{below_most, not_transparent}
+use Rattle.call_core.proofs.Standing.{found_stands, row_changed_same, row_last, row_more}
+use Rattle.call_core.proofs.KeptReasons.{AreKept, attempt_to, forced_plan, have_like, kept_committed, kept_like, kept_more, kept_placed, kept_write, none_or_asked, placed_to, reason_of, reason_to, rows_like}
 
 -- commitment and end
 have_commit : (place moment : ℕ) (s : Stepped) → HasReasons s → HasReasons (step.committed place moment s)
@@ -62,12 +62,12 @@ have_commit place moment s old =
     (all_joined IsKeptRow kept_write s.ledger.rows (step.commit_stamped place s.ledger).rows (step.committed place moment s).ledger.rows
     (all_changed_at IsKeptRow kept_write (committed_row s.ledger.entry) (kept_committed s.ledger.entry) s.ledger.rows place)
     (all_cut IsKeptRow kept_write (Some place) moment (count_of s.tokens) s.call.live (step.commit_stamped place s.ledger)))
-    refl refl refl refl old
+    refl refl refl refl refl old
 
 have_end : (why : EndCause) (moment : ℕ) (s : Stepped) → HasReasons s → HasReasons (step.ended_as why moment s)
 have_end why moment s old =
     have_like (call_plan s.call) s.call.number s.ledger.rows (step.ended_as why moment s).ledger.rows s.call.attempts (step.ended_as why moment s).call.attempts
-    (all_cut IsKeptRow kept_write None moment (count_of s.tokens) s.call.live s.ledger) refl refl refl refl old
+    (all_cut IsKeptRow kept_write None moment (count_of s.tokens) s.call.live s.ledger) refl refl refl refl refl old
 
 have_by_row : (place moment : ℕ) (s : Stepped) → HasReasons s → HasReasons (step.ended_by_row place moment s)
 have_by_row place moment s old = have_end ends.Row moment (step.committed place moment s) (have_commit place moment s old)
@@ -136,7 +136,7 @@ have_judged : (plan : CallPlan) (owner : ℕ) (rows : List Row) (l : LiveRow) (a
 have_judged plans.None owner rows l a is_alone end tokens word known counted old =
     let last : RowEnd = record end { word = None } in
     have_like plans.None owner rows (changed_at (ended_row last) rows l.place) a (lasted_attempts l.place a)
-    (all_changed_at IsKeptRow kept_write (ended_row last) (λ r. kept_write.ended last r) rows l.place) refl refl refl refl old
+    (all_changed_at IsKeptRow kept_write (ended_row last) (λ r. kept_write.ended last r) rows l.place) refl refl refl refl refl old
 have_judged (plans.Retry policy) owner rows l a is_alone end tokens word known counted old =
     let after : Judged = judged (plans.Retry policy) a l.number true end (is_above tokens) word in
     let last : RowEnd = record end { word = after.word } in
@@ -149,7 +149,8 @@ have_judged (plans.Retry policy) owner rows l a is_alone end tokens word known c
     record {
       rows = rows_like (plans.Retry policy) owner rows rows_after like old.rows;
       forced = λ due e. inr (retry_judged policy owner rows l a end tokens word due known.one counted same some old.delayed e);
-      placed = λ moment e. placed_to owner rows rows_after moment kept (old.placed moment e);
+      newest = λ p e. attempt_to owner rows rows_after a.sent p kept (old.newest p e);
+      placed = λ moment e. placed_to owner rows rows_after a.sent moment kept (old.placed moment e);
       delayed = retry_delayed owner rows rows_after l.place (from_one l.number) a.delayed end.pushback kept (has_ended owner rows l last known.one) refl (known.one.number ∙ sym (max-eq_left one)) old.delayed;
     }
 have_judged (plans.Hedge policy) owner rows l a is_alone end tokens word known counted old =
@@ -160,7 +161,8 @@ have_judged (plans.Hedge policy) owner rows l a is_alone end tokens word known c
     record {
       rows = rows_like (plans.Hedge policy) owner rows rows_after like old.rows;
       forced = λ due e. hedge_judged policy owner rows rows_after l.place due a (has_code policy.codes end.code) kept (has_ended owner rows l last known.one) refl old.forced e;
-      placed = λ moment e. placed_to owner rows rows_after moment kept (old.placed moment e);
+      newest = λ p e. attempt_to owner rows rows_after a.sent p kept (old.newest p e);
+      placed = λ moment e. placed_to owner rows rows_after a.sent moment kept (old.placed moment e);
       delayed = none_or_asked owner rows rows_after a.delayed kept old.delayed;
     }
 
@@ -189,7 +191,7 @@ have_counted place row told moment word s true f going apart old =
     let v : Stepped = settled told (left_live row.place s) in
     let end : RowEnd = row_end told s.ledger.entry moment (count_of v.tokens) in
     have_end ends.Row moment (step.row_ended row.place end v)
-    (have_like (call_plan s.call) s.call.number s.ledger.rows (changed_at (ended_row end) s.ledger.rows row.place) s.call.attempts s.call.attempts (all_changed_at IsKeptRow kept_write (ended_row end) (λ r. kept_write.ended end r) s.ledger.rows row.place) refl refl refl refl old)
+    (have_like (call_plan s.call) s.call.number s.ledger.rows (changed_at (ended_row end) s.ledger.rows row.place) s.call.attempts s.call.attempts (all_changed_at IsKeptRow kept_write (ended_row end) (λ r. kept_write.ended end r) s.ledger.rows row.place) refl refl refl refl refl old)
 have_counted place row told moment word s false f going apart old =
     let v : Stepped = settled told (left_live row.place s) in
     let end : RowEnd = row_end told s.ledger.entry moment (count_of v.tokens) in
@@ -202,10 +204,11 @@ more_reason plan owner rows x row place new old call (inl there) =
 more_reason plan owner rows x row place new old call (inr both) =
     subst (λ (k : ℕ). Reason plan owner (rows ++ x ∷ []) k row row.kind) (sym both.0) (subst (λ (r : Row). Reason plan owner (rows ++ x ∷ []) (length rows + 1) r r.kind) (sym both.1) new)
 
-have_more : (plan : CallPlan) (owner : ℕ) (rows : List Row) (x : Row) (a b : Attempts) → Reason plan owner (rows ++ x ∷ []) (length rows + 1) x x.kind → ((due : ℕ) → b.forced ≡ Some due → Forced plan owner (rows ++ x ∷ []) b.sent due) → ((moment : ℕ) → b.placed ≡ Some moment → IsPlacedThen owner (rows ++ x ∷ []) moment) → b.delayed ≡ a.delayed → HaveReasons plan owner rows a → HaveReasons plan owner (rows ++ x ∷ []) b
-have_more plan owner rows x a b new forced placed delayed old = record {
+have_more : (plan : CallPlan) (owner : ℕ) (rows : List Row) (x : Row) (a b : Attempts) → Reason plan owner (rows ++ x ∷ []) (length rows + 1) x x.kind → ((due : ℕ) → b.forced ≡ Some due → Forced plan owner (rows ++ x ∷ []) b.sent due) → ((place : ℕ) → b.newest ≡ Some place → IsAttemptAt owner (rows ++ x ∷ []) b.sent place) → ((moment : ℕ) → b.placed ≡ Some moment → IsPlacedThen owner (rows ++ x ∷ []) b.sent moment) → b.delayed ≡ a.delayed → HaveReasons plan owner rows a → HaveReasons plan owner (rows ++ x ∷ []) b
+have_more plan owner rows x a b new forced newest placed delayed old = record {
   rows = λ place row is. more_reason plan owner rows x row place new old.rows is.call (row_split rows x place row is.there);
   forced = forced;
+  newest = newest;
   placed = placed;
   delayed = subst (λ (k : ℕ). (k ≡ 0) ⊎ AskedDelay owner (rows ++ x ∷ []) k) (sym delayed) (none_or_asked owner rows (rows ++ x ∷ []) a.delayed (kept_more owner rows x) old.delayed);
 }
@@ -234,7 +237,7 @@ have_followed place row told moment s f found apart old =
     let one : IsStanding owner s.ledger.rows row = found_stands owner s.ledger.rows place s.call.live row apart.tied found in
     let has : HasEnded owner rows row.place = has_ended owner s.ledger.rows row end one in
     let mid : HaveReasons (call_plan s.call) owner rows s.call.attempts =
-    have_like (call_plan s.call) owner s.ledger.rows rows s.call.attempts s.call.attempts (all_changed_at IsKeptRow kept_write (ended_row end) (λ r. kept_write.ended end r) s.ledger.rows row.place) refl refl refl refl old in
+    have_like (call_plan s.call) owner s.ledger.rows rows s.call.attempts s.call.attempts (all_changed_at IsKeptRow kept_write (ended_row end) (λ r. kept_write.ended end r) s.ledger.rows row.place) refl refl refl refl refl old in
     let below : row.place ≤ length rows = row_below rows row.place has.row has.is.there in
     have_more (call_plan s.call) owner rows x s.call.attempts (step.followed row told moment (left_live row.place s)).call.attempts
     (record {
@@ -246,7 +249,8 @@ have_followed place row told moment s f found apart old =
       due = refl;
     })
     (λ due e. forced_plan (call_plan s.call) owner rows (rows ++ x ∷ []) s.call.attempts.sent due (kept_more owner rows x) (mid.forced due e))
-    (λ at e. placed_to owner rows (rows ++ x ∷ []) at (kept_more owner rows x) (mid.placed at e))
+    (λ p e. attempt_to owner rows (rows ++ x ∷ []) s.call.attempts.sent p (kept_more owner rows x) (mid.newest p e))
+    (λ at e. placed_to owner rows (rows ++ x ∷ []) s.call.attempts.sent at (kept_more owner rows x) (mid.placed at e))
     refl mid
 
 have_live : (place : ℕ) (row : LiveRow) (told : EndNews) (moment word : ℕ) (s : Stepped) (b : Bool) → is_followed s.call.attempts told.cause told.unseen ≡ b → find_live place s.call.live ≡ Some row → IsGoing s.call → IsApart s → HasReasons s → HasReasons (if b then step.followed row told moment (left_live row.place s) else step.counted row told moment word (settled told (left_live row.place s)))
@@ -271,6 +275,7 @@ have_chosen chosen moment s fresh going old = record {
       chosen_reason chosen.plan s.call.number s.ledger.rows place row row.kind
       (subst (λ (o : Option Chosen). Reason (plan_of o) s.call.number s.ledger.rows place row row.kind) fresh (old.rows place row is));
   forced = λ due e. forced_first chosen.plan s.call.number s.ledger.rows s.call.attempts.sent due (going.fresh fresh);
+  newest = old.newest;
   placed = old.placed;
   delayed = old.delayed;
 }
@@ -280,9 +285,25 @@ free_placed : (placed : Option Placed) → IsOnLink placed None → placed ≡ N
 free_placed None on = refl
 free_placed (Some at) on = absurd on
 
-placed_at_case : (b : Bool) (owner : ℕ) (rows after : List Row) (l : LiveRow) (at : Placed) (a : Attempts) (moment : ℕ) → AreKept owner rows after → (now : Row) → IsRowOf owner after l.place now → now.placed ≡ Some at → ((m : ℕ) → a.placed ≡ Some m → IsPlacedThen owner rows m) → (if b then Some at.moment else a.placed) ≡ Some moment → IsPlacedThen owner after moment
-placed_at_case true owner rows after l at a moment kept now is placed old e = record { place = l.place; row = now; is = is; at = at; placed = placed; moment = (cc) }
-placed_at_case false owner rows after l at a moment kept now is placed old e = placed_to owner rows after moment kept (old moment e)
+-- the row of the newest attempt
+newest_row : (owner : ℕ) (rows : List Row) (newest : Option ℕ) (sent place : ℕ) (row : Row) → names place newest ≡ true → ((p : ℕ) → newest ≡ Some p → IsAttemptAt owner rows sent p) → row_in rows place ≡ Some row → (row.number ≡ sent) × (is_transparent row.kind ≡ false)
+newest_row owner rows None sent place row e old there = absurd (cc)
+newest_row owner rows (Some p) sent place row e old there =
+    let same : p ≡ place = eqb-true p place e in
+    let mine : IsAttemptAt owner rows sent p = old p refl in
+    let both : Some mine.row ≡ Some row = sym (subst (λ (k : ℕ). row_in rows k ≡ Some mine.row) same mine.is.there) ∙ there in
+    let is : mine.row ≡ row = (cc) in
+    (subst (λ (r : Row). r.number ≡ sent) is mine.number, subst (λ (r : Row). is_transparent r.kind ≡ false) is mine.own)
+
+placed_at_case : (b : Bool) (owner : ℕ) (rows after : List Row) (l : LiveRow) (at : Placed) (a : Attempts) (moment : ℕ) → AreKept owner rows after → (now : Row) → IsRowOf owner after l.place now → now.placed ≡ Some at → (b ≡ true → (now.number ≡ a.sent) × (is_transparent now.kind ≡ false)) → ((m : ℕ) → a.placed ≡ Some m → IsPlacedThen owner rows a.sent m) → (if b then Some at.moment else a.placed) ≡ Some moment → IsPlacedThen owner after a.sent moment
+placed_at_case true owner rows after l at a moment kept now is placed mine old e = record {
+  place = l.place;
+  has = record { row = now; is = is; number = (mine refl).0; own = (mine refl).1 };
+  at = at;
+  placed = placed;
+  moment = (cc);
+}
+placed_at_case false owner rows after l at a moment kept now is placed mine old e = placed_to owner rows after a.sent moment kept (old moment e)
 
 have_placed : (place : ℕ) (row : LiveRow) (at : Placed) (s : Stepped) → find_live place s.call.live ≡ Some row → row.link ≡ None → IsApart s → HasReasons s → HasReasons (step.placed_row_live row at s)
 have_placed place row at s f free apart old =
@@ -295,10 +316,12 @@ have_placed place row at s f free apart old =
     record {
       rows = rows_like (call_plan s.call) owner s.ledger.rows after like old.rows;
       forced = λ due e. forced_plan (call_plan s.call) owner s.ledger.rows after s.call.attempts.sent due kept (old.forced due e);
+      newest = λ p e. attempt_to owner s.ledger.rows after s.call.attempts.sent p kept (old.newest p e);
       placed = λ moment e.
           placed_at_case (names row.place s.call.attempts.newest) owner s.ledger.rows after row at s.call.attempts moment kept (placed_row at one.row)
           (record { there = row_changed_same (placed_row at) s.ledger.rows row.place one.row one.there; call = one.call })
-          (ap (λ (o : Option Placed). stamped at o) none) old.placed e;
+          (ap (λ (o : Option Placed). stamped at o) none)
+          (λ h. newest_row owner s.ledger.rows s.call.attempts.newest s.call.attempts.sent row.place one.row h old.newest one.there) old.placed e;
       delayed = none_or_asked owner s.ledger.rows after s.call.attempts.delayed kept old.delayed;
     }
 
@@ -307,24 +330,25 @@ forced_order : (policy : HedgePolicy) (owner : ℕ) (rows : List Row) (due : ℕ
 forced_order policy owner rows due why =
     let below : why.place ≤ length rows = row_below rows why.place why.has.row why.has.is.there in record { why = why; order = (omega (arith, below)) }
 
-delayed_order : (policy : HedgePolicy) (owner : ℕ) (rows : List Row) (due : ℕ) → IsDelayed policy owner rows due → IsDelayedBefore policy owner rows (length rows + 1) due
-delayed_order policy owner rows due why =
-    let below : why.placed.place ≤ length rows = row_below rows why.placed.place why.placed.row why.placed.is.there in record { why = why; order = (omega (arith, below)) }
+delayed_order : (policy : HedgePolicy) (owner : ℕ) (rows : List Row) (attempt number due : ℕ) → number ≡ attempt + 1 → IsDelayed policy owner rows attempt due → IsDelayedBefore policy owner rows (length rows + 1) number due
+delayed_order policy owner rows attempt number due next why =
+    let below : why.placed.place ≤ length rows = row_below rows why.placed.place why.placed.has.row why.placed.has.is.there in
+    record { attempt = attempt; next = next; why = why; order = (omega (arith, below)) }
 
 retry_order : (policy : RetryPolicy) (owner : ℕ) (rows : List Row) (attempt : ℕ) (x : Row) → x.number ≡ attempt + 1 → IsRetryDue policy owner rows attempt x.due → IsRetryReason policy owner rows (length rows + 1) x
 retry_order policy owner rows attempt x number why =
     let below : why.place ≤ length rows = row_below rows why.place why.has.row why.has.is.there in
     record { attempt = attempt; number = number; why = why; order = (omega (arith, below)) }
 
-abbrev IsHedgeDue : HedgePolicy → ℕ → List Row → ℕ → Type 0
-IsHedgeDue policy owner rows due = IsForcedBefore policy owner rows (length rows + 1) due ⊎ IsDelayedBefore policy owner rows (length rows + 1) due
+abbrev IsHedgeDue : HedgePolicy → ℕ → List Row → ℕ → ℕ → Type 0
+IsHedgeDue policy owner rows number due = IsForcedBefore policy owner rows (length rows + 1) due ⊎ IsDelayedBefore policy owner rows (length rows + 1) number due
 
-hedge_due_by : (policy : HedgePolicy) (owner : ℕ) (rows : List Row) (a : Attempts) (due : ℕ) (over : Bool) (forced placed : Option ℕ) → ((d : ℕ) → forced ≡ Some d → IsForcedThen policy owner rows d) → ((m : ℕ) → placed ≡ Some m → IsPlacedThen owner rows m) → (if over then None else option_map_or (λ f. Some f) forced (option_map (λ p. p + policy.delay) placed)) ≡ Some due → IsHedgeDue policy owner rows due
-hedge_due_by policy owner rows a due true forced placed f p e = absurd (cc)
-hedge_due_by policy owner rows a due false (Some d) placed f p e = inl (forced_order policy owner rows due (f due e))
-hedge_due_by policy owner rows a due false None None f p e = absurd (cc)
-hedge_due_by policy owner rows a due false None (Some m) f p e =
-    inr (delayed_order policy owner rows due (record { since = m; placed = p m refl; due = (let same : m + policy.delay ≡ due = (cc) in sym same) }))
+hedge_due_by : (policy : HedgePolicy) (owner : ℕ) (rows : List Row) (a : Attempts) (number due : ℕ) (over : Bool) (forced placed : Option ℕ) → number ≡ a.sent + 1 → ((d : ℕ) → forced ≡ Some d → IsForcedThen policy owner rows d) → ((m : ℕ) → placed ≡ Some m → IsPlacedThen owner rows a.sent m) → (if over then None else option_map_or (λ f. Some f) forced (option_map (λ p. p + policy.delay) placed)) ≡ Some due → IsHedgeDue policy owner rows number due
+hedge_due_by policy owner rows a number due true forced placed next f p e = absurd (cc)
+hedge_due_by policy owner rows a number due false (Some d) placed next f p e = inl (forced_order policy owner rows due (f due e))
+hedge_due_by policy owner rows a number due false None None next f p e = absurd (cc)
+hedge_due_by policy owner rows a number due false None (Some m) next f p e =
+    inr (delayed_order policy owner rows a.sent number due next (record { since = m; placed = p m refl; due = (let same : m + policy.delay ≡ due = (cc) in sym same) }))
 
 forced_some : (policy : HedgePolicy) (owner : ℕ) (rows : List Row) (sent due : ℕ) → (sent ≡ 0 → ⊥) → (sent ≡ 0) ⊎ IsForcedThen policy owner rows due → IsForcedThen policy owner rows due
 forced_some policy owner rows sent due some (inl e) = absurd (some e)
@@ -334,10 +358,10 @@ retry_some : (policy : RetryPolicy) (owner : ℕ) (rows : List Row) (sent due : 
 retry_some policy owner rows sent due some (inl e) = absurd (some e)
 retry_some policy owner rows sent due some (inr retry) = retry
 
-hedge_made : (policy : HedgePolicy) (owner : ℕ) (rows : List Row) (a : Attempts) (due : ℕ) (b : Bool) → (a.sent == 0) ≡ b → b ≡ false → HaveReasons (plans.Hedge policy) owner rows a → (a.sent ≡ 0 → ⊥) → (if b then next_forced policy.max a else hedging.next_due policy (hedge_of a)) ≡ Some due → IsHedgeDue policy owner rows due
-hedge_made policy owner rows a due true t off old some e = absurd (let bad : true ≡ false = off in cc)
-hedge_made policy owner rows a due false t off old some e =
-    hedge_due_by policy owner rows a due (is_over policy (hedge_of a)) a.forced a.placed (λ d h. forced_some policy owner rows a.sent d some (old.forced d h)) old.placed e
+hedge_made : (policy : HedgePolicy) (owner : ℕ) (rows : List Row) (a : Attempts) (number due : ℕ) (b : Bool) → number ≡ a.sent + 1 → (a.sent == 0) ≡ b → b ≡ false → HaveReasons (plans.Hedge policy) owner rows a → (a.sent ≡ 0 → ⊥) → (if b then next_forced policy.max a else hedging.next_due policy (hedge_of a)) ≡ Some due → IsHedgeDue policy owner rows number due
+hedge_made policy owner rows a number due true next t off old some e = absurd (let bad : true ≡ false = off in cc)
+hedge_made policy owner rows a number due false next t off old some e =
+    hedge_due_by policy owner rows a number due (is_over policy (hedge_of a)) a.forced a.placed next (λ d h. forced_some policy owner rows a.sent d some (old.forced d h)) old.placed e
 
 made_reason : (plan : CallPlan) (owner : ℕ) (rows : List Row) (a : Attempts) (x : Row) (b : Bool) → (a.sent == 0) ≡ b → x.number ≡ a.sent + 1 → next_of_plan plan a ≡ Some x.due → HaveReasons plan owner rows a → (b ≡ false → a.sent ≡ 0 → ⊥) → Reason plan owner rows (length rows + 1) x (if b then kind.First else later_kind plan)
 made_reason plan owner rows a x true t number e old some = tt
@@ -345,7 +369,7 @@ made_reason plans.None owner rows a x false t number e old some = absurd (some r
 made_reason (plans.Retry policy) owner rows a x false t number e old some =
     retry_order policy owner rows a.sent x number (retry_some policy owner rows a.sent x.due (some refl) (old.forced x.due (due_forced (plans.Retry policy) a x.due refl e)))
 made_reason (plans.Hedge policy) owner rows a x false t number e old some =
-    hedge_made policy owner rows a x.due (a.sent == 0) refl t old (some refl) e
+    hedge_made policy owner rows a x.number x.due (a.sent == 0) number refl t old (some refl) e
 
 test_some : (n : ℕ) (b : Bool) → (n == 0) ≡ b → b ≡ false → n ≡ 0 → ⊥
 test_some n b t e none = let bad : true ≡ false = sym (eq-eqb n 0 none) ∙ t ∙ e in (cc)
@@ -362,7 +386,12 @@ have_made due s e numbered old =
     have_more plan owner s.ledger.rows x a (step.made due s).call.attempts
     (reason_of plan owner s.ledger.rows (s.ledger.rows ++ x ∷ []) (length s.ledger.rows + 1) x x (kind_of_next plan a) (kept_more owner s.ledger.rows x) (kept_write.same x)
     (made_reason plan owner s.ledger.rows a x (a.sent == 0) refl (min-eq_left small) e old (test_some a.sent (a.sent == 0) refl)))
-    (λ d h. absurd (cc)) (λ m h. absurd (cc)) refl old
+    (λ d h. absurd (cc))
+    (λ p h.
+    let same : length s.ledger.rows + 1 ≡ p = (cc) in
+    subst (λ (k : ℕ). IsAttemptAt owner (s.ledger.rows ++ x ∷ []) (step.made due s).call.attempts.sent k) same
+    (record { row = x; is = record { there = row_last s.ledger.rows x; call = refl }; number = refl; own = not_transparent plan (a.sent == 0) }))
+    (λ m h. absurd (cc)) refl old
 
 have_by_last : (last : Option ℕ) (moment : ℕ) (s : Stepped) → HasReasons s → HasReasons (step.ended_by_last last moment s)
 have_by_last None moment s old = old
@@ -370,7 +399,7 @@ have_by_last (Some last) moment s old =
     elim (has_none s.call.live) as (λ b. HasReasons (if b then step.ended_by_row last moment s else s)) [ true ↦ have_by_row last moment s old | false ↦ old ]
 
 have_stopped : (s : Stepped) → HasReasons s → HasReasons (step.with_attempts (stopped_attempts s.call.attempts) s)
-have_stopped s old = record { rows = old.rows; forced = old.forced; placed = old.placed; delayed = old.delayed }
+have_stopped s old = record { rows = old.rows; forced = old.forced; newest = old.newest; placed = old.placed; delayed = old.delayed }
 
 have_head : (place : ℕ) (meta : List Field) (moment : ℕ) (s : Stepped) (b : Bool) → HasReasons s → HasReasons (step.with_head meta (if b then s else step.committed place moment (record s { call = record s.call { buffer = committed_buffer place s.call.buffer } })))
 have_head place meta moment s true old = old
@@ -409,6 +438,7 @@ pub reasons_new : (number : ℕ) (request : RequestSeen) (begun : ℕ) (ledger :
 reasons_new number request begun ledger tokens acts fresh = record {
   rows = λ place row is. absurd (fresh place row is.there is.call);
   forced = λ due e. absurd (cc);
+  newest = λ place e. absurd (cc);
   placed = λ moment e. absurd (cc);
   delayed = inl refl;
 }
@@ -420,6 +450,7 @@ reasons_elsewhere s ledger keeps old = record {
       let was : WasKeptAt s.call.number s.ledger.rows place row = keeps.back place row is in
       reason_to (call_plan s.call) s.call.number s.ledger.rows ledger.rows place was.row row keeps.there was.kept (old.rows place was.row was.is);
   forced = λ due e. forced_plan (call_plan s.call) s.call.number s.ledger.rows ledger.rows s.call.attempts.sent due keeps.there (old.forced due e);
-  placed = λ moment e. placed_to s.call.number s.ledger.rows ledger.rows moment keeps.there (old.placed moment e);
+  newest = λ place e. attempt_to s.call.number s.ledger.rows ledger.rows s.call.attempts.sent place keeps.there (old.newest place e);
+  placed = λ moment e. placed_to s.call.number s.ledger.rows ledger.rows s.call.attempts.sent moment keeps.there (old.placed moment e);
   delayed = none_or_asked s.call.number s.ledger.rows ledger.rows s.call.attempts.delayed keeps.there old.delayed;
 }

@@ -391,16 +391,16 @@ placed_makes policy due row at e d =
     ap (λ (b : Bool). b || end_makes_due due row)
     (ap (λ (o : Option Placed). option_map_or (λ p. due == p.moment + policy.delay) o false) e ∙ eq-eqb due (at.moment + policy.delay) d)
 
-due_before : (policy : HedgePolicy) (owner : ℕ) (rows before : List Row) (row : Row) (after : List Row) (split : IsSplit owner rows before row after) → IsForcedBefore policy owner rows (split_place split.pre) row.due ⊎ IsDelayedBefore policy owner rows (split_place split.pre) row.due → list_any (makes_due policy row.due) before ≡ true
+due_before : (policy : HedgePolicy) (owner : ℕ) (rows before : List Row) (row : Row) (after : List Row) (split : IsSplit owner rows before row after) → IsForcedBefore policy owner rows (split_place split.pre) row.due ⊎ IsDelayedBefore policy owner rows (split_place split.pre) row.number row.due → list_any (makes_due policy row.due) before ≡ true
 due_before policy owner rows before row after split (inl forced) =
     any_before (makes_due policy row.due) owner rows before row after split forced.why.place forced.why.has.row forced.why.has.is forced.order
     (ended_makes policy row.due forced.why.has.row forced.why.has.end forced.why.has.ended forced.why.due)
 due_before policy owner rows before row after split (inr delayed) =
-    any_before (makes_due policy row.due) owner rows before row after split delayed.why.placed.place delayed.why.placed.row delayed.why.placed.is delayed.order
-    (placed_makes policy row.due delayed.why.placed.row delayed.why.placed.at delayed.why.placed.placed
+    any_before (makes_due policy row.due) owner rows before row after split delayed.why.placed.place delayed.why.placed.has.row delayed.why.placed.has.is delayed.order
+    (placed_makes policy row.due delayed.why.placed.has.row delayed.why.placed.at delayed.why.placed.placed
     (delayed.why.due ∙ ap (λ (k : ℕ). k + policy.delay) (sym delayed.why.placed.moment)))
 
-hedge_reason : (plan : CallPlan) (policy : HedgePolicy) (owner : ℕ) (rows : List Row) (place : ℕ) (row : Row) (why : RowKind) → plan ≡ plans.Hedge policy → why ≡ kind.Hedge → Reason plan owner rows place row why → IsForcedBefore policy owner rows place row.due ⊎ IsDelayedBefore policy owner rows place row.due
+hedge_reason : (plan : CallPlan) (policy : HedgePolicy) (owner : ℕ) (rows : List Row) (place : ℕ) (row : Row) (why : RowKind) → plan ≡ plans.Hedge policy → why ≡ kind.Hedge → Reason plan owner rows place row why → IsForcedBefore policy owner rows place row.due ⊎ IsDelayedBefore policy owner rows place row.number row.due
 hedge_reason plan policy owner rows place row why p k reason =
     subst (λ (x : CallPlan). Reason x owner rows place row kind.Hedge) p (subst (λ (x : RowKind). Reason plan owner rows place row x) k reason)
 

@@ -1,4 +1,5 @@
 pub mod Commitments
+pub mod Dues
 pub mod Following
 pub mod Going
 pub mod Holding

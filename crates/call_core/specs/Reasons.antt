@@ -1,12 +1,13 @@
 -- Why each attempt of a call was made, as its rows show it: every row but the first attempt stands after a row that made it due (gRFC
 -- A6, "Retry Policy", "Hedging Policy", "Pushback" and "Transparent Retries").
-use Rattle.std.specs.Prelude.{◌≡◌, ◌<◌, ◌⊎◌, ℕ, ◌+◌, ◌-◌, true, Option, Some, None, is_some, max, List}
+use Rattle.std.specs.Prelude.{◌≡◌, ◌<◌, ◌⊎◌, ℕ, ◌+◌, ◌-◌, true, false, Option, Some, None, is_some, max, List}
 use Rattle.grpc_base.specs.Codes.{has_code}
 use Rattle.grpc_base.specs.declared.plan.CallPlan.{CallPlan}
 use Rattle.grpc_base.specs.declared.plan.CallPlan.TheVariants as plans
 use Rattle.grpc_base.specs.declared.plan.HedgePolicy.{HedgePolicy}
 use Rattle.grpc_base.specs.declared.plan.RetryPolicy.{RetryPolicy}
 use Rattle.attempt_ledger.specs.Ends.{delay_of}
+use Rattle.attempt_ledger.specs.Numbering.{is_transparent}
 use Rattle.attempt_ledger.specs.TransparentRows.{is_by_peer, is_unsent}
 use Rattle.attempt_ledger.specs.declared.row.Placed.{Placed}
 use Rattle.attempt_ledger.specs.declared.row.Row.{Row}
@@ -50,13 +51,20 @@ pub record IsRetryDue (policy : RetryPolicy) (owner : ℕ) (rows : List Row) (at
   pub drawn : delay_of has.end.pushback ≡ None → has.end.word ≡ Some word
   pub due : moment ≡ retry_due policy (max (attempt - asked) 1) has.end word
 
--- a hedge is due at this moment: after the policy's delay since a row was placed, or by the end of a row with one of the policy's codes
-pub record IsPlacedThen (owner : ℕ) (rows : List Row) (time : ℕ) : Type 0 where
-  pub place : ℕ
+-- the attempt of this number, and no transparent retry of it, stands at this place
+pub record IsAttemptAt (owner : ℕ) (rows : List Row) (attempt place : ℕ) : Type 0 where
   pub row : Row
   pub is : IsRowOf owner rows place row
+  pub number : row.number ≡ attempt
+  pub own : is_transparent row.kind ≡ false
+
+-- a hedge is due at this moment: after the policy's delay since the row of the attempt before it was placed, or by the end of a row with
+-- one of the policy's codes
+pub record IsPlacedThen (owner : ℕ) (rows : List Row) (attempt time : ℕ) : Type 0 where
+  pub place : ℕ
+  pub has : IsAttemptAt owner rows attempt place
   pub at : Placed
-  pub placed : row.placed ≡ Some at
+  pub placed : has.row.placed ≡ Some at
   pub moment : at.moment ≡ time
 
 pub record IsForcedThen (policy : HedgePolicy) (owner : ℕ) (rows : List Row) (moment : ℕ) : Type 0 where
@@ -65,9 +73,9 @@ pub record IsForcedThen (policy : HedgePolicy) (owner : ℕ) (rows : List Row) (
   pub in_set : has_code policy.codes has.end.code ≡ true
   pub due : moment ≡ forced_by has.end
 
-pub record IsDelayed (policy : HedgePolicy) (owner : ℕ) (rows : List Row) (moment : ℕ) : Type 0 where
+pub record IsDelayed (policy : HedgePolicy) (owner : ℕ) (rows : List Row) (attempt moment : ℕ) : Type 0 where
   pub since : ℕ
-  pub placed : IsPlacedThen owner rows since
+  pub placed : IsPlacedThen owner rows attempt since
   pub due : moment ≡ since + policy.delay
 
 -- the same of a row at a place, by a row before it
@@ -81,8 +89,10 @@ pub record IsForcedBefore (policy : HedgePolicy) (owner : ℕ) (rows : List Row)
   pub why : IsForcedThen policy owner rows moment
   pub order : why.place < place
 
-pub record IsDelayedBefore (policy : HedgePolicy) (owner : ℕ) (rows : List Row) (place moment : ℕ) : Type 0 where
-  pub why : IsDelayed policy owner rows moment
+pub record IsDelayedBefore (policy : HedgePolicy) (owner : ℕ) (rows : List Row) (place number moment : ℕ) : Type 0 where
+  pub attempt : ℕ
+  pub next : number ≡ attempt + 1
+  pub why : IsDelayed policy owner rows attempt moment
   pub order : why.placed.place < place
 
 -- a transparent retry follows an attempt of its number: one that never left the client, or one that the server can't have seen; and is
@@ -101,7 +111,7 @@ RetryReason (plans.Retry policy) owner rows place row = IsRetryReason policy own
 RetryReason _ owner rows place row = ⊥
 
 abbrev pub HedgeReason : CallPlan → ℕ → List Row → ℕ → Row → Type 0
-HedgeReason (plans.Hedge policy) owner rows place row = IsForcedBefore policy owner rows place row.due ⊎ IsDelayedBefore policy owner rows place row.due
+HedgeReason (plans.Hedge policy) owner rows place row = IsForcedBefore policy owner rows place row.due ⊎ IsDelayedBefore policy owner rows place row.number row.due
 HedgeReason _ owner rows place row = ⊥
 
 abbrev pub Reason : CallPlan → ℕ → List Row → ℕ → Row → RowKind → Type 0
@@ -119,10 +129,11 @@ Forced (plans.Hedge policy) owner rows sent due = (sent ≡ 0) ⊎ IsForcedThen 
 pub record HaveReasons (plan : CallPlan) (owner : ℕ) (list : List Row) (a : Attempts) : Type 0 where
   -- the law: each row of the call has its reason
   pub rows : (place : ℕ) (row : Row) → IsRowOf owner list place row → Reason plan owner list place row row.kind
-  -- what the call keeps for it: why an attempt is forced, when the newest one was placed, and after which one the server last asked
-  -- for a delay
+  -- what the call keeps for it: why an attempt is forced, which is the newest one and when it was placed, and after which one the
+  -- server last asked for a delay
   pub forced : (due : ℕ) → a.forced ≡ Some due → Forced plan owner list a.sent due
-  pub placed : (moment : ℕ) → a.placed ≡ Some moment → IsPlacedThen owner list moment
+  pub newest : (place : ℕ) → a.newest ≡ Some place → IsAttemptAt owner list a.sent place
+  pub placed : (moment : ℕ) → a.placed ≡ Some moment → IsPlacedThen owner list a.sent moment
   pub delayed : (a.delayed ≡ 0) ⊎ AskedDelay owner list a.delayed
 
 abbrev pub HasReasons : Stepped → Type 0

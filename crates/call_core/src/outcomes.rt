@@ -1,11 +1,13 @@
 // How a call goes on, and how it comes out, whatever was done to it.
-ghost use Rattle.std.specs.Prelude.{◌≡◌, ◌≤◌, ◌<◌, ℕ, true, false, Option, None, Some, is_some, List, ◌∷◌, length};
+ghost use Rattle.std.specs.Prelude.{◌≡◌, ◌≤◌, ◌<◌, ◌+◌, ◌==◌, ℕ, true, false, Option, None, Some, is_some, List, ◌∷◌, length};
 ghost use Rattle.grpc_base.specs.Requests.{RequestSeen};
 ghost use Rattle.grpc_base.specs.declared.event.EndCause.{EndCause};
 ghost use Rattle.grpc_base.specs.declared.event.EndCause.TheVariants as ends;
 ghost use Rattle.grpc_base.specs.declared.event.Reply.TheVariants as reply;
 ghost use Rattle.grpc_base.specs.declared.fields.Field.{Field};
+ghost use Rattle.grpc_base.specs.declared.plan.CallPlan.TheVariants as plans;
 ghost use Rattle.grpc_base.specs.declared.plan.Chosen.{Chosen};
+ghost use Rattle.grpc_base.specs.declared.plan.HedgePolicy.{HedgePolicy};
 ghost use Rattle.attempt_ledger.specs.Ends.{is_cut};
 ghost use Rattle.attempt_ledger.specs.Numbering.{most_attempts};
 ghost use Rattle.attempt_ledger.specs.declared.ledger.Ledger.{Ledger};
@@ -19,6 +21,7 @@ ghost use Rattle.call_core.specs.declared.act.CallAct.{CallAct};
 ghost use Rattle.call_core.specs.declared.live.LiveRow.{LiveRow};
 ghost use Rattle.call_core.specs.declared.state.CallState.{CallState};
 ghost use Rattle.call_core.specs.Commitments.{IsCommittedOnce, KeepsCommitments};
+ghost use Rattle.call_core.specs.Dues.{due_after_placing, is_forbidden};
 ghost use Rattle.call_core.specs.Following.{IsRetried, is_retried};
 ghost use Rattle.call_core.specs.Going.{IsGoing};
 ghost use Rattle.call_core.specs.Holding.{HoldsTokens};
@@ -27,10 +30,10 @@ ghost use Rattle.call_core.specs.Laws.{IsKept, came, message_items, waiting};
 ghost use Rattle.call_core.specs.Numbering.{IsNumbered};
 ghost use Rattle.call_core.specs.Orders.{AreTimed, IsFair, KeepsTimes};
 ghost use Rattle.call_core.specs.Outstanding.{AreHeld, AreOverBut};
-ghost use Rattle.call_core.specs.Parts.{count_of, find_live, is_by_row};
+ghost use Rattle.call_core.specs.Parts.{count_of, find_live, is_by_row, is_followed, is_too_long, names};
 ghost use Rattle.call_core.specs.Reasons.{HasReasons, KeepsReasons};
 ghost use Rattle.call_core.specs.Rows.{IsApart, IsTied, KeepsRows, row_in};
-ghost use Rattle.call_core.specs.Steps.{Stepped, closed_by, configured, deadline_at, ended_at, fed_row, finished, heard_head, heard_news, lent, made_due, new_call, pick_failed, placed_at, send_refusal, sent, taken, timed_out};
+ghost use Rattle.call_core.specs.Steps.{Stepped, call_plan, closed_by, committed, configured, deadline_at, ended_as, ended_at, fed_row, finished, heard_head, heard_news, lent, made_due, new_call, next_due, pick_failed, placed_at, send_refusal, sent, taken, timed_out};
 ghost use Rattle.call_core.specs.Stopping.{IsStopped};
 
 /// A law for proofs: no call that runs stands still. A row of it is queued or outstanding, or an attempt is due; and a call that
@@ -169,4 +172,19 @@ pub fn takes_leave_rows()
     ensures finished { (call : CallState) → IsSameCall call (finished call) }
     ensures taken { (call : CallState) → IsSameCall call (taken call) }
     ensures going { (old new : CallState) → IsSameCall old new → IsGoing old → IsGoing new }
+{}
+
+/// A law for proofs: when the next attempt of a call is due, after each thing that decides it. The first one is due at the
+/// configuration; after a making none is, nor after the tokens forbade one, a commitment and the end of the call; the hedging delay counts
+/// from the placing of the newest attempt's own row; and an end that a transparent retry follows changes nothing. What the other ends
+/// mean is said by `retries_follow_their_license` and `hedges_follow_their_policy`. The call does nothing.
+pub fn due_moments_follow_each_step()
+    ensures configured { (chosen : Chosen) (moment : ℕ) (s : Stepped) → IsNumbered s → 1 ≤ most_attempts chosen.plan → s.call.ended ≡ None → s.call.chosen ≡ None → is_too_long (Some chosen) s.call.longest ≡ false → next_due (configured chosen moment s).call ≡ Some moment }
+    ensures made { (moment due : ℕ) (s : Stepped) → next_due s.call ≡ Some due → due ≤ moment → next_due (made_due moment s).call ≡ None }
+    ensures newest { (moment due : ℕ) (s : Stepped) → next_due s.call ≡ Some due → due ≤ moment → is_forbidden s ≡ false → (made_due moment s).call.attempts.newest ≡ Some (length s.ledger.rows + 1) }
+    ensures placed { (policy : HedgePolicy) (place : ℕ) (row : LiveRow) (at : Placed) (s : Stepped) → call_plan s.call ≡ plans.Hedge policy → find_live place s.call.live ≡ Some row → row.link ≡ None → names row.place s.call.attempts.newest ≡ true → (s.call.attempts.sent == 0) ≡ false → next_due (placed_at place at s).call ≡ due_after_placing policy at.moment s.call.attempts }
+    ensures other { (place : ℕ) (row : LiveRow) (at : Placed) (s : Stepped) → find_live place s.call.live ≡ Some row → row.link ≡ None → names row.place s.call.attempts.newest ≡ false → next_due (placed_at place at s).call ≡ next_due s.call }
+    ensures followed { (place : ℕ) (row : LiveRow) (told : EndNews) (moment word : ℕ) (s : Stepped) → find_live place s.call.live ≡ Some row → is_followed s.call.attempts told.cause told.unseen ≡ true → next_due (ended_at place told moment word s).call ≡ next_due s.call }
+    ensures committed { (place moment : ℕ) (s : Stepped) → next_due (committed place moment s).call ≡ None }
+    ensures ended { (why : EndCause) (moment : ℕ) (s : Stepped) → next_due (ended_as why moment s).call ≡ None }
 {}

@@ -1,114 +1,121 @@
-// What a call sends, and its ends by the channel.
-use crate::desk::{Step, go, hedges, make_desk};
-use bytes::BytesMut;
-use grpc_base::{CallPlan, Duration, EndCause};
-use std::process::Abort;
+// What a call sends. Each message stands behind a prefix of five bytes.
+use crate::tables::first_wrong;
 use std::test::Fail;
+
+const OVERFLOW: &str = "# hedge 3 0 messages that overflow commit to the row that was sent furthest
+0 config request 262144 = done / 10000
+0 begin = call 1 / - 10000
+0 send 1 262139 = done / - 10000
+0 send 1 0 = full 262144 / - 10000
+0 configure 1 = done / 0 10000
+0 due 1 = done, queue 1 / - 10000 made
+0 send 1 0 = full 262144 / - 10000 made
+0 place 1 = done / 0 10000 open
+0 due 1 = done, queue 2 / - 10000 open made
+0 place 2 = done / 0 10000 open open
+0 due 1 = done, queue 3 / - 10000 open open made
+0 feed 1 100 = fed 100, 262044 left, more / - 10000 open open made
+0 feed 2 101 = fed 101, 262043 left, more / - 10000 open open made
+0 feed 2 262044 = fed 0, 262043 left, more / - 10000 open open made
+0 feed 3 1 = fed 0, 0 left, more / - 10000 open open made
+0 send 1 0 = done, cut 1, drop 3 / - 10000 cut open* made
+0 send 1 0 = full 262048 / - 10000 cut open* made
+0 feed 2 196513 = fed 196513, 65535 left, more / - 10000 cut open* made
+0 send 1 0 = done / - 10000 cut open* made
+0 send 1 0 = full 65540 / - 10000 cut open* made
+0 finish 1 = done / - 10000 cut open* made
+0 feed 2 65540 = fed 65540, 0 left / - 10000 cut open* made
+# hedge 3 0 of equal rows to the first, and what follows an attempt that was never sent is committed
+0 config request 262144 = done / 10000
+0 begin = call 1 / - 10000
+0 send 1 262139 = done / - 10000
+0 configure 1 = done / 0 10000
+0 due 1 = done, queue 1 / - 10000 made
+0 place 1 = done / 0 10000 open
+0 due 1 = done, queue 2 / - 10000 open made
+0 place 2 = done / 0 10000 open open
+0 send 1 0 = done, cut 2 / - 10000 open* cut
+0 send 1 0 = full 262149 / - 10000 open* cut
+1 unsent 1 = done, queue 3 / - 10000 14* cut made*
+1 place 3 = done / - 10000 14* cut open*
+1 feed 3 6 = fed 6, 262143 left, more / - 10000 14* cut open*
+2 refused 3 = done, end row / - 9000 14* cut 14*
+2 take 1 = end 14 row / - 9000 14* cut 14*";
+
+const ROOM: &str = "# none a committed call takes messages until 65,536 bytes wait
+0 config request 262144 = done / 10000
+0 begin = call 1 / - 10000
+0 configure 1 = done / 0 10000
+0 due 1 = done, queue 1 / - 10000 made
+0 place 1 = done / - 10000 open
+0 head 1 = done / - 10000 open*
+0 send 1 65530 = done / - 10000 open*
+0 send 1 0 = done / - 10000 open*
+0 send 1 0 = full 65540 / - 10000 open*
+0 feed 1 4 = fed 4, 65536 left, more / - 10000 open*
+0 send 1 0 = full 65536 / - 10000 open*
+0 feed 1 1 = fed 1, 65535 left, more / - 10000 open*
+0 send 1 0 = done / - 10000 open*
+# none a byte more
+0 config request 262144 = done / 10000
+0 begin = call 1 / - 10000
+0 configure 1 = done / 0 10000
+0 due 1 = done, queue 1 / - 10000 made
+0 place 1 = done / - 10000 open
+0 head 1 = done / - 10000 open*
+0 send 1 65531 = done / - 10000 open*
+0 send 1 0 = full 65536 / - 10000 open*
+# retry 3 a retry sends all anew
+0 begin = call 1 / - 10000
+0 send 1 3 = done / - 10000
+0 configure 1 = done / 0 10000
+0 due 1 = done, queue 1 / - 10000 made
+0 place 1 = done / - 10000 open
+0 feed 1 6 = fed 6, 2 left, more / - 10000 open
+0 status 1 14 = done / 100000000 9000 14
+0 finish 1 = done / 100000000 9000 14
+100000000 due 1 = done, queue 2 / - 9000 14 made
+100000000 place 2 = done / - 9000 14 open
+100000000 feed 1 1 = fed 0, 0 left / - 9000 14 open
+100000000 feed 2 8 = fed 8, 0 left / - 9000 14 open";
+
+const LIMITS: &str = "# none a limit that comes late
+0 begin = call 1 / - 10000
+0 send 1 1001 = done / - 10000
+0 configure 1 = done, end request / - 10000
+0 configure 1 = done / - 10000
+0 due 1 = done / - 10000
+0 take 1 = end 8 request / - 10000
+# none a message of the limit, and a byte more
+0 begin = call 1 / - 10000
+0 send 1 1000 = done / - 10000
+0 configure 1 = done / 0 10000
+0 due 1 = done, queue 1 / - 10000 made
+0 place 1 = done / - 10000 open
+0 send 1 1000 = done / - 10000 open
+0 send 1 1001 = done, cut 1, end request / - 10000 cut
+0 take 1 = end 8 request / - 10000 cut
+# none a later config is none of a call that has its own
+0 begin = call 1 / - 10000
+0 configure 1 = done / 0 10000
+0 config request 5 = done / 0 10000
+1 configure 1 = done / 0 10000
+1 send 1 6 = done / 0 10000";
 
 #[test]
 fn messages_overflow(rt: HostRuntime) -> Result<(), Fail> {
-    let mut desk = make_desk(&rt, rt.alloc(), hedges(&rt, 3, 0), 262_144)?;
-    let lines = [
-        (0, Step::Send(262_139), "done", None),
-        (0, Step::Send(0), "full 262144", None),
-        (0, Step::Configure, "done", Some(0)),
-        (0, Step::Due, "done, queue 1", None),
-        (0, Step::Send(0), "full 262144", None),
-        (0, Step::Place(1), "done", Some(0)),
-        (0, Step::Due, "done, queue 2", None),
-        (0, Step::Place(2), "done", Some(0)),
-        (0, Step::Due, "done, queue 3", None),
-        (0, Step::Send(0), "done, cut 2, drop 3", None),
-        (0, Step::Send(0), "full 262149", None),
-        (1, Step::Unsent(1), "done, queue 4", None),
-        (1, Step::Place(4), "done", None),
-        (1, Step::Finish, "done", None),
-        (1, Step::Finish, "refused 3", None),
-        (2, Step::Head(4), "done", None),
-        (2, Step::Cancel, "done, cut 4, end cancelled", None),
-        (2, Step::Cancel, "refused 2", None),
-        (2, Step::Take, "head", None),
-        (2, Step::Take, "end 1 cancelled", None),
-    ];
-    go(&rt, &mut desk, &lines)
-}
-
-#[test]
-fn ends_by_the_channel(rt: HostRuntime) -> Result<(), Fail> {
-    let rows = [
-        (
-            Step::Close(EndCause::NoConfig),
-            "done, drop 1, end noconfig",
-            "end 14 noconfig",
-        ),
-        (
-            Step::Close(EndCause::Shut),
-            "done, drop 1, end shut",
-            "end 14 shut",
-        ),
-        (
-            Step::Send(101),
-            "done, drop 1, end request",
-            "end 8 request",
-        ),
-        (
-            Step::Deadline,
-            "done, drop 1, end deadline",
-            "end 4 deadline",
-        ),
-    ];
-    for (step, want, end) in rows {
-        let mut desk = make_desk(&rt, rt.alloc(), CallPlan::None, 100)?;
-        let lines = [
-            (0, Step::Configure, "done", Some(0)),
-            (0, Step::Due, "done, queue 1", None),
-            (9_999_999_999, Step::Deadline, "done", None),
-            (10_000_000_000, step, want, None),
-            (10_000_000_000, Step::Send(1), "refused 2", None),
-            (10_000_000_000, Step::Take, end, None),
-        ];
-        go(&rt, &mut desk, &lines)?;
-    }
+    assert_eq!(rt; first_wrong(rt.alloc(), OVERFLOW)?.as_str(), "");
     Ok(())
 }
 
 #[test]
-fn a_late_limit(rt: HostRuntime) -> Result<(), Fail> {
-    let mut desk = make_desk(&rt, rt.alloc(), CallPlan::None, 100)?;
-    let lines = [
-        (0, Step::Send(101), "done", None),
-        (0, Step::Configure, "done, end request", None),
-        (0, Step::Configure, "done", None),
-    ];
-    go(&rt, &mut desk, &lines)
+fn messages_find_room(rt: HostRuntime) -> Result<(), Fail> {
+    assert_eq!(rt; first_wrong(rt.alloc(), ROOM)?.as_str(), "");
+    Ok(())
 }
 
 #[test]
-fn what_a_call_tells(rt: HostRuntime) -> Result<(), Fail> {
-    let alloc = rt.alloc();
-    let mut desk = make_desk(&rt, alloc, CallPlan::None, 100)?;
-    desk.chosen.wait = Some(true);
-    desk.chosen.timeout = Duration::new(7);
-    assert!(rt; !desk.call.waits() && desk.call.chosen().is_none());
-    assert_eq!(rt; desk.call.deadline_at(), Some(10_000_000_000));
-    let lines = [
-        (3, Step::Send(3), "done", None),
-        (3, Step::Configure, "done", Some(3)),
-        (3, Step::Due, "done, queue 1", None),
-        (3, Step::Place(1), "done", None),
-        (3, Step::Finish, "done", None),
-    ];
-    go(&rt, &mut desk, &lines)?;
-    assert!(rt; desk.call.waits() && desk.call.chosen().is_some());
-    assert_eq!(rt; desk.call.deadline_at(), Some(7));
-    assert_eq!(rt; desk.call.request().path().len(), 4);
-    assert_eq!(rt; desk.call.ready(1), (8, true));
-    let mut out = BytesMut::new(alloc);
-    desk.call.feed(1, 9, &mut out)?;
-    assert_eq!(rt; out.len(), 0);
-    desk.call.feed(1, 6, &mut out)?;
-    assert!(rt; out.as_slice() == [0, 0, 0, 0, 3, 7].as_slice());
-    assert_eq!(rt; desk.call.ready(1), (2, true));
-    assert!(rt; desk.call.ended().is_none());
+fn messages_have_limits(rt: HostRuntime) -> Result<(), Fail> {
+    assert_eq!(rt; first_wrong(rt.alloc(), LIMITS)?.as_str(), "");
     Ok(())
 }
