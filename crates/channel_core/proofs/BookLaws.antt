@@ -28,7 +28,7 @@ size_fits (Ok f) h = let P : ℕ → Type 0 = λ n. n ≤ 16384 in subst P (one_
 size_fits (Err e) h = h
 
 -- one call of the table alone is fed
-abbrev called : (CallState → CallState) → CallSlot → CallSlot
+abbrev pub called : (CallState → CallState) → CallSlot → CallSlot
 called f slot = with_call (f slot.call) slot
 
 abbrev fed_slot : ℕ → ℕ → CallSlot → CallSlot
@@ -47,16 +47,16 @@ put_on : (f : CallState → CallState) (calls : List CallSlot) (o : Option ℕ) 
 put_on f calls None = refl
 put_on f calls (Some k) = put_there f calls k
 
-put_call : (f : CallState → CallState) (calls : List CallSlot) (n : ℕ) → changed_call f calls n ≡ changed_at (called f) calls n
+pub put_call : (f : CallState → CallState) (calls : List CallSlot) (n : ℕ) → changed_call f calls n ≡ changed_at (called f) calls n
 put_call f calls n = put_on f calls (index_at n (length calls))
 
 -- the element of a number, behind a change at one
-got_changed : {X : Type 0} (f : X → X) (xs : List X) (k : ℕ) → slice_get (changed f xs k) k ≡ option_map f (slice_get xs k)
+pub got_changed : {X : Type 0} (f : X → X) (xs : List X) (k : ℕ) → slice_get (changed f xs k) k ≡ option_map f (slice_get xs k)
 got_changed f [] k = refl
 got_changed f (x ∷ xs) zero = refl
 got_changed f (x ∷ xs) (suc k) = got_changed f xs k
 
-got_other : {X : Type 0} (f : X → X) (xs : List X) (k j : ℕ) → (j ≡ k → ⊥) → slice_get (changed f xs k) j ≡ slice_get xs j
+pub got_other : {X : Type 0} (f : X → X) (xs : List X) (k j : ℕ) → (j ≡ k → ⊥) → slice_get (changed f xs k) j ≡ slice_get xs j
 got_other f [] k j ne = refl
 got_other f (x ∷ xs) zero zero ne = absurd (ne refl)
 got_other f (x ∷ xs) zero (suc j) ne = refl
@@ -67,7 +67,7 @@ past_changed : {X : Type 0} (f : X → X) (xs : List X) (k : ℕ) → nat_lt k (
 past_changed f xs k past =
     let none : slice_get xs k ≡ None = slice_get_past xs k (ltb-false k (length xs) past) in none ∙ sym (ap (option_map f) none)
 
-number_changed : {X : Type 0} (f : X → X) (xs : List X) (n : ℕ) → numbered (changed_at f xs n) n ≡ option_map f (numbered xs n)
+pub number_changed : {X : Type 0} (f : X → X) (xs : List X) (n : ℕ) → numbered (changed_at f xs n) n ≡ option_map f (numbered xs n)
 number_changed {X} f xs zero = refl
 number_changed {X} f xs (suc k) =
     let D : Bool → List X = λ b. option_map_or (λ i. changed f xs i) (if b then Some k else None) xs in
@@ -76,7 +76,7 @@ number_changed {X} f xs (suc k) =
       | inr past ↦ ap (λ l. slice_get l k) (ap D past) ∙ past_changed f xs k past
     ]
 
-number_other : {X : Type 0} (f : X → X) (xs : List X) (n m : ℕ) → (m ≡ n → ⊥) → numbered (changed_at f xs n) m ≡ numbered xs m
+pub number_other : {X : Type 0} (f : X → X) (xs : List X) (n m : ℕ) → (m ≡ n → ⊥) → numbered (changed_at f xs n) m ≡ numbered xs m
 number_other {X} f xs n zero ne = refl
 number_other {X} f xs zero (suc j) ne = refl
 number_other {X} f xs (suc k) (suc j) ne =

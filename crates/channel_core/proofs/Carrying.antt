@@ -23,7 +23,7 @@ use Rattle.channel_core.specs.declared.state.book.Book.{Book}
 use Rattle.channel_core.specs.declared.state.slots.CallSlot.{CallSlot}
 use Rattle.channel_core.specs.Applying.{config_read}
 use Rattle.channel_core.specs.Arrivals as arrivals
-use Rattle.channel_core.specs.Books.{BookActs, book_acted, book_asked, book_begun, book_configured, book_finished, book_placed, book_taken, call_of, deadline_of, due_at, due_forgotten, has_drawn, has_ended, link_of, row_at, slot_at, timers_set}
+use Rattle.channel_core.specs.Books.{BookActs, book_acted, book_asked, book_begun, book_configured, book_finished, book_placed, book_taken, call_of, deadline_of, due_at, due_forgotten, has_drawn, has_ended, has_stream, link_at, link_of, row_at, slot_at, timers_set}
 use Rattle.channel_core.specs.Draining.{with_streams}
 use Rattle.channel_core.specs.Feeding.{book_fed}
 use Rattle.channel_core.specs.States.{StateSeen}
@@ -34,6 +34,7 @@ use Rattle.channel_core.specs.Timing.{due_keys, later, number_of}
 use Rattle.std.specs.Option.{option_map_or}
 use Rattle.channel_core.specs.declared.state.links.LinkSlot.{LinkSlot}
 use Rattle.channel_core.specs.Arrivals.{linked_as, next_link}
+use Rattle.channel_core.proofs.FairNews.{AreFair, AreFairEnds, IsFair, IsFairEnd, fair_ends, fair_heard, fair_loss}
 
 -- the book alone changes
 abbrev pub with_book : Book → StateSeen → StateSeen
@@ -48,17 +49,14 @@ pub record Carries (R : StateSeen → StateSeen → Type 0) : Type 0 where
   pub closed : (why : EndCause) (number : ℕ) (s : StateSeen) → is_by_row why ≡ false → R s (with_book (book_asked (call.closed_by why s.book.moment) number s.book).book s)
   pub sent : (message : List ℕ) (number : ℕ) (s : StateSeen) → R s (with_book (book_asked (call.sent message s.book.moment) number s.book).book s)
   pub made : (number : ℕ) (s : StateSeen) → R s (with_book (book_asked (call.made_due s.book.moment) number s.book).book s)
-  pub heard : (row : ℕ) (told : News) (number : ℕ) (s : StateSeen) → R s (with_book (book_acted (call.heard_news row told s.book.moment (next_word s)) number s.book).book s)
+  pub heard : (row : ℕ) (told : News) (number : ℕ) (s : StateSeen) → IsFair told → R s (with_book (book_acted (call.heard_news row told s.book.moment (next_word s)) number s.book).book s)
   pub failed : (row number : ℕ) (s : StateSeen) → R s (with_book (book_acted (call.pick_failed row s.book.moment (next_word s)) number s.book).book s)
-  pub configured : (chosen : Chosen) (number : ℕ) (s : StateSeen) → chosen_in s.held (slot_at s.book number) ≡ Some chosen → R s (with_book (book_configured chosen number s.book).book s)
   pub placed : (row : ℕ) (at : Placed) (number : ℕ) (s : StateSeen) → at.entry ≡ s.book.ledger.entry → at.moment ≡ s.book.moment → R s (with_book (book_placed row at number s.book).book s)
   pub finished : (number : ℕ) (s : StateSeen) → R s (with_book (book_finished number s.book) s)
   pub taken : (number : ℕ) (s : StateSeen) → R s (with_book (book_taken number s.book) s)
   pub fed : (row len : ℕ) (s : StateSeen) → R s (with_book (book_fed row len s.book) s)
   pub timers : (due deadline : Option ℕ) (number : ℕ) (s : StateSeen) → R s (with_book (timers_set due deadline number s.book) s)
   pub forgotten : (number : ℕ) (s : StateSeen) → R s (with_book (due_forgotten number s.book) s)
-  -- a config is held from now on
-  pub held : (config : Config) (kinds : KindsSeen) (text : Option (List ℕ)) (s : StateSeen) → config_read kinds text ≡ Ok config → R s (configured_by config s)
   -- the rest of the ledger
   pub streamed : (row stream : ℕ) (s : StateSeen) → R s (with_book (with_streams ((row, stream) ∷ []) s.book) s)
   pub asked : (a : Ask) (s : StateSeen) → a.entry ≡ s.book.ledger.entry → R s (with_ask a s)
@@ -77,16 +75,14 @@ weaken R Q less joined c = record {
   closed = λ why number s by. less s _ (c.closed why number s by);
   sent = λ message number s. less s _ (c.sent message number s);
   made = λ number s. less s _ (c.made number s);
-  heard = λ row told number s. less s _ (c.heard row told number s);
+  heard = λ row told number s fair. less s _ (c.heard row told number s fair);
   failed = λ row number s. less s _ (c.failed row number s);
-  configured = λ chosen number s is. less s _ (c.configured chosen number s is);
   placed = λ row at number s entry moment. less s _ (c.placed row at number s entry moment);
   finished = λ number s. less s _ (c.finished number s);
   taken = λ number s. less s _ (c.taken number s);
   fed = λ row len s. less s _ (c.fed row len s);
   timers = λ due deadline number s. less s _ (c.timers due deadline number s);
   forgotten = λ number s. less s _ (c.forgotten number s);
-  held = λ config kinds text s is. less s _ (c.held config kinds text s is);
   streamed = λ row stream s. less s _ (c.streamed row stream s);
   asked = λ a s entry. less s _ (c.asked a s entry);
   gone = λ link s. less s _ (c.gone link s);
@@ -124,9 +120,17 @@ Begins R request = (s : StateSeen) → R s (with_book (book_begun request s.book
 abbrev pub ComesUp : (StateSeen → StateSeen → Type 0) → ℕ → Type 0
 ComesUp R sub = (s : StateSeen) → R s (linked_as (next_link s) sub s)
 
+-- a result of the resolver brings a config; and a call gets its configuration, which happens in the settling alone
+abbrev pub Holds : (StateSeen → StateSeen → Type 0) → Option (List ℕ) → Type 0
+Holds R text = (config : Config) (kinds : KindsSeen) (s : StateSeen) → config_read kinds text ≡ Ok config → R s (configured_by config s)
+
+abbrev pub Configures : (StateSeen → StateSeen → Type 0) → Type 0
+Configures R = (chosen : Chosen) (number : ℕ) (s : StateSeen) → chosen_in s.held (slot_at s.book number) ≡ Some chosen → R s (with_book (book_configured chosen number s.book).book s)
+
 abbrev pub Carried : (StateSeen → StateSeen → Type 0) → Event → Type 0
 Carried R (event.Begin request) = Begins R request
 Carried R (event.LinkUp sub) = ComesUp R sub
+Carried R (event.Resolved addresses text) = Holds R text
 Carried R e = Unit {0}
 
 module _ (R : StateSeen → StateSeen → Type 0) (c : Carries R) where
@@ -222,33 +226,33 @@ module _ (R : StateSeen → StateSeen → Type 0) (c : Carries R) where
   told_after : (b : BookActs) (number row : ℕ) (s t : StateSeen) → t.held ≡ s.held → length t.links ≡ length s.links → R s (with_book b.book s) → R s (step.told_acts b number row t)
   told_after b number row s t e l h = after_book b number s (step.drawn_if (has_drawn (row_at b.book row)) t) e l h
 
-  tell_to : (number row : ℕ) (n : News) (s : StateSeen) → R s (step.told_to number row n s)
-  tell_to number row n s =
-      told_after (book_acted (call.heard_news row n s.book.moment (next_word s)) number s.book) number row s s refl refl (c.heard row n number s)
+  tell_to : (number row : ℕ) (n : News) (s : StateSeen) → IsFair n → R s (step.told_to number row n s)
+  tell_to number row n s fair =
+      told_after (book_acted (call.heard_news row n s.book.moment (next_word s)) number s.book) number row s s refl refl (c.heard row n number s fair)
 
-  tell : (row : ℕ) (n : News) (s : StateSeen) → R s (step.told row n s)
-  tell row n s = tell_to (call_of (row_at s.book row)) row n s
+  tell : (row : ℕ) (n : News) (s : StateSeen) → IsFair n → R s (step.told row n s)
+  tell row n s fair = tell_to (call_of (row_at s.book row)) row n s fair
 
   pub fail : (number row : ℕ) (s : StateSeen) → R s (step.pick_failed number row s)
   fail number row s =
       then_seal s _ (told_after (book_acted (call.pick_failed row s.book.moment (next_word s)) number s.book) number row s (step.unqueued number row s) refl refl (c.failed row number s))
 
   -- the ends of attempts
-  end_one : (link row : ℕ) (end : EndNews) (s : StateSeen) → R s (arrivals.ended_on link row end s)
-  end_one link row end s =
+  end_one : (link row : ℕ) (end : EndNews) (s : StateSeen) → IsFairEnd end → R s (arrivals.ended_on link row end s)
+  end_one link row end s fair =
       let t : StateSeen = step.left_behind link row s in
       let u : StateSeen = step.told row (news.Ended row end) t in
-      either (has_ended (row_at s.book row)) s s _ (same s) (c.joined s t _ (c.beside s t refl refl refl) (c.joined t u _ (tell row (news.Ended row end) t) (gone_one link u)))
+      either (has_ended (row_at s.book row)) s s _ (same s) (c.joined s t _ (c.beside s t refl refl refl) (c.joined t u _ (tell row (news.Ended row end) t fair) (gone_one link u)))
 
-  end_all : (link : ℕ) (ends : List (ℕ × EndNews)) (s : StateSeen) → R s (arrivals.all_ended_on link ends s)
-  end_all link [] s = same s
-  end_all link (e ∷ ends) s =
+  end_all : (link : ℕ) (ends : List (ℕ × EndNews)) (s : StateSeen) → AreFairEnds ends → R s (arrivals.all_ended_on link ends s)
+  end_all link [] s fair = same s
+  end_all link (e ∷ ends) s fair =
       let t : StateSeen = arrivals.ended_on link e.0 e.1 s in
-      c.joined s t _ (end_one link e.0 e.1 s) (end_all link ends t)
+      c.joined s t _ (end_one link e.0 e.1 s fair.0) (end_all link ends t fair.1)
 
   lose_row : (link : ℕ) (each : Bool) (row : ℕ) (s : StateSeen) → R s (arrivals.lost_row link each row s)
-  lose_row link true row s = then_seal s _ (end_one link row (step.loss_of link row s) s)
-  lose_row link false row s = end_one link row (step.loss_of link row s) s
+  lose_row link true row s = then_seal s _ (end_one link row (step.loss_of link row s) s (fair_loss (has_stream (row_at s.book row)) (step.read_of (link_at s.book link))))
+  lose_row link false row s = end_one link row (step.loss_of link row s) s (fair_loss (has_stream (row_at s.book row)) (step.read_of (link_at s.book link)))
 
   lose_on : (further : ℕ → StateSeen → StateSeen) (link : ℕ) (each : Bool) (row : Option ℕ) (s : StateSeen) → ((row : ℕ) (s : StateSeen) → R s (further row s)) → R s (arrivals.rows_lost_on further link each row s)
   lose_on further link each None s h = same s
@@ -277,9 +281,9 @@ module _ (R : StateSeen → StateSeen → Type 0) (c : Carries R) where
   hear_one link news.Retiring s = retire link s
   hear_one link (news.Broken why) s = lose link false s
   hear_one link (news.Ended tag end) s = same s
-  hear_one link (news.Head tag meta seen) s = tell tag (news.Head tag meta seen) s
-  hear_one link (news.Message tag octets seen) s = tell tag (news.Message tag octets seen) s
-  hear_one link (news.TooLarge tag seen) s = tell tag (news.TooLarge tag seen) s
+  hear_one link (news.Head tag meta seen) s = tell tag (news.Head tag meta seen) s tt
+  hear_one link (news.Message tag octets seen) s = tell tag (news.Message tag octets seen) s tt
+  hear_one link (news.TooLarge tag seen) s = tell tag (news.TooLarge tag seen) s tt
 
   hear_all : (link : ℕ) (ns : List News) (s : StateSeen) → R s (arrivals.heard_all link ns s)
   hear_all link [] s = same s
@@ -287,26 +291,26 @@ module _ (R : StateSeen → StateSeen → Type 0) (c : Carries R) where
       let t : StateSeen = arrivals.heard_one link n s in
       c.joined s t _ (hear_one link n s) (hear_all link ns t)
 
-  hear : (link : ℕ) (ns : List News) (s : StateSeen) → R s (arrivals.heard link ns s)
-  hear link ns s =
+  hear : (link : ℕ) (ns : List News) (s : StateSeen) → AreFair ns → R s (arrivals.heard link ns s)
+  hear link ns s fair =
       let t : StateSeen = arrivals.heard_all link ns s in
       let u : StateSeen = arrivals.all_ended_on link (step.ends_kept ns []) t in
       let v : StateSeen = step.sealed_one link u in
-      then_seal s v (c.joined s t v (hear_all link ns s) (c.joined t u v (end_all link (step.ends_kept ns []) t) (c.beside u v refl refl (changed_length (with_link sealed_link) u.links link))))
+      then_seal s v (c.joined s t v (hear_all link ns s) (c.joined t u v (end_all link (step.ends_kept ns []) t (fair_ends ns [] fair tt)) (c.beside u v refl refl (changed_length (with_link sealed_link) u.links link))))
 
-  hear_frame : (link : ℕ) (h : Heard) (s : StateSeen) → length h.links ≡ length s.links → R s (arrivals.frame_heard link h s)
-  hear_frame link h s l =
+  hear_frame : (link : ℕ) (h : Heard) (s : StateSeen) → length h.links ≡ length s.links → AreFair h.news → R s (arrivals.frame_heard link h s)
+  hear_frame link h s l fair =
       let t : StateSeen = record s { links = h.links } in
       let u : StateSeen = arrivals.read_to link h.read t in
-      c.joined s t _ (c.beside s t refl refl l) (c.joined t u _ (c.read link h.read t) (hear link h.news u))
+      c.joined s t _ (c.beside s t refl refl l) (c.joined t u _ (c.read link h.read t) (hear link h.news u fair))
 
-  frames_on : (further : ℕ → StateSeen → StateSeen) (link : ℕ) (h : Option Heard) (s : StateSeen) → IfSome h (λ x. length x.links ≡ length s.links) → ((skip : ℕ) (s : StateSeen) → R s (further skip s)) → R s (arrivals.frames_from further link h s)
-  frames_on further link None s l more = same s
-  frames_on further link (Some h) s l more =
+  frames_on : (further : ℕ → StateSeen → StateSeen) (link : ℕ) (h : Option Heard) (s : StateSeen) → IfSome h (λ x. length x.links ≡ length s.links) → IfSome h (λ x. AreFair x.news) → ((skip : ℕ) (s : StateSeen) → R s (further skip s)) → R s (arrivals.frames_from further link h s)
+  frames_on further link None s l fair more = same s
+  frames_on further link (Some h) s l fair more =
       let t : StateSeen = arrivals.frame_heard link h s in
-      c.joined s t _ (hear_frame link h s l) (more (h.taken - 1) t)
+      c.joined s t _ (hear_frame link h s l fair) (more (h.taken - 1) t)
 
   pub frames : (link : ℕ) (piece : List ℕ) (skip : ℕ) (s : StateSeen) → R s (arrivals.frames_after link piece skip s)
   frames link [] skip s = same s
-  frames link (b ∷ piece) zero s = frames_on (arrivals.frames_after link piece) link (heard_in link (b ∷ piece) s.links) s (heard_length link (b ∷ piece) s.links (numbered s.links link)) (frames link piece)
+  frames link (b ∷ piece) zero s = frames_on (arrivals.frames_after link piece) link (heard_in link (b ∷ piece) s.links) s (heard_length link (b ∷ piece) s.links (numbered s.links link)) (fair_heard link (b ∷ piece) s.links (numbered s.links link)) (frames link piece)
   frames link (b ∷ piece) (suc skip) s = frames link piece skip s

@@ -31,7 +31,7 @@ use Rattle.channel_core.specs.Applying as applying
 use Rattle.channel_core.specs.Applying.{AnswersBy, Applies, config_read}
 use Rattle.channel_core.specs.Arrivals as arrivals
 use Rattle.channel_core.specs.Books.{book_asked, book_begun, book_configured, book_placed, limit_at, slot_at, lines_of}
-use Rattle.channel_core.specs.Draining.{DrainLeaves, opened_by, with_streams}
+use Rattle.channel_core.specs.Draining.{DrainLeaves, drained_limit, opened_by, with_streams}
 use Rattle.channel_core.specs.Feeding.{all_fed, book_fed}
 use Rattle.channel_core.specs.Settling as settling
 use Rattle.channel_core.specs.Settling.{passed, rounds}
@@ -40,7 +40,7 @@ use Rattle.channel_core.specs.Steps as step
 use Rattle.channel_core.specs.Steps.{Moved, bare_served, chosen_in, clocked, net_settled, next_word, overdue_ended, with_generations}
 use Rattle.channel_core.specs.Tables.{buried_in, takes_rows, DrainGives, buried, pinged_link, placed_link, with_link}
 use Rattle.channel_core.specs.Timing.{due_keys, later, number_of, sorted_into}
-use Rattle.channel_core.proofs.Carrying.{Begins, Carried, Carries, ComesUp, after_book, close, either, fail, frames, gone_all, gone_one, lose, overdue, same, then_seal, timers_of, with_book, changed_length}
+use Rattle.channel_core.proofs.Carrying.{Begins, Carried, Carries, ComesUp, Configures, Holds, after_book, close, either, fail, frames, gone_all, gone_one, lose, overdue, same, then_seal, timers_of, with_book, changed_length}
 use Rattle.ledger_stamps.specs.Steps.{changed_at}
 use Rattle.h2_link.specs.Feeds.{Line}
 use Rattle.h2_link.specs.declared.news.Drained.{Drained}
@@ -107,22 +107,22 @@ module _ (R : StateSeen → StateSeen → Type 0) (c : Carries R) where
       c.joined s t _ (c.joined s (with_generations g s) t h (c.beside (with_generations g s) t refl refl refl)) (gone_all R c links t)
 
   -- a result of the resolver
-  readdress : (kind : Option Kind) (addresses : List Address) (s : StateSeen) → R s (applying.readdressed_by kind addresses s)
+  pub readdress : (kind : Option Kind) (addresses : List Address) (s : StateSeen) → R s (applying.readdressed_by kind addresses s)
   readdress None addresses s = same R c s
   readdress (Some kind) addresses s =
       let n : NetSeen = net.net_resolved kind addresses s.net in
       left_net n _ (net.resolved_shut kind addresses s.net) s (gen_resolved s kind s.net n)
 
-  take_config : (kinds : KindsSeen) (text : Option (List ℕ)) (read : Result Config ConfigFault) (s : StateSeen) → config_read kinds text ≡ read → R s (applying.config_taken read s).state
-  take_config kinds text (Ok config) s e = c.held config kinds text s e
-  take_config kinds text (Err fault) s e = c.beside s _ refl refl refl
+  take_config : (kinds : KindsSeen) (text : Option (List ℕ)) (read : Result Config ConfigFault) (s : StateSeen) → Holds R text → config_read kinds text ≡ read → R s (applying.config_taken read s).state
+  take_config kinds text (Ok config) s holds e = holds config kinds s e
+  take_config kinds text (Err fault) s holds e = c.beside s _ refl refl refl
 
-  resolve : (addresses : List Address) (text : Option (List ℕ)) (s : StateSeen) → R s (applying.resolved addresses text s).state
-  resolve addresses text s =
+  resolve : (addresses : List Address) (text : Option (List ℕ)) (s : StateSeen) → Holds R text → R s (applying.resolved addresses text s).state
+  resolve addresses text s holds =
       let kinds : KindsSeen = kinds_of s.net.asker.rack.policies in
       let t : StateSeen = applying.answered_question s in
       let u : StateSeen = (applying.config_taken (config_read kinds text) t).state in
-      c.joined s t _ (c.beside s t refl refl refl) (c.joined t u _ (take_config kinds text (config_read kinds text) t refl) (readdress (applying.kind_held u) addresses u))
+      c.joined s t _ (c.beside s t refl refl refl) (c.joined t u _ (take_config kinds text (config_read kinds text) t holds refl) (readdress (applying.kind_held u) addresses u))
 
   -- a Shutdown
   close_all : (more index : ℕ) (s : StateSeen) → R s (applying.calls_closed more index s)
@@ -194,7 +194,7 @@ module _ (R : StateSeen → StateSeen → Type 0) (c : Carries R) where
   applied (event.Finish number) s t r k g = subst (λ (x : StateSeen). R s x) (sym g.0) (c.finished number s)
   applied (event.Take number) s t r k g = subst (λ (x : StateSeen). R s x) (sym g.0) (c.taken number s)
   applied (event.Cancel number) s t r k g = subst (λ (x : StateSeen). R s x) (sym g.0) (close R c ends.Cancelled number s refl)
-  applied (event.Resolved addresses text) s t r k g = subst (λ (x : StateSeen). R s x) (sym g.0) (resolve addresses text s)
+  applied (event.Resolved addresses text) s t r k g = subst (λ (x : StateSeen). R s x) (sym g.0) (resolve addresses text s k)
   applied event.ResolveFailed s t r k g = subst (λ (x : StateSeen). R s x) (sym g.0) (c.beside s _ refl refl refl)
   applied event.TakeDial s t r k g =
       subst (λ (x : StateSeen). R s x) (sym g.0) (dial_drawn (net.dial_answer s.book.moment (next_word s) s.net) s (step.dialed s) (c.beside s _ refl refl refl))
@@ -202,12 +202,12 @@ module _ (R : StateSeen → StateSeen → Type 0) (c : Carries R) where
   applied (event.DialFailed sub) s t r k g = subst (λ (x : StateSeen). R s x) (sym g.0) (dial_down (net.dial_refusal (numbered s.net.board sub)) sub s)
   applied (event.Arrived link piece) s t r k g = subst (λ (x : StateSeen). R s x) (sym g.0) (frames R c link piece 0 s)
   applied (event.LinkLost link) s t r k g = subst (λ (x : StateSeen). R s x) (sym g.0) (lose R c link true s)
-  applied (event.Drain link room) s t r k g = drain link room s r t g
+  applied (event.Drain link room) s t r k g = drain link (min room drained_limit) s r t g
   applied (event.Ping link word) s t r k g = subst (λ (x : StateSeen). R s x) (sym g.0) (c.beside s _ refl refl (changed_length (with_link (pinged_link word)) s.links link))
   applied event.Tick s t r k g = subst (λ (x : StateSeen). R s x) (sym g.0) (same R c s)
   applied event.Shutdown s t r k g = subst (λ (x : StateSeen). R s x) (sym g.0) (shut_down s)
 
-  answered : (refused : Option Refusal) (e : Event) (s t : StateSeen) (r : Reply) → Carried R e → AnswersBy refused e s t r → R s t
+  pub answered : (refused : Option Refusal) (e : Event) (s t : StateSeen) (r : Reply) → Carried R e → AnswersBy refused e s t r → R s t
   answered (Some why) e s t r k g = subst (λ (x : StateSeen). R s x) (sym g.0) (same R c s)
   answered None e s t r k g = applied e s t r k g
 
@@ -234,16 +234,16 @@ module _ (R : StateSeen → StateSeen → Type 0) (c : Carries R) where
       left_net l.net _ l.gone s (gen_over s n _ (gen_over s s.net s.book.ledger.generations (same R c s)))
 
   -- calls without a configuration
-  configure : (chosen : Option Chosen) (number : ℕ) (s : StateSeen) → chosen_in s.held (slot_at s.book number) ≡ chosen → R s (step.configured_as number chosen s)
-  configure None number s e = same R c s
-  configure (Some chosen) number s e = after_book R c (book_configured chosen number s.book) number s s refl refl (c.configured chosen number s e)
+  configure : (chosen : Option Chosen) (number : ℕ) (s : StateSeen) → Configures R → chosen_in s.held (slot_at s.book number) ≡ chosen → R s (step.configured_as number chosen s)
+  configure None number s f e = same R c s
+  configure (Some chosen) number s f e = after_book R c (book_configured chosen number s.book) number s s refl refl (f chosen number s e)
 
-  configure_all : (calls : List ℕ) (s : StateSeen) → R s (step.all_configured calls s)
-  configure_all [] s = same R c s
-  configure_all (key ∷ calls) s =
+  configure_all : (calls : List ℕ) (s : StateSeen) → Configures R → R s (step.all_configured calls s)
+  configure_all [] s f = same R c s
+  configure_all (key ∷ calls) s f =
       let number : ℕ = number_of key in
       let t : StateSeen = step.configured_call number s in
-      c.joined s t _ (configure (chosen_in s.held (slot_at s.book number)) number s refl) (configure_all calls t)
+      c.joined s t _ (configure (chosen_in s.held (slot_at s.book number)) number s f refl) (configure_all calls t f)
 
   unconfigure_all : (calls : List ℕ) (s : StateSeen) → R s (step.all_unconfigured calls s)
   unconfigure_all [] s = same R c s
@@ -251,12 +251,12 @@ module _ (R : StateSeen → StateSeen → Type 0) (c : Carries R) where
       let t : StateSeen = step.closed ends.NoConfig (number_of key) s in
       c.joined s t _ (close R c ends.NoConfig (number_of key) s refl) (unconfigure_all calls t)
 
-  serve_bare : (s : StateSeen) → R s (bare_served s)
+  serve_bare : (s : StateSeen) → Configures R → R s (bare_served s)
   unfolding bare_served
-  serve_bare s =
+  serve_bare s f =
       let t : StateSeen = record s { bare = later 0 s.bare; impatient = [] } in
       let u : StateSeen = record s { impatient = later 0 s.impatient } in
-      either R c (is_some s.held) s _ _ (c.joined s t _ (c.beside s t refl refl refl) (configure_all (due_keys 0 s.bare) t))
+      either R c (is_some s.held) s _ _ (c.joined s t _ (c.beside s t refl refl refl) (configure_all (due_keys 0 s.bare) t f))
       (either R c s.unconfigured s _ s (c.joined s u _ (c.beside s u refl refl refl) (unconfigure_all (due_keys 0 s.impatient) u)) (same R c s))
 
   -- due attempts
@@ -335,17 +335,17 @@ module _ (R : StateSeen → StateSeen → Type 0) (c : Carries R) where
       let m : Moved = settling.round s in
       c.joined s m.state _ (one_round s) (rounds_on (rounds k) m (all_rounds k))
 
-  pub settle : (s : StateSeen) → R s (settling.settled s)
-  settle s =
+  pub settle : (s : StateSeen) → Configures R → R s (settling.settled s)
+  settle s f =
       let t : StateSeen = clocked s in
       let u : StateSeen = net_settled t in
       let v : StateSeen = bare_served u in
-      c.joined s t _ (clock s) (c.joined t u _ (settle_net t) (c.joined u v _ (serve_bare u) (all_rounds settling.most v)))
+      c.joined s t _ (clock s) (c.joined t u _ (settle_net t) (c.joined u v _ (serve_bare u f) (all_rounds settling.most v)))
 
   -- a whole step, from where it begins
-  pub carried : (entry moment word : ℕ) (e : Event) (old new : StateSeen) (r : Reply) → Carried R e → applying.Stepped entry moment word e old new r → R (applying.begun_at entry moment word old) new
-  carried entry moment word e old new r k h =
+  pub carried : (entry moment word : ℕ) (e : Event) (old new : StateSeen) (r : Reply) → Configures R → Carried R e → applying.Stepped entry moment word e old new r → R (applying.begun_at entry moment word old) new
+  carried entry moment word e old new r f k h =
       let s : StateSeen = applying.begun_at entry moment word old in
       let t : StateSeen = overdue_ended s in
-      let settles : R h.answered new = subst (λ (x : StateSeen). R h.answered x) (sym h.settles) (settle h.answered) in
+      let settles : R h.answered new = subst (λ (x : StateSeen). R h.answered x) (sym h.settles) (settle h.answered f) in
       c.joined s t new (overdue R c s) (c.joined t h.answered new (answered (applying.refusal_of e t) e t h.answered r k h.answers) settles)

@@ -20,9 +20,9 @@ use Rattle.channel_core.specs.States.{StateSeen}
 use Rattle.channel_core.specs.Steps as step
 use Rattle.channel_core.specs.Steps.{overdue_ended}
 use Rattle.channel_core.proofs.Answering.{may_step}
-use Rattle.channel_core.proofs.Carrying.{Carried, Carries, overdue, timers_of, weaken, with_book}
+use Rattle.channel_core.proofs.Carrying.{Carried, Carries, Configures, overdue, timers_of, weaken, with_book}
 use Rattle.channel_core.proofs.CarryingSteps.{carried, settle}
-use Rattle.channel_core.proofs.Stamping.{Keeps, keeps}
+use Rattle.channel_core.proofs.Stamping.{Keeps, keeps, keeps_configured}
 use Rattle.grpc_base.specs.declared.event.Refusal.{Refusal}
 use Rattle.attempt_ledger.specs.declared.ledger.LinkSeen.{LinkSeen}
 use Rattle.subchannel.specs.Boards.{numbered}
@@ -47,11 +47,11 @@ counted_more n (x ∷ xs) ys =
     let there : n + 1 + length xs ≡ n + length (x ∷ xs) = omega arith in
     ap (λ (l : List (ℕ × ℕ)). (n, x) ∷ l) (counted_more (n + 1) xs ys ∙ ap (λ (k : ℕ). counted_from (n + 1) xs ++ counted_from k ys) there)
 
-map_append : (xs ys : List CallSeen) → map (λ (c : CallSeen). c.begun) (xs ++ ys) ≡ map (λ (c : CallSeen). c.begun) xs ++ map (λ (c : CallSeen). c.begun) ys
+pub map_append : (xs ys : List CallSeen) → map (λ (c : CallSeen). c.begun) (xs ++ ys) ≡ map (λ (c : CallSeen). c.begun) xs ++ map (λ (c : CallSeen). c.begun) ys
 map_append [] ys = refl
 map_append (x ∷ xs) ys = ap (λ (l : List ℕ). x.begun ∷ l) (map_append xs ys)
 
-map_length : (xs : List CallSeen) → length (map (λ (c : CallSeen). c.begun) xs) ≡ length xs
+pub map_length : (xs : List CallSeen) → length (map (λ (c : CallSeen). c.begun) xs) ≡ length xs
 map_length [] = refl
 map_length (x ∷ xs) = ap suc (map_length xs)
 
@@ -68,6 +68,9 @@ joined s t u first second = record { entry = second.entry ∙ first.entry; begun
 
 same_calls : Carries SameCalls
 same_calls = weaken Keeps SameCalls (λ s t k. record { entry = k.writes.entry; begun = k.begun }) joined keeps
+
+calls_configured : Configures SameCalls
+calls_configured chosen number s is = (let k = keeps_configured chosen number s is in record { entry = k.writes.entry; begun = k.begun })
 
 -- what a reply tells of a call that began in entry n, behind calls that began in these
 pub record BeginsAs (n : ℕ) (old new : List ℕ) (r : Reply) : Type 0 where
@@ -132,12 +135,13 @@ carried_others : (e : Event) → others e → Carried SameCalls e
 unfolding others
 carried_others (event.Begin request) o = absurd o
 carried_others (event.LinkUp sub) o = λ s. record { entry = refl; begun = refl }
+carried_others (event.Resolved addresses text) o = λ config kinds s is. record { entry = refl; begun = refl }
 carried_others e o = tt
 
 -- a whole step
 by_other : (n m w : ℕ) (e : Event) (old new : StateSeen) (r : Reply) → others e → Stepped n m w e old new r → BeginsAs n (begun_in old) (begun_in new) r
 by_other n m w e old new r o h =
-    let same : SameCalls (applying.begun_at n m w old) new = carried SameCalls same_calls n m w e old new r (carried_others e o) h in
+    let same : SameCalls (applying.begun_at n m w old) new = carried SameCalls same_calls n m w e old new r calls_configured (carried_others e o) h in
     tells_none n (begun_in old) (begun_in new) r (none_told e r o (may_step n m w e old new r h)) same.begun
 
 pub begins_as : (n m w : ℕ) (e : Event) (old new : StateSeen) (r : Reply) → Stepped n m w e old new r → BeginsAs n (begun_in old) (begun_in new) r
@@ -146,7 +150,7 @@ begins_as n m w (event.Begin request) old new r h =
     let first : StateSeen = applying.begun_at n m w old in
     let s : StateSeen = overdue_ended first in
     let before : SameCalls first s = overdue SameCalls same_calls first in
-    let after : SameCalls h.answered new = subst (λ (x : StateSeen). SameCalls h.answered x) (sym h.settles) (settle SameCalls same_calls h.answered) in
+    let after : SameCalls h.answered new = subst (λ (x : StateSeen). SameCalls h.answered x) (sym h.settles) (settle SameCalls same_calls h.answered calls_configured) in
     let b : BeginsAs s.book.ledger.entry (begun_in s) (begun_in h.answered) r = begin_by s.shut request s h.answered r h.answers in
     let at_entry : BeginsAs n (begun_in s) (begun_in h.answered) r = subst (λ (k : ℕ). BeginsAs k (begun_in s) (begun_in h.answered) r) before.entry b in
     let from : BeginsAs n (begun_in old) (begun_in h.answered) r = subst (λ (l : List ℕ). BeginsAs n l (begun_in h.answered) r) before.begun at_entry in
@@ -167,6 +171,9 @@ links_joined s t u first second = record { entry = second.entry ∙ first.entry;
 
 same_links : Carries SameLinks
 same_links = weaken Keeps SameLinks (λ s t k. record { entry = k.writes.entry; up = k.up; links = k.links }) links_joined keeps
+
+links_configured : Configures SameLinks
+links_configured chosen number s is = (let k = keeps_configured chosen number s is in record { entry = k.writes.entry; up = k.up; links = k.links })
 
 -- what a reply tells of a link that came up in entry n, behind links that came up in these, of which so many are kept
 pub record ComesUpAs (n : ℕ) (old new : List ℕ) (kept kept_after : ℕ) (r : Reply) : Type 0 where
@@ -243,11 +250,12 @@ carried_no_up : (e : Event) → no_up e → Carried SameLinks e
 unfolding no_up
 carried_no_up (event.Begin request) o = λ s. record { entry = refl; up = refl; links = refl }
 carried_no_up (event.LinkUp sub) o = absurd o
+carried_no_up (event.Resolved addresses text) o = λ config kinds s is. record { entry = refl; up = refl; links = refl }
 carried_no_up e o = tt
 
 up_other : (n m w : ℕ) (e : Event) (old new : StateSeen) (r : Reply) → no_up e → length old.links ≡ length (up_in old) → Stepped n m w e old new r → ComesUpAs n (up_in old) (up_in new) (length old.links) (length new.links) r
 up_other n m w e old new r o was h =
-    let same : SameLinks (applying.begun_at n m w old) new = carried SameLinks same_links n m w e old new r (carried_no_up e o) h in
+    let same : SameLinks (applying.begun_at n m w old) new = carried SameLinks same_links n m w e old new r links_configured (carried_no_up e o) h in
     no_link n (up_in old) (up_in new) (length old.links) (length new.links) r was same.links (none_up e r o (may_step n m w e old new r h)) same.up
 
 pub comes_up_as : (n m w : ℕ) (e : Event) (old new : StateSeen) (r : Reply) → length old.links ≡ length (up_in old) → Stepped n m w e old new r → ComesUpAs n (up_in old) (up_in new) (length old.links) (length new.links) r
@@ -256,7 +264,7 @@ comes_up_as n m w (event.LinkUp sub) old new r was h =
     let first : StateSeen = applying.begun_at n m w old in
     let s : StateSeen = overdue_ended first in
     let before : SameLinks first s = overdue SameLinks same_links first in
-    let after : SameLinks h.answered new = subst (λ (x : StateSeen). SameLinks h.answered x) (sym h.settles) (settle SameLinks same_links h.answered) in
+    let after : SameLinks h.answered new = subst (λ (x : StateSeen). SameLinks h.answered x) (sym h.settles) (settle SameLinks same_links h.answered links_configured) in
     let was_then : length s.links ≡ length (up_in s) = before.links ∙ was ∙ sym (ap (λ (l : List ℕ). length l) before.up) in
     let b : ComesUpAs s.book.ledger.entry (up_in s) (up_in h.answered) (length s.links) (length h.answered.links) r = link_up_by s.shut sub s h.answered r was_then h.answers in
     let at_entry : ComesUpAs n (up_in s) (up_in h.answered) (length s.links) (length h.answered.links) r = subst (λ (k : ℕ). ComesUpAs k (up_in s) (up_in h.answered) (length s.links) (length h.answered.links) r) before.entry b in

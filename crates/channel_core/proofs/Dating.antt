@@ -15,7 +15,7 @@ use Rattle.ledger_stamps.specs.Later.{Grown, Later, LaterCall, LaterGeneration, 
 use Rattle.channel_core.specs.Core.{CoreSeen, IsNew, Runs, Steps, last_moment, moment_of}
 use Rattle.channel_core.specs.Applying.{conn_of}
 use Rattle.channel_core.specs.Books.{no_ledger}
-use Rattle.channel_core.specs.Laws.{AreRising, IsDated, IsDatedAsk, IsDatedAt, IsDatedCall, IsDatedGeneration, IsDatedLink, IsDatedRow, IsLawful, IsMade, call_told, counted_from, moment_at, told_from, link_told}
+use Rattle.channel_core.specs.Laws.{AreRising, IsDated, IsDatedAsk, IsDatedAt, IsDatedCall, IsDatedGeneration, IsDatedLink, IsDatedRow, IsMade, call_told, counted_from, moment_at, told_from, link_told}
 use Rattle.channel_core.specs.States.{StateSeen}
 use Rattle.channel_core.proofs.Counting.{BeginsAs, begins_as, begun_in, counted_more, told_more, ComesUpAs, comes_up_as, up_in}
 use Rattle.channel_core.proofs.Stamping.{stamped, timely}
@@ -142,11 +142,11 @@ moment_now es x =
     let next : length es + 1 ≡ suc (length es) = omega arith in
     ap (λ (k : ℕ). moment_at (es ++ x ∷ []) k) next ∙ ap (λ (o : Option Entry). option_map (λ e. e.moment) o) (get_new es x)
 
-le_max : (a b : ℕ) → b ≤ max a b
+pub le_max : (a b : ℕ) → b ≤ max a b
 le_max a b = omega arith
 
 -- moments
-last_from : ℕ → List Entry → ℕ
+unfoldable pub last_from : ℕ → List Entry → ℕ
 last_from from [] = from
 last_from from (e ∷ es) = last_from e.moment es
 
@@ -160,7 +160,7 @@ unfolding last_from
 last_at e [] = refl
 last_at e (x ∷ es) = last_at x es
 
-last_is : (es : List Entry) → last_moment es ≡ last_from 0 es
+pub last_is : (es : List Entry) → last_moment es ≡ last_from 0 es
 unfolding last_from
 last_is [] = refl
 last_is (e ∷ es) =
@@ -203,9 +203,16 @@ links_more es x old new kept kept_after known b few =
     ∙ sym (counted_more 1 old ys)
     ∙ ap (λ (l : List ℕ). counted_from 1 l) (sym b.up)
 
+-- time, stamps and numbers
+pub record AreDated (entries : List Entry) (ledger : Ledger) : Type 0 where
+  pub rising : AreRising 0 entries
+  pub dated : IsDated (moment_at entries) ledger
+  pub calls : told_from call_told 1 entries ≡ counted_from 1 (map (λ c. c.begun) ledger.calls)
+  pub links : length ledger.links ≤ 4294967295 → told_from link_told 1 entries ≡ counted_from 1 (map (λ l. l.up) ledger.links)
+
 -- what the induction carries: the law, and that the ledger has the links that are kept
 pub record Lawful (core : CoreSeen) : Type 0 where
-  pub law : IsLawful core.journal.entries core.state.book.ledger
+  pub law : AreDated core.journal.entries core.state.book.ledger
   pub links : length core.state.links ≡ length (up_in core.state)
 
 pub lawful_step : (old new : CoreSeen) (s : Stamped) (r : Reply) → Steps old new s r → Lawful old → Lawful new
@@ -225,14 +232,14 @@ lawful_step old new s r h lawful =
     let comes : ComesUpAs n (up_in old.state) (up_in new.state) (length old.state.links) (length new.state.links) r = comes_up_as n m s.word s.event old.state new.state r lawful.links h.by in
     let few_old : length (up_in old.state) ≤ 4294967295 → length old.state.book.ledger.links ≤ 4294967295 = λ few. (let e : length (up_in old.state) ≡ length old.state.book.ledger.links = ups_length old.state.book.ledger.links in omega (arith, e, few)) in
     let few_new : length new.state.book.ledger.links ≤ 4294967295 → length (up_in new.state) ≤ 4294967295 = λ few. (let e : length (up_in new.state) ≡ length new.state.book.ledger.links = ups_length new.state.book.ledger.links in omega (arith, e, few)) in
-    let all : IsLawful (es ++ x ∷ []) new.state.book.ledger = record {
+    let all : AreDated (es ++ x ∷ []) new.state.book.ledger = record {
       rising = rising_more 0 es x last lawful.law.rising;
       dated = dated;
       calls = calls_more es x (begun_in old.state) (begun_in new.state) lawful.law.calls begins;
       links = λ few. links_more es x (up_in old.state) (up_in new.state) (length old.state.links) (length new.state.links) (λ few_before. lawful.law.links (few_old few_before)) comes (few_new few);
     } in
     record {
-      law = subst (λ (entries : List Entry). IsLawful entries new.state.book.ledger) (sym h.journal) all;
+      law = subst (λ (entries : List Entry). AreDated entries new.state.book.ledger) (sym h.journal) all;
       links = comes.kept_is;
     }
 
@@ -243,13 +250,13 @@ lawful_runs old (s ∷ events) new h lawful = lawful_runs h.0 events new h.3 (la
 -- a new channel
 lawful_new : (authority : List ℕ) (core : CoreSeen) → IsNew authority core → Lawful core
 lawful_new authority core is =
-    let none : IsLawful [] no_ledger = record { rising = tt; dated = record { rows = tt; calls = tt; asks = tt; generations = tt; links = tt }; calls = refl; links = λ few. refl } in
+    let none : AreDated [] no_ledger = record { rising = tt; dated = record { rows = tt; calls = tt; asks = tt; generations = tt; links = tt }; calls = refl; links = λ few. refl } in
     let ledger : core.state.book.ledger ≡ no_ledger = ap (λ (s : StateSeen). s.book.ledger) is.2.state in
     record {
-      law = subst (λ (entries : List Entry). IsLawful entries core.state.book.ledger) (sym is.2.journal) (subst (λ (l : Ledger). IsLawful [] l) (sym ledger) none);
+      law = subst (λ (entries : List Entry). AreDated entries core.state.book.ledger) (sym is.2.journal) (subst (λ (l : Ledger). AreDated [] l) (sym ledger) none);
       links = ap (λ (s : StateSeen). length s.links) is.2.state ∙ sym (ap (λ (s : StateSeen). length (up_in s)) is.2.state);
     }
 
 -- every list of events
-pub lawful : (authority : List ℕ) (new core : CoreSeen) (events : List Stamped) → IsNew authority new → Runs new events core → IsLawful core.journal.entries core.state.book.ledger
-lawful authority new core events is runs = (lawful_runs new events core runs (lawful_new authority new is)).law
+pub dated_always : (authority : List ℕ) (new core : CoreSeen) (events : List Stamped) → IsNew authority new → Runs new events core → AreDated core.journal.entries core.state.book.ledger
+dated_always authority new core events is runs = (lawful_runs new events core runs (lawful_new authority new is)).law

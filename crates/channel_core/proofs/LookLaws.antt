@@ -144,7 +144,7 @@ same_octets octets e = (cc)
 room_by : (small : Bool) (link room : ℕ) (s t : StateSeen) (octets : List ℕ) → can_drain_at (lines_of s.book) (numbered s.links link) ≡ false
     → AnswersBy (if small then Some refusal.RoomTooSmall else None) (event.Drain link room) s t (reply.Octets octets) → octets ≡ []
 room_by true link room s t octets cannot answers = absurd (octets_refused octets refusal.RoomTooSmall answers.1)
-room_by false link room s t octets cannot answers = same_octets octets (gives_nothing link room s t (reply.Octets octets) cannot answers)
+room_by false link room s t octets cannot answers = same_octets octets (gives_nothing link _ s t (reply.Octets octets) cannot answers)
 
 drain_by : (shut : Bool) (why : Option Refusal) (link room : ℕ) (s t : StateSeen) (octets : List ℕ)
     → (not shut && is_none why && can_drain_at (lines_of s.book) (numbered s.links link)) ≡ false

@@ -24,7 +24,7 @@ use Rattle.channel_core.specs.Applying as applying
 use Rattle.channel_core.specs.States.{StateSeen}
 use Rattle.channel_core.specs.Steps.{next_word}
 use Rattle.channel_core.specs.Tables.{acted, acted_at, acted_on}
-use Rattle.channel_core.proofs.Carrying.{Carried, Carries, weaken}
+use Rattle.channel_core.proofs.Carrying.{Carried, Carries, Configures, Holds, weaken}
 use Rattle.channel_core.proofs.CarryingSteps.{carried}
 use Rattle.channel_core.proofs.Timely.{NewTimelyCall, NewTimelyRow, Quiet, Timely, TimelyCall, TimelyRow, map_changed_at, quiet_closed_by, quiet_configured, quiet_due, quiet_ended_at, quiet_news, quiet_placed, quiet_same, quiet_sent, quiet_streamed, quiet_timed_out, timely_begun, timely_same, timely_then}
 
@@ -137,7 +137,7 @@ links_rest s f link h up = record {
   links = refl;
 }
 
-then_writes : (s t u : StateSeen) → Writes s t → Writes t u → Writes s u
+pub then_writes : (s t u : StateSeen) → Writes s t → Writes t u → Writes s u
 then_writes s t u first second = record {
   moment = second.moment ∙ first.moment;
   entry = second.entry ∙ first.entry;
@@ -156,16 +156,14 @@ keeps = record {
   closed = λ why number s by. does (call.closed_by why s.book.moment) number _ s _ refl refl refl (λ x e. quiet_closed_by why s.book.moment x);
   sent = λ message number s. does (call.sent message s.book.moment) number _ s _ refl refl refl (λ x e. quiet_sent message s.book.moment x);
   made = λ number s. does (call.made_due s.book.moment) number _ s _ refl refl refl (λ x e. quiet_due s.book.moment x);
-  heard = λ row told number s. does (call.heard_news row told s.book.moment (next_word s)) number _ s _ refl refl refl (λ x e. quiet_news row told s.book.moment (next_word s) x);
+  heard = λ row told number s fair. does (call.heard_news row told s.book.moment (next_word s)) number _ s _ refl refl refl (λ x e. quiet_news row told s.book.moment (next_word s) x);
   failed = λ row number s. does (call.pick_failed row s.book.moment (next_word s)) number _ s _ refl refl refl (λ x e. quiet_ended_at row pick_end s.book.moment (next_word s) x);
-  configured = λ chosen number s is. does (call.configured chosen s.book.moment) number _ s _ refl refl refl (λ x e. quiet_configured chosen s.book.moment x);
   placed = λ row at number s entry moment. does (call.placed_at row at) number _ s _ refl refl refl (λ x e. quiet_placed row at s.book.moment x (entry ∙ sym (ap (λ (l : Ledger). l.entry) e)) moment);
   finished = λ number s. leaves s _ refl refl refl;
   taken = λ number s. leaves s _ refl refl refl;
   fed = λ row len s. leaves s _ refl refl refl;
   timers = λ due deadline number s. leaves s _ refl refl refl;
   forgotten = λ number s. leaves s _ refl refl refl;
-  held = λ config kinds text s is. leaves s _ refl refl refl;
   streamed = λ row stream s. kept s _ refl refl (quiet_streamed s.book.moment s.book.ledger row stream);
   asked = λ a s entry. asks_rest s _ (ask_added s.book.ledger.entry s.book.ledger.asks a entry);
   gone = λ link s. links_rest s (gone_link s.book.ledger.entry) link (link_gone s.book.ledger.entry s.book.ledger.links link) (λ l. refl);
@@ -175,9 +173,18 @@ keeps = record {
   retired = λ number s. generations_rest s _ (generation_retired s.book.ledger.entry s.book.ledger.generations number);
 }
 
+pub keeps_configured : Configures Keeps
+keeps_configured = λ chosen number s is. does (call.configured chosen s.book.moment) number _ s _ refl refl refl (λ x e. quiet_configured chosen s.book.moment x)
+
+pub keeps_held : (text : Option (List ℕ)) → Holds Keeps text
+keeps_held text = λ config kinds s is. leaves s _ refl refl refl
+
 -- so that each writes
-writes : Carries Writes
+pub writes : Carries Writes
 writes = weaken Keeps Writes (λ s t k. k.writes) then_writes keeps
+
+pub writes_configured : Configures Writes
+writes_configured = λ chosen number s is. (keeps_configured chosen number s is).writes
 
 begin_writes : (s : StateSeen) → Writes s (with_ledger (record s.book.ledger { calls = s.book.ledger.calls ++ begun_call s.book.ledger.entry ∷ [] }) s)
 begin_writes s =
@@ -209,15 +216,16 @@ with_links s t links h moment ledger =
       timely = subst (λ (l : Ledger). Timely s.book.moment s.book.ledger l) (sym ledger) w.timely;
     }
 
-begins : (e : Event) → Carried Writes e
+pub begins : (e : Event) → Carried Writes e
 begins (event.Begin request) = λ s. with_begun s _ refl refl
 begins (event.LinkUp sub) = λ s. with_links s _ _ (link_added s.book.ledger.entry s.book.ledger.links sub) refl refl
+begins (event.Resolved addresses text) = λ config kinds s is. (keeps_held text config kinds s is).writes
 begins e = tt
 
 -- a whole step: the lists of the ledger that it begins with are those of the step before
 pub stamped : (entry moment word : ℕ) (e : Event) (old new : StateSeen) (r : Reply) → applying.Stepped entry moment word e old new r → Later entry old.book.ledger new.book.ledger
 stamped entry moment word e old new r h =
-    let later : Later entry (applying.begun_at entry moment word old).book.ledger new.book.ledger = (carried Writes writes entry moment word e old new r (begins e) h).later in
+    let later : Later entry (applying.begun_at entry moment word old).book.ledger new.book.ledger = (carried Writes writes entry moment word e old new r writes_configured (begins e) h).later in
     record { rows = later.rows; calls = later.calls; asks = later.asks; generations = later.generations; links = later.links }
 
 -- the same, where entries were counted
@@ -227,5 +235,5 @@ stamped_at count entries moment word e old new r is h =
 
 pub timely : (entry moment word : ℕ) (e : Event) (old new : StateSeen) (r : Reply) → applying.Stepped entry moment word e old new r → Timely moment old.book.ledger new.book.ledger
 timely entry moment word e old new r h =
-    let at : Timely moment (applying.begun_at entry moment word old).book.ledger new.book.ledger = (carried Writes writes entry moment word e old new r (begins e) h).timely in
+    let at : Timely moment (applying.begun_at entry moment word old).book.ledger new.book.ledger = (carried Writes writes entry moment word e old new r writes_configured (begins e) h).timely in
     record { rows = at.rows; calls = at.calls }

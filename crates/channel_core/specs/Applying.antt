@@ -27,6 +27,7 @@ use Rattle.subchannel.specs.Records.{is_dialable}
 use Rattle.channel_net.specs.Steps as net
 use Rattle.channel_core.specs.Arrivals.{arrived, begun_by, cancelled, dial_asked, dial_failed_by, done, finished_by, link_lost, linked_up, ping_sent, refused_for, resolve_failed, sent_to, taken_by, IsDrained}
 use Rattle.channel_core.specs.Books.{begun_step, can_send_at, lacks_call, lines_of, no_ledger, slot_at}
+use Rattle.channel_core.specs.Draining.{drained_limit}
 use Rattle.channel_core.specs.Settling.{settled}
 use Rattle.channel_core.specs.States.{Answered, StateSeen}
 use Rattle.channel_core.specs.Steps.{all_stamped_gone, closed, configured_by, is_gone, links_left, overdue_ended, with_generations}
@@ -158,7 +159,7 @@ Applies (event.LinkUp sub) s t r = Gives (linked_up sub s) t r
 Applies (event.DialFailed sub) s t r = Gives (dial_failed_by sub s) t r
 Applies (event.Arrived link piece) s t r = Gives (arrived link piece s) t r
 Applies (event.LinkLost link) s t r = Gives (link_lost link s) t r
-Applies (event.Drain link room) s t r = IsDrained link room s (record { state = t; reply = r })
+Applies (event.Drain link room) s t r = IsDrained link (min room drained_limit) s (record { state = t; reply = r })
 Applies (event.Ping link word) s t r = Gives (ping_sent link word s) t r
 Applies event.Tick s t r = Gives (done s) t r
 Applies event.Shutdown s t r = Gives (done (shut_down s)) t r

@@ -30,6 +30,10 @@ abbrev pub octets_by : Option Drained → List ℕ
 octets_by None = []
 octets_by (Some drained) = drained.octets
 
+-- a drain gives at most so many bytes, whatever its room
+abbrev pub drained_limit : ℕ
+drained_limit = 1048576
+
 -- a drain: the link takes from the book what it sends, and each row whose stream it opened is stamped with it
 pub record DrainLeaves (link room : ℕ) (s : StateSeen) (r : Reply) (t : StateSeen) : Type 0 where
   pub drained : Option Drained

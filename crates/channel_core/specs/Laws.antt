@@ -11,7 +11,15 @@ use Rattle.attempt_ledger.specs.declared.ledger.Generation.{Generation}
 use Rattle.attempt_ledger.specs.declared.ledger.Ledger.{Ledger}
 use Rattle.attempt_ledger.specs.declared.ledger.LinkSeen.{LinkSeen}
 use Rattle.attempt_ledger.specs.declared.row.Row.{Row}
+use Rattle.channel_core.specs.Attempts.{AreAttempts}
+use Rattle.channel_core.specs.CallEnds.{AreEnded}
+use Rattle.channel_core.specs.Commitments.{AreCommittedOnce}
+use Rattle.attempt_ledger.specs.Journals.{received, sent}
+use Rattle.channel_core.specs.Losses.{AreOver}
+use Rattle.channel_core.specs.Reads.{IsReadOf}
+use Rattle.channel_core.specs.Rooms.{AreWithinRoom}
 use Rattle.channel_core.specs.Tables.{numbered}
+use Rattle.channel_core.specs.Wires.{IsSentOn}
 
 -- moments never fall, from one on
 abbrev pub AreRising : ℕ → List Entry → Type 0
@@ -86,3 +94,17 @@ pub record IsLawful (entries : List Entry) (ledger : Ledger) : Type 0 where
   pub calls : told_from call_told 1 entries ≡ counted_from 1 (map (λ c. c.begun) ledger.calls)
   -- so are links, as many as numbers of 32 bits can count, each in the entry in which it came up
   pub links : length ledger.links ≤ 4294967295 → told_from link_told 1 entries ≡ counted_from 1 (map (λ l. l.up) ledger.links)
+  -- attempts: those of each call are numbered, of its plan's kinds, and at most as many as the plan allows
+  pub attempts : AreAttempts entries ledger
+  -- commitments: each call is committed to one attempt at most, and from then on no row of another one is outstanding
+  pub commitments : AreCommittedOnce ledger
+  -- ends: no row of a call that ended is outstanding, and one that ended by a row has a committed row that ended
+  pub ends : AreEnded ledger
+  -- reading: of what arrived on a link the ledger counts whole frames, and all of them while the link is not gone
+  pub reads : (number : ℕ) (link : LinkSeen) → numbered ledger.links number ≡ Some link → length (received number entries) ≤ 18446744073709551615 → IsReadOf (received number entries) link
+  -- sending: what was drained on a link is the client's preface and SETTINGS, and then frames that keep the order of streams
+  pub sends : (number : ℕ) → IsSentOn (sent number entries)
+  -- losses: on a link that was lost nothing happens any more
+  pub losses : AreOver [] entries
+  -- room: a drain gives no more bytes than it has room, and at most 1,048,576
+  pub rooms : AreWithinRoom entries

@@ -1,12 +1,19 @@
 pub mod Applying
 pub mod Arrivals
+pub mod Attempts
 pub mod Books
+pub mod CallEnds
+pub mod Commitments
+pub mod Configurations
 pub mod Core
 pub mod Draining
 pub mod Feeding
 pub mod Laws
+pub mod Losses
 pub mod Messages
+pub mod Reads
 pub mod Response
+pub mod Rooms
 pub mod Said
 pub mod Sent
 pub mod Settling
@@ -15,3 +22,4 @@ pub mod States
 pub mod Steps
 pub mod Tables
 pub mod Timing
+pub mod Wires

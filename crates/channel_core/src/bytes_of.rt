@@ -14,7 +14,7 @@ const ENTRY: u64 = 64;
 const ADDRESS: u64 = 6;
 
 /// A drain gives at most so many bytes, whatever its room.
-const DRAINED: u32 = 1_048_576;
+pub(crate) const DRAINED: u32 = 1_048_576;
 
 /// The most bytes that an event adds.
 pub fn event_bytes(event: &Event) -> u64

@@ -19,6 +19,7 @@ mod settling;
 mod slots;
 mod timers;
 
+use crate::bytes_of::DRAINED;
 use attempt_ledger::Ledger;
 use authority::Authority;
 use book::Book;
@@ -231,7 +232,7 @@ impl<P: Balancer> State<P> {
             Event::DialFailed { sub } => Ok(self.dial_failed(*sub)),
             Event::Arrived { link, piece } => self.arrived(*link, piece.as_slice()),
             Event::LinkLost { link } => self.link_lost(*link),
-            Event::Drain { link, room } => self.drain(*link, *room),
+            Event::Drain { link, room } => self.drain(*link, (*room).min(DRAINED)),
             Event::Ping { link, word } => self.ping(*link, *word),
             Event::Tick => Ok(Reply::Done),
             Event::Shutdown => self.shut_down(),

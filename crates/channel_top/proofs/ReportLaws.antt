@@ -13,15 +13,18 @@ use Rattle.script_text.proofs.Passing.{AppendsFront-behind, AppendsFront-more, P
 use Rattle.channel_core.specs.Core.{CoreSeen, IsNew, Runs, ledger_in}
 use Rattle.channel_core.specs.Laws.{IsLawful}
 use Rattle.channel_core.specs.Sizes.{journal_bytes}
-use Rattle.channel_core.proofs.Dating.{lawful}
 use Rattle.channel_top.specs.declared.ran.Ran.{Ran}
 use Rattle.channel_top.specs.declared.ran.Ran.TheVariants as ran
 use Rattle.channel_top.specs.Runs.{FillsUp}
 use Rattle.channel_top.specs.Top.{AreEntriesOf, HasRun, IsFullReport, IsReport, IsReportBy, IsSession, run_text, session_full_text}
 use Rattle.channel_top.proofs.RunLaws.{entries_of}
 
-session_of : (authority : List ℕ) (new core : CoreSeen) (events : List Stamped) (journal : Journal) (ledger : Ledger) → IsNew authority new → Runs new events core → journal ≡ core.journal → ledger ≡ ledger_in core → IsSession authority events journal ledger
-session_of authority new core events journal ledger is_new runs j l = record {
+-- what is known of each channel that was given events
+abbrev pub AreLawful : Type 0
+AreLawful = (authority : List ℕ) (new core : CoreSeen) (events : List Stamped) → IsNew authority new → Runs new events core → IsLawful core.journal.entries (ledger_in core)
+
+session_of : AreLawful → (authority : List ℕ) (new core : CoreSeen) (events : List Stamped) (journal : Journal) (ledger : Ledger) → IsNew authority new → Runs new events core → journal ≡ core.journal → ledger ≡ ledger_in core → IsSession authority events journal ledger
+session_of lawful authority new core events journal ledger is_new runs j l = record {
   new = new;
   core = core;
   is_new = is_new;
@@ -32,23 +35,23 @@ session_of authority new core events journal ledger is_new runs j l = record {
   lawful = subst (λ (x : Journal). IsLawful x.entries ledger) (sym j) (subst (λ (x : Ledger). IsLawful core.journal.entries x) (sym l) (lawful authority new core events is_new runs));
 }
 
-pub report_whole : (target authority : List ℕ) (value : Target) (new core : CoreSeen) (events : List Stamped) (journal : Journal) (ledger : Ledger) → authority ≡ authority_of value → IsNew authority new → Runs new events core → journal ≡ core.journal → ledger ≡ ledger_in core → IsReport target value events (report_of target journal ledger)
-report_whole target authority value new core events journal ledger is is_new runs j l = record {
+pub report_whole : AreLawful → (target authority : List ℕ) (value : Target) (new core : CoreSeen) (events : List Stamped) (journal : Journal) (ledger : Ledger) → authority ≡ authority_of value → IsNew authority new → Runs new events core → journal ≡ core.journal → ledger ≡ ledger_in core → IsReport target value events (report_of target journal ledger)
+report_whole lawful target authority value new core events journal ledger is is_new runs j l = record {
   journal = journal;
   ledger = ledger;
-  session = session_of (authority_of value) new core events journal ledger (subst (λ (a : List ℕ). IsNew a new) is is_new) runs j l;
+  session = session_of lawful (authority_of value) new core events journal ledger (subst (λ (a : List ℕ). IsNew a new) is is_new) runs j l;
   text_is = refl;
 }
 
-pub report_full : (target authority : List ℕ) (value : Target) (new core : CoreSeen) (events : List Stamped) (journal : Journal) (ledger : Ledger) → authority ≡ authority_of value → IsNew authority new → FillsUp new events core → journal ≡ core.journal → ledger ≡ ledger_in core → IsFullReport target value events (report_of target journal ledger ++ session_full_text)
-report_full target authority value new core events journal ledger is is_new fills j l = record {
+pub report_full : AreLawful → (target authority : List ℕ) (value : Target) (new core : CoreSeen) (events : List Stamped) (journal : Journal) (ledger : Ledger) → authority ≡ authority_of value → IsNew authority new → FillsUp new events core → journal ≡ core.journal → ledger ≡ ledger_in core → IsFullReport target value events (report_of target journal ledger ++ session_full_text)
+report_full lawful target authority value new core events journal ledger is is_new fills j l = record {
   front = fills.front;
   next = fills.next;
   behind = fills.behind;
   parts = fills.parts;
   journal = journal;
   ledger = ledger;
-  session = session_of (authority_of value) new core fills.front journal ledger (subst (λ (a : List ℕ). IsNew a new) is is_new) fills.runs j l;
+  session = session_of lawful (authority_of value) new core fills.front journal ledger (subst (λ (a : List ℕ). IsNew a new) is is_new) fills.runs j l;
   full = subst (λ (x : Journal). HasNoRoom (length x.entries) (journal_bytes x.entries) fills.next.event) (sym j) fills.full;
   text_is = refl;
 }
@@ -66,11 +69,11 @@ pub wrote_some : (a b : Option (List ℕ)) (x y : List ℕ) → AppendsFront a b
 wrote_some a b x y front = AppendsFront-more a b x y front
 
 -- what is written of a channel that was given events is its report
-pub report_by : (r : Ran) (target : List ℕ) (value : Target) (core : CoreSeen) (events : List Stamped) → HasRun r (authority_of value) events core → IsReportBy r target value events (run_text r target core.journal (ledger_in core))
-report_by ran.Whole target value core events has =
-    report_whole target (authority_of value) value has.0 core events core.journal (ledger_in core) refl has.1 has.2 refl refl
-report_by ran.Full target value core events has =
-    report_full target (authority_of value) value has.0 core events core.journal (ledger_in core) refl has.1 has.2 refl refl
+pub report_by : AreLawful → (r : Ran) (target : List ℕ) (value : Target) (core : CoreSeen) (events : List Stamped) → HasRun r (authority_of value) events core → IsReportBy r target value events (run_text r target core.journal (ledger_in core))
+report_by lawful ran.Whole target value core events has =
+    report_whole lawful target (authority_of value) value has.0 core events core.journal (ledger_in core) refl has.1 has.2 refl refl
+report_by lawful ran.Full target value core events has =
+    report_full lawful target (authority_of value) value has.0 core events core.journal (ledger_in core) refl has.1 has.2 refl refl
 
 -- the report is written, or a front of it
 written_same : (Is : List ℕ → Type 0) (target : List ℕ) (journal j : Journal) (ledger l : Ledger) → j ≡ journal → l ≡ ledger → Is (report_of target j l) → Is (report_of target journal ledger)

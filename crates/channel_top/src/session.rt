@@ -11,7 +11,7 @@ ghost use Rattle.resolver_core.specs.AnyTargets.{IsTarget, authority_of};
 use crate::ran::Ran;
 use crate::run::run_events;
 use crate::tell::{SESSION_FULL, write_text};
-use channel_core::ChannelCore;
+use channel_core::{ChannelCore, channels_are_lawful};
 use gate_io::Sink;
 use grpc_base::{NoMemory, Stamped, Text};
 use lb_policy::Balancer;
@@ -46,6 +46,7 @@ pub fn report_session<P: Balancer, K: Sink>(
         value,
         events,
     } = script;
+    channels_are_lawful();
     let session = run_session(alloc, policies, value, events)?;
     match write_session(alloc, &session.core, session.ran, &target, report) {
         Ok(()) => Ok(session.ran),

@@ -1,0 +1,48 @@
+-- Each call is committed once, whatever events a channel is given.
+use Rattle.std.proofs.Common.{◌≡◌, ◌≤◌, ◌<◌, ℕ, Bool, true, false, if◌then◌else◌, Option, Some, None, is_some, List, [], ◌∷◌, length, refl, sym, ap, subst, ◌∙◌}
+use Rattle.std.proofs.lemmas.Bool.{eqb-true}
+use Rattle.grpc_base.specs.Requests.{RequestSeen}
+use Rattle.grpc_base.specs.declared.plan.Chosen.{Chosen}
+use Rattle.service_config.specs.declared.config.Config.{Config}
+use Rattle.attempt_ledger.specs.declared.ledger.Ledger.{Ledger}
+use Rattle.attempt_ledger.specs.declared.row.Row.{Row}
+use Rattle.call_core.specs.Commitments.{IsCommittedOnce, IsInChain, IsRowOf, IsStamped}
+use Rattle.call_core.specs.Laws.{AllAt, IsKept}
+use Rattle.call_core.specs.Outstanding.{AreHeld, IsOutstanding}
+use Rattle.call_core.specs.Parts.{find_live, is_row}
+use Rattle.call_core.specs.RowChains.{AreChained}
+use Rattle.call_core.specs.Rows.{row_in}
+use Rattle.call_core.specs.Steps.{Stepped}
+use Rattle.call_core.specs.declared.live.LiveRow.{LiveRow}
+use Rattle.channel_core.specs.Commitments.{AreCommittedOnce, HasOneCommitment, IsCommittedRow, IsOutstandingRow}
+use Rattle.channel_core.specs.States.{StateSeen}
+use Rattle.channel_core.proofs.Attempts.{number_there}
+use Rattle.channel_core.proofs.CallLaws.{IsSound, are_held_by, chained_by, kept_by, once_by}
+use Rattle.channel_core.proofs.Calls.{bare}
+use Rattle.channel_core.proofs.Lifted.{SoundIn}
+use Rattle.channel_core.proofs.Lifting.{OfCall}
+use Rattle.channel_core.proofs.OneCommitment.{one, over}
+use Rattle.channel_core.proofs.OverCalls.{IsOverBy}
+use Rattle.channel_core.proofs.SoundCalls.{IsAllowed}
+
+one_commitment : (n : ℕ) (s : Stepped) → IsCommittedOnce s → AreChained s → AreHeld s → IsKept s.call → IsOverBy n s → HasOneCommitment s.ledger.rows s.call.number
+one_commitment n s once chained held kept by = record {
+  one = one s once held kept;
+  chained = λ place other row next a b order same. chained.kinds place other row next a b order same;
+  over = over s once held kept;
+  before = by.before;
+}
+
+pub commitments_known : (J : ℕ → Option ℕ → RequestSeen → Option Chosen → Type 0) (K : Option Config → Type 0) (s : StateSeen) → SoundIn IsSound J K s → AreCommittedOnce s.book.ledger
+commitments_known J K s h = record {
+  each = λ call least most.
+      let ledger : Ledger = s.book.ledger in
+      let m : ℕ = s.book.moment in
+      let n : ℕ = ledger.entry in
+      let same : length s.book.calls ≡ length ledger.calls = h.count in
+      let there = number_there s.book.calls call least (subst (λ (k : ℕ). call ≤ k) (sym same) most) in
+      let of : OfCall IsSound m n call there.0.call ledger.rows = h.each call there.0 there.1 in
+      let x : Stepped = bare there.0.call ledger.rows in
+      let own : HasOneCommitment ledger.rows x.call.number = one_commitment n x (once_by m n x of.holds.one) (chained_by m n x of.holds.one) (are_held_by m n x of.holds.one) (kept_by m n x of.holds.one) of.holds.other in
+      subst (λ (k : ℕ). HasOneCommitment ledger.rows k) of.number_is own;
+}

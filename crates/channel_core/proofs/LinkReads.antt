@@ -1,0 +1,648 @@
+-- How much of what arrived on a link was read, whatever events there were.
+use Rattle.std.proofs.Common.{◌≡◌, ◌∙◌, ℕ, zero, suc, ◌+◌, ◌-◌, ◌≤◌, ◌==◌, Bool, true, false, if◌then◌else◌, ◌||◌, not, List, [], ◌∷◌, ◌++◌, length, take, slice_get, refl, ap, sym, subst, inl, inr, Option, Some, None, is_some, arith, append_assoc, append-nil, length-append}
+use Rattle.std.specs.Prelude.{◌⊎◌}
+use Rattle.std.specs.Option.{option_map}
+use Rattle.std.proofs.lemmas.Bool.{cases_eq, eq-eqb, ne_eqb}
+use Rattle.std.proofs.lemmas.Grind.{flat_map-append}
+use Rattle.std.proofs.lemmas.List.{length-map}
+use Rattle.grpc_base.specs.declared.event.Entry.{Entry}
+use Rattle.grpc_base.specs.declared.event.Event.{Event}
+use Rattle.grpc_base.specs.declared.event.Event.TheVariants as event
+use Rattle.grpc_base.specs.declared.event.Refusal.{Refusal}
+use Rattle.grpc_base.specs.declared.event.Refusal.TheVariants as refusal
+use Rattle.grpc_base.specs.declared.event.Reply.{Reply}
+use Rattle.grpc_base.specs.declared.event.Stamped.{Stamped}
+use Rattle.attempt_ledger.specs.Journals.{arrived_by, received}
+use Rattle.attempt_ledger.specs.declared.ledger.Ledger.{Ledger}
+use Rattle.attempt_ledger.specs.declared.ledger.LinkSeen.{LinkSeen}
+use Rattle.attempt_ledger.specs.declared.news.News.{News}
+use Rattle.attempt_ledger.specs.declared.news.News.TheVariants as news
+use Rattle.ledger_stamps.specs.Steps.{changed_at, new_link, read_link}
+use Rattle.subchannel.specs.Boards as boards
+use Rattle.h2_frame.specs.Frames.{FrameSeen}
+use Rattle.h2_frame.specs.Readings.{fault_of, frames_of, rest_of}
+use Rattle.h2_frame.proofs.TextLaws.{has_reading, no_two_readings}
+use Rattle.h2_link.specs.Feeds.{Line}
+use Rattle.h2_link.specs.Heard.{Hearing, heard}
+use Rattle.h2_link.specs.Laws.{KeepsHeard}
+use Rattle.h2_link.specs.Steps.{cut}
+use Rattle.h2_link.specs.declared.news.Drained.{Drained}
+use Rattle.h2_link.specs.declared.news.LinkNews.{LinkNews}
+use Rattle.h2_link.specs.declared.news.LinkNews.TheVariants as link_news
+use Rattle.h2_link.proofs.Keeps.{sends_keep}
+use Rattle.grpc_base.specs.ErrorCodes.{cancel}
+use Rattle.grpc_link.specs.Links as grpc
+use Rattle.grpc_link.specs.Links.{GrpcSeen, link_heard, told_all}
+use Rattle.grpc_link.specs.Readers.{ReaderSeen, Stepped, stepped}
+use Rattle.channel_net.specs.Steps as net
+use Rattle.channel_core.specs.declared.state.book.Book.{Book}
+use Rattle.channel_core.specs.declared.state.links.LinkSlot.{LinkSlot}
+use Rattle.channel_core.specs.Applying as applying
+use Rattle.channel_core.specs.Applying.{AnswersBy, link_refusal}
+use Rattle.channel_core.specs.Arrivals as arrivals
+use Rattle.channel_core.specs.Arrivals.{frames_after, frames_from, linked_for, next_link}
+use Rattle.channel_core.specs.Books.{link_at, lines_of}
+use Rattle.channel_core.specs.Core.{CoreSeen, IsNew, Runs, Steps, moment_of}
+use Rattle.channel_core.specs.Draining.{DrainLeaves, opened_by, with_streams}
+use Rattle.channel_core.specs.Feeding.{all_fed}
+use Rattle.channel_core.specs.Reads.{IsReadOf}
+use Rattle.channel_core.specs.States.{StateSeen}
+use Rattle.channel_core.specs.Steps as step
+use Rattle.channel_core.specs.Steps.{overdue_ended, stamped_gone, with_ledger_links}
+use Rattle.channel_core.specs.Tables.{DrainGives, DrainsOn, Heard, buried, fresh_link, has_link, heard_at, heard_by, heard_link, hears_at, new_slot, numbered, with_link}
+use Rattle.channel_core.proofs.Carrying.{overdue as all_overdue}
+use Rattle.channel_core.proofs.Counting.{ComesUpAs, comes_up_as, up_in}
+use Rattle.channel_core.proofs.Keeping.{cut_kept, cut_read}
+use Rattle.channel_core.proofs.LinkStays.{StaysOn, dead_on, gone_on, gone_stays, has_gone, is_dead_slot, seen_on, stays, stays_if, stays_joined, stays_same, text_in, text_on, text_same}
+use Rattle.channel_core.proofs.LinkTexts.{HearsText, Reads, Text, heard_text, most, nothing_read, passed_over, text_of}
+use Rattle.channel_core.proofs.Numbered.{numbered_here, numbered_last, numbered_more, numbered_there}
+use Rattle.channel_core.proofs.Stamping.{Keeps, keeps}
+use Rattle.channel_core.proofs.Walking.{Walked, hear, lose_rows, overdue, seal, with_links}
+use Rattle.channel_core.proofs.WalkingSteps.{settle, walked}
+
+-- what a link tells of its attempts leaves how it reads
+abbrev pub over_told : GrpcSeen → ℕ → Stepped → grpc.Told
+over_told g tag s = record { link = record g { link = record g.link { wire = cut g.link.wire tag cancel } }; news = s.news }
+
+abbrev pub on_told : GrpcSeen → ℕ → Stepped → grpc.Told
+on_told g tag s = record { link = record g { readers = grpc.with_reader tag s.reader g.readers }; news = s.news }
+
+told_if : (over : Bool) (g : GrpcSeen) (tag : ℕ) (s : Stepped) → text_of (if over then over_told g tag s else on_told g tag s).link.link ≡ text_of g.link
+told_if true g tag s = text_same g.link (over_told g tag s).link.link refl (cut_read g.link.wire tag cancel) (cut_kept g.link.wire tag cancel).broken
+told_if false g tag s = refl
+
+told_by : (g : GrpcSeen) (tag : ℕ) (s : Stepped) → text_of (grpc.told_by g tag s).link.link ≡ text_of g.link
+told_by g tag s = told_if s.reader.over g tag s
+
+told_of : (g : GrpcSeen) (tag : ℕ) (n : LinkNews) (o : Option (ℕ × ReaderSeen)) → text_of (grpc.told_of g tag n o).link.link ≡ text_of g.link
+told_of g tag n None = refl
+told_of g tag n (Some x) = told_by _ tag (stepped x.1 tag n)
+
+told_one : (g : GrpcSeen) (n : LinkNews) → text_of (grpc.told g n).link.link ≡ text_of g.link
+told_one g link_news.Ready = refl
+told_one g link_news.Retiring = refl
+told_one g (link_news.Broken code) = refl
+told_one g (link_news.Fields tag fields end seen) = told_of g tag (link_news.Fields tag fields end seen) (grpc.found tag g.readers)
+told_one g (link_news.Data tag bytes end seen) = told_of g tag (link_news.Data tag bytes end seen) (grpc.found tag g.readers)
+told_one g (link_news.Reset tag code seen) = told_of g tag (link_news.Reset tag code seen) (grpc.found tag g.readers)
+told_one g (link_news.Fault tag code seen) = told_of g tag (link_news.Fault tag code seen) (grpc.found tag g.readers)
+told_one g (link_news.Unseen tag seen) = told_of g tag (link_news.Unseen tag seen) (grpc.found tag g.readers)
+
+told_text : (g : GrpcSeen) (ns : List LinkNews) → text_of (told_all g ns).link.link ≡ text_of g.link
+told_text g [] = refl
+told_text g (n ∷ ns) = told_text (grpc.told g n).link ns ∙ told_one g n
+
+-- where a link broke, it tells so and no more
+news_of_break : (g : GrpcSeen) (code : ℕ) → (told_all g (link_news.Broken code ∷ [])).news ≡ news.Broken code ∷ []
+news_of_break g code = refl
+
+-- what was read of the bytes that arrived on a link, if there is one
+abbrev ReadsOn : List ℕ → ℕ → Bool → Option Text → Type 0
+ReadsOn bytes seen dead None = (bytes ≡ []) × (seen ≡ 0)
+ReadsOn bytes seen dead (Some t) = Reads bytes seen t dead
+
+pub record SoundOn (k : ℕ) (bytes : List ℕ) (s : StateSeen) : Type 0 where
+  pub reads : ReadsOn bytes (seen_on k s) (dead_on k s) (text_on k s)
+  pub known : (t : Text) → text_on k s ≡ Some t → is_some (link_at s.book k) ≡ true
+  pub dead_gone : dead_on k s ≡ true → gone_on k s ≡ true
+  pub broken_dead : (t : Text) (code : ℕ) → text_on k s ≡ Some t → t.broken ≡ Some code → dead_on k s ≡ true
+
+-- with a link that may have died since
+false_before : (a b : Bool) → (a ≡ true → b ≡ true) → b ≡ false → a ≡ false
+false_before true b more is = sym (more refl) ∙ is
+false_before false b more is = refl
+
+reads_later : (bytes : List ℕ) (seen : ℕ) (dead after : Bool) (o : Option Text) → (dead ≡ true → after ≡ true) → ReadsOn bytes seen dead o → ReadsOn bytes seen after o
+reads_later bytes seen dead after None more h = h
+reads_later bytes seen dead after (Some t) more h = record {
+  applied = h.applied;
+  left = h.left;
+  frames = h.frames;
+  count = h.count;
+  alive = λ d b. h.alive (false_before dead after more d) b;
+}
+
+reads_stay : (k : ℕ) (bytes : List ℕ) (s t : StateSeen) (dead : Bool) → StaysOn k s t → (dead ≡ true → dead_on k t ≡ true) → ReadsOn bytes (seen_on k s) dead (text_on k s) → ReadsOn bytes (seen_on k t) (dead_on k t) (text_on k t)
+reads_stay k bytes s t dead h more reads =
+    let one : ReadsOn bytes (seen_on k s) (dead_on k t) (text_on k s) = reads_later bytes (seen_on k s) dead (dead_on k t) (text_on k s) more reads in
+    let two : ReadsOn bytes (seen_on k t) (dead_on k t) (text_on k s) = subst (λ (n : ℕ). ReadsOn bytes n (dead_on k t) (text_on k s)) (sym h.seen) one in
+    subst (λ (o : Option Text). ReadsOn bytes (seen_on k t) (dead_on k t) o) (sym h.text) two
+
+pub sound_stays : (k : ℕ) (bytes : List ℕ) (s t : StateSeen) → StaysOn k s t → SoundOn k bytes s → SoundOn k bytes t
+sound_stays k bytes s t h sound = record {
+  reads = reads_stay k bytes s t (dead_on k s) h h.dead sound.reads;
+  known = λ x is. h.known ∙ sound.known x (sym h.text ∙ is);
+  dead_gone = λ d. elim (h.dies d) [
+    | inl before ↦ h.gone (sound.dead_gone before)
+    | inr gone ↦ gone
+  ];
+  broken_dead = λ x code is broken. h.dead (sound.broken_dead x code (sym h.text ∙ is) broken);
+}
+
+-- a link that is lost is dead
+buried_now : (o : Option LinkSlot) → is_some (option_map text_in o) ≡ true → is_dead_slot (option_map buried o) ≡ true
+buried_now None is = absurd (let no : ⊥ = (cc) in no)
+buried_now (Some slot) is = refl
+
+pub lost_dead : (k : ℕ) (each : Bool) (s : StateSeen) → is_some (text_on k s) ≡ true → dead_on k (arrivals.lost k each s) ≡ true
+lost_dead k each s is =
+    let t : StateSeen = step.buried k s in
+    let u : StateSeen = arrivals.rows_lost arrivals.most_rows k each 0 t in
+    let now : dead_on k t ≡ true = ap is_dead_slot (numbered_here buried s.links k) ∙ buried_now (numbered s.links k) is in
+    (gone_stays k k u).dead ((lose_rows (StaysOn k) (stays k) arrivals.most_rows k each 0 t).dead now)
+
+break_dies : (k code : ℕ) (s : StateSeen) → is_some (text_on k s) ≡ true → dead_on k (arrivals.heard k (news.Broken code ∷ []) s) ≡ true
+break_dies k code s is =
+    let t : StateSeen = arrivals.lost k false s in
+    let u : StateSeen = step.sealed_one k t in
+    (seal (StaysOn k) (stays k) u).dead (((stays k).sealed k t).dead (lost_dead k false s is))
+
+-- a frame, or a part of one, is heard on a link
+hearing : LinkSlot → List ℕ → Hearing
+hearing slot piece = heard slot.link.link piece
+
+slot_heard : (slot : LinkSlot) (piece : List ℕ) → text_in (with_link (heard_link piece) slot) ≡ text_of (heard slot.link.link piece).link
+slot_heard slot piece = told_text (record { link = (heard slot.link.link piece).link; readers = slot.link.readers }) (heard slot.link.link piece).news
+
+news_heard : (slot : LinkSlot) (piece : List ℕ) (code : ℕ) → (heard slot.link.link piece).news ≡ link_news.Broken code ∷ [] → (link_heard slot.link piece).news ≡ news.Broken code ∷ []
+news_heard slot piece code is = ap (λ (ns : List LinkNews). (told_all (record { link = (heard slot.link.link piece).link; readers = slot.link.readers }) ns).news) is
+
+seen_now : (read : ℕ) (o : Option LinkSeen) → is_some o ≡ true → step.read_of (option_map (read_link read) o) ≡ read
+seen_now read None is = absurd (let no : ⊥ = (cc) in no)
+seen_now read (Some link) is = refl
+
+gone_read : (read : ℕ) (o : Option LinkSeen) → has_gone (option_map (read_link read) o) ≡ has_gone o
+gone_read read None = refl
+gone_read read (Some link) = refl
+
+known_read : (read : ℕ) (o : Option LinkSeen) → is_some (option_map (read_link read) o) ≡ is_some o
+known_read read None = refl
+known_read read (Some link) = refl
+
+abbrev took : ℕ → Heard → StateSeen → StateSeen
+took k h s = arrivals.read_to k h.read (record s { links = h.links })
+
+frame_sound : (k : ℕ) (bytes piece : List ℕ) (s : StateSeen) (slot : LinkSlot) → numbered s.links k ≡ Some slot → slot.dead ≡ false → slot.link.link.wire.broken ≡ None → 1 ≤ length piece → SoundOn k bytes s
+    → SoundOn k (bytes ++ take (heard slot.link.link piece).taken piece) (arrivals.frame_heard k (heard_by slot k piece s.links) s)
+frame_sound k bytes piece s slot is alive sound_wire some sound =
+    let h : Heard = heard_by slot k piece s.links in
+    let hears : Hearing = heard slot.link.link piece in
+    let front : List ℕ = bytes ++ take hears.taken piece in
+    let text : text_on k s ≡ Some (text_in slot) = ap (λ o. option_map text_in o) is in
+    let dead : dead_on k s ≡ false = ap is_dead_slot is ∙ alive in
+    let reads_old : Reads bytes (seen_on k s) (text_in slot) false =
+    subst (λ (b : Bool). Reads bytes (seen_on k s) (text_in slot) b) dead (subst (λ (o : Option Text). ReadsOn bytes (seen_on k s) (dead_on k s) o) text sound.reads) in
+    let told : HearsText bytes piece hears = heard_text bytes piece (seen_on k s) slot.link.link reads_old sound_wire some in
+    let known : is_some (link_at s.book k) ≡ true = sound.known (text_in slot) text in
+    let s1 : StateSeen = took k h s in
+    let after : numbered s1.links k ≡ Some (with_link (heard_link piece) slot) = numbered_here (with_link (heard_link piece)) s.links k ∙ ap (λ o. option_map (with_link (heard_link piece)) o) is in
+    let text1 : text_on k s1 ≡ Some (text_of hears.link) = ap (λ o. option_map text_in o) after ∙ ap (λ (x : Text). Some x) (slot_heard slot piece) in
+    let dead1 : dead_on k s1 ≡ false = ap is_dead_slot after ∙ alive in
+    let link1 : link_at s1.book k ≡ option_map (read_link h.read) (link_at s.book k) = numbered_here (read_link h.read) s.book.ledger.links k in
+    let seen1 : seen_on k s1 ≡ h.read = ap step.read_of link1 ∙ seen_now h.read (link_at s.book k) known in
+    let reads1 : ReadsOn front (seen_on k s1) false (text_on k s1) =
+    subst (λ (o : Option Text). ReadsOn front (seen_on k s1) false o) (sym text1) (subst (λ (n : ℕ). Reads front n (text_of hears.link) false) (sym seen1) told.reads) in
+    let t : StateSeen = arrivals.heard k h.news s1 in
+    let stay : StaysOn k s1 t = hear (StaysOn k) (stays k) k h.news s1 in
+    record {
+      reads = reads_stay k front s1 t false stay (λ no. absurd (let bad : ⊥ = (cc) in bad)) reads1;
+      known = λ x here. stay.known ∙ ap (λ (o : Option LinkSeen). is_some o) link1 ∙ known_read h.read (link_at s.book k) ∙ known;
+      dead_gone = λ d. elim (stay.dies d) [
+        | inl before ↦ absurd (let no : ⊥ = (cc) in no)
+        | inr gone ↦ gone
+      ];
+      broken_dead = λ x code here broken.
+          let same : Some (text_of hears.link) ≡ Some x = sym text1 ∙ sym stay.text ∙ here in
+          let one : text_of hears.link ≡ x = (cc) in
+          let broke : hears.link.wire.broken ≡ Some code = ap (λ (y : Text). y.broken) one ∙ broken in
+          let tells : h.news ≡ news.Broken code ∷ [] = news_heard slot piece code (told.broken code broke) in
+          let there : is_some (text_on k s1) ≡ true = ap (λ (o : Option Text). is_some o) text1 in
+          subst (λ (ns : List News). dead_on k (arrivals.heard k ns s1) ≡ true) (sym tells) (break_dies k code s1 there);
+    }
+
+-- a link that hears nothing passes the bytes over
+or_true : (a b : Bool) → (a || b) ≡ false → (a ≡ false) × (b ≡ false)
+or_true true b is = absurd (let no : ⊥ = (cc) in no)
+or_true false b is = (refl, is)
+
+not_true : (b : Bool) → not b ≡ true → b ≡ false
+not_true true is = absurd (let no : ⊥ = (cc) in no)
+not_true false is = refl
+
+not_false : (b : Bool) → not b ≡ false → b ≡ true
+not_false true is = refl
+not_false false is = absurd (let no : ⊥ = (cc) in no)
+
+none_there : (o : Option ℕ) → is_some o ≡ false → o ≡ None
+none_there None is = refl
+none_there (Some n) is = absurd (let no : ⊥ = (cc) in no)
+
+some_there : (o : Option ℕ) → is_some o ≡ true → (n : ℕ) × (o ≡ Some n)
+some_there None is = absurd (let no : ⊥ = (cc) in no)
+some_there (Some n) is = (n, refl)
+
+either_true : (a b : Bool) → (a || b) ≡ true → (a ≡ true) ⊎ (b ≡ true)
+either_true true b is = inl refl
+either_true false b is = inr is
+
+deaf_dead : (k : ℕ) (bytes : List ℕ) (s : StateSeen) (slot : LinkSlot) → numbered s.links k ≡ Some slot → hears_at (Some slot) ≡ false → SoundOn k bytes s → dead_on k s ≡ true
+deaf_dead k bytes s slot is deaf sound =
+    let text : text_on k s ≡ Some (text_in slot) = ap (λ o. option_map text_in o) is in
+    elim (either_true slot.dead (is_some slot.link.link.wire.broken) (not_false (slot.dead || is_some slot.link.link.wire.broken) deaf)) [
+      | inl dead ↦ ap is_dead_slot is ∙ dead
+      | inr broken ↦ (let code = some_there slot.link.link.wire.broken broken in sound.broken_dead (text_in slot) code.0 text code.1)
+    ]
+
+passed_sound : (k : ℕ) (bytes more : List ℕ) (s : StateSeen) (slot : LinkSlot) → numbered s.links k ≡ Some slot → dead_on k s ≡ true → SoundOn k bytes s → SoundOn k (bytes ++ more) s
+passed_sound k bytes more s slot is dead sound =
+    let text : text_on k s ≡ Some (text_in slot) = ap (λ o. option_map text_in o) is in
+    let old : Reads bytes (seen_on k s) (text_in slot) (dead_on k s) = subst (λ (o : Option Text). ReadsOn bytes (seen_on k s) (dead_on k s) o) text sound.reads in
+    let new : Reads (bytes ++ more) (seen_on k s) (text_in slot) (dead_on k s) = passed_over bytes more (seen_on k s) (text_in slot) (dead_on k s) (λ d b. (cc)) old in
+    record {
+      reads = subst (λ (o : Option Text). ReadsOn (bytes ++ more) (seen_on k s) (dead_on k s) o) (sym text) new;
+      known = sound.known;
+      dead_gone = sound.dead_gone;
+      broken_dead = sound.broken_dead;
+    }
+
+-- the frames of a piece, one by one
+one_more : (bytes : List ℕ) (b : ℕ) (piece : List ℕ) → (bytes ++ b ∷ []) ++ piece ≡ bytes ++ b ∷ piece
+one_more bytes b piece = append_assoc bytes (b ∷ []) piece
+
+has_text : (k : ℕ) (s : StateSeen) (o : Option LinkSlot) → numbered s.links k ≡ o → is_some (text_on k s) ≡ true → is_some o ≡ true
+has_text k s None is there = absurd (let e : is_some (text_on k s) ≡ false = ap (λ o. is_some (option_map text_in o)) is in let no : ⊥ = (cc) in no)
+has_text k s (Some slot) is there = refl
+
+frame_text : (k : ℕ) (piece : List ℕ) (s : StateSeen) (slot : LinkSlot) → numbered s.links k ≡ Some slot → is_some (text_on k (arrivals.frame_heard k (heard_by slot k piece s.links) s)) ≡ true
+frame_text k piece s slot is =
+    let h : Heard = heard_by slot k piece s.links in
+    let s1 : StateSeen = took k h s in
+    let after : numbered s1.links k ≡ Some (with_link (heard_link piece) slot) = numbered_here (with_link (heard_link piece)) s.links k ∙ ap (λ o. option_map (with_link (heard_link piece)) o) is in
+    let stay : StaysOn k s1 (arrivals.heard k h.news s1) = hear (StaysOn k) (stays k) k h.news s1 in
+    ap (λ (o : Option Text). is_some o) stay.text ∙ ap (λ o. is_some (option_map text_in o)) after
+
+take_front : (b : ℕ) (piece : List ℕ) (n : ℕ) → 1 ≤ n → take n (b ∷ piece) ≡ b ∷ take (n - 1) piece
+take_front b piece zero some = absurd (let no : ⊥ = omega arith in no)
+take_front b piece (suc n) some = (let e : suc n - 1 ≡ n = omega arith in ap (λ (m : ℕ). b ∷ take m piece) (sym e))
+
+heard_frames : (k : ℕ) (bytes : List ℕ) (b : ℕ) (piece : List ℕ) (s : StateSeen) (slot : LinkSlot) (hears : Bool) → numbered s.links k ≡ Some slot → hears_at (Some slot) ≡ hears → SoundOn k bytes s
+    → ((skip : ℕ) (t : StateSeen) → skip ≤ length piece → is_some (text_on k t) ≡ true → SoundOn k ((bytes ++ b ∷ []) ++ take skip piece) t → SoundOn k ((bytes ++ b ∷ []) ++ piece) (frames_after k piece skip t))
+    → SoundOn k (bytes ++ b ∷ piece) (frames_from (frames_after k piece) k (if hears then Some (heard_by slot k (b ∷ piece) s.links) else None) s)
+heard_frames k bytes b piece s slot false is at sound more = passed_sound k bytes (b ∷ piece) s slot is (deaf_dead k bytes s slot is at sound) sound
+heard_frames k bytes b piece s slot true is at sound more =
+    let h : Heard = heard_by slot k (b ∷ piece) s.links in
+    let both : (slot.dead ≡ false) × (is_some slot.link.link.wire.broken ≡ false) = or_true slot.dead (is_some slot.link.link.wire.broken) (not_true (slot.dead || is_some slot.link.link.wire.broken) at) in
+    let unbroken : slot.link.link.wire.broken ≡ None = none_there slot.link.link.wire.broken both.1 in
+    let hears : Hearing = heard slot.link.link (b ∷ piece) in
+    let text : text_on k s ≡ Some (text_in slot) = ap (λ o. option_map text_in o) is in
+    let dead : dead_on k s ≡ false = ap is_dead_slot is ∙ both.0 in
+    let reads_old : Reads bytes (seen_on k s) (text_in slot) false =
+    subst (λ (d : Bool). Reads bytes (seen_on k s) (text_in slot) d) dead (subst (λ (o : Option Text). ReadsOn bytes (seen_on k s) (dead_on k s) o) text sound.reads) in
+    let some : 1 ≤ length (b ∷ piece) = omega arith in
+    let told : HearsText bytes (b ∷ piece) hears = heard_text bytes (b ∷ piece) (seen_on k s) slot.link.link reads_old unbroken some in
+    let least : 1 ≤ hears.taken = told.some in
+    let bound : hears.taken ≤ length (b ∷ piece) = told.within in
+    let first : SoundOn k (bytes ++ take hears.taken (b ∷ piece)) (arrivals.frame_heard k h s) = frame_sound k bytes (b ∷ piece) s slot is both.0 unbroken some sound in
+    let split : bytes ++ take hears.taken (b ∷ piece) ≡ (bytes ++ b ∷ []) ++ take (hears.taken - 1) piece = ap (λ (l : List ℕ). bytes ++ l) (take_front b piece hears.taken least) ∙ sym (one_more bytes b (take (hears.taken - 1) piece)) in
+    let within : hears.taken - 1 ≤ length piece = omega (arith, bound, least) in
+    subst (λ (l : List ℕ). SoundOn k l (frames_after k piece (hears.taken - 1) (arrivals.frame_heard k h s))) (one_more bytes b piece)
+    (more (hears.taken - 1) (arrivals.frame_heard k h s) within (frame_text k (b ∷ piece) s slot is) (subst (λ (l : List ℕ). SoundOn k l (arrivals.frame_heard k h s)) split first))
+
+heard_there : (k : ℕ) (bytes : List ℕ) (b : ℕ) (piece : List ℕ) (s : StateSeen) (o : Option LinkSlot) → numbered s.links k ≡ o → is_some (text_on k s) ≡ true → SoundOn k bytes s
+    → ((skip : ℕ) (t : StateSeen) → skip ≤ length piece → is_some (text_on k t) ≡ true → SoundOn k ((bytes ++ b ∷ []) ++ take skip piece) t → SoundOn k ((bytes ++ b ∷ []) ++ piece) (frames_after k piece skip t))
+    → SoundOn k (bytes ++ b ∷ piece) (frames_from (frames_after k piece) k (heard_at o k (b ∷ piece) s.links) s)
+heard_there k bytes b piece s None is there sound more = absurd (let e : is_some (text_on k s) ≡ false = ap (λ o. is_some (option_map text_in o)) is in let no : ⊥ = (cc) in no)
+heard_there k bytes b piece s (Some slot) is there sound more = heard_frames k bytes b piece s slot (hears_at (Some slot)) is refl sound more
+
+frames_sound : (k : ℕ) (bytes piece : List ℕ) (skip : ℕ) (s : StateSeen) → skip ≤ length piece → is_some (text_on k s) ≡ true → SoundOn k (bytes ++ take skip piece) s → SoundOn k (bytes ++ piece) (frames_after k piece skip s)
+frames_sound k bytes [] zero s within there sound = sound
+frames_sound k bytes [] (suc skip) s within there sound = absurd (let no : ⊥ = omega arith in no)
+frames_sound k bytes (b ∷ piece) zero s within there sound =
+    heard_there k bytes b piece s (numbered s.links k) refl there (subst (λ (l : List ℕ). SoundOn k l s) (append-nil bytes) sound) (λ skip t w h x. frames_sound k (bytes ++ b ∷ []) piece skip t w h x)
+frames_sound k bytes (b ∷ piece) (suc skip) s within there sound =
+    let inside : skip ≤ length piece = omega (arith, within) in
+    let here : SoundOn k ((bytes ++ b ∷ []) ++ take skip piece) s = subst (λ (l : List ℕ). SoundOn k l s) (sym (one_more bytes b (take skip piece))) sound in
+    subst (λ (l : List ℕ). SoundOn k l (frames_after k piece skip s)) (one_more bytes b piece) (frames_sound k (bytes ++ b ∷ []) piece skip s inside there here)
+
+-- bytes on another link
+other_frame : (k link : ℕ) (piece : List ℕ) (slot : LinkSlot) (s : StateSeen) → (link ≡ k → ⊥) → StaysOn k s (arrivals.frame_heard link (heard_by slot link piece s.links) s)
+other_frame k link piece slot s ne =
+    let h : Heard = heard_by slot link piece s.links in
+    let s1 : StateSeen = took link h s in
+    stays_joined k s s1 _ (stays_if k s s1 (numbered_there (with_link (heard_link piece)) s.links link k ne) (numbered_there (read_link h.read) s.book.ledger.links link k ne)) (hear (StaysOn k) (stays k) link h.news s1)
+
+other_if : (k link : ℕ) (piece : List ℕ) (slot : LinkSlot) (hears : Bool) (further : ℕ → StateSeen → StateSeen) (s : StateSeen) → (link ≡ k → ⊥) → ((skip : ℕ) (t : StateSeen) → StaysOn k t (further skip t))
+    → StaysOn k s (frames_from further link (if hears then Some (heard_by slot link piece s.links) else None) s)
+other_if k link piece slot true further s ne more =
+    let h : Heard = heard_by slot link piece s.links in
+    let t : StateSeen = arrivals.frame_heard link h s in
+    stays_joined k s t _ (other_frame k link piece slot s ne) (more (h.taken - 1) t)
+other_if k link piece slot false further s ne more = stays_same k s s refl refl
+
+other_at : (k link : ℕ) (piece : List ℕ) (o : Option LinkSlot) (further : ℕ → StateSeen → StateSeen) (s : StateSeen) → (link ≡ k → ⊥) → ((skip : ℕ) (t : StateSeen) → StaysOn k t (further skip t))
+    → StaysOn k s (frames_from further link (heard_at o link piece s.links) s)
+other_at k link piece None further s ne more = stays_same k s s refl refl
+other_at k link piece (Some slot) further s ne more = other_if k link piece slot (hears_at (Some slot)) further s ne more
+
+other_frames : (k link : ℕ) (piece : List ℕ) (skip : ℕ) (s : StateSeen) → (link ≡ k → ⊥) → StaysOn k s (frames_after link piece skip s)
+other_frames k link [] skip s ne = stays_same k s s refl refl
+other_frames k link (b ∷ piece) zero s ne = other_at k link (b ∷ piece) (numbered s.links link) (frames_after link piece) s ne (λ skip t. other_frames k link piece skip t ne)
+other_frames k link (b ∷ piece) (suc skip) s ne = other_frames k link piece skip s ne
+
+-- a drain leaves what was read
+fed_links : (feeds : List (ℕ × ℕ)) (b : Book) → (all_fed feeds b).ledger ≡ b.ledger
+fed_links [] b = refl
+fed_links (f ∷ feeds) b = fed_links feeds _
+
+dead_text : (k link : ℕ) (s : StateSeen) (links : List LinkSlot) (before after : LinkSlot) → numbered s.links link ≡ Some before → links ≡ changed_at (λ slot. after) s.links link → text_in after ≡ text_in before → after.dead ≡ before.dead → StaysOn k s (with_links links s)
+dead_text k link s links before after was is text dead = elim (cases_eq link k) [
+  | inl e ↦
+      let here : numbered links k ≡ Some after = ap (λ (l : List LinkSlot). numbered l k) is ∙ ap (λ (j : ℕ). numbered (changed_at (λ slot. after) s.links j) k) e ∙ numbered_here (λ slot. after) s.links k ∙ ap (λ (j : ℕ). option_map (λ (slot : LinkSlot). after) (numbered s.links j)) (sym e) ∙ ap (λ o. option_map (λ (slot : LinkSlot). after) o) was in
+      let old : numbered s.links k ≡ Some before = ap (λ (j : ℕ). numbered s.links j) (sym e) ∙ was in
+      let same : is_dead_slot (numbered links k) ≡ is_dead_slot (numbered s.links k) = ap is_dead_slot here ∙ dead ∙ sym (ap is_dead_slot old) in
+      record {
+        text = ap (λ o. option_map text_in o) here ∙ ap (λ (x : Text). Some x) text ∙ sym (ap (λ o. option_map text_in o) old);
+        known = refl;
+        seen = refl;
+        dead = λ d. same ∙ d;
+        gone = λ g. g;
+        dies = λ d. inl (sym same ∙ d);
+      }
+  | inr ne ↦ stays_if k s (with_links links s) (ap (λ (l : List LinkSlot). numbered l k) is ∙ numbered_there (λ slot. after) s.links link k ne) refl
+]
+
+drained_text : (room : ℕ) (slot : LinkSlot) (lines : ℕ → Line) (d : Drained) (after : LinkSlot) (lines_after : ℕ → Line) → DrainsOn room slot lines d after lines_after → (text_in after ≡ text_in slot) × (after.dead ≡ slot.dead)
+drained_text room slot lines d after lines_after h =
+    let kept : KeepsHeard slot.link.link.wire after.link.link.wire = sends_keep slot.link.link.wire lines h.sends.frames after.link.link.wire lines_after h.sends.sends in
+    (text_same slot.link.link after.link.link (ap (λ (x : LinkSlot). x.link.link.rest) h.rest) kept.read kept.broken, ap (λ (x : LinkSlot). x.dead) h.rest)
+
+drain_links : (k room link : ℕ) (s : StateSeen) (lines : ℕ → Line) (d : Option Drained) (links : List LinkSlot) (lines_after : ℕ → Line) → DrainGives room s.links link lines d links lines_after → StaysOn k s (with_links links s)
+drain_links k room link s lines None links lines_after h = stays_same k s (with_links links s) h.1 refl
+drain_links k room link s lines (Some d) links lines_after h =
+    let same = drained_text room h.before lines d h.after lines_after h.drains in
+    dead_text k link s links h.before h.after h.was h.is same.0 same.1
+
+pub drain_stays : (k link room : ℕ) (s t : StateSeen) (r : Reply) → DrainLeaves link room s r t → StaysOn k s t
+drain_stays k link room s t r d =
+    let u : StateSeen = with_links t.links s in
+    let v : StateSeen = record s { links = t.links; book = with_streams (opened_by d.drained) d.fed } in
+    let same : d.fed.ledger ≡ s.book.ledger = ap (λ (b : Book). b.ledger) d.feeds.1 ∙ fed_links d.feeds.0 s.book in
+    subst (λ (x : StateSeen). StaysOn k s x) (sym d.state_is) (stays_joined k s u v (drain_links k room link s (lines_of s.book) d.drained t.links (lines_of d.fed) d.gives) (stays_same k u v refl (ap (λ (l : Ledger). l.links) same)))
+
+-- a link comes up
+get_both : {X Y : Type 0} (xs : List X) (ys : List Y) (x : X) (y : Y) (i : ℕ) → length xs ≡ length ys → is_some (slice_get (xs ++ x ∷ []) i) ≡ is_some (slice_get (ys ++ y ∷ []) i)
+get_both [] [] x y zero e = refl
+get_both [] [] x y (suc i) e = refl
+get_both [] (b ∷ ys) x y i e = absurd (let no : ⊥ = omega (arith, e) in no)
+get_both (a ∷ xs) [] x y i e = absurd (let no : ⊥ = omega (arith, e) in no)
+get_both (a ∷ xs) (b ∷ ys) x y zero e = refl
+get_both (a ∷ xs) (b ∷ ys) x y (suc i) e = get_both xs ys x y i (omega (arith, e))
+
+numbered_both : {X Y : Type 0} (xs : List X) (ys : List Y) (x : X) (y : Y) (k : ℕ) → length xs ≡ length ys → is_some (numbered (xs ++ x ∷ []) k) ≡ is_some (numbered (ys ++ y ∷ []) k)
+numbered_both xs ys x y zero e = refl
+numbered_both xs ys x y (suc k) e = get_both xs ys x y k e
+
+seen_up : (links : List LinkSeen) (sub entry k : ℕ) (o p : Option LinkSeen) → numbered links k ≡ o → numbered (links ++ new_link sub entry ∷ []) k ≡ p → step.read_of p ≡ step.read_of o
+seen_up links sub entry k None None is now = refl
+seen_up links sub entry k None (Some y) is now = (let new : y ≡ new_link sub entry = numbered_last links (new_link sub entry) y k is now in ap (λ (l : LinkSeen). l.read) new)
+seen_up links sub entry k (Some x) p is now = (let same : Some x ≡ p = sym (numbered_more links (new_link sub entry) x k is) ∙ now in sym (ap step.read_of same))
+
+some_link : (o : Option LinkSeen) → is_some o ≡ true → (l : LinkSeen) × (o ≡ Some l)
+some_link None is = absurd (let no : ⊥ = (cc) in no)
+some_link (Some l) is = (l, refl)
+
+up_new : (k : ℕ) (bytes : List ℕ) (sub : ℕ) (s t : StateSeen) (p : Option LinkSlot) → t ≡ arrivals.linked_as (next_link s) sub s → length s.links ≡ length s.book.ledger.links → numbered s.links k ≡ None → numbered t.links k ≡ p → SoundOn k bytes s → SoundOn k bytes t
+up_new k bytes sub s t None is lengths old now sound =
+    let none : text_on k t ≡ None = ap (λ o. option_map text_in o) now in
+    let was : ReadsOn bytes (seen_on k s) (dead_on k s) None = subst (λ (o : Option Text). ReadsOn bytes (seen_on k s) (dead_on k s) o) (ap (λ o. option_map text_in o) old) sound.reads in
+    let seen : seen_on k t ≡ seen_on k s = ap (λ (x : StateSeen). seen_on k x) is ∙ seen_up s.book.ledger.links sub s.book.ledger.entry k (link_at s.book k) _ refl refl in
+    record {
+      reads = subst (λ (o : Option Text). ReadsOn bytes (seen_on k t) (dead_on k t) o) (sym none) (was.0, seen ∙ was.1);
+      known = λ x here. absurd (let no : ⊥ = (cc) in no);
+      dead_gone = λ d. absurd (let e : dead_on k t ≡ false = ap is_dead_slot now in let no : ⊥ = (cc) in no);
+      broken_dead = λ x code here broken. absurd (let no : ⊥ = (cc) in no);
+    }
+up_new k bytes sub s t (Some y) is lengths old now sound =
+    let links : numbered (s.links ++ new_slot fresh_link ∷ []) k ≡ Some y = sym (ap (λ (x : StateSeen). numbered x.links k) is) ∙ now in
+    let new : y ≡ new_slot fresh_link = numbered_last s.links (new_slot fresh_link) y k old links in
+    let slot : numbered t.links k ≡ Some (new_slot fresh_link) = now ∙ ap (λ (x : LinkSlot). Some x) new in
+    let text : text_on k t ≡ Some (text_in (new_slot fresh_link)) = ap (λ o. option_map text_in o) slot in
+    let dead : dead_on k t ≡ false = ap is_dead_slot slot in
+    let was : ReadsOn bytes (seen_on k s) (dead_on k s) None = subst (λ (o : Option Text). ReadsOn bytes (seen_on k s) (dead_on k s) o) (ap (λ o. option_map text_in o) old) sound.reads in
+    let seen : seen_on k t ≡ 0 = ap (λ (x : StateSeen). seen_on k x) is ∙ seen_up s.book.ledger.links sub s.book.ledger.entry k (link_at s.book k) _ refl refl ∙ was.1 in
+    let one : Reads bytes 0 (text_in (new_slot fresh_link)) false = subst (λ (l : List ℕ). Reads l 0 (text_in (new_slot fresh_link)) false) (sym was.0) nothing_read in
+    let two : Reads bytes (seen_on k t) (text_in (new_slot fresh_link)) false = subst (λ (n : ℕ). Reads bytes n (text_in (new_slot fresh_link)) false) (sym seen) one in
+    let three : Reads bytes (seen_on k t) (text_in (new_slot fresh_link)) (dead_on k t) = subst (λ (b : Bool). Reads bytes (seen_on k t) (text_in (new_slot fresh_link)) b) (sym dead) two in
+    record {
+      reads = subst (λ (o : Option Text). ReadsOn bytes (seen_on k t) (dead_on k t) o) (sym text) three;
+      known = λ x here. ap (λ (z : StateSeen). is_some (link_at z.book k)) is ∙ sym (numbered_both s.links s.book.ledger.links (new_slot fresh_link) (new_link sub s.book.ledger.entry) k lengths) ∙ ap (λ (o : Option LinkSlot). is_some o) links;
+      dead_gone = λ d. absurd (let no : ⊥ = (cc) in no);
+      broken_dead = λ x code here broken.
+          let same : Some (text_in (new_slot fresh_link)) ≡ Some x = sym text ∙ here in
+          let which : text_in (new_slot fresh_link) ≡ x = (cc) in
+          let none : x.broken ≡ None = sym (ap (λ (z : Text). z.broken) which) in
+          absurd (let no : ⊥ = (cc) in no);
+    }
+
+up_at : (k : ℕ) (bytes : List ℕ) (sub : ℕ) (s : StateSeen) (o : Option LinkSlot) → length s.links ≡ length s.book.ledger.links → numbered s.links k ≡ o → SoundOn k bytes s → SoundOn k bytes (arrivals.linked_as (next_link s) sub s)
+up_at k bytes sub s None lengths is sound = up_new k bytes sub s (arrivals.linked_as (next_link s) sub s) _ refl lengths is refl sound
+up_at k bytes sub s (Some x) lengths is sound =
+    let t : StateSeen = arrivals.linked_as (next_link s) sub s in
+    let link = some_link (link_at s.book k) (sound.known (text_in x) (ap (λ o. option_map text_in o) is)) in
+    let same : StaysOn k s t = stays_if k s t (numbered_more s.links (new_slot fresh_link) x k is ∙ sym is) (numbered_more s.book.ledger.links (new_link sub s.book.ledger.entry) link.0 k link.1 ∙ sym link.1) in
+    sound_stays k bytes s t same sound
+
+up_for : (k : ℕ) (bytes : List ℕ) (refused : Option Refusal) (sub : ℕ) (s : StateSeen) → length s.links ≡ length s.book.ledger.links → SoundOn k bytes s → SoundOn k bytes (linked_for refused sub s).state
+up_for k bytes None sub s lengths sound = up_at k bytes sub s (numbered s.links k) lengths refl sound
+up_for k bytes (Some why) sub s lengths sound = sound
+
+up_answered : (k : ℕ) (bytes : List ℕ) (shut : Bool) (sub : ℕ) (s t : StateSeen) (r : Reply) → length s.links ≡ length s.book.ledger.links → AnswersBy (if shut then Some refusal.Shut else None) (event.LinkUp sub) s t r → SoundOn k bytes s → SoundOn k bytes t
+up_answered k bytes true sub s t r lengths g sound = subst (λ (x : StateSeen). SoundOn k bytes x) (sym g.0) sound
+up_answered k bytes false sub s t r lengths g sound = subst (λ (x : StateSeen). SoundOn k bytes x) (sym g.0) (up_for k bytes (net.dial_refusal (boards.numbered s.net.board sub)) sub s lengths sound)
+
+-- bytes arrive
+pub has_if : (shut has gone : Bool) → (if shut then Some refusal.Shut else if not has then Some refusal.NoSuchLink else if gone then Some refusal.LinkGone else None) ≡ None → has ≡ true
+has_if true has gone is = absurd (let no : ⊥ = (cc) in no)
+has_if false true gone is = refl
+has_if false false gone is = absurd (let no : ⊥ = (cc) in no)
+
+pub text_there : (o : Option LinkSlot) → is_some o ≡ true → is_some (option_map text_in o) ≡ true
+text_there None is = is
+text_there (Some slot) is = refl
+
+came_on : (k : ℕ) (bytes : List ℕ) (link : ℕ) (piece : List ℕ) (s : StateSeen) → has_link s.links link ≡ true → SoundOn k bytes s → SoundOn k (bytes ++ (if link == k then piece else [])) (arrivals.piece_arrived link piece s)
+came_on k bytes link piece s has sound = elim (cases_eq link k) [
+  | inl e ↦
+      let test : (link == k) ≡ true = eq-eqb link k e in
+      let there : is_some (text_on k s) ≡ true = text_there (numbered s.links k) (sym (ap (λ (j : ℕ). has_link s.links j) e) ∙ has) in
+      let start : SoundOn k (bytes ++ []) s = subst (λ (l : List ℕ). SoundOn k l s) (sym (append-nil bytes)) sound in
+      let none : 0 ≤ length piece = omega arith in
+      let here : SoundOn k (bytes ++ piece) (frames_after k piece 0 s) = frames_sound k bytes piece 0 s none there start in
+      subst (λ (b : Bool). SoundOn k (bytes ++ (if b then piece else [])) (arrivals.piece_arrived link piece s)) (sym test) (subst (λ (j : ℕ). SoundOn k (bytes ++ piece) (frames_after j piece 0 s)) (sym e) here)
+  | inr ne ↦
+      let test : (link == k) ≡ false = ne_eqb link k ne in
+      let other : SoundOn k bytes (arrivals.piece_arrived link piece s) = sound_stays k bytes s _ (other_frames k link piece 0 s ne) sound in
+      subst (λ (b : Bool). SoundOn k (bytes ++ (if b then piece else [])) (arrivals.piece_arrived link piece s)) (sym test) (subst (λ (l : List ℕ). SoundOn k l (arrivals.piece_arrived link piece s)) (sym (append-nil bytes)) other)
+]
+
+came_answered : (k : ℕ) (bytes : List ℕ) (o : Option Refusal) (link : ℕ) (piece : List ℕ) (s t : StateSeen) (r : Reply) → applying.refusal_of (event.Arrived link piece) s ≡ o → AnswersBy o (event.Arrived link piece) s t r → SoundOn k bytes s
+    → SoundOn k (bytes ++ arrived_by k (event.Arrived link piece) r) t
+came_answered k bytes (Some why) link piece s t r is g sound =
+    let here : SoundOn k bytes t = subst (λ (x : StateSeen). SoundOn k bytes x) (sym g.0) sound in
+    let none : arrived_by k (event.Arrived link piece) r ≡ [] = ap (λ (x : Reply). arrived_by k (event.Arrived link piece) x) g.1 in
+    subst (λ (l : List ℕ). SoundOn k (bytes ++ l) t) (sym none) (subst (λ (l : List ℕ). SoundOn k l t) (sym (append-nil bytes)) here)
+came_answered k bytes None link piece s t r is g sound =
+    let has : has_link s.links link ≡ true = has_if s.shut (has_link s.links link) (step.is_gone link s) is in
+    let brought : arrived_by k (event.Arrived link piece) r ≡ (if link == k then piece else []) = ap (λ (x : Reply). arrived_by k (event.Arrived link piece) x) g.1 in
+    let here : SoundOn k (bytes ++ (if link == k then piece else [])) t = subst (λ (x : StateSeen). SoundOn k (bytes ++ (if link == k then piece else [])) x) (sym g.0) (came_on k bytes link piece s has sound) in
+    subst (λ (l : List ℕ). SoundOn k (bytes ++ l) t) (sym brought) here
+
+-- all other events
+others : Event → Type 0
+others (event.Arrived link piece) = ⊥
+others (event.LinkUp sub) = ⊥
+others e = Unit {0}
+
+walked_others : (k : ℕ) (e : Event) → others e → Walked (StaysOn k) e
+unfolding others
+walked_others k (event.Begin request) o = λ s. stays_same k s _ refl refl
+walked_others k (event.LinkUp sub) o = absurd o
+walked_others k (event.Arrived link piece) o = absurd o
+walked_others k (event.Drain link room) o = λ s t r d. drain_stays k link _ s t r d
+walked_others k e o = tt
+
+none_came : (k : ℕ) (e : Event) (r : Reply) → others e → arrived_by k e r ≡ []
+unfolding others
+none_came k (event.Arrived link piece) r o = absurd o
+none_came k e r o = refl
+
+-- a whole step
+sound_begun : (k n m w : ℕ) (bytes : List ℕ) (old : StateSeen) → SoundOn k bytes old → SoundOn k bytes (applying.begun_at n m w old)
+sound_begun k n m w bytes old sound = record { reads = sound.reads; known = sound.known; dead_gone = sound.dead_gone; broken_dead = sound.broken_dead }
+
+by_other : (k n m w : ℕ) (bytes : List ℕ) (e : Event) (old new : StateSeen) (r : Reply) → others e → applying.Stepped n m w e old new r → SoundOn k bytes old → SoundOn k (bytes ++ arrived_by k e r) new
+by_other k n m w bytes e old new r o h sound =
+    let stay : StaysOn k (applying.begun_at n m w old) new = walked (StaysOn k) (stays k) n m w e old new r (walked_others k e o) h in
+    let here : SoundOn k bytes new = sound_stays k bytes _ new stay (sound_begun k n m w bytes old sound) in
+    subst (λ (l : List ℕ). SoundOn k (bytes ++ l) new) (sym (none_came k e r o)) (subst (λ (l : List ℕ). SoundOn k l new) (sym (append-nil bytes)) here)
+
+lengths_later : (s : StateSeen) → length s.links ≡ length s.book.ledger.links → length (overdue_ended s).links ≡ length (overdue_ended s).book.ledger.links
+lengths_later s is =
+    let t : StateSeen = overdue_ended s in
+    let kept : Keeps s t = all_overdue Keeps keeps s in
+    let ups : length t.book.ledger.links ≡ length s.book.ledger.links = sym (length-map t.book.ledger.links (λ (l : LinkSeen). l.up)) ∙ ap (λ (l : List ℕ). length l) kept.up ∙ length-map s.book.ledger.links (λ (l : LinkSeen). l.up) in
+    kept.links ∙ is ∙ sym ups
+
+pub sound_step : (k n m w : ℕ) (bytes : List ℕ) (e : Event) (old new : StateSeen) (r : Reply) → length old.links ≡ length old.book.ledger.links → applying.Stepped n m w e old new r → SoundOn k bytes old → SoundOn k (bytes ++ arrived_by k e r) new
+unfolding others
+sound_step k n m w bytes (event.Arrived link piece) old new r lengths h sound =
+    let first : StateSeen = applying.begun_at n m w old in
+    let s : StateSeen = overdue_ended first in
+    let before : SoundOn k bytes s = sound_stays k bytes first s (overdue (StaysOn k) (stays k) first) (sound_begun k n m w bytes old sound) in
+    let brought : List ℕ = bytes ++ arrived_by k (event.Arrived link piece) r in
+    let here : SoundOn k brought h.answered = came_answered k bytes (applying.refusal_of (event.Arrived link piece) s) link piece s h.answered r refl h.answers before in
+    let after : StaysOn k h.answered new = subst (λ (x : StateSeen). StaysOn k h.answered x) (sym h.settles) (settle (StaysOn k) (stays k) h.answered) in
+    sound_stays k brought h.answered new after here
+sound_step k n m w bytes (event.LinkUp sub) old new r lengths h sound =
+    let first : StateSeen = applying.begun_at n m w old in
+    let s : StateSeen = overdue_ended first in
+    let before : SoundOn k bytes s = sound_stays k bytes first s (overdue (StaysOn k) (stays k) first) (sound_begun k n m w bytes old sound) in
+    let here : SoundOn k bytes h.answered = up_answered k bytes s.shut sub s h.answered r (lengths_later first lengths) h.answers before in
+    let after : StaysOn k h.answered new = subst (λ (x : StateSeen). StaysOn k h.answered x) (sym h.settles) (settle (StaysOn k) (stays k) h.answered) in
+    subst (λ (l : List ℕ). SoundOn k l new) (sym (append-nil bytes)) (sound_stays k bytes h.answered new after here)
+sound_step k n m w bytes e old new r lengths h sound = by_other k n m w bytes e old new r tt h sound
+
+-- the law
+none_behind : (xs ys : List FrameSeen) → xs ++ ys ≡ xs → ys ≡ []
+none_behind xs [] e = refl
+none_behind xs (y ∷ ys) e = absurd (let size : length xs + length (y ∷ ys) ≡ length xs = sym (length-append xs (y ∷ ys)) ∙ ap (λ (l : List FrameSeen). length l) e in let no : ⊥ = omega (arith, size) in no)
+
+unbroken_by : (dead : Bool) (o : Option ℕ) → ((code : ℕ) → o ≡ Some code → dead ≡ true) → dead ≡ false → o ≡ None
+unbroken_by dead None broken is = refl
+unbroken_by dead (Some code) broken is = absurd (let d : dead ≡ true = broken code refl in let no : ⊥ = (cc) in no)
+
+read_by : (k : ℕ) (bytes : List ℕ) (s : StateSeen) (link : LinkSeen) (o : Option Text) → SoundOn k bytes s → link_at s.book k ≡ Some link → text_on k s ≡ o → length bytes ≤ most → ReadsOn bytes (seen_on k s) (dead_on k s) o → IsReadOf bytes link
+read_by k bytes s link None sound is text few reads =
+    let read : link.read ≡ 0 = sym (ap step.read_of is) ∙ reads.1 in
+    subst (λ (l : List ℕ). IsReadOf l link) (sym reads.0) (record { applied = []; left = []; frames = refl; read = read; all = λ g. refl; sound = λ g. refl })
+read_by k bytes s link (Some t) sound is text few reads =
+    let living : link.gone ≡ None → (frames_of bytes ≡ reads.applied) × (fault_of (rest_of bytes) ≡ None) = λ gone.
+    let still : gone_on k s ≡ false = ap has_gone is ∙ ap (λ (o : Option ℕ). is_some o) gone in
+    let alive : dead_on k s ≡ false = false_before (dead_on k s) (gone_on k s) sound.dead_gone still in
+    let unbroken : t.broken ≡ None = unbroken_by (dead_on k s) t.broken (λ code broken. sound.broken_dead t code text broken) alive in
+    let whole = (reads.alive alive unbroken).0 in
+    let one = no_two_readings bytes _ _ _ _ _ _ (has_reading bytes) whole in
+    (one.0, one.2)
+    in
+    record {
+      applied = reads.applied;
+      left = reads.left;
+      frames = reads.frames;
+      read = sym (ap step.read_of is) ∙ reads.count few;
+      all = λ gone. none_behind reads.applied reads.left (sym reads.frames ∙ (living gone).0);
+      sound = λ gone. (living gone).1;
+    }
+
+pub is_read : (k : ℕ) (bytes : List ℕ) (s : StateSeen) (link : LinkSeen) → SoundOn k bytes s → link_at s.book k ≡ Some link → length bytes ≤ most → IsReadOf bytes link
+is_read k bytes s link sound is few = read_by k bytes s link (text_on k s) sound is refl few sound.reads
+
+-- one entry more
+pub received_more : (k : ℕ) (es : List Entry) (x : Entry) → received k (es ++ x ∷ []) ≡ received k es ++ arrived_by k x.event x.reply
+received_more k es x = flat_map-append (λ (e : Entry). arrived_by k e.event e.reply) es (x ∷ []) ∙ ap (λ (l : List ℕ). received k es ++ l) (append-nil (arrived_by k x.event x.reply))
+
+-- nothing arrived on a channel without links
+none_at : {X : Type 0} (k : ℕ) → numbered {X = X} [] k ≡ None
+none_at zero = refl
+none_at (suc k) = refl
+
+pub sound_new : (k : ℕ) (s : StateSeen) → s.links ≡ [] → s.book.ledger.links ≡ [] → SoundOn k [] s
+sound_new k s links seen =
+    let slot : numbered s.links k ≡ None = ap (λ (l : List LinkSlot). numbered l k) links ∙ none_at k in
+    let text : text_on k s ≡ None = ap (λ o. option_map text_in o) slot in
+    let link : link_at s.book k ≡ None = ap (λ (l : List LinkSeen). numbered l k) seen ∙ none_at k in
+    record {
+      reads = subst (λ (o : Option Text). ReadsOn [] (seen_on k s) (dead_on k s) o) (sym text) (refl, ap step.read_of link);
+      known = λ x here. absurd (let no : ⊥ = (cc) in no);
+      dead_gone = λ d. absurd (let e : dead_on k s ≡ false = ap is_dead_slot slot in let no : ⊥ = (cc) in no);
+      broken_dead = λ x code here broken. absurd (let no : ⊥ = (cc) in no);
+    }
+
+-- a channel whose links are those of its ledger, and how much of each was read
+pub record ReadsAll (core : CoreSeen) : Type 0 where
+  pub lengths : length core.state.links ≡ length core.state.book.ledger.links
+  pub reads : (number : ℕ) → SoundOn number (received number core.journal.entries) core.state
+
+reads_step : (old new : CoreSeen) (s : Stamped) (r : Reply) → Steps old new s r → ReadsAll old → ReadsAll new
+reads_step old new s r h all =
+    let es : List Entry = old.journal.entries in
+    let m : ℕ = moment_of es s in
+    let n : ℕ = length es + 1 in
+    let x : Entry = record { moment = m; word = s.word; event = s.event; reply = r; state = applying.conn_of new.state } in
+    let was : length old.state.links ≡ length (up_in old.state) = all.lengths ∙ sym (length-map old.state.book.ledger.links (λ (l : LinkSeen). l.up)) in
+    let comes : ComesUpAs n (up_in old.state) (up_in new.state) (length old.state.links) (length new.state.links) r = comes_up_as n m s.word s.event old.state new.state r was h.by in
+    let reads : (number : ℕ) → SoundOn number (received number (es ++ x ∷ [])) new.state = λ number.
+    subst (λ (bytes : List ℕ). SoundOn number bytes new.state) (sym (received_more number es x))
+    (sound_step number n m s.word (received number es) s.event old.state new.state r all.lengths h.by (all.reads number)) in
+    record {
+      lengths = comes.kept_is ∙ length-map new.state.book.ledger.links (λ (l : LinkSeen). l.up);
+      reads = λ number. subst (λ (entries : List Entry). SoundOn number (received number entries) new.state) (sym h.journal) (reads number);
+    }
+
+reads_runs : (old : CoreSeen) (events : List Stamped) (new : CoreSeen) → Runs old events new → ReadsAll old → ReadsAll new
+reads_runs old [] new h all = subst ReadsAll (sym h) all
+reads_runs old (s ∷ events) new h all = reads_runs h.0 events new h.3 (reads_step old h.0 s h.1 h.2 all)
+
+reads_new : (authority : List ℕ) (core : CoreSeen) → IsNew authority core → ReadsAll core
+reads_new authority core is =
+    let links : core.state.links ≡ [] = ap (λ (s : StateSeen). s.links) is.2.state in
+    let seen : core.state.book.ledger.links ≡ [] = ap (λ (s : StateSeen). s.book.ledger.links) is.2.state in
+    record {
+      lengths = ap (λ (l : List LinkSlot). length l) links ∙ sym (ap (λ (l : List LinkSeen). length l) seen);
+      reads = λ number. subst (λ (entries : List Entry). SoundOn number (received number entries) core.state) (sym is.2.journal) (sound_new number core.state links seen);
+    }
+
+-- every list of events
+pub reads_always : (authority : List ℕ) (new core : CoreSeen) (events : List Stamped) → IsNew authority new → Runs new events core → (number : ℕ) (link : LinkSeen) → link_at core.state.book number ≡ Some link → length (received number core.journal.entries) ≤ most
+    → IsReadOf (received number core.journal.entries) link
+reads_always authority new core events is runs number link at few =
+    is_read number (received number core.journal.entries) core.state link ((reads_runs new events core runs (reads_new authority new is)).reads number) at few
