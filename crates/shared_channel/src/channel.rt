@@ -3,6 +3,7 @@ ghost use Rattle.std.specs.Prelude.{◌≡◌, ◌≤◌, ◌-◌, ◌+◌, ℕ,
 ghost use Rattle.turn_lock.specs.History.{StartsWith, places, merged};
 ghost use Rattle.turn_lock.specs.Turn.{Sees};
 ghost use Rattle.shared_channel.specs.Histories.{conn_of, state_in};
+ghost use Rattle.shared_channel.specs.Running.{HasRun, IsRunning};
 ghost use Rattle.shared_channel.specs.Turns.{Looks, words_of};
 
 use crate::channel_seat::ChannelSeat;
@@ -49,10 +50,11 @@ fn state_of(number: u8) -> Conn
 }
 
 impl<P: Balancer> SharedChannel<P> {
-    /// A channel over this core, whose journal is within its limit, and the first handle, whose own entries are all that the core
-    /// has.
+    /// A channel over this core, which was new and was given events and whose journal is within its limit, and the first handle, whose
+    /// own entries are all that the core has.
     pub fn new(alloc: Global, core: ChannelCore<P>) -> Result<(SharedChannel<P>, Seat<P>), NoMemory>
-        requires { length core.journal.entries ≤ 1048576 }
+        requires limit { length core.journal.entries ≤ 1048576 }
+        requires run { HasRun core }
         ensures { IfOk result (λ r. r.1 ≡ record { lock = r.0; seen = core.journal.entries; own = places 0 core.journal.entries; parts = 4294967296; found = [] }) }
     {
         let watched = Watched::new(core);
@@ -123,7 +125,7 @@ impl<P: Balancer> SharedChannel<P> {
         reading: &mut R,
     ) -> R::Answer
         requires lock { seat.old.lock ≡ self.now }
-        ensures read { Looks (λ core. R.reads reading.old core result reading.new) seat.old seat.new }
+        ensures read { Looks (λ core. IsRunning core × R.reads reading.old core result reading.new) seat.old seat.new }
     {
         self.lock.turn(rt, seat, &mut Lend { reading })
     }

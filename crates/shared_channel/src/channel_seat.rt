@@ -11,11 +11,10 @@ ghost use Rattle.shared_channel.specs.Turns.{CanSend, CanTake, Looks, TakesPlace
 use crate::jobs::{AtDrain, AtSend, AtTake, AtView, SendStep, Step, TakeStep, moment_of};
 use crate::shared::{Seat, Shared};
 use crate::tally::Tally;
-use gate_io::{Clock, Draws};
+use gate_io::{Clock, Draws, Patience};
 use grpc_base::{Caller, Event, Glance, Look, Octets, Post, PostError, Reply, Stamped, View};
 use lb_policy::Balancer;
 use std::sync::Wait;
-use std::thread::yield_now;
 use turn_lock::{Chronicle, TurnLock};
 
 /// A thread's handle of a shared channel, with the clock and the random words of its entries. Each of its calls but `into_seat`
@@ -132,8 +131,8 @@ impl<P: Balancer, W: Wait, C: Clock, D: Draws> Glance for ChannelSeat<'_, P, W, 
 }
 
 impl<P: Balancer, W: Wait, C: Clock, D: Draws> Caller for ChannelSeat<'_, P, W, C, D> {
-    /// One Take, as soon as something has come for the call. The clock is read at each look, and the entry has the last of these
-    /// moments and the next random word.
+    /// One Take, as soon as something has come for the call: it looks again and again, the more seldom the longer it waits.
+    /// The clock is read at each look, and the entry has the last of these moments and the next random word.
     fn await_take(&mut self, call: u32) -> Result<Reply, PostError>
         ensures made { Posts (entries_of self.old.seat.own) (entries_of self.new.seat.own) (event.Take call) result }
         ensures come { IfOk result (λ r. is_not_yet r ≡ false) }
@@ -142,6 +141,7 @@ impl<P: Balancer, W: Wait, C: Clock, D: Draws> Caller for ChannelSeat<'_, P, W, 
         ensures place { TakesPlace (C.may_give self.old.clock.now) (words_of self.old.next (D.words self.old.draws) 0) (event.Take call) result self.old.seat self.new.seat }
         ensures words { (k : ℕ) → words_of self.new.next (D.words self.new.draws) k ≡ words_of self.old.next (D.words self.old.draws) (k + 1) }
     {
+        let mut patience = Patience::new();
         for _ in self.rt.forever() {
             let mut take = TakeStep {
                 moment: moment_of(self.clock.now()),
@@ -153,13 +153,14 @@ impl<P: Balancer, W: Wait, C: Clock, D: Draws> Caller for ChannelSeat<'_, P, W, 
                 self.tally.posted(&result);
                 return result;
             }
-            yield_now();
+            patience.miss();
+            self.clock.pause(patience.pause());
         }
         unreachable!()
     }
 
-    /// One Send, as soon as the call has room for the message. The clock is read at each look, and the entry has the last of these
-    /// moments and the next random word.
+    /// One Send, as soon as the call has room for the message: it looks again and again, as for a Take. The clock is read
+    /// at each look, and the entry has the last of these moments and the next random word.
     fn await_send(&mut self, call: u32, message: Octets) -> Result<Reply, PostError>
         ensures made { Posts (entries_of self.old.seat.own) (entries_of self.new.seat.own) (event.Send call message) result }
         ensures taken { IfOk result (λ r. is_full r ≡ false) }
@@ -174,6 +175,7 @@ impl<P: Balancer, W: Wait, C: Clock, D: Draws> Caller for ChannelSeat<'_, P, W, 
             call,
             message,
         };
+        let mut patience = Patience::new();
         for _ in self.rt.forever() {
             send.moment = moment_of(self.clock.now());
             if let Some(result) = self.lock.turn(self.rt, &mut self.seat, &mut send) {
@@ -181,7 +183,8 @@ impl<P: Balancer, W: Wait, C: Clock, D: Draws> Caller for ChannelSeat<'_, P, W, 
                 self.tally.posted(&result);
                 return result;
             }
-            yield_now();
+            patience.miss();
+            self.clock.pause(patience.pause());
         }
         unreachable!()
     }

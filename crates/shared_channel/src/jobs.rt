@@ -189,10 +189,11 @@ pub struct Lend<'r, R> {
 
 impl<P: Balancer, R: Reading<P>> Job<Shared<P>> for Lend<'_, R> {
     ghost use Rattle.std.specs.Prelude.{◌≡◌};
+    ghost use Rattle.shared_channel.specs.Running.{IsRunning};
 
     type Answer = R::Answer;
 
-    ghost runs = { λ job state answer job_after after. (after ≡ state) × R.reads job.reading.now state.watched answer job_after.reading.now × (job_after.reading.ghost_name ≡ job.reading.ghost_name) };
+    ghost runs = { λ job state answer job_after after. (after ≡ state) × IsRunning state.watched × R.reads job.reading.now state.watched answer job_after.reading.now × (job_after.reading.ghost_name ≡ job.reading.ghost_name) };
 
     fn run(&mut self, state: &mut Shared<P>) -> R::Answer {
         self.reading.read(state.watched.core())

@@ -5,6 +5,7 @@ ghost use Rattle.turn_lock.specs.History.{StartsWith};
 ghost use Rattle.channel_core.specs.Sizes.{counted, journal_bytes};
 ghost use Rattle.shared_channel.specs.Errors.{error_of};
 ghost use Rattle.shared_channel.specs.Histories.{has_shutdown, is_shutdown, state_in};
+ghost use Rattle.shared_channel.specs.Running.{HasRun, IsRunning};
 ghost use Rattle.shared_channel.specs.Turns.{StepGives};
 
 use channel_core::{ChannelCore, CoreError};
@@ -23,12 +24,13 @@ impl<P: Balancer> Model for Watched<P> {
     ghost use Rattle.std.specs.Prelude.{◌≡◌, ◌≤◌, length};
     ghost use Rattle.channel_core.specs.Core.{CoreSeen};
     ghost use Rattle.shared_channel.specs.Histories.{has_shutdown};
+    ghost use Rattle.shared_channel.specs.Running.{IsRunning};
 
     ghost Value = { CoreSeen };
 
     ghost view = { λ w. w.core };
 
-    ghost invariant = { λ w. (w.shut ≡ has_shutdown w.core.journal.entries) × (length w.core.journal.entries ≤ 1048576) };
+    ghost invariant = { λ w. (w.shut ≡ has_shutdown w.core.journal.entries) × (length w.core.journal.entries ≤ 1048576) × IsRunning w.core };
 }
 
 fn is_shutdown(event: &Event) -> bool
@@ -69,9 +71,10 @@ fn post_error(error: CoreError) -> PostError
 }
 
 impl<P: Balancer> Watched<P> {
-    /// This channel.
+    /// This channel, which was new and was given events.
     pub fn new(core: ChannelCore<P>) -> Watched<P>
-        requires { length core.journal.entries ≤ 1048576 }
+        requires limit { length core.journal.entries ≤ 1048576 }
+        requires run { HasRun core }
         ensures { result ≡ core }
     {
         let shut = has_shutdown(core.journal().entries.as_slice());
@@ -79,7 +82,8 @@ impl<P: Balancer> Watched<P> {
     }
 
     pub fn core(&self) -> &ChannelCore<P>
-        ensures { result.now ≡ self.now }
+        ensures core { result.now ≡ self.now }
+        ensures running { IsRunning self.now }
     {
         &self.core
     }

@@ -17,7 +17,7 @@ returns-clause-runs g c =
               let P : CoreSeen → Type 0 = λ s. CanSend c.args.self.now.call w.in-Ok.len w.can_send.result s in
               let can : w.can_send.result ≡ true = search rules in
               let long : length c.args.self.now.message ≡ w.in-Ok.len = search rules in
-              send_fits _ _ _ w.in-Ok.len _ _ _ w.can_send.result _ (subst P w.core.ensures w.can_send.ensures) long can gives
+              send_fits _ _ _ w.in-Ok.len _ _ _ w.can_send.result _ (subst P w.core.ensures.core w.can_send.ensures) long can gives
               )
           | in_default w ↦ (
               let L : List ℕ → Type 0 = λ m. 4294967295 < length m in

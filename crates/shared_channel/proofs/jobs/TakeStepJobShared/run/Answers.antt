@@ -9,5 +9,5 @@ returns-clause-runs g c =
     let P : CoreSeen → Type 0 = λ s. CanTake c.args.self.now.call c.can_take.result s in
     let can : c.can_take.result ≡ true = search rules in (
       c.step.ensures.gives,
-      take_comes _ _ _ _ _ c.can_take.result _ (subst P c.core.ensures c.can_take.ensures) can c.step.ensures.gives,
+      take_comes _ _ _ _ _ c.can_take.result _ (subst P c.core.ensures.core c.can_take.ensures) can c.step.ensures.gives,
     )

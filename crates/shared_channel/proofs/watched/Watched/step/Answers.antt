@@ -2,14 +2,16 @@ use Rattle.std.proofs.Common.{length, subst}
 use Rattle.grpc_base.specs.Posts.{HasNoRoom}
 use Rattle.channel_core.specs.Core.{CoreSeen, Steps}
 use Rattle.channel_core.specs.Sizes.{counted, journal_bytes}
+use Rattle.shared_channel.proofs.RunningLaws.{steps_run}
 use Rattle.shared_channel.proofs.StateLaws.{error_as, fails_of, had_room, has_one_more, ok_of, watched_now}
 use Rattle.shared_channel.proofs.watched.Watched.step.Goals as goal
 
 pub invariant_of-self : goal.invariant_of-self
 invariant_of-self g c =
     let did = ok_of (Steps c.self.inside.core c.step.new.self c.args.stamped) c.step.result c.in-Ok.reply c.in-Ok.is c.step.ensures.ok in
-    watched_now _ _ _ _ _ _ c.either-self-inside.ensures did.journal c.is_shutdown-shuts.ensures c.self.invariant
-    (has_one_more _ _ _ (had_room c.self.inside.core c.args.stamped.event c.step.result c.in-Ok.reply c.in-Ok.is did.before c.step.ensures.full))
+    let kept = watched_now _ _ _ _ _ _ c.either-self-inside.ensures did.journal c.is_shutdown-shuts.ensures (c.self.invariant.0, c.self.invariant.1)
+    (has_one_more _ _ _ (had_room c.self.inside.core c.args.stamped.event c.step.result c.in-Ok.reply c.in-Ok.is did.before c.step.ensures.full)) in
+    (kept.0, kept.1, steps_run c.self.inside.core c.step.new.self c.args.stamped c.in-Ok.reply did c.self.invariant.2)
 
 pub returns-in-Ok-clause-room : goal.returns-in-Ok-clause-room
 returns-in-Ok-clause-room g c =
