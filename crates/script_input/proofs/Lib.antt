@@ -1,6 +1,7 @@
 pub mod FeedLaws
 pub mod InputLaws
 pub mod LineLaws
+pub mod LiveLaws
 pub mod PartLaws
 pub mod RecordLaws
 pub mod ScriptLaws

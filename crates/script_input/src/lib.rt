@@ -1,4 +1,4 @@
-// A replay script, read from a source to its end or its first bad line; also the script of a report.
+// A script, read from a source to its end or its first bad line: of a session, of a report, of a server, or of live calls.
 #![tactic(auto)]
 
 mod collected;
@@ -6,6 +6,9 @@ mod fault;
 mod feed;
 mod form;
 mod line_reader;
+mod live;
+mod live_lines;
+mod live_script;
 mod read;
 mod record;
 mod script;
@@ -13,6 +16,8 @@ mod server;
 
 pub use fault::InputFault;
 pub use form::Form;
+pub use live::read_live;
+pub use live_script::{LiveScript, WorkerLine};
 pub use read::{read_replay, read_report};
 pub use script::Script;
 pub use server::read_server;

@@ -20,7 +20,7 @@ mod request;
 mod split;
 mod stamped;
 
-pub use cause::{LineFault, UNKNOWN_KIND};
+pub use cause::{LineFault, NO_CHANNEL, UNKNOWN_KIND};
 pub use line::ScriptLine;
 pub use raw::test_line;
 pub use reader::{BadLine, ScriptKind, ScriptReader};

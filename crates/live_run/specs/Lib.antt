@@ -1,0 +1,4 @@
+pub mod ByWorker
+pub mod Outcomes
+pub mod Sides
+pub mod Tendings

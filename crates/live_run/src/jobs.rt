@@ -1,0 +1,111 @@
+// The work of each worker.
+ghost use Rattle.std.specs.Prelude.{◌≡◌};
+ghost use Rattle.live_pump.specs.Fronts.{ArrivesInFront};
+ghost use Rattle.live_pump.specs.Pumps.{HandleSeen};
+ghost use Rattle.live_run.specs.Outcomes.{KeepsLinks, MakesCalls, ended_with};
+
+use crate::{Outcome, Tending};
+use dns_watch::{DnsOnce, DnsWatch, Lookup, dns_once};
+use gate_io::{Clock, Dialer, Draws, Patience};
+use grpc_base::{CallLine, Caller, Glance, Octets, Post};
+use live_pump::{Pumped, call_worker, net_worker};
+use std::alloc::Global;
+use std::sync::Wait;
+
+/// The work of one that keeps links open.
+#[derive(Drop)]
+pub struct NetJob<H, N> {
+    pub post: H,
+    pub dialer: N,
+    pub tender: Tending,
+    pub outcome: Outcome,
+}
+
+impl<H: Post + Glance, N: Dialer> NetJob<H, N> {
+    /// Keeps links open until the channel is shut down.
+    pub(crate) fn work<W: Wait, C: Clock>(&mut self, rt: &W, alloc: Global, clock: &C)
+        ensures end { let before : HandleSeen = record { made = H.made self.old.post; errors = H.errors self.old.post; last = H.last_error self.old.post } in let after : HandleSeen = record { made = H.made self.new.post; errors = H.errors self.new.post; last = H.last_error self.new.post } in KeepsLinks before after (H.last_look self.new.post) self.new.outcome }
+        ensures fronts { let before : HandleSeen = record { made = H.made self.old.post; errors = H.errors self.old.post; last = H.last_error self.old.post } in let after : HandleSeen = record { made = H.made self.new.post; errors = H.errors self.new.post; last = H.last_error self.new.post } in ArrivesInFront (N.coming self.old.dialer) before after }
+    {
+        let end = net_worker(
+            rt,
+            alloc,
+            &mut self.post,
+            &mut self.dialer,
+            clock,
+            &mut self.tender,
+        );
+        self.outcome = outcome_of(&end);
+    }
+}
+
+/// How a worker ended with this answer.
+fn outcome_of(end: &Pumped) -> Outcome
+    ensures { result ≡ ended_with end.now }
+{
+    match end {
+        Pumped::Failed(error) => Outcome::of_error(*error),
+        _ => Outcome::Whole,
+    }
+}
+
+/// The work of one that makes calls, one behind another.
+#[derive(Drop)]
+pub struct CallJob<H> {
+    pub post: H,
+    pub lines: Vec<CallLine>,
+    pub outcome: Outcome,
+}
+
+impl<H: Caller> CallJob<H> {
+    /// Makes the calls.
+    pub(crate) fn work<W: Wait>(&mut self, rt: &W)
+        ensures made { let before : HandleSeen = record { made = H.made self.old.post; errors = H.errors self.old.post; last = H.last_error self.old.post } in let after : HandleSeen = record { made = H.made self.new.post; errors = H.errors self.new.post; last = H.last_error self.new.post } in MakesCalls self.old.lines.items before after self.new.outcome }
+        ensures lines { self.new.lines ≡ self.old.lines }
+    {
+        self.outcome = match call_worker(rt, &mut self.post, self.lines.as_slice()) {
+            Ok(()) => Outcome::Whole,
+            Err(error) => Outcome::of_error(error),
+        };
+    }
+}
+
+/// The work of the one that looks a name up and tells the channel.
+#[derive(Drop)]
+pub struct NameJob<H, L, D> {
+    pub post: H,
+    pub watch: DnsWatch,
+    pub lookup: L,
+    pub draws: D,
+    pub config: Option<Octets>,
+    pub outcome: Outcome,
+}
+
+impl<H: Post + Glance, L: Lookup, D: Draws> NameJob<H, L, D> {
+    /// Looks the name up whenever it is its turn, until the channel is shut down.
+    pub(crate) fn work<W: Wait, C: Clock>(&mut self, rt: &W, alloc: Global, clock: &C) {
+        let mut patience = Patience::new();
+        for _ in rt.forever() {
+            match dns_once(
+                alloc,
+                &mut self.post,
+                &mut self.watch,
+                &mut self.lookup,
+                clock,
+                &mut self.draws,
+                &self.config,
+            ) {
+                DnsOnce::Nothing => {
+                    patience.miss();
+                    clock.pause(patience.pause());
+                }
+                DnsOnce::Posted => patience.hit(),
+                DnsOnce::Shut | DnsOnce::Refused { .. } => return,
+                DnsOnce::Failed(error) => {
+                    self.outcome = Outcome::of_error(error);
+                    return;
+                }
+            }
+        }
+    }
+}

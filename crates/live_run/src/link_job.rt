@@ -1,0 +1,41 @@
+// The work beside the calls: links that are kept open, or a name that is looked up.
+ghost use Rattle.std.specs.Prelude.{◌≡◌};
+ghost use Rattle.live_run.specs.Sides.{LinkDone, outcome_in, seen_by};
+
+use crate::{NameJob, NetJob, Outcome};
+use dns_watch::Lookup;
+use gate_io::{Clock, Dialer, Draws};
+use grpc_base::{Glance, Post};
+use std::alloc::Global;
+use std::sync::Wait;
+
+/// The work of one that keeps links open, or of the one that looks a name up.
+#[derive(Drop)]
+pub enum LinkJob<H, N, L, D> {
+    Net(NetJob<H, N>),
+    Name(NameJob<H, L, D>),
+}
+
+impl<H, N, L, D> LinkJob<H, N, L, D> {
+    /// How the worker ended.
+    pub(crate) fn outcome(&self) -> Outcome
+        ensures { result ≡ outcome_in self.now }
+    {
+        match self {
+            LinkJob::Net(job) => job.outcome,
+            LinkJob::Name(job) => job.outcome,
+        }
+    }
+}
+
+impl<H: Post + Glance, N: Dialer, L: Lookup, D: Draws> LinkJob<H, N, L, D> {
+    /// Works until the channel is shut down.
+    pub(crate) fn work<W: Wait, C: Clock>(&mut self, rt: &W, alloc: Global, clock: &C)
+        ensures { LinkDone (seen_by H.made H.errors H.last_error) H.last_look N.coming self.old self.new }
+    {
+        match self {
+            LinkJob::Net(job) => job.work(rt, alloc, clock),
+            LinkJob::Name(job) => job.work(rt, alloc, clock),
+        }
+    }
+}
