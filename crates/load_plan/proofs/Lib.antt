@@ -1,0 +1,4 @@
+pub mod BatchLaws
+pub mod MomentLaws
+pub mod Runs
+pub mod Scripts

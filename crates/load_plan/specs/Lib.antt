@@ -1,0 +1,4 @@
+pub mod Answers
+pub mod Batches
+pub mod Lines
+pub mod Plan

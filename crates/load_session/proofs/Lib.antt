@@ -1,0 +1,4 @@
+pub mod Acts
+pub mod Noting
+pub mod Ran
+pub mod Sessions

@@ -1,0 +1,159 @@
+-- What was played is a run of the channel, and where it stopped the journal is full.
+use Rattle.std.proofs.Common.{◌≡◌, ◌∙◌, ◌<◌, ◌≤◌, ℕ, Bool, true, false, List, [], ◌∷◌, ◌++◌, length, length-append, refl, sym, subst, inl, inr, arith, ap, ◌+◌}
+use Rattle.std.specs.Prelude.{◌⊎◌, MatchBool, Option, Some, None, IfOk, IsErrAnd, OnOk, Result, Ok, Err}
+use Rattle.std.proofs.lemmas.Bool.{cases_lt}
+use Rattle.grpc_base.specs.declared.event.Event.{Event}
+use Rattle.grpc_base.specs.declared.event.Event.TheVariants as event
+use Rattle.grpc_base.specs.declared.event.Entry.{Entry}
+use Rattle.grpc_base.specs.declared.event.Reply.{Reply}
+use Rattle.grpc_base.specs.declared.event.Stamped.{Stamped}
+use Rattle.grpc_base.specs.Posts.{HasNoRoom}
+use Rattle.channel_core.specs.Applying.{can_drain_in}
+use Rattle.channel_core.specs.Core.{CoreSeen, IsFull, Runs, Steps}
+use Rattle.channel_core.specs.Sizes.{counted, journal_bytes}
+use Rattle.load_plan.specs.declared.action.LoadAction.{LoadAction}
+use Rattle.load_plan.specs.declared.action.LoadStep.{LoadStep}
+use Rattle.load_plan.specs.declared.action.LoadStep.TheVariants as does
+use Rattle.load_session.specs.Playing.{ArriveAt, Does, Drained, Exchanges, ExchangesOn, Hears, Plays, Posts, Sends, Sides, Takes, TakesMore, is_more}
+use Rattle.load_session.specs.Session.{FillsUp}
+use Rattle.load_session.specs.declared.fault.LoadFault.{LoadFault}
+use Rattle.load_session.specs.declared.fault.LoadFault.TheVariants as fault
+
+-- some events were run
+abbrev pub Ran : CoreSeen → CoreSeen → Type 0
+Ran old new = (events : List Stamped) × Runs old events new
+
+pub Runs-join : (a b c : CoreSeen) (xs ys : List Stamped) → Runs a xs b → Runs b ys c → Runs a (xs ++ ys) c
+Runs-join a b c [] ys same more = subst (λ (x : CoreSeen). Runs x ys c) same more
+Runs-join a b c (s ∷ xs) ys runs more = (runs.0, runs.1, runs.2, Runs-join runs.0 b c xs ys runs.3 more)
+
+pub ran_none : (old new : CoreSeen) → new ≡ old → Ran old new
+ran_none old new same = ([], same)
+
+pub ran_one : (moment : ℕ) (e : Event) (old new : CoreSeen) (r : Reply) → Posts moment e old new r → Ran old new
+ran_one moment e old new r posts = (record { moment = moment; word = 9223372036854775808; event = e } ∷ [], (new, r, posts, refl))
+
+pub ran_join : (a b c : CoreSeen) → Ran a b → Ran b c → Ran a c
+ran_join a b c first second = (first.0 ++ second.0, Runs-join a b c first.0 second.0 first.1 second.1)
+
+ran_drained : (moment link : ℕ) (a b : Sides) → Drained moment link a b → Ran a.channel b.channel
+ran_drained moment link a b drained = ran_one moment (event.Drain link 65536) a.channel b.channel drained.reply drained.posts
+
+ran_if : (can : Bool) (moment link : ℕ) (a b : Sides) → MatchBool can (Drained moment link a b) (b ≡ a) → Ran a.channel b.channel
+ran_if true moment link a b drained = ran_drained moment link a b drained
+ran_if false moment link a b same = ran_none a.channel b.channel (ap (λ (x : Sides). x.channel) same)
+
+pub ran_sends : (moment link : ℕ) (a b : Sides) → Sends moment link a b → Ran a.channel b.channel
+ran_sends moment link a b sends = ran_if (can_drain_in link a.channel.state) moment link a b sends
+
+ran_arrive : (moment link : ℕ) (octets : List ℕ) (old new : CoreSeen) → ArriveAt moment link octets old new → Ran old new
+ran_arrive moment link [] old new same = ran_none old new same
+ran_arrive moment link (x ∷ octets) old new arrives = ran_one moment (event.Arrived link (x ∷ octets)) old new arrives.0 arrives.1
+
+pub ran_hears : (moment link : ℕ) (a b : Sides) → Hears moment link a b → Ran a.channel b.channel
+ran_hears moment link a b hears = ran_arrive moment link hears.octets a.channel b.channel hears.arrive
+
+pub ran_exchanges_on : (moment link : ℕ) (a b : Sides) → ExchangesOn moment link a b → Ran a.channel b.channel
+ran_exchanges_on moment link a b exchanges =
+    ran_join a.channel exchanges.0.channel b.channel (ran_sends moment link a exchanges.0 exchanges.1) (ran_hears moment link exchanges.0 b exchanges.2)
+
+pub ran_exchanges : (moment : ℕ) (a b : Sides) → Exchanges moment a b → Ran a.channel b.channel
+ran_exchanges moment a b exchanges =
+    ran_join a.channel exchanges.0.channel b.channel (ran_exchanges_on moment 1 a exchanges.0 exchanges.1) (ran_exchanges_on moment 2 exchanges.0 b exchanges.2)
+
+pub ran_more : (moment call : ℕ) (replies : List Reply) (old new : CoreSeen) → TakesMore moment call replies old new → Ran old new
+ran_more moment call [] old new same = ran_none old new same
+ran_more moment call (r ∷ replies) old new takes =
+    ran_join old takes.0 new (ran_one moment (event.Take call) old takes.0 r takes.1) (ran_more moment call replies takes.0 new takes.3)
+
+pub ran_takes : (moment call : ℕ) (old new : CoreSeen) → Takes moment call old new → Ran old new
+ran_takes moment call old new takes =
+    ran_join old takes.before new (ran_more moment call takes.more old takes.before takes.take_more) (ran_one moment (event.Take call) takes.before new takes.last takes.posts)
+
+pub ran_does : (moment : ℕ) (step : LoadStep) (a b : Sides) → Does moment step a b → Ran a.channel b.channel
+ran_does moment (does.Post e) a b posts = ran_one moment e a.channel b.channel posts.1 posts.2
+ran_does moment does.Exchange a b exchanges = ran_exchanges moment a b exchanges
+ran_does moment (does.Takes call) a b takes = ran_takes moment call a.channel b.channel takes.1
+
+pub ran_plays : (actions : List LoadAction) (a b : Sides) → Plays actions a b → Ran a.channel b.channel
+ran_plays [] a b same = ran_none a.channel b.channel (ap (λ (x : Sides). x.channel) same)
+ran_plays (action ∷ actions) a b plays =
+    ran_join a.channel plays.0.channel b.channel (ran_does action.moment action.step a plays.0 plays.1) (ran_plays actions plays.0 b plays.2)
+
+-- ---- a full journal
+
+pub fills_behind : (a b c : CoreSeen) → Ran a b → FillsUp b c → FillsUp a c
+fills_behind a b c ran fills = record {
+  events = ran.0 ++ fills.events;
+  runs = Runs-join a b c ran.0 fills.events ran.1 fills.runs;
+  next = fills.next;
+  full = fills.full;
+}
+
+-- a journal that is counted as full is full
+full_of : (e : Event) (entries bytes : ℕ) (journal : List Entry) → HasNoRoom entries bytes e → entries ≡ length journal → bytes ≡ counted (journal_bytes journal) → HasNoRoom (length journal) (journal_bytes journal) e
+full_of e entries bytes journal (inl many) n b = inl (subst (λ (k : ℕ). 1048576 ≤ k) n many)
+full_of e entries bytes journal (inr much) n b = inr (omega (arith, much, b))
+
+pub fills_at : (old new : CoreSeen) (e : Event) (entries bytes : ℕ) → IsFull old e entries bytes → new ≡ old → FillsUp old new
+fills_at old new e entries bytes full same =
+    subst (λ (x : CoreSeen). FillsUp old x) (sym same)
+    (record {
+      events = [];
+      runs = refl;
+      next = e;
+      full = full_of e entries bytes old.journal.entries full.1 full.2 full.3;
+    })
+
+-- what made an entry had room for it
+pub had_room : {P : ℕ → ℕ → Type 0} → (core : CoreSeen) (e : Event) → core.spent ≡ false → ((entries bytes : ℕ) → IsFull core e entries bytes → P entries bytes) → ((entries bytes : ℕ) → P entries bytes → ⊥) → length core.journal.entries < 1048576
+had_room {P} core e spent told never = by_length (cases_lt (length core.journal.entries) 1048576)
+  where
+    by_length : (length core.journal.entries < 1048576) ⊎ (1048576 ≤ length core.journal.entries) → length core.journal.entries < 1048576
+    by_length (inl few) = few
+    by_length (inr many) = absurd (never _ _ (told (length core.journal.entries) (counted (journal_bytes core.journal.entries)) (spent, inl many, refl, refl)))
+
+-- ---- answers that are not a full journal
+
+pub ok_err : {X E : Type 0} → (x : X) (e : E) → Ok x ≡ Err e → ⊥
+ok_err x e same = (cc)
+
+pub not_ok : {X P : Type 0} → (x : X) → ◌≡◌ {A = Result X LoadFault} (Ok x) (Err fault.SessionFull) → P
+not_ok x same = absurd (cc)
+
+pub not_memory : {X P : Type 0} → ◌≡◌ {A = Result X LoadFault} (Err fault.NoMemory) (Err fault.SessionFull) → P
+not_memory same = absurd (cc)
+
+err_same : {X : Type 0} → (e f : LoadFault) → e ≡ f → ◌≡◌ {A = Result X LoadFault} (Err e) (Err f)
+err_same e f is = ap (λ (x : LoadFault). Err x) is
+
+-- what a `?` gives back
+pub exit_ok : {X E : Type 0} → (P : Type 0) (r : Result X E) (Q : E → Type 0) → IsErrAnd r Q → OnOk r P
+exit_ok P (Ok x) Q h = absurd h
+exit_ok P (Err e) Q h = tt
+
+pub exit_if : {X E : Type 0} → (r : Result X E) (Q : E → Type 0) (P : X → Type 0) → IsErrAnd r Q → IfOk r P
+exit_if (Ok x) Q P h = absurd h
+exit_if (Err e) Q P h = tt
+
+pub exit_full : {X Y P : Type 0} → (r : Result X LoadFault) (e : LoadFault) → IsErrAnd r (λ y. y ≡ e) → (◌≡◌ {A = Result Y LoadFault} (Err e) (Err fault.SessionFull) → P) → r ≡ Err fault.SessionFull → P
+exit_full (Ok x) e h full same = absurd h
+exit_full {X} {Y} (Err y) e h full same =
+    let is : e ≡ fault.SessionFull = (cc) in
+    full (err_same e fault.SessionFull is)
+
+pub exit_memory : {X P : Type 0} → (r : Result X LoadFault) → IsErrAnd r (λ y. y ≡ fault.NoMemory) → r ≡ Err fault.SessionFull → P
+exit_memory (Ok x) h same = absurd h
+exit_memory (Err y) h same = absurd (cc)
+
+pub on_ok_as : {T E P Q : Type 0} → (r : Result T E) → (P → Q) → OnOk r P → OnOk r Q
+on_ok_as (Ok value) more holds = more holds
+on_ok_as (Err e) more holds = tt
+
+-- a journal with as many entries as it may have is full
+pub full_at_most : (a b : CoreSeen) (next : Event) → Ran a b → 1048576 ≤ length b.journal.entries → FillsUp a b
+full_at_most a b next ran many = record { events = ran.0; runs = ran.1; next = next; full = inl many }
+
+-- what a step adds to a journal
+pub one_longer : (moment : ℕ) (e : Event) (old new : CoreSeen) (r : Reply) → Posts moment e old new r → length new.journal.entries ≡ length old.journal.entries + 1
+one_longer moment e old new r posts = ap (λ (xs : List Entry). length xs) posts.journal ∙ length-append old.journal.entries _

@@ -1,0 +1,60 @@
+-- The session of a load from its parts.
+use Rattle.std.proofs.Common.{◌≡◌, ℕ, List, refl, sym, subst}
+use Rattle.std.specs.Global.{Global}
+use Rattle.std.specs.Prelude.{IfOk, Result, Ok, Err}
+use Rattle.grpc_base.specs.declared.event.Stamped.{Stamped}
+use Rattle.attempt_ledger.specs.declared.journal.Journal.{Journal}
+use Rattle.attempt_ledger.specs.declared.ledger.Ledger.{Ledger}
+use Rattle.lb_policy.specs.Table.{PolicySeen}
+use Rattle.channel_core.specs.Core.{CoreSeen, IsNew, IsNewBy, Runs, ledger_in}
+use Rattle.channel_core.specs.Laws.{IsLawful}
+use Rattle.loop_server.specs.Script.{all_lines}
+use Rattle.loop_server.specs.Server.{Core, new_core}
+use Rattle.load_plan.specs.Answers.{server_script}
+use Rattle.load_plan.specs.Plan.{actions_of, authority}
+use Rattle.load_plan.specs.declared.load.Load.{Load}
+use Rattle.load_plan.specs.declared.summary.LoadSummary.{LoadSummary}
+use Rattle.load_session.specs.Playing.{Plays, Sides}
+use Rattle.load_session.specs.Session.{Begins, FillsUp, GetsFull, IsSession, SumsUp}
+use Rattle.load_session.specs.Steps.{PlaysOn, SumsFrom}
+use Rattle.load_session.specs.declared.fault.LoadFault.{LoadFault}
+use Rattle.load_session.proofs.Ran.{Ran, ran_plays}
+
+pub begins : (load : Load) (policies : List PolicySeen) (alloc : Global) (core : CoreSeen) (server : Core) → IsNewBy alloc authority policies core → server ≡ new_core (all_lines (server_script load.seed load.calls)) → Begins load policies (record { channel = core; server = server })
+begins load policies alloc core server is_new by = record { alloc = alloc; channel = is_new; server = by }
+
+-- what is known of each channel that was given events
+abbrev pub AreLawful : Type 0
+AreLawful = (authority : List ℕ) (new core : CoreSeen) (events : List Stamped) → IsNew authority new → Runs new events core → IsLawful core.journal.entries (ledger_in core)
+
+pub session : AreLawful → (load : Load) (policies : List PolicySeen) (start end : Sides) → Begins load policies start → Plays (actions_of load.seed load.calls) start end → IsSession load policies end.channel.journal (ledger_in end.channel)
+session are_lawful load policies start end begins plays =
+    let ran : Ran start.channel end.channel = ran_plays (actions_of load.seed load.calls) start end plays in
+    record {
+      start = start;
+      end = end;
+      begins = begins;
+      plays = plays;
+      journal_is = refl;
+      ledger_is = refl;
+      lawful = are_lawful authority start.channel end.channel ran.0 (begins.alloc, policies, begins.channel) ran.1;
+    }
+
+pub sums_up : AreLawful → (load : Load) (policies : List PolicySeen) (alloc : Global) (old : CoreSeen) (summary : LoadSummary) → IsNewBy alloc authority policies old → SumsFrom load old summary → SumsUp load policies summary
+sums_up are_lawful load policies alloc old summary is_new sums =
+    let start : Sides = record { channel = old; server = sums.plays.begun } in
+    let end : Sides = record { channel = sums.new; server = sums.plays.server } in
+    let whole : IsSession load policies sums.new.journal (ledger_in sums.new) = session are_lawful load policies start end (begins load policies alloc old sums.plays.begun is_new sums.plays.new_server) sums.plays.plays in
+    record {
+      journal = sums.journal;
+      ledger = sums.ledger;
+      session = subst (λ (x : Journal). IsSession load policies x sums.ledger) (sym sums.journal_is) (subst (λ (x : Ledger). IsSession load policies sums.new.journal x) (sym sums.ledger_is) whole);
+      sums = sums.sums;
+    }
+
+pub gets_full : (load : Load) (policies : List PolicySeen) (alloc : Global) (old new : CoreSeen) → IsNewBy alloc authority policies old → FillsUp old new → GetsFull load policies
+gets_full load policies alloc old new is_new fills = record { alloc = alloc; start = old; is_new = is_new; new = new; fills = fills }
+
+pub sums_as : {P Q : LoadSummary → Type 0} → (r : Result LoadSummary LoadFault) → ((s : LoadSummary) → P s → Q s) → IfOk r P → IfOk r Q
+sums_as (Ok summary) more holds = more summary holds
+sums_as (Err e) more holds = tt

@@ -1,0 +1,31 @@
+use Rattle.std.proofs.Common.{◌≡◌, ◌∙◌, ◌<◌, ℕ, arith, subst, sym}
+use Rattle.std.specs.Prelude.{flat_map}
+use Rattle.std.specs.List.{range_with_len}
+use Rattle.load_plan.specs.Plan.{batch_actions}
+use Rattle.load_session.specs.Playing.{Plays}
+use Rattle.load_session.proofs.Acts.{batches_more, batches_none}
+use Rattle.load_session.proofs.Ran.{exit_full, exit_ok, fills_behind, not_ok, ran_plays}
+use Rattle.load_session.proofs.play.play_batches.Goals as goal
+
+pub loop-number-init : goal.loop-number-init
+loop-number-init g c = batches_none (batch_actions c.args.load.seed c.args.load.calls) (record { channel = c.args.core.now; server = c.args.server.now })
+
+pub loop-number-preserved : goal.loop-number-preserved
+loop-number-preserved g c =
+    batches_more (batch_actions c.args.load.seed c.args.load.calls) c.loop-number.number (record { channel = c.args.core.now; server = c.args.server.now }) (record { channel = c.loop-number.core; server = c.loop-number.server })
+    (record { channel = c.play_batch.new.core; server = c.play_batch.new.server }) c.loop-number.invariant c.in_ok-play_batch.ensures.ok
+
+pub returns-clause-full : goal.returns-clause-full
+returns-clause-full g c = not_ok _
+
+pub returns-in_err-play_batch-clause-ok : goal.returns-in_err-play_batch-clause-ok
+returns-in_err-play_batch-clause-ok g c = exit_ok _ c.from_residual.result _ c.from_residual.ensures.1
+
+pub returns-in_err-play_batch-clause-full : goal.returns-in_err-play_batch-clause-full
+returns-in_err-play_batch-clause-full g c =
+    exit_full c.from_residual.result c.in_err-play_batch.field-0.0 c.from_residual.ensures.1 (λ same. fills_behind c.args.core.now c.loop-number.core c.play_batch.new.core
+    (ran_plays (flat_map (batch_actions c.args.load.seed c.args.load.calls) (range_with_len 0 c.loop-number.number)) (record { channel = c.args.core.now; server = c.args.server.now }) (record { channel = c.loop-number.core; server = c.loop-number.server }) c.loop-number.invariant)
+    (c.in_err-play_batch.ensures.full same))
+
+pub play_batch-requires : goal.play_batch-requires
+play_batch-requires g c = subst (λ (n : ℕ). c.loop-number.number < n) c.batches-number-end.ensures c.loop-number-test.true

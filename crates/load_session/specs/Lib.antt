@@ -1,0 +1,4 @@
+pub mod Playing
+pub mod Session
+pub mod Steps
+pub mod Sums
