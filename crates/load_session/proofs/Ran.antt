@@ -1,4 +1,4 @@
--- What was played is a run of the channel, and where it stopped the journal is full.
+-- What was played is a run of the channel, and where it stopped the journal lacks room.
 use Rattle.std.proofs.Common.{◌≡◌, ◌∙◌, ◌<◌, ◌≤◌, ℕ, Bool, true, false, List, [], ◌∷◌, ◌++◌, length, length-append, refl, sym, subst, inl, inr, arith, ap, ◌+◌}
 use Rattle.std.specs.Prelude.{◌⊎◌, MatchBool, Option, Some, None, IfOk, IsErrAnd, OnOk, Result, Ok, Err}
 use Rattle.std.proofs.lemmas.Bool.{cases_lt}
@@ -15,7 +15,7 @@ use Rattle.load_plan.specs.declared.action.LoadAction.{LoadAction}
 use Rattle.load_plan.specs.declared.action.LoadStep.{LoadStep}
 use Rattle.load_plan.specs.declared.action.LoadStep.TheVariants as does
 use Rattle.load_session.specs.Playing.{ArriveAt, Does, Drained, Exchanges, ExchangesOn, Hears, Plays, Posts, Sends, Sides, Takes, TakesMore, is_more}
-use Rattle.load_session.specs.Session.{FillsUp}
+use Rattle.load_session.specs.Stopping.{LacksRoom}
 use Rattle.load_session.specs.declared.fault.LoadFault.{LoadFault}
 use Rattle.load_session.specs.declared.fault.LoadFault.TheVariants as fault
 
@@ -82,28 +82,13 @@ ran_plays (action ∷ actions) a b plays =
 
 -- ---- a full journal
 
-pub fills_behind : (a b c : CoreSeen) → Ran a b → FillsUp b c → FillsUp a c
-fills_behind a b c ran fills = record {
-  events = ran.0 ++ fills.events;
-  runs = Runs-join a b c ran.0 fills.events ran.1 fills.runs;
-  next = fills.next;
-  full = fills.full;
-}
-
 -- a journal that is counted as full is full
 full_of : (e : Event) (entries bytes : ℕ) (journal : List Entry) → HasNoRoom entries bytes e → entries ≡ length journal → bytes ≡ counted (journal_bytes journal) → HasNoRoom (length journal) (journal_bytes journal) e
 full_of e entries bytes journal (inl many) n b = inl (subst (λ (k : ℕ). 1048576 ≤ k) n many)
 full_of e entries bytes journal (inr much) n b = inr (omega (arith, much, b))
 
-pub fills_at : (old new : CoreSeen) (e : Event) (entries bytes : ℕ) → IsFull old e entries bytes → new ≡ old → FillsUp old new
-fills_at old new e entries bytes full same =
-    subst (λ (x : CoreSeen). FillsUp old x) (sym same)
-    (record {
-      events = [];
-      runs = refl;
-      next = e;
-      full = full_of e entries bytes old.journal.entries full.1 full.2 full.3;
-    })
+pub lacks_room : (core : CoreSeen) (e : Event) (entries bytes : ℕ) → IsFull core e entries bytes → LacksRoom e core
+lacks_room core e entries bytes full = full_of e entries bytes core.journal.entries full.1 full.2 full.3
 
 -- what made an entry had room for it
 pub had_room : {P : ℕ → ℕ → Type 0} → (core : CoreSeen) (e : Event) → core.spent ≡ false → ((entries bytes : ℕ) → IsFull core e entries bytes → P entries bytes) → ((entries bytes : ℕ) → P entries bytes → ⊥) → length core.journal.entries < 1048576
@@ -149,10 +134,6 @@ exit_memory (Err y) h same = absurd (cc)
 pub on_ok_as : {T E P Q : Type 0} → (r : Result T E) → (P → Q) → OnOk r P → OnOk r Q
 on_ok_as (Ok value) more holds = more holds
 on_ok_as (Err e) more holds = tt
-
--- a journal with as many entries as it may have is full
-pub full_at_most : (a b : CoreSeen) (next : Event) → Ran a b → 1048576 ≤ length b.journal.entries → FillsUp a b
-full_at_most a b next ran many = record { events = ran.0; runs = ran.1; next = next; full = inl many }
 
 -- what a step adds to a journal
 pub one_longer : (moment : ℕ) (e : Event) (old new : CoreSeen) (r : Reply) → Posts moment e old new r → length new.journal.entries ≡ length old.journal.entries + 1

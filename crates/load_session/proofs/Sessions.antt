@@ -15,8 +15,8 @@ use Rattle.load_plan.specs.Plan.{actions_of, authority}
 use Rattle.load_plan.specs.declared.load.Load.{Load}
 use Rattle.load_plan.specs.declared.summary.LoadSummary.{LoadSummary}
 use Rattle.load_session.specs.Playing.{Plays, Sides}
-use Rattle.load_session.specs.Session.{Begins, FillsUp, GetsFull, IsSession, SumsUp}
-use Rattle.load_session.specs.Steps.{PlaysOn, SumsFrom}
+use Rattle.load_session.specs.Session.{Begins, GetsFull, IsSession, SumsUp}
+use Rattle.load_session.specs.Steps.{PlaysOn, StopsFrom, SumsFrom}
 use Rattle.load_session.specs.declared.fault.LoadFault.{LoadFault}
 use Rattle.load_session.proofs.Ran.{Ran, ran_plays}
 
@@ -52,8 +52,12 @@ sums_up are_lawful load policies alloc old summary is_new sums =
       sums = sums.sums;
     }
 
-pub gets_full : (load : Load) (policies : List PolicySeen) (alloc : Global) (old new : CoreSeen) → IsNewBy alloc authority policies old → FillsUp old new → GetsFull load policies
-gets_full load policies alloc old new is_new fills = record { alloc = alloc; start = old; is_new = is_new; new = new; fills = fills }
+pub gets_full : (load : Load) (policies : List PolicySeen) (alloc : Global) (old : CoreSeen) → IsNewBy alloc authority policies old → StopsFrom load old → GetsFull load policies
+gets_full load policies alloc old is_new stops = record {
+  start = record { channel = old; server = stops.begun };
+  begins = begins load policies alloc old stops.begun is_new stops.new_server;
+  stops = stops.stops;
+}
 
 pub sums_as : {P Q : LoadSummary → Type 0} → (r : Result LoadSummary LoadFault) → ((s : LoadSummary) → P s → Q s) → IfOk r P → IfOk r Q
 sums_as (Ok summary) more holds = more summary holds

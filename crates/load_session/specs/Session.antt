@@ -1,15 +1,11 @@
 -- The session of a load, and what it comes to.
-use Rattle.std.specs.Prelude.{◌≡◌, ℕ, List, length}
+use Rattle.std.specs.Prelude.{◌≡◌, List}
 use Rattle.std.specs.Global.{Global}
-use Rattle.grpc_base.specs.Posts.{HasNoRoom}
-use Rattle.grpc_base.specs.declared.event.Event.{Event}
-use Rattle.grpc_base.specs.declared.event.Stamped.{Stamped}
 use Rattle.attempt_ledger.specs.declared.journal.Journal.{Journal}
 use Rattle.attempt_ledger.specs.declared.ledger.Ledger.{Ledger}
 use Rattle.lb_policy.specs.Table.{PolicySeen}
-use Rattle.channel_core.specs.Core.{CoreSeen, IsNewBy, Runs, ledger_in}
+use Rattle.channel_core.specs.Core.{IsNewBy, ledger_in}
 use Rattle.channel_core.specs.Laws.{IsLawful}
-use Rattle.channel_core.specs.Sizes.{journal_bytes}
 use Rattle.loop_server.specs.Script.{all_lines}
 use Rattle.loop_server.specs.Server.{new_core}
 use Rattle.load_plan.specs.Answers.{server_script}
@@ -17,6 +13,7 @@ use Rattle.load_plan.specs.Plan.{actions_of, authority}
 use Rattle.load_plan.specs.declared.load.Load.{Load}
 use Rattle.load_plan.specs.declared.summary.LoadSummary.{LoadSummary}
 use Rattle.load_session.specs.Playing.{Plays, Sides}
+use Rattle.load_session.specs.Stopping.{StopsIn}
 use Rattle.load_session.specs.Sums.{summary_of}
 
 -- where a load begins: a new channel with these policies, whose requests have the load's authority, and a new server by its script
@@ -43,17 +40,9 @@ pub record SumsUp (load : Load) (policies : List PolicySeen) (summary : LoadSumm
   pub session : IsSession load policies journal ledger
   pub sums : summary ≡ summary_of load journal ledger
 
--- a channel ran events, and then its journal has no room for another one
-pub record FillsUp (old new : CoreSeen) : Type 0 where
-  pub events : List Stamped
-  pub runs : Runs old events new
-  pub next : Event
-  pub full : HasNoRoom (length new.journal.entries) (journal_bytes new.journal.entries) next
-
--- the journal of a load's channel got full
+-- the journal of a load's channel gets full: its actions were played in order, and nothing else, up to one that asks for an event for
+-- which the journal has no room
 pub record GetsFull (load : Load) (policies : List PolicySeen) : Type 0 where
-  pub alloc : Global
-  pub start : CoreSeen
-  pub is_new : IsNewBy alloc authority policies start
-  pub new : CoreSeen
-  pub fills : FillsUp start new
+  pub start : Sides
+  pub begins : Begins load policies start
+  pub stops : StopsIn (actions_of load.seed load.calls) start

@@ -1,4 +1,5 @@
--- Nobody has to believe these steps: one Take, a session on a channel, and how the ends of calls are noted while the journal is read.
+-- Nobody has to believe these steps: one Take, a session on a channel to its end or to a full journal, and how the ends of calls are
+-- noted while the journal is read.
 use Rattle.std.specs.Prelude.{◌≡◌, ℕ, Bool, Option, Some, None, List, slice_get, slice_set}
 use Rattle.grpc_base.specs.declared.event.Entry.{Entry}
 use Rattle.grpc_base.specs.declared.event.Event.TheVariants as event
@@ -13,6 +14,7 @@ use Rattle.load_plan.specs.Plan.{actions_of}
 use Rattle.load_plan.specs.declared.load.Load.{Load}
 use Rattle.load_plan.specs.declared.summary.LoadSummary.{LoadSummary}
 use Rattle.load_session.specs.Playing.{Plays, Posts, is_more}
+use Rattle.load_session.specs.Stopping.{StopsIn}
 use Rattle.load_session.specs.Sums.{call_taken, end_code, summary_of}
 
 -- the end of a call is noted at its place, where none is noted
@@ -43,7 +45,13 @@ pub record PlaysOn (load : Load) (old new : CoreSeen) : Type 0 where
   pub new_server : begun ≡ new_core (all_lines (server_script load.seed load.calls))
   pub plays : Plays (actions_of load.seed load.calls) (record { channel = old; server = begun }) (record { channel = new; server = server })
 
--- and what it comes to
+-- or where it stops
+pub record StopsFrom (load : Load) (old : CoreSeen) : Type 0 where
+  pub begun : Core
+  pub new_server : begun ≡ new_core (all_lines (server_script load.seed load.calls))
+  pub stops : StopsIn (actions_of load.seed load.calls) (record { channel = old; server = begun })
+
+-- what one that was played to its end comes to
 pub record SumsFrom (load : Load) (old : CoreSeen) (summary : LoadSummary) : Type 0 where
   pub new : CoreSeen
   pub plays : PlaysOn load old new

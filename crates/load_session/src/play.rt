@@ -5,8 +5,8 @@ ghost use Rattle.grpc_base.specs.declared.event.Reply.{Reply};
 ghost use Rattle.load_plan.specs.Batches.{batches_of};
 ghost use Rattle.load_plan.specs.Plan.{actions_of, batch_actions};
 ghost use Rattle.load_session.specs.Playing.{Does, Exchanges, ExchangesOn, Plays, Posts, Takes, is_more};
-ghost use Rattle.load_session.specs.Session.{FillsUp};
 ghost use Rattle.load_session.specs.Steps.{TakesOne};
+ghost use Rattle.load_session.specs.Stopping.{LacksRoom, Stops, StopsExchange, StopsIn, StopsOn, StopsTaking};
 
 use crate::fault::LoadFault;
 use crate::sides::{hear, post, send};
@@ -29,7 +29,7 @@ pub(crate) fn play_load<P: Balancer>(
     server: &mut ServerCore,
 ) -> Result<(), LoadFault>
     ensures ok { OnOk result (Plays (actions_of load.seed load.calls) (record { channel = core.old; server = server.old }) (record { channel = core.new; server = server.new })) }
-    ensures full { result ≡ Err LoadFault.SessionFull → FillsUp core.old core.new }
+    ensures full { result ≡ Err LoadFault.SessionFull → StopsIn (actions_of load.seed load.calls) (record { channel = core.old; server = server.old }) }
 {
     let opening = load.opening(alloc)?;
     play_all(core, server, opening.into_vec())?;
@@ -44,7 +44,7 @@ fn play_batches<P: Balancer>(
     server: &mut ServerCore,
 ) -> Result<(), LoadFault>
     ensures ok { OnOk result (Plays (flat_map (batch_actions load.seed load.calls) (range_with_len 0 (batches_of load.calls))) (record { channel = core.old; server = server.old }) (record { channel = core.new; server = server.new })) }
-    ensures full { result ≡ Err LoadFault.SessionFull → FillsUp core.old core.new }
+    ensures full { result ≡ Err LoadFault.SessionFull → StopsIn (flat_map (batch_actions load.seed load.calls) (range_with_len 0 (batches_of load.calls))) (record { channel = core.old; server = server.old }) }
 {
     for number in 0..load.batches() {
         play_batch(alloc, load, core, server, number)?;
@@ -63,7 +63,7 @@ fn play_batch<P: Balancer>(
 ) -> Result<(), LoadFault>
     requires { number < batches_of load.calls }
     ensures ok { OnOk result (Plays (batch_actions load.seed load.calls number) (record { channel = core.old; server = server.old }) (record { channel = core.new; server = server.new })) }
-    ensures full { result ≡ Err LoadFault.SessionFull → FillsUp core.old core.new }
+    ensures full { result ≡ Err LoadFault.SessionFull → StopsIn (batch_actions load.seed load.calls number) (record { channel = core.old; server = server.old }) }
 {
     let batch = load.batch(alloc, number)?;
     play_all(core, server, batch.into_vec())
@@ -76,7 +76,7 @@ fn play_all<P: Balancer>(
     actions: Vec<LoadAction>,
 ) -> Result<(), LoadFault>
     ensures ok { OnOk result (Plays actions.items (record { channel = core.old; server = server.old }) (record { channel = core.new; server = server.new })) }
-    ensures full { result ≡ Err LoadFault.SessionFull → FillsUp core.old core.new }
+    ensures full { result ≡ Err LoadFault.SessionFull → StopsIn actions.items (record { channel = core.old; server = server.old }) }
 {
     let mut rest = actions.into_iter();
     while let Some(action) = rest.next() {
@@ -93,7 +93,7 @@ fn play<P: Balancer>(
     action: LoadAction,
 ) -> Result<(), LoadFault>
     ensures ok { OnOk result (Does action.moment action.step (record { channel = core.old; server = server.old }) (record { channel = core.new; server = server.new })) }
-    ensures full { result ≡ Err LoadFault.SessionFull → FillsUp core.old core.new }
+    ensures full { result ≡ Err LoadFault.SessionFull → Stops action.moment action.step (record { channel = core.old; server = server.old }) }
 {
     let LoadAction { moment, step } = action;
     match step {
@@ -111,7 +111,7 @@ fn post_only<P: Balancer>(
     event: Event,
 ) -> Result<(), LoadFault>
     ensures ok { OnOk result ((r : Reply) × Posts moment event core.old core.new r) }
-    ensures full { result ≡ Err LoadFault.SessionFull → FillsUp core.old core.new }
+    ensures full { result ≡ Err LoadFault.SessionFull → LacksRoom event core.old }
 {
     let _reply = post(core, moment, event)?;
     Ok(())
@@ -125,7 +125,7 @@ fn exchange<P: Balancer>(
     moment: Moment,
 ) -> Result<(), LoadFault>
     ensures ok { OnOk result (Exchanges moment (record { channel = core.old; server = server.old }) (record { channel = core.new; server = server.new })) }
-    ensures full { result ≡ Err LoadFault.SessionFull → FillsUp core.old core.new }
+    ensures full { result ≡ Err LoadFault.SessionFull → StopsExchange moment (record { channel = core.old; server = server.old }) }
 {
     exchange_on(core, server, moment, 1)?;
     exchange_on(core, server, moment, 2)
@@ -140,7 +140,7 @@ fn exchange_on<P: Balancer>(
     link: u32,
 ) -> Result<(), LoadFault>
     ensures ok { OnOk result (ExchangesOn moment link (record { channel = core.old; server = server.old }) (record { channel = core.new; server = server.new })) }
-    ensures full { result ≡ Err LoadFault.SessionFull → FillsUp core.old core.new }
+    ensures full { result ≡ Err LoadFault.SessionFull → StopsOn moment link (record { channel = core.old; server = server.old }) }
 {
     send(core, server, moment, link)?;
     hear(core, server, moment, link)
@@ -154,7 +154,7 @@ fn take_all<P: Balancer>(
     call: u32,
 ) -> Result<(), LoadFault>
     ensures ok { OnOk result (Takes moment call core.old core.new) }
-    ensures full { result ≡ Err LoadFault.SessionFull → FillsUp core.old core.new }
+    ensures full { result ≡ Err LoadFault.SessionFull → StopsTaking moment call core.old }
 {
     for _taken in 0..ENTRIES {
         let more = take_once(core, moment, call)?;
@@ -173,7 +173,7 @@ fn take_once<P: Balancer>(
     call: u32,
 ) -> Result<bool, LoadFault>
     ensures ok { IfOk result (λ more. TakesOne more moment call core.old core.new) }
-    ensures full { result ≡ Err LoadFault.SessionFull → FillsUp core.old core.new }
+    ensures full { result ≡ Err LoadFault.SessionFull → LacksRoom (Event.Take call) core.old }
 {
     let reply = post(core, moment, Event::Take { call })?;
     Ok(is_more(&reply))

@@ -1,8 +1,8 @@
 // One event for the channel, and the bytes of one link between the channel and the server.
-ghost use Rattle.std.specs.Prelude.{◌≡◌, ◌<◌, ℕ, Option, Err, IfOk, OnOk, length};
+ghost use Rattle.std.specs.Prelude.{◌≡◌, ◌<◌, ℕ, Option, [], Err, IfOk, OnOk, length};
 ghost use Rattle.loop_server.specs.Steps.{CoreArrives};
 ghost use Rattle.load_session.specs.Playing.{ArriveAt, Hears, Posts, Sends, octets_in};
-ghost use Rattle.load_session.specs.Session.{FillsUp};
+ghost use Rattle.load_session.specs.Stopping.{LacksRoom, StopsHearing, StopsSending};
 
 use crate::fault::LoadFault;
 use channel_core::{ChannelCore, CoreError};
@@ -23,7 +23,7 @@ pub(crate) fn post<P: Balancer>(
 ) -> Result<Reply, LoadFault>
     ensures ok { IfOk result (λ r. Posts moment event core.old core.new r) }
     ensures room { OnOk result (length core.old.journal.entries < 1048576) }
-    ensures full { result ≡ Err LoadFault.SessionFull → FillsUp core.old core.new }
+    ensures full { result ≡ Err LoadFault.SessionFull → LacksRoom event core.old }
 {
     let stamped = Stamped {
         moment,
@@ -51,7 +51,7 @@ pub(crate) fn send<P: Balancer>(
     link: u32,
 ) -> Result<(), LoadFault>
     ensures ok { OnOk result (Sends moment link (record { channel = core.old; server = server.old }) (record { channel = core.new; server = server.new })) }
-    ensures full { result ≡ Err LoadFault.SessionFull → FillsUp core.old core.new }
+    ensures full { result ≡ Err LoadFault.SessionFull → StopsSending link core.old }
 {
     if !core.can_drain(link) {
         return Ok(());
@@ -85,7 +85,7 @@ pub(crate) fn hear<P: Balancer>(
     link: u32,
 ) -> Result<(), LoadFault>
     ensures ok { OnOk result (Hears moment link (record { channel = core.old; server = server.old }) (record { channel = core.new; server = server.new })) }
-    ensures full { result ≡ Err LoadFault.SessionFull → FillsUp core.old core.new }
+    ensures full { result ≡ Err LoadFault.SessionFull → StopsHearing link (record { channel = core.old; server = server.old }) }
 {
     let octets = server.drain(link)?;
     arrive(core, moment, link, octets)
@@ -99,7 +99,7 @@ fn arrive<P: Balancer>(
     octets: Octets,
 ) -> Result<(), LoadFault>
     ensures ok { OnOk result (ArriveAt moment link octets core.old core.new) }
-    ensures full { result ≡ Err LoadFault.SessionFull → FillsUp core.old core.new }
+    ensures full { result ≡ Err LoadFault.SessionFull → (octets ≡ [] → ⊥) × LacksRoom (Event.Arrived link octets) core.old }
 {
     if octets.is_empty() {
         return Ok(());

@@ -6,8 +6,8 @@ ghost use Rattle.loop_server.specs.Server.{new_core};
 ghost use Rattle.load_plan.specs.Answers.{server_script};
 ghost use Rattle.load_plan.specs.Plan.{authority};
 ghost use Rattle.policy_rack.specs.Kinds.{are_ready};
-ghost use Rattle.load_session.specs.Session.{FillsUp, GetsFull, SumsUp};
-ghost use Rattle.load_session.specs.Steps.{PlaysOn, SumsFrom};
+ghost use Rattle.load_session.specs.Session.{GetsFull, SumsUp};
+ghost use Rattle.load_session.specs.Steps.{PlaysOn, StopsFrom, SumsFrom};
 ghost use Rattle.load_session.specs.Sums.{summary_of};
 
 use crate::ends::outcomes;
@@ -67,7 +67,7 @@ fn sum_up<P: Balancer>(
     core: &mut ChannelCore<P>,
 ) -> Result<LoadSummary, LoadFault>
     ensures ok { IfOk result (SumsFrom load core.old) }
-    ensures full { result ≡ Err LoadFault.SessionFull → FillsUp core.old core.new }
+    ensures full { result ≡ Err LoadFault.SessionFull → StopsFrom load core.old }
 {
     play_on(alloc, load, core)?;
     let summary = summary_of(alloc, load, core.journal(), core.ledger())?;
@@ -82,7 +82,7 @@ fn play_on<P: Balancer>(
     core: &mut ChannelCore<P>,
 ) -> Result<(), LoadFault>
     ensures ok { OnOk result (PlaysOn load core.old core.new) }
-    ensures full { result ≡ Err LoadFault.SessionFull → FillsUp core.old core.new }
+    ensures full { result ≡ Err LoadFault.SessionFull → StopsFrom load core.old }
 {
     let mut server = new_server(alloc, load)?;
     play_load(alloc, load, core, &mut server)

@@ -1,5 +1,5 @@
-use Rattle.std.proofs.Common.{◌≡◌}
-use Rattle.load_session.proofs.Ran.{exit_full, exit_ok, fills_behind, on_ok_as, ran_exchanges_on}
+use Rattle.std.proofs.Common.{inl, inr}
+use Rattle.load_session.proofs.Ran.{exit_full, exit_ok, on_ok_as}
 use Rattle.load_session.proofs.play.exchange.Goals as goal
 
 pub returns-clause-ok : goal.returns-clause-ok
@@ -8,12 +8,10 @@ returns-clause-ok g c =
 
 pub returns-clause-full : goal.returns-clause-full
 returns-clause-full g c = λ same.
-    fills_behind c.args.core.now c.exchange_on.new.core c.exchange_on-2.new.core
-    (ran_exchanges_on c.args.moment 1 (record { channel = c.args.core.now; server = c.args.server.now }) (record { channel = c.exchange_on.new.core; server = c.exchange_on.new.server }) c.in_ok-exchange_on.ensures.ok)
-    (c.exchange_on-2.ensures.full same)
+    inr (record { channel = c.exchange_on.new.core; server = c.exchange_on.new.server }, c.in_ok-exchange_on.ensures.ok, c.exchange_on-2.ensures.full same)
 
 pub returns-in_err-exchange_on-clause-ok : goal.returns-in_err-exchange_on-clause-ok
 returns-in_err-exchange_on-clause-ok g c = exit_ok _ c.from_residual.result _ c.from_residual.ensures.1
 
 pub returns-in_err-exchange_on-clause-full : goal.returns-in_err-exchange_on-clause-full
-returns-in_err-exchange_on-clause-full g c = exit_full c.from_residual.result c.in_err-exchange_on.field-0.0 c.from_residual.ensures.1 c.in_err-exchange_on.ensures.full
+returns-in_err-exchange_on-clause-full g c = exit_full c.from_residual.result c.in_err-exchange_on.field-0.0 c.from_residual.ensures.1 (λ same. inl (c.in_err-exchange_on.ensures.full same))

@@ -1,5 +1,5 @@
-use Rattle.std.proofs.Common.{◌≡◌}
-use Rattle.load_session.proofs.Ran.{exit_full, exit_ok, fills_behind, on_ok_as, ran_sends}
+use Rattle.std.proofs.Common.{inl, inr}
+use Rattle.load_session.proofs.Ran.{exit_full, exit_ok, on_ok_as}
 use Rattle.load_session.proofs.play.exchange_on.Goals as goal
 
 pub returns-clause-ok : goal.returns-clause-ok
@@ -8,12 +8,10 @@ returns-clause-ok g c =
 
 pub returns-clause-full : goal.returns-clause-full
 returns-clause-full g c = λ same.
-    fills_behind c.args.core.now c.send.new.core c.hear.new.core
-    (ran_sends c.args.moment c.args.link (record { channel = c.args.core.now; server = c.args.server.now }) (record { channel = c.send.new.core; server = c.send.new.server }) c.in_ok-send.ensures.ok)
-    (c.hear.ensures.full same)
+    inr (record { channel = c.send.new.core; server = c.send.new.server }, c.in_ok-send.ensures.ok, c.hear.ensures.full same)
 
 pub returns-in_err-send-clause-ok : goal.returns-in_err-send-clause-ok
 returns-in_err-send-clause-ok g c = exit_ok _ c.from_residual.result _ c.from_residual.ensures.1
 
 pub returns-in_err-send-clause-full : goal.returns-in_err-send-clause-full
-returns-in_err-send-clause-full g c = exit_full c.from_residual.result c.in_err-send.field-0.0 c.from_residual.ensures.1 c.in_err-send.ensures.full
+returns-in_err-send-clause-full g c = exit_full c.from_residual.result c.in_err-send.field-0.0 c.from_residual.ensures.1 (λ same. inl (c.in_err-send.ensures.full same))

@@ -1,6 +1,6 @@
-use Rattle.std.proofs.Common.{◌≡◌}
 use Rattle.load_session.proofs.Acts.{IsPlaying-done, IsPlaying-more, IsPlaying-new}
-use Rattle.load_session.proofs.Ran.{exit_full, exit_ok, fills_behind, not_ok, ran_plays}
+use Rattle.load_session.proofs.Ran.{exit_full, exit_ok, not_ok}
+use Rattle.load_session.proofs.Stops.{stops_at}
 use Rattle.load_session.proofs.play.play_all.Goals as goal
 
 pub loop-action-preserved : goal.loop-action-preserved
@@ -15,6 +15,5 @@ returns-in_err-play-clause-ok g c = exit_ok _ c.from_residual.result _ c.from_re
 
 pub returns-in_err-play-clause-full : goal.returns-in_err-play-clause-full
 returns-in_err-play-clause-full g c =
-    exit_full c.from_residual.result c.in_err-play.field-0.0 c.from_residual.ensures.1 (λ same. fills_behind c.args.core.now c.loop-action.core c.play.new.core
-    (ran_plays c.loop-action.invariant.front (record { channel = c.args.core.now; server = c.args.server.now }) (record { channel = c.loop-action.core; server = c.loop-action.server }) c.loop-action.invariant.plays)
-    (c.in_err-play.ensures.full same))
+    exit_full c.from_residual.result c.in_err-play.field-0.0 c.from_residual.ensures.1
+    (λ same. stops_at _ _ _ c.in-Some.action _ (record { channel = c.loop-action.core; server = c.loop-action.server }) c.loop-action.invariant c.in-Some.ensures.items (c.in_err-play.ensures.full same))

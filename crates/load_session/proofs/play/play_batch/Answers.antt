@@ -1,6 +1,7 @@
 use Rattle.std.proofs.Common.{◌≡◌, ◌∙◌, List, subst}
 use Rattle.load_plan.specs.declared.action.LoadAction.{LoadAction}
 use Rattle.load_session.specs.Playing.{Plays}
+use Rattle.load_session.specs.Stopping.{StopsIn}
 use Rattle.load_session.proofs.Ran.{exit_memory, exit_ok, on_ok_as}
 use Rattle.load_session.proofs.play.play_batch.Goals as goal
 
@@ -12,7 +13,8 @@ returns-clause-ok g c =
     c.play_all.ensures.ok
 
 pub returns-clause-full : goal.returns-clause-full
-returns-clause-full g c = c.play_all.ensures.full
+returns-clause-full g c = λ same.
+    subst (λ (xs : List LoadAction). StopsIn xs (record { channel = c.args.core.now; server = c.args.server.now })) (c.into_vec.ensures ∙ c.in_ok-batch.ensures) (c.play_all.ensures.full same)
 
 pub batch-requires : goal.batch-requires
 batch-requires g c = c.requires

@@ -1,10 +1,12 @@
 use Rattle.std.proofs.Common.{◌≡◌, ◌∙◌, ◌<◌, ℕ, arith, subst, sym}
 use Rattle.std.specs.Prelude.{flat_map}
 use Rattle.std.specs.List.{range_with_len}
+use Rattle.load_plan.specs.Batches.{batches_of}
 use Rattle.load_plan.specs.Plan.{batch_actions}
 use Rattle.load_session.specs.Playing.{Plays}
 use Rattle.load_session.proofs.Acts.{batches_more, batches_none}
-use Rattle.load_session.proofs.Ran.{exit_full, exit_ok, fills_behind, not_ok, ran_plays}
+use Rattle.load_session.proofs.Ran.{exit_full, exit_ok, not_ok}
+use Rattle.load_session.proofs.Stops.{stops_in_batch}
 use Rattle.load_session.proofs.play.play_batches.Goals as goal
 
 pub loop-number-init : goal.loop-number-init
@@ -23,9 +25,9 @@ returns-in_err-play_batch-clause-ok g c = exit_ok _ c.from_residual.result _ c.f
 
 pub returns-in_err-play_batch-clause-full : goal.returns-in_err-play_batch-clause-full
 returns-in_err-play_batch-clause-full g c =
-    exit_full c.from_residual.result c.in_err-play_batch.field-0.0 c.from_residual.ensures.1 (λ same. fills_behind c.args.core.now c.loop-number.core c.play_batch.new.core
-    (ran_plays (flat_map (batch_actions c.args.load.seed c.args.load.calls) (range_with_len 0 c.loop-number.number)) (record { channel = c.args.core.now; server = c.args.server.now }) (record { channel = c.loop-number.core; server = c.loop-number.server }) c.loop-number.invariant)
-    (c.in_err-play_batch.ensures.full same))
+    exit_full c.from_residual.result c.in_err-play_batch.field-0.0 c.from_residual.ensures.1
+    (λ same. stops_in_batch (batch_actions c.args.load.seed c.args.load.calls) c.loop-number.number (batches_of c.args.load.calls) (record { channel = c.args.core.now; server = c.args.server.now })
+    (record { channel = c.loop-number.core; server = c.loop-number.server }) (subst (λ (n : ℕ). c.loop-number.number < n) c.batches-number-end.ensures c.loop-number-test.true) c.loop-number.invariant (c.in_err-play_batch.ensures.full same))
 
 pub play_batch-requires : goal.play_batch-requires
 play_batch-requires g c = subst (λ (n : ℕ). c.loop-number.number < n) c.batches-number-end.ensures c.loop-number-test.true

@@ -5,8 +5,10 @@ use Rattle.load_plan.specs.Batches.{batches_of}
 use Rattle.load_plan.specs.Plan.{batch_actions, opening}
 use Rattle.load_plan.specs.declared.action.LoadAction.{LoadAction}
 use Rattle.load_session.specs.Playing.{Plays}
+use Rattle.load_session.specs.Stopping.{StopsIn}
 use Rattle.load_session.proofs.Acts.{Plays-join}
-use Rattle.load_session.proofs.Ran.{exit_full, exit_memory, exit_ok, fills_behind, on_ok_as, ran_plays}
+use Rattle.load_session.proofs.Ran.{exit_full, exit_memory, exit_ok, on_ok_as}
+use Rattle.load_session.proofs.Stops.{stops_behind, stops_in_front}
 use Rattle.load_session.proofs.play.play_load.Goals as goal
 
 pub returns-in_err-opening-clause-ok : goal.returns-in_err-opening-clause-ok
@@ -19,7 +21,10 @@ pub returns-in_err-play_all-clause-ok : goal.returns-in_err-play_all-clause-ok
 returns-in_err-play_all-clause-ok g c = exit_ok _ c.from_residual-in_err-play_all.result _ c.from_residual-in_err-play_all.ensures.1
 
 pub returns-in_err-play_all-clause-full : goal.returns-in_err-play_all-clause-full
-returns-in_err-play_all-clause-full g c = exit_full c.from_residual-in_err-play_all.result c.in_err-play_all.field-0.0 c.from_residual-in_err-play_all.ensures.1 c.in_err-play_all.ensures.full
+returns-in_err-play_all-clause-full g c =
+    exit_full c.from_residual-in_err-play_all.result c.in_err-play_all.field-0.0 c.from_residual-in_err-play_all.ensures.1
+    (λ same. stops_in_front opening (flat_map (batch_actions c.args.load.seed c.args.load.calls) (range_with_len 0 (batches_of c.args.load.calls))) (record { channel = c.args.core.now; server = c.args.server.now })
+    (subst (λ (xs : List LoadAction). StopsIn xs (record { channel = c.args.core.now; server = c.args.server.now })) (c.into_vec.ensures ∙ c.in_ok-opening.ensures) (c.in_err-play_all.ensures.full same)))
 
 pub returns-clause-ok : goal.returns-clause-ok
 returns-clause-ok g c =
@@ -33,6 +38,8 @@ returns-clause-ok g c =
 
 pub returns-clause-full : goal.returns-clause-full
 returns-clause-full g c = λ same.
-    fills_behind c.args.core.now c.play_all.new.core c.play_batches.new.core
-    (ran_plays c.into_vec.result.items (record { channel = c.args.core.now; server = c.args.server.now }) (record { channel = c.play_all.new.core; server = c.play_all.new.server }) c.in_ok-play_all.ensures.ok)
+    stops_behind opening (flat_map (batch_actions c.args.load.seed c.args.load.calls) (range_with_len 0 (batches_of c.args.load.calls))) (record { channel = c.args.core.now; server = c.args.server.now })
+    (record { channel = c.play_all.new.core; server = c.play_all.new.server })
+    (subst (λ (xs : List LoadAction). Plays xs (record { channel = c.args.core.now; server = c.args.server.now }) (record { channel = c.play_all.new.core; server = c.play_all.new.server }))
+    (c.into_vec.ensures ∙ c.in_ok-opening.ensures) c.in_ok-play_all.ensures.ok)
     (c.play_batches.ensures.full same)

@@ -1,7 +1,7 @@
-use Rattle.std.proofs.Common.{◌≡◌, ◌∙◌, [], arith, refl, sym}
+use Rattle.std.proofs.Common.{◌≡◌, ◌∙◌, [], arith, inl, refl, sym}
 use Rattle.grpc_base.specs.declared.event.Event.TheVariants as event
 use Rattle.load_session.proofs.Acts.{IsTaking-done, IsTaking-more}
-use Rattle.load_session.proofs.Ran.{exit_full, exit_ok, fills_behind, full_at_most, not_ok, one_longer, ran_more}
+use Rattle.load_session.proofs.Ran.{exit_full, exit_ok, not_ok, one_longer}
 use Rattle.load_session.proofs.play.take_all.Goals as goal
 
 pub loop-taken-init : goal.loop-taken-init
@@ -25,16 +25,21 @@ pub returns-then-not-more-clause-full : goal.returns-then-not-more-clause-full
 returns-then-not-more-clause-full g c = not_ok _
 
 pub returns-clause-full : goal.returns-clause-full
-returns-clause-full g c = λ _.
-    full_at_most c.args.core.now c.loop-taken.core (event.Take c.args.call)
-    (ran_more c.args.moment c.args.call c.loop-taken.invariant.taking.0 c.args.core.now c.loop-taken.core c.loop-taken.invariant.taking.1)
-    (omega (arith, c.loop-taken.invariant.counted))
+returns-clause-full g c = λ _. record {
+  more = c.loop-taken.invariant.taking.0;
+  before = c.loop-taken.core;
+  take_more = c.loop-taken.invariant.taking.1;
+  full = inl (omega (arith, c.loop-taken.invariant.counted));
+}
 
 pub returns-in_err-more-clause-ok : goal.returns-in_err-more-clause-ok
 returns-in_err-more-clause-ok g c = exit_ok _ c.from_residual.result _ c.from_residual.ensures.1
 
 pub returns-in_err-more-clause-full : goal.returns-in_err-more-clause-full
 returns-in_err-more-clause-full g c =
-    exit_full c.from_residual.result c.in_err-more.field-0.0 c.from_residual.ensures.1 (λ same. fills_behind c.args.core.now c.loop-taken.core c.take_once.new.core
-    (ran_more c.args.moment c.args.call c.loop-taken.invariant.taking.0 c.args.core.now c.loop-taken.core c.loop-taken.invariant.taking.1)
-    (c.in_err-more.ensures.full same))
+    exit_full c.from_residual.result c.in_err-more.field-0.0 c.from_residual.ensures.1 (λ same. record {
+      more = c.loop-taken.invariant.taking.0;
+      before = c.loop-taken.core;
+      take_more = c.loop-taken.invariant.taking.1;
+      full = c.in_err-more.ensures.full same;
+    })

@@ -14,7 +14,9 @@ pub returns-in_err-_reply-clause-ok : goal.returns-in_err-_reply-clause-ok
 returns-in_err-_reply-clause-ok g c = exit_ok _ c.from_residual.result _ c.from_residual.ensures.1
 
 pub returns-in_err-_reply-clause-full : goal.returns-in_err-_reply-clause-full
-returns-in_err-_reply-clause-full g c = exit_full c.from_residual.result c.in_err-_reply.field-0.0 c.from_residual.ensures.1 c.in_err-_reply.ensures.full
+returns-in_err-_reply-clause-full g c =
+    exit_full c.from_residual.result c.in_err-_reply.field-0.0 c.from_residual.ensures.1
+    (λ same. ((λ none. true≢false (sym (c.is_empty.ensures.1 none) ∙ c.if-is_empty.false)), c.in_err-_reply.ensures.full same))
 
 pub returns-clause-ok : goal.returns-clause-ok
 returns-clause-ok g c =

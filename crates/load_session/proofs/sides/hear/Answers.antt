@@ -13,4 +13,10 @@ returns-clause-ok g c =
     on_ok_as c.arrive.result (hears c.args.moment c.args.link c.args.core.now c.arrive.new.core c.args.server.now c.drain.new.self _ c.in_ok-octets.ensures) c.arrive.ensures.ok
 
 pub returns-clause-full : goal.returns-clause-full
-returns-clause-full g c = c.arrive.ensures.full
+returns-clause-full g c = λ same. record {
+  server = c.drain.new.self;
+  octets = c.in_ok-octets.octets;
+  drains = c.in_ok-octets.ensures;
+  some = (c.arrive.ensures.full same).0;
+  full = (c.arrive.ensures.full same).1;
+}

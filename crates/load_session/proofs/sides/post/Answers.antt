@@ -2,7 +2,7 @@ use Rattle.std.proofs.Common.{◌≡◌, ◌∙◌, ap, sym}
 use Rattle.std.specs.Prelude.{Err}
 use Rattle.channel_core.specs.declared.channel.CoreError.{CoreError}
 use Rattle.channel_core.specs.declared.channel.CoreError.TheVariants as failed
-use Rattle.load_session.proofs.Ran.{fills_at, had_room, not_memory, not_ok, ok_err}
+use Rattle.load_session.proofs.Ran.{had_room, lacks_room, not_memory, not_ok, ok_err}
 use Rattle.load_session.proofs.sides.post.Goals as goal
 
 pub returns-in-Ok-clause-ok : goal.returns-in-Ok-clause-ok
@@ -21,9 +21,8 @@ pub returns-in-SessionFull-clause-full : goal.returns-in-SessionFull-clause-full
 returns-in-SessionFull-clause-full g c = λ _.
     (let told : c.step.result ≡ Err (failed.SessionFull c.in-SessionFull.entries c.in-SessionFull.octets) =
     c.in-Err.is ∙ ap (λ (e : CoreError). Err e) c.in-SessionFull.is in
-    fills_at c.args.core.now _ c.args.event c.in-SessionFull.entries c.in-SessionFull.octets
-    ((c.step.ensures.full c.in-SessionFull.entries c.in-SessionFull.octets).0 told)
-    (c.step.ensures.refused c.in-SessionFull.entries c.in-SessionFull.octets told))
+    lacks_room c.args.core.now c.args.event c.in-SessionFull.entries c.in-SessionFull.octets
+    ((c.step.ensures.full c.in-SessionFull.entries c.in-SessionFull.octets).0 told))
 
 pub returns-in-NoMemory-clause-full : goal.returns-in-NoMemory-clause-full
 returns-in-NoMemory-clause-full g c = not_memory

@@ -15,7 +15,9 @@ pub returns-in_err-reply-clause-ok : goal.returns-in_err-reply-clause-ok
 returns-in_err-reply-clause-ok g c = exit_ok _ c.from_residual.result _ c.from_residual.ensures.1
 
 pub returns-in_err-reply-clause-full : goal.returns-in_err-reply-clause-full
-returns-in_err-reply-clause-full g c = exit_full c.from_residual.result c.in_err-reply.field-0.0 c.from_residual.ensures.1 c.in_err-reply.ensures.full
+returns-in_err-reply-clause-full g c =
+    exit_full c.from_residual.result c.in_err-reply.field-0.0 c.from_residual.ensures.1
+    (λ same. (sym c.can_drain.ensures.value ∙ c.if-not-can_drain.false, c.in_err-reply.ensures.full same))
 
 pub returns-clause-ok : goal.returns-clause-ok
 returns-clause-ok g c =

@@ -12,4 +12,4 @@ returns-clause-ok g c =
     on_ok_as c.play_load.result (λ plays. record { server = c.play_load.new.server; begun = c.in_ok-server.server; new_server = c.in_ok-server.ensures; plays = plays }) c.play_load.ensures.ok
 
 pub returns-clause-full : goal.returns-clause-full
-returns-clause-full g c = c.play_load.ensures.full
+returns-clause-full g c = λ same. record { begun = c.in_ok-server.server; new_server = c.in_ok-server.ensures; stops = c.play_load.ensures.full same }

@@ -17,4 +17,4 @@ returns-clause-ok g c =
     sums_as c.sum_up.result (λ s sums. sums_up c.channels_are_lawful.ensures.lawful c.args.load (map g.P.Balancer.seen c.args.policies.items) c.args.alloc c.in_ok-core.core s c.in_ok-core.ensures sums) c.sum_up.ensures.ok
 
 pub returns-clause-full : goal.returns-clause-full
-returns-clause-full g c = λ same. gets_full c.args.load (map g.P.Balancer.seen c.args.policies.items) c.args.alloc c.in_ok-core.core c.sum_up.new.core c.in_ok-core.ensures (c.sum_up.ensures.full same)
+returns-clause-full g c = λ same. gets_full c.args.load (map g.P.Balancer.seen c.args.policies.items) c.args.alloc c.in_ok-core.core c.in_ok-core.ensures (c.sum_up.ensures.full same)
