@@ -10,6 +10,8 @@ mod channel_top_script_tests;
 #[cfg(test)]
 mod channel_top_tests;
 #[cfg(test)]
+mod load_tests;
+#[cfg(test)]
 mod program;
 #[cfg(test)]
 mod serve_tests;

@@ -1,6 +1,6 @@
 -- The number that an option was given.
 use Rattle.std.proofs.Common.{◌≡◌, ◌≢◌, ◌∙◌, ◌<◌, ◌≤◌, ℕ, List, Option, Some, None, sym, subst, arith, refl}
-use Rattle.std.specs.Prelude.{Result, Ok, Err, IfNone, IfSome, codes, ◌^◌}
+use Rattle.std.specs.Prelude.{Result, Ok, Err, IfNone, IfSome, IsSomeAnd, codes, ◌^◌}
 use Rattle.std.specs.Str.Parse.{ExplainsUnsignedError, HasUnsignedDigitsIfOk, IsNumeral, ParsesUnsigned, digits_value, without_leading_plus}
 use Rattle.std.specs.declared.num.ParseIntError.{ParseIntError}
 use Rattle.clap.specs.Words.{ReadsOne, Row, one_of, rows_of}
@@ -9,7 +9,7 @@ use Rattle.clap.specs.declared.parser.matches.Found.{Found}
 use Rattle.clap.proofs.WalkLemmas.{one_text-rows}
 use Rattle.channel_top.specs.declared.words.Mode.{Mode}
 use Rattle.channel_top.specs.declared.words.Mode.TheVariants as mode
-use Rattle.channel_top.specs.Words.{IsOption, IsServeBy}
+use Rattle.channel_top.specs.Words.{IsLoadBy, IsLoadOf, IsOption, IsServeBy}
 
 some_none : {X : Type 0} (x : X) → Some x ≡ None → ⊥
 some_none x e = (cc)
@@ -70,3 +70,31 @@ no_port rows none m is = absurd is
 pub no_links : (rows : List Row) → ((n : ℕ) → IsOption (codes "links") 1 1024 rows n → ⊥) → (m : Mode) → IsServeBy rows m → ⊥
 no_links rows none (mode.Serve port links) is = none links is.1
 no_links rows none m is = absurd is
+
+pub no_seed : (rows : List Row) → ((n : ℕ) → IsOption (codes "seed") 0 18446744073709551615 rows n → ⊥) → (m : Mode) → IsLoadBy rows m → ⊥
+no_seed rows none (mode.Load load) is = none load.seed is.0
+no_seed rows none m is = absurd is
+
+pub no_calls : (rows : List Row) → ((n : ℕ) → IsOption (codes "calls") 1 10000 rows n → ⊥) → (m : Mode) → IsLoadBy rows m → ⊥
+no_calls rows none (mode.Load load) is = none load.calls is.1
+no_calls rows none m is = absurd is
+
+-- the number of an option is within its bounds
+pub option_above : (id : List ℕ) (low high : ℕ) (rows : List Row) (n : ℕ) → IsOption id low high rows n → low ≤ n
+option_above id low high rows n option = omega (arith, option.within.2, option.value)
+
+pub option_below : (id : List ℕ) (low high : ℕ) (rows : List Row) (n : ℕ) → IsOption id low high rows n → n ≤ high
+option_below id low high rows n option = omega (arith, option.within.3, option.value)
+
+-- the mode `load` of the numbers that its options were given
+pub load_given : (rows : List Row) (seed calls : ℕ) (r : Option Mode) → IsOption (codes "seed") 0 18446744073709551615 rows seed → IsOption (codes "calls") 1 10000 rows calls → IsSomeAnd r (IsLoadOf seed calls) → IfSome r (IsLoadBy rows)
+load_given rows seed calls None s c made = tt
+load_given rows seed calls (Some (mode.Load load)) s c made = (
+  subst (IsOption (codes "seed") 0 18446744073709551615 rows) (sym made.0) s,
+  subst (IsOption (codes "calls") 1 10000 rows) (sym made.1) c,
+)
+load_given rows seed calls (Some m) s c made = absurd made
+
+pub load_there : (P : Type 0) (seed calls : ℕ) (r : Option Mode) → IsSomeAnd r (IsLoadOf seed calls) → IfNone r P
+load_there P seed calls None made = absurd made
+load_there P seed calls (Some m) made = tt

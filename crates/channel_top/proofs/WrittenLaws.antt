@@ -2,9 +2,11 @@
 use Rattle.std.proofs.Common.{◌≡◌, ◌∙◌, ℕ, Option, List, ap, inl, inr, subst, sym}
 use Rattle.std.specs.Prelude.{Result, Ok, Err, OnOk, OnErr}
 use Rattle.grpc_base.specs.Kinds.{KindsSeen}
+use Rattle.load_plan.specs.declared.load.Load.{Load}
 use Rattle.gate_io.specs.Outside.{Appends, AppendsFront}
 use Rattle.script_text.proofs.Passing.{AppendsFront-none}
-use Rattle.channel_top.specs.Modes.{IsOutput, IsOutputIn}
+use Rattle.channel_top.specs.Load.{FillsLoad, IsLoadDone, IsLoadText, RefusesLoad}
+use Rattle.channel_top.specs.Modes.{FillsIn, IsDoneIn, IsOutput, IsOutputIn, RefusesIn}
 use Rattle.channel_top.specs.Top.{IsReplayText}
 use Rattle.channel_top.specs.Words.{Runs}
 use Rattle.channel_top.specs.Writing.{WritesAll, WritesFront, WritesSome}
@@ -28,7 +30,7 @@ some_as P Q taken taken' more (inr front) = inr (front_as P Q taken taken' more 
 -- the output of the mode that the words run is that of the program
 pub output_of : (kinds : KindsSeen) (m : Mode) (words : List (List ℕ)) (left left' : Option (List ℕ)) → Runs m words → (text : List ℕ) → IsOutputIn kinds m left left' text → IsOutput kinds words left left' text
 output_of kinds mode.Replay words left left' runs text (inl (inl done)) = inl (inl (mode.Replay, runs, done))
-output_of kinds mode.Replay words left left' runs text (inl (inr full)) = inr (inr (inr (runs, full)))
+output_of kinds mode.Replay words left left' runs text (inl (inr full)) = inr (inr (inr (mode.Replay, runs, full)))
 output_of kinds mode.Replay words left left' runs text (inr fault) = inr (inr (inl (mode.Replay, runs, fault)))
 output_of kinds mode.Config words left left' runs text (inl done) = inl (inl (mode.Config, runs, done))
 output_of kinds mode.Config words left left' runs text (inr fault) = inr (inr (inl (mode.Config, runs, fault)))
@@ -36,10 +38,26 @@ output_of kinds mode.Migrate words left left' runs text (inl done) = inl (inl (m
 output_of kinds mode.Migrate words left left' runs text (inr fault) = inr (inr (inl (mode.Migrate, runs, fault)))
 output_of kinds (mode.Serve port links) words left left' runs text (inl done) = inl (inl (mode.Serve port links, runs, done))
 output_of kinds (mode.Serve port links) words left left' runs text (inr fault) = inr (inr (inl (mode.Serve port links, runs, fault)))
+output_of kinds (mode.Load load) words left left' runs text (same, inl done) = inl (inl (mode.Load load, runs, (same, done)))
+output_of kinds (mode.Load load) words left left' runs text (same, inr (inl refused)) = inr (inl (inr (mode.Load load, runs, (same, refused))))
+output_of kinds (mode.Load load) words left left' runs text (same, inr (inr full)) = inr (inr (inr (mode.Load load, runs, (same, full))))
 
 -- the output of the mode `replay` is that of its mode
 pub replay_output : (kinds : KindsSeen) (m : Mode) (left left' : Option (List ℕ)) → m ≡ mode.Replay → (text : List ℕ) → IsReplayText left left' text → IsOutputIn kinds m left left' text
 replay_output kinds m left left' is text told = subst (λ (x : Mode). IsOutputIn kinds x left left' text) (sym is) told
+
+-- what the mode `load` writes is that of its mode
+pub load_output : (kinds : KindsSeen) (m : Mode) (load : Load) (left left' : Option (List ℕ)) → m ≡ mode.Load load → left' ≡ left → (text : List ℕ) → IsLoadText kinds load text → IsOutputIn kinds m left left' text
+load_output kinds m load left left' is same text told = subst (λ (x : Mode). IsOutputIn kinds x left left' text) (sym is) (same, told)
+
+pub load_done : (kinds : KindsSeen) (m : Mode) (load : Load) (left left' : Option (List ℕ)) → m ≡ mode.Load load → left' ≡ left → (text : List ℕ) → IsLoadDone kinds load text → IsDoneIn kinds m left left' text
+load_done kinds m load left left' is same text done = subst (λ (x : Mode). IsDoneIn kinds x left left' text) (sym is) (same, done)
+
+pub load_refused : (kinds : KindsSeen) (m : Mode) (load : Load) (left left' : Option (List ℕ)) → m ≡ mode.Load load → left' ≡ left → (text : List ℕ) → RefusesLoad kinds text → RefusesIn kinds m left left' text
+load_refused kinds m load left left' is same text refused = subst (λ (x : Mode). RefusesIn kinds x left left' text) (sym is) (same, refused)
+
+pub load_full : (m : Mode) (load : Load) (left left' : Option (List ℕ)) → m ≡ mode.Load load → left' ≡ left → (text : List ℕ) → FillsLoad load text → FillsIn m left left' text
+load_full m load left left' is same text full = subst (λ (x : Mode). FillsIn x left left' text) (sym is) (same, full)
 
 -- what holds where a call succeeded, or where it failed, holds of what follows from it
 pub on_ok_as : {T E P Q : Type 0} → (r : Result T E) → (P → Q) → OnOk r P → OnOk r Q

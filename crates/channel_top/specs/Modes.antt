@@ -1,11 +1,12 @@
 -- What the program reads and writes for the words that it is given, by its status.
-use Rattle.std.specs.Prelude.{◌≡◌, ◌⊎◌, ℕ, Option, List, [], ◌∷◌, ◌++◌, codes}
+use Rattle.std.specs.Prelude.{◌≡◌, ◌⊎◌, ℕ, Option, List}
 use Rattle.grpc_base.specs.Kinds.{KindsSeen}
 use Rattle.channel_top.specs.Top.{EndsFull, IsDone, IsReplayText, StopsAtRead, TellsBadLine}
 use Rattle.channel_top.specs.ConfigMode.{IsConfigDone, IsConfigText, StopsInConfig, TellsConfigFault}
 use Rattle.channel_top.specs.Migrate.{IsMigrateText, IsMigrated, StopsInReport, TellsBadReport}
 use Rattle.channel_top.specs.Serve.{EndsUnheard, IsServeText, IsServed, StopsInServer, TellsBadAnswer}
-use Rattle.channel_top.specs.Words.{AreWrong, AskForText, Runs}
+use Rattle.channel_top.specs.Load.{FillsLoad, IsLoadDone, IsLoadText, RefusesLoad}
+use Rattle.channel_top.specs.Words.{AreWrong, AskForText, Runs, words_fault_text}
 use Rattle.channel_top.specs.declared.words.Mode.{Mode}
 use Rattle.channel_top.specs.declared.words.Mode.TheVariants as mode
 
@@ -15,6 +16,7 @@ IsDoneIn kinds mode.Replay left left' text = IsDone left left' text
 IsDoneIn kinds mode.Config left left' text = IsConfigDone kinds left left' text
 IsDoneIn kinds mode.Migrate left left' text = IsMigrated left left' text
 IsDoneIn kinds (mode.Serve port links) left left' text = IsServed links left left' text
+IsDoneIn kinds (mode.Load load) left left' text = (left' ≡ left) × IsLoadDone kinds load text
 
 -- this text of a mode tells the fault of its input
 abbrev pub TellsFaultIn : KindsSeen → Mode → Option (List ℕ) → Option (List ℕ) → List ℕ → Type 0
@@ -22,6 +24,7 @@ TellsFaultIn kinds mode.Replay left left' text = TellsBadLine left left' text
 TellsFaultIn kinds mode.Config left left' text = TellsConfigFault kinds left left' text
 TellsFaultIn kinds mode.Migrate left left' text = TellsBadReport left left' text
 TellsFaultIn kinds (mode.Serve port links) left left' text = TellsBadAnswer left left' text
+TellsFaultIn kinds (mode.Load load) left left' text = ⊥
 
 -- a read failed in a mode
 abbrev pub StopsIn : Mode → Option (List ℕ) → Option (List ℕ) → Option (List ℕ) → Option (List ℕ) → ℕ → ℕ → Type 0
@@ -29,6 +32,7 @@ StopsIn mode.Replay left left' taken taken' faults faults' = StopsAtRead left le
 StopsIn mode.Config left left' taken taken' faults faults' = StopsInConfig left left' taken taken' faults faults'
 StopsIn mode.Migrate left left' taken taken' faults faults' = StopsInReport left left' taken taken' faults faults'
 StopsIn (mode.Serve port links) left left' taken taken' faults faults' = StopsInServer left left' taken taken' faults faults'
+StopsIn (mode.Load load) left left' taken taken' faults faults' = ⊥
 
 -- the output of a mode, by what it read
 abbrev pub IsOutputIn : KindsSeen → Mode → Option (List ℕ) → Option (List ℕ) → List ℕ → Type 0
@@ -36,10 +40,7 @@ IsOutputIn kinds mode.Replay left left' text = IsReplayText left left' text
 IsOutputIn kinds mode.Config left left' text = IsConfigText kinds left left' text
 IsOutputIn kinds mode.Migrate left left' text = IsMigrateText left left' text
 IsOutputIn kinds (mode.Serve port links) left left' text = IsServeText links left left' text
-
--- the line that tells wrong words
-abbrev pub words_fault_text : List ℕ
-words_fault_text = codes "fault words" ++ 10 ∷ []
+IsOutputIn kinds (mode.Load load) left left' text = (left' ≡ left) × IsLoadText kinds load text
 
 -- status 0: the mode that the words run is done, and this is its text; or the words ask for the text of help or of the version, and
 -- nothing is read
@@ -47,17 +48,29 @@ abbrev pub Finishes : KindsSeen → List (List ℕ) → Option (List ℕ) → Op
 Finishes kinds words left left' text =
     ((m : Mode) × Runs m words × IsDoneIn kinds m left left' text) ⊎ (AskForText words × (left' ≡ left))
 
--- status 2: the words are wrong, the text tells that, and nothing is read
-abbrev pub RefusesWords : List (List ℕ) → Option (List ℕ) → Option (List ℕ) → List ℕ → Type 0
-RefusesWords words left left' text = AreWrong words × (left' ≡ left) × (text ≡ words_fault_text)
+-- a mode wants a policy that is not among these kinds, and the text tells that as it tells wrong words
+abbrev pub RefusesIn : KindsSeen → Mode → Option (List ℕ) → Option (List ℕ) → List ℕ → Type 0
+RefusesIn kinds (mode.Load load) left left' text = (left' ≡ left) × RefusesLoad kinds text
+RefusesIn kinds m left left' text = ⊥
+
+-- status 2: the words are wrong, the text tells that, and nothing is read; or the mode that they run wants a policy that is not there
+abbrev pub RefusesWords : KindsSeen → List (List ℕ) → Option (List ℕ) → Option (List ℕ) → List ℕ → Type 0
+RefusesWords kinds words left left' text =
+    (AreWrong words × (left' ≡ left) × (text ≡ words_fault_text)) ⊎ ((m : Mode) × Runs m words × RefusesIn kinds m left left' text)
 
 -- status 3: the text tells the fault of the input of the mode that the words run
 abbrev pub TellsFault : KindsSeen → List (List ℕ) → Option (List ℕ) → Option (List ℕ) → List ℕ → Type 0
 TellsFault kinds words left left' text = (m : Mode) × Runs m words × TellsFaultIn kinds m left left' text
 
--- status 7: the words run a session, and its journal has no room for an event
+-- the journal of a mode's session has no room for an event, and this text tells that
+abbrev pub FillsIn : Mode → Option (List ℕ) → Option (List ℕ) → List ℕ → Type 0
+FillsIn mode.Replay left left' text = EndsFull left left' text
+FillsIn (mode.Load load) left left' text = (left' ≡ left) × FillsLoad load text
+FillsIn m left left' text = ⊥
+
+-- status 7: the words run a mode whose journal got full
 abbrev pub EndsSession : List (List ℕ) → Option (List ℕ) → Option (List ℕ) → List ℕ → Type 0
-EndsSession words left left' text = Runs mode.Replay words × EndsFull left left' text
+EndsSession words left left' text = (m : Mode) × Runs m words × FillsIn m left left' text
 
 -- status 8: the words run the mode that listens, and a call of the listener failed
 abbrev pub UnheardIn : Mode → Option (List ℕ) → Option (List ℕ) → Option (List ℕ) → Option (List ℕ) → ℕ → ℕ → Type 0
@@ -75,4 +88,4 @@ StopsReading words left left' taken taken' faults faults' = (m : Mode) × Runs m
 abbrev pub IsOutput : KindsSeen → List (List ℕ) → Option (List ℕ) → Option (List ℕ) → List ℕ → Type 0
 IsOutput kinds words left left' text =
     Finishes kinds words left left' text
-    ⊎ (RefusesWords words left left' text ⊎ (TellsFault kinds words left left' text ⊎ EndsSession words left left' text))
+    ⊎ (RefusesWords kinds words left left' text ⊎ (TellsFault kinds words left left' text ⊎ EndsSession words left left' text))

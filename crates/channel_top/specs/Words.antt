@@ -1,5 +1,5 @@
 -- What the words of a command line ask for: a mode, or the text of help or of the version.
-use Rattle.std.specs.Prelude.{◌≡◌, ◌⊎◌, ℕ, true, if◌then◌else◌, Option, Some, None, List, [], ◌∷◌, codes, Result, Ok, Err}
+use Rattle.std.specs.Prelude.{◌≡◌, ◌⊎◌, ℕ, true, if◌then◌else◌, Option, Some, None, List, [], ◌∷◌, ◌++◌, codes, Result, Ok, Err}
 use Rattle.std.specs.Str.{bytes_eq}
 use Rattle.std.specs.Str.Parse.{digits_value, without_leading_plus}
 use Rattle.clap.specs.Values.{IsUnsignedIn}
@@ -21,6 +21,7 @@ name_text name.Replay = codes "replay"
 name_text name.Config = codes "config"
 name_text name.Migrate = codes "migrate"
 name_text name.Serve = codes "serve"
+name_text name.Load = codes "load"
 
 abbrev pub mode_named : List ℕ → Option ModeName
 mode_named word =
@@ -28,6 +29,7 @@ mode_named word =
     else if bytes_eq word (name_text name.Config) then Some name.Config
     else if bytes_eq word (name_text name.Migrate) then Some name.Migrate
     else if bytes_eq word (name_text name.Serve) then Some name.Serve
+    else if bytes_eq word (name_text name.Load) then Some name.Load
     else None
 
 -- the mode of the first word, if it is a mode's name
@@ -57,15 +59,17 @@ bare_for (Some name.Replay) = app_named (codes "grpcc replay")
 bare_for (Some name.Config) = app_named (codes "grpcc config")
 bare_for (Some name.Migrate) = app_named (codes "grpcc migrate")
 bare_for (Some name.Serve) = app_named (codes "grpcc serve")
+bare_for (Some name.Load) = app_named (codes "grpcc load")
 bare_for None = record (app_named (codes "grpcc")) { top = record (app_named (codes "grpcc")).top { no_binary_name = true } }
 
 -- an option that has to be there and takes one value
 abbrev pub option_rule : List ℕ → Rule
 option_rule id = record (new_rule id) { long = Some id; required = true; value_names = 1 }
 
--- the command of a mode: its options are those of `serve`
+-- the command of a mode: only `serve` and `load` have options
 unfoldable pub app_for : Option ModeName → App
 app_for (Some name.Serve) = with_rule (with_rule (bare_for (Some name.Serve)) (option_rule (codes "port"))) (option_rule (codes "links"))
+app_for (Some name.Load) = with_rule (with_rule (bare_for (Some name.Load)) (option_rule (codes "seed"))) (option_rule (codes "calls"))
 app_for m = bare_for m
 
 -- the kinds of error that clap gives for the words at such a command, by clap's own definitions; none where it takes them
@@ -82,6 +86,10 @@ pub record IsOption (id : List ℕ) (low high : ℕ) (rows : List Row) (n : ℕ)
   pub within : IsUnsignedIn low high text
   pub value : n ≡ digits_value 10 (without_leading_plus text)
 
+-- the line that tells wrong words
+abbrev pub words_fault_text : List ℕ
+words_fault_text = codes "fault words" ++ 10 ∷ []
+
 -- the words run a mode without options: its name, behind which at most the word stands that ends the options
 abbrev pub RunsPlain : ModeName → List (List ℕ) → Type 0
 RunsPlain m words = (words ≡ name_text m ∷ []) ⊎ (words ≡ name_text m ∷ dashes ∷ [])
@@ -90,6 +98,16 @@ RunsPlain m words = (words ≡ name_text m ∷ []) ⊎ (words ≡ name_text m �
 abbrev pub IsServeBy : List Row → Mode → Type 0
 IsServeBy rows (mode.Serve port links) = IsOption (codes "port") 0 65535 rows port × IsOption (codes "links") 1 1024 rows links
 IsServeBy rows m = ⊥
+
+-- the mode `load` with the values of its options: a seed of 64 bits, and from 1 to 10,000 calls
+abbrev pub IsLoadBy : List Row → Mode → Type 0
+IsLoadBy rows (mode.Load load) = IsOption (codes "seed") 0 18446744073709551615 rows load.seed × IsOption (codes "calls") 1 10000 rows load.calls
+IsLoadBy rows m = ⊥
+
+-- the mode `load` of a seed with so many calls
+abbrev pub IsLoadOf : ℕ → ℕ → Mode → Type 0
+IsLoadOf seed calls (mode.Load load) = (load.seed ≡ seed) × (load.calls ≡ calls)
+IsLoadOf seed calls m = ⊥
 
 -- the words run a mode with options: clap takes them at its command, and their matches there give the options their values
 pub record RunsByOptions (n : ModeName) (IsBy : List Row → Type 0) (words : List (List ℕ)) : Type 0 where
@@ -103,6 +121,7 @@ Runs mode.Replay words = RunsPlain name.Replay words
 Runs mode.Config words = RunsPlain name.Config words
 Runs mode.Migrate words = RunsPlain name.Migrate words
 Runs (mode.Serve port links) words = RunsByOptions name.Serve (λ rows. IsServeBy rows (mode.Serve port links)) words
+Runs (mode.Load load) words = RunsByOptions name.Load (λ rows. IsLoadBy rows (mode.Load load)) words
 
 -- clap answers the words with the text of help or of the version
 abbrev pub AskForText : List (List ℕ) → Type 0

@@ -21,6 +21,10 @@ pub fn command<'a>(alloc: Global, name: Option<ModeName>) -> Result<Command<'a>,
             let command = with_number(alloc, command, "port", "The port, from 0 to 65535")?;
             with_number(alloc, command, "links", "How many links, from 1 to 1024")
         }
+        Some(ModeName::Load) => {
+            let command = with_number(alloc, command, "seed", "The seed, below 2^64")?;
+            with_number(alloc, command, "calls", "How many calls, from 1 to 10000")
+        }
         _ => Ok(command),
     }
 }
@@ -47,6 +51,10 @@ fn bare<'a>(alloc: Global, name: Option<ModeName>) -> Command<'a>
             .version(VERSION)
             .about(help::of_serve())
             .override_usage("grpcc serve --port N --links N < SCRIPT"),
+        Some(ModeName::Load) => Command::new(alloc, "grpcc load")
+            .version(VERSION)
+            .about(help::of_load())
+            .override_usage("grpcc load --seed N --calls N"),
         None => Command::new(alloc, "grpcc")
             .version(VERSION)
             .about(help::of_program())

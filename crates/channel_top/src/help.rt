@@ -11,6 +11,8 @@ pub fn of_program() -> &'static str {
              grpcc migrate < examples/one-call.report
   serve    reads a server script and serves gRPC calls by it at 127.0.0.1
              grpcc serve --port 50051 --links 1 < examples/hello.server
+  load     makes a session from a seed, plays it in memory and sums it up
+             grpcc load --seed 1 --calls 1000
 
 Statuses, explained on standard error:
   0  done; the whole output is written
@@ -137,4 +139,19 @@ Lines:  answer <path> <n> <parts>
 A path without an answer gets status 12. An input of no bytes has no answers.
 
 Causes of bad lines are those of scripts: grpcc replay --help"
+}
+
+/// Of `load`: what it plays, and the columns of its line.
+pub fn of_load() -> &'static str {
+    "Makes a session of so many calls from a seed, plays it in memory against a scripted server on two
+links, and sums it up. Nothing is read. The same seed and calls give the same line.
+
+Output:  load <seed> calls <calls> entries <n> rows <n> ok <n> failed <n> open <n> retries <n> transparent <n>
+  entries      of the journal
+  rows         attempts
+  ok           calls whose end was taken and has status 0
+  failed       calls whose end was taken and has another status
+  open         calls whose end was not taken
+  retries      attempts that the retry policy made
+  transparent  attempts made again since the server never saw the one before"
 }

@@ -6,6 +6,7 @@ mod config_mode;
 mod help;
 mod input;
 mod links;
+mod load;
 mod migrate;
 mod ran;
 mod replay;

@@ -1,14 +1,13 @@
 // The top call of the program.
 ghost use Rattle.std.specs.Prelude.{◌≡◌, ◌≢◌, ◌⊎◌, Some, None, map, string_bytes, true};
 ghost use Rattle.gate_io.specs.Outside.{Rises};
-ghost use Rattle.channel_top.specs.Modes.{EndsSession, Finishes, IsDoneIn, IsOutput, IsOutputIn, RefusesWords, StopsIn, StopsReading, TellsFault, TellsFaultIn, Unheard, UnheardIn};
+ghost use Rattle.channel_top.specs.Modes.{EndsSession, FillsIn, Finishes, IsDoneIn, IsOutput, IsOutputIn, RefusesIn, RefusesWords, StopsIn, StopsReading, TellsFault, TellsFaultIn, Unheard, UnheardIn};
 ghost use Rattle.channel_top.specs.Writing.{WritesAll, WritesFront, WritesSome};
 ghost use Rattle.policy_rack.specs.Kinds.{are_ready, kinds_of};
-ghost use Rattle.channel_top.specs.Top.{EndsFull};
-ghost use Rattle.channel_top.specs.declared.words.Mode.TheVariants as mode_is;
 
 use crate::config_mode::run_config;
 use crate::links::Place;
+use crate::load::run_load;
 use crate::migrate::run_migrate;
 use crate::replay::run_replay;
 use crate::serve::run_serve;
@@ -30,17 +29,18 @@ use std::thread::Threads;
 /// | `config` | reads a service config and writes its reading; the kinds of the policies count as supported |
 /// | `migrate` | reads a script or a report of either version and writes the script of version 2 |
 /// | `serve --port <n> --links <1..1024>` | reads a server script, serves so many links of the listener by it until each has ended, and writes `served <links>`; it may never return |
+/// | `load --seed <n> --calls <1..10000>` | reads nothing, plays the session that is made from the seed in memory, on both links of a scripted server, and writes the line that sums it up |
 /// | `--help`, `--version`, alone or behind a mode | writes that text, and reads nothing |
 ///
 /// | Status | When | Written |
 /// |---|---|---|
 /// | 0 | done | the whole output of the mode; nothing for a script or a report of no bytes |
-/// | 2 | there is no first word, it is no mode, or `clap` refuses the words behind it | `fault words` |
+/// | 2 | there is no first word, it is no mode, `clap` refuses the words behind it, or `load` finds no `round_robin` among the policies | `fault words` |
 /// | 3 | a line of the script or report is bad, or the config has a fault | `fault line <n> cause <c>`, or `fault config <n> <detail>` |
 /// | 4 | a read failed before the input's end and its first fault | nothing |
 /// | 5 | a write failed | a front of the output of status 0, 2, 3 or 7 |
 /// | 6 | out of memory | nothing, or such a front |
-/// | 7 | the journal of the session has no room for an event | the report of the events before it, and `fault session full` |
+/// | 7 | the journal of the session has no room for an event | the report of the events before it, but for `load`, and `fault session full` |
 /// | 8 | the listener's `open` or `accept` failed; no call of it was made behind that one | nothing |
 pub fn run_channel<R: Threads + Wait + Sync, S: Source, K: Sink, W: NamedWorld, L: Listener>(
     rt: &R,
@@ -54,7 +54,7 @@ pub fn run_channel<R: Threads + Wait + Sync, S: Source, K: Sink, W: NamedWorld, 
 ) -> u8
     requires { are_ready (map (λ b. seen b) boxes.items) ≡ true }
     ensures done { result ≡ 0 → WritesAll (Finishes (kinds_of (map (λ b. seen b) boxes.items)) (map string_bytes words.now) (S.left script.old) (S.left script.new)) (K.taken report.old) (K.taken report.new) }
-    ensures words { result ≡ 2 → WritesAll (RefusesWords (map string_bytes words.now) (S.left script.old) (S.left script.new)) (K.taken report.old) (K.taken report.new) }
+    ensures words { result ≡ 2 → WritesAll (RefusesWords (kinds_of (map (λ b. seen b) boxes.items)) (map string_bytes words.now) (S.left script.old) (S.left script.new)) (K.taken report.old) (K.taken report.new) }
     ensures fault { result ≡ 3 → WritesAll (TellsFault (kinds_of (map (λ b. seen b) boxes.items)) (map string_bytes words.now) (S.left script.old) (S.left script.new)) (K.taken report.old) (K.taken report.new) }
     ensures reading { result ≡ 4 → StopsReading (map string_bytes words.now) (S.left script.old) (S.left script.new) (K.taken report.old) (K.taken report.new) (S.faults script.old) (S.faults script.new) }
     ensures writing { result ≡ 5 → Rises (K.faults report.old) (K.faults report.new) × WritesFront (IsOutput (kinds_of (map (λ b. seen b) boxes.items)) (map string_bytes words.now) (S.left script.old) (S.left script.new)) (K.taken report.old) (K.taken report.new) }
@@ -79,7 +79,7 @@ fn run_words<R: Threads + Wait + Sync, P: Balancer, S: Source, K: Sink, L: Liste
 ) -> u8
     requires { are_ready (map P.seen policies.items) ≡ true }
     ensures done { result ≡ 0 → WritesAll (Finishes (kinds_of (map P.seen policies.items)) (map string_bytes words.now) (S.left script.old) (S.left script.new)) (K.taken report.old) (K.taken report.new) }
-    ensures words { result ≡ 2 → WritesAll (RefusesWords (map string_bytes words.now) (S.left script.old) (S.left script.new)) (K.taken report.old) (K.taken report.new) }
+    ensures words { result ≡ 2 → WritesAll (RefusesWords (kinds_of (map P.seen policies.items)) (map string_bytes words.now) (S.left script.old) (S.left script.new)) (K.taken report.old) (K.taken report.new) }
     ensures fault { result ≡ 3 → WritesAll (TellsFault (kinds_of (map P.seen policies.items)) (map string_bytes words.now) (S.left script.old) (S.left script.new)) (K.taken report.old) (K.taken report.new) }
     ensures reading { result ≡ 4 → StopsReading (map string_bytes words.now) (S.left script.old) (S.left script.new) (K.taken report.old) (K.taken report.new) (S.faults script.old) (S.faults script.new) }
     ensures writing { result ≡ 5 → Rises (K.faults report.old) (K.faults report.new) × WritesFront (IsOutput (kinds_of (map P.seen policies.items)) (map string_bytes words.now) (S.left script.old) (S.left script.new)) (K.taken report.old) (K.taken report.new) }
@@ -123,14 +123,15 @@ fn run_mode<R: Threads + Wait + Sync, P: Balancer, S: Source, K: Sink, L: Listen
 ) -> u8
     requires { are_ready (map P.seen policies.items) ≡ true }
     ensures done { result ≡ 0 → WritesAll (IsDoneIn (kinds_of (map P.seen policies.items)) mode (S.left script.old) (S.left script.new)) (K.taken report.old) (K.taken report.new) }
+    ensures words { result ≡ 2 → WritesAll (RefusesIn (kinds_of (map P.seen policies.items)) mode (S.left script.old) (S.left script.new)) (K.taken report.old) (K.taken report.new) }
     ensures fault { result ≡ 3 → WritesAll (TellsFaultIn (kinds_of (map P.seen policies.items)) mode (S.left script.old) (S.left script.new)) (K.taken report.old) (K.taken report.new) }
     ensures reading { result ≡ 4 → StopsIn mode (S.left script.old) (S.left script.new) (K.taken report.old) (K.taken report.new) (S.faults script.old) (S.faults script.new) }
     ensures writing { result ≡ 5 → Rises (K.faults report.old) (K.faults report.new) × WritesFront (IsOutputIn (kinds_of (map P.seen policies.items)) mode (S.left script.old) (S.left script.new)) (K.taken report.old) (K.taken report.new) }
     ensures memory { result ≡ 6 → WritesSome (IsOutputIn (kinds_of (map P.seen policies.items)) mode (S.left script.old) (S.left script.new)) (K.taken report.old) (K.taken report.new) }
-    ensures full { result ≡ 7 → (mode ≡ mode_is.Replay) × WritesAll (EndsFull (S.left script.old) (S.left script.new)) (K.taken report.old) (K.taken report.new) }
+    ensures full { result ≡ 7 → WritesAll (FillsIn mode (S.left script.old) (S.left script.new)) (K.taken report.old) (K.taken report.new) }
     ensures unheard { result ≡ 8 → UnheardIn mode (S.left script.old) (S.left script.new) (K.taken report.old) (K.taken report.new) (L.faults listener.old) (L.faults listener.new) }
     ensures heard { result ≢ 6 → result ≢ 8 → L.faults listener.new ≡ L.faults listener.old }
-    ensures known { (result ≡ 0) ⊎ (result ≡ 3) ⊎ (result ≡ 4) ⊎ (result ≡ 5) ⊎ (result ≡ 6) ⊎ (result ≡ 7) ⊎ (result ≡ 8) }
+    ensures known { (result ≡ 0) ⊎ (result ≡ 2) ⊎ (result ≡ 3) ⊎ (result ≡ 4) ⊎ (result ≡ 5) ⊎ (result ≡ 6) ⊎ (result ≡ 7) ⊎ (result ≡ 8) }
 {
     match mode {
         Mode::Replay => run_replay(alloc, policies, script, report),
@@ -139,6 +140,7 @@ fn run_mode<R: Threads + Wait + Sync, P: Balancer, S: Source, K: Sink, L: Listen
         Mode::Serve { port, links } => {
             run_serve(rt, alloc, Place { port, links }, script, report, listener)
         }
+        Mode::Load(load) => run_load(alloc, load, policies, report),
     }
 }
 
@@ -155,7 +157,7 @@ pub fn run_steady<R: Threads + Wait + Sync, W: NamedWorld, L: Listener>(
 ) -> u8
     requires { are_ready (map (λ b. seen b) boxes.items) ≡ true }
     ensures done { result ≡ 0 → WritesAll (Finishes (kinds_of (map (λ b. seen b) boxes.items)) (map string_bytes words.now) (Some script.old) (Some script.new)) None None }
-    ensures words { result ≡ 2 → WritesAll (RefusesWords (map string_bytes words.now) (Some script.old) (Some script.new)) None None }
+    ensures words { result ≡ 2 → WritesAll (RefusesWords (kinds_of (map (λ b. seen b) boxes.items)) (map string_bytes words.now) (Some script.old) (Some script.new)) None None }
     ensures fault { result ≡ 3 → WritesAll (TellsFault (kinds_of (map (λ b. seen b) boxes.items)) (map string_bytes words.now) (Some script.old) (Some script.new)) None None }
     ensures full { result ≡ 7 → WritesAll (EndsSession (map string_bytes words.now) (Some script.old) (Some script.new)) None None }
     ensures unheard { result ≡ 8 → Unheard (map string_bytes words.now) (Some script.old) (Some script.new) None None (L.faults listener.old) (L.faults listener.new) }

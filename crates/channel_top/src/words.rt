@@ -1,12 +1,13 @@
 // The words of the command line, read by `clap` from the mode on.
-ghost use Rattle.std.specs.Prelude.{◌≡◌, ◌≤◌, ◌↔◌, ℕ, List, [], Some, map, string_bytes, IsTrue, IfOk, IfSome, IfNone};
+ghost use Rattle.std.specs.Prelude.{◌≡◌, ◌≤◌, ◌↔◌, ℕ, List, [], Some, map, string_bytes, IsTrue, IfOk, IfSome, IfNone, IsSomeAnd};
 ghost use Rattle.clap.specs.Words.{FailsBy, found_of, matches_of, rows_of};
 ghost use Rattle.channel_top.specs.declared.words.Mode.{Mode};
-ghost use Rattle.channel_top.specs.Words.{AskForText, IsAlone, IsAskedBy, IsOption, IsServeBy, Runs, app_for, dashes, kinds_at, mode_named, mode_of};
+ghost use Rattle.channel_top.specs.Words.{AskForText, IsAlone, IsAskedBy, IsLoadBy, IsLoadOf, IsOption, IsServeBy, Runs, app_for, dashes, kinds_at, mode_named, mode_of};
 
 use crate::command::command;
 use clap::error::ErrorKind;
 use clap::{ArgMatches, Error};
+use load_plan::Load;
 use std::alloc::Global;
 
 /// The modes of the program, as its first word names them.
@@ -16,6 +17,7 @@ pub enum ModeName {
     Config,
     Migrate,
     Serve,
+    Load,
 }
 
 /// What the program does.
@@ -29,6 +31,8 @@ pub enum Mode {
     Migrate,
     /// Reads a server script and serves so many links at a port by it.
     Serve { port: u16, links: u32 },
+    /// Plays the session of a load in memory and writes the line that sums it up.
+    Load(Load),
 }
 
 /// What the words ask for.
@@ -62,6 +66,9 @@ fn mode_named(word: &[u8]) -> Option<ModeName>
     }
     if word == b"serve".as_slice() {
         return Some(ModeName::Serve);
+    }
+    if word == b"load".as_slice() {
+        return Some(ModeName::Load);
     }
     None
 }
@@ -150,6 +157,32 @@ fn serve_of(matches: &ArgMatches<'_>) -> Option<Mode>
     }
 }
 
+/// The mode `load` with its options.
+fn load_of(matches: &ArgMatches<'_>) -> Option<Mode>
+    ensures some { IfSome result (IsLoadBy (rows_of (found_of matches.now))) }
+    ensures none { IfNone result ((m : Mode) → IsLoadBy (rows_of (found_of matches.now)) m → ⊥) }
+{
+    match number_at(matches, "seed", 0, u64::MAX) {
+        Some(seed) => match number_at(matches, "calls", 1, Load::LIMIT as u64) {
+            Some(calls) => load_with(seed, calls),
+            None => None,
+        },
+        None => None,
+    }
+}
+
+/// The mode `load` of a seed with so many calls.
+fn load_with(seed: u64, calls: u64) -> Option<Mode>
+    requires some { 1 ≤ calls }
+    requires within { calls ≤ 10000 }
+    ensures { IsSomeAnd result (IsLoadOf seed calls) }
+{
+    match Load::new(seed, calls as u32) {
+        Some(load) => Some(Mode::Load(load)),
+        None => unreachable!(),
+    }
+}
+
 /// A mode without options, where it runs.
 fn plain_of(words: &[String], mode: Mode) -> Option<Mode>
     ensures some { IfSome result (λ m. (m ≡ mode) × IsAlone (map string_bytes words.now)) }
@@ -174,6 +207,7 @@ fn taken_mode(name: ModeName, words: &[String], matches: &ArgMatches<'_>) -> Opt
         ModeName::Config => plain_of(words, Mode::Config),
         ModeName::Migrate => plain_of(words, Mode::Migrate),
         ModeName::Serve => serve_of(matches),
+        ModeName::Load => load_of(matches),
     }
 }
 

@@ -7,11 +7,18 @@ pub enum Mode {
     Config,
     Migrate,
     Serve,
+    Load,
 }
 
 impl Mode {
     /// All modes, in the order in which help names them.
-    pub const ALL: [Mode; 4] = [Mode::Replay, Mode::Config, Mode::Migrate, Mode::Serve];
+    pub const ALL: [Mode; 5] = [
+        Mode::Replay,
+        Mode::Config,
+        Mode::Migrate,
+        Mode::Serve,
+        Mode::Load,
+    ];
 
     /// Its first word.
     pub fn name(self) -> &'static str {
@@ -20,6 +27,7 @@ impl Mode {
             Mode::Config => "config",
             Mode::Migrate => "migrate",
             Mode::Serve => "serve",
+            Mode::Load => "load",
         }
     }
 
@@ -31,6 +39,9 @@ impl Mode {
             Mode::Migrate => "takes no words; it reads standard input: grpcc migrate < f.report",
             Mode::Serve => {
                 "takes --port <0..65535> and --links <1..1024>; it reads standard input: grpcc serve --port 50051 --links 1 < f.server"
+            }
+            Mode::Load => {
+                "takes --seed <0..18446744073709551615> and --calls <1..10000>, as grpcc load --seed 1 --calls 1000; it reads nothing"
             }
         }
     }

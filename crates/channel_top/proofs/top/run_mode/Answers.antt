@@ -1,4 +1,6 @@
-use Rattle.channel_top.proofs.WrittenLaws.{front_as, replay_output, some_as}
+use Rattle.std.proofs.Common.{map, refl}
+use Rattle.policy_rack.specs.Kinds.{kinds_of}
+use Rattle.channel_top.proofs.WrittenLaws.{all_as, front_as, load_done, load_full, load_output, load_refused, replay_output, some_as}
 use Rattle.channel_top.proofs.top.run_mode.Goals as goal
 
 pub returns-in-Replay-clause-writing : goal.returns-in-Replay-clause-writing
@@ -10,3 +12,22 @@ returns-in-Replay-clause-writing g c = λ five. (
 pub returns-in-Replay-clause-memory : goal.returns-in-Replay-clause-memory
 returns-in-Replay-clause-memory g c = λ six.
     some_as _ _ _ _ (replay_output _ c.args.mode _ _ c.in-Replay.is) (c.run_replay.ensures.memory six)
+
+pub returns-in-Load-clause-done : goal.returns-in-Load-clause-done
+returns-in-Load-clause-done g c = λ zero. all_as _ _ _ _ (load_done _ c.args.mode c.in-Load.load _ _ c.in-Load.is refl) (c.run_load.ensures.done zero)
+
+pub returns-in-Load-clause-words : goal.returns-in-Load-clause-words
+returns-in-Load-clause-words g c = λ two. all_as _ _ _ _ (load_refused (kinds_of (map g.P.Balancer.seen c.args.policies.items)) c.args.mode c.in-Load.load (g.S.Source.left c.args.script.now) (g.S.Source.left c.args.script.now) c.in-Load.is refl) (c.run_load.ensures.refused two)
+
+pub returns-in-Load-clause-writing : goal.returns-in-Load-clause-writing
+returns-in-Load-clause-writing g c = λ five. (
+  (c.run_load.ensures.writing five).0,
+  front_as _ _ _ _ (load_output _ c.args.mode c.in-Load.load _ _ c.in-Load.is refl) (c.run_load.ensures.writing five).1,
+)
+
+pub returns-in-Load-clause-memory : goal.returns-in-Load-clause-memory
+returns-in-Load-clause-memory g c = λ six.
+    some_as _ _ _ _ (load_output _ c.args.mode c.in-Load.load _ _ c.in-Load.is refl) (c.run_load.ensures.memory six)
+
+pub returns-in-Load-clause-full : goal.returns-in-Load-clause-full
+returns-in-Load-clause-full g c = λ seven. all_as _ _ _ _ (load_full c.args.mode c.in-Load.load _ _ c.in-Load.is refl) (c.run_load.ensures.full seven)

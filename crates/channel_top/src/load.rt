@@ -1,0 +1,120 @@
+// The mode `load`.
+ghost use Rattle.std.specs.Prelude.{◌≡◌, ◌⊎◌, ◌++◌, ◌∷◌, [], Err, IfOk, OnErr, OnOk, map, true};
+ghost use Rattle.gate_io.specs.Outside.{Appends, AppendsFront, Rises};
+ghost use Rattle.channel_top.specs.Load.{FillsLoad, IsLoadDone, IsLoadText, RefusesLoad};
+ghost use Rattle.channel_top.specs.Top.{session_full_text};
+ghost use Rattle.channel_top.specs.Words.{words_fault_text};
+ghost use Rattle.channel_top.specs.Writing.{WritesAll, WritesFront, WritesSome};
+ghost use Rattle.load_plan.specs.Lines.{summary_line};
+ghost use Rattle.policy_rack.specs.Kinds.{are_ready, kinds_of};
+
+use crate::tell::{SESSION_FULL, WORDS_FAULT, unwritten, write_text};
+use gate_io::{Sink, write_whole};
+use grpc_base::{Kind, NoMemory, Text};
+use lb_policy::Balancer;
+use load_plan::{Load, LoadSummary};
+use load_session::{LoadFault, summarize};
+use policy_rack::set_of;
+use script_text::ReportFault;
+use std::alloc::Global;
+
+/// Plays the session of a load in memory with these policies, writes the line that sums it up, and gives the status of the
+/// program.
+///
+/// | Status | When | Written |
+/// |---|---|---|
+/// | 0 | done | the line |
+/// | 2 | `round_robin` is not among the policies | `fault words` |
+/// | 5 | a write failed | a front of the output |
+/// | 6 | out of memory | nothing, or a front of the output |
+/// | 7 | the journal has no room for an event | `fault session full` |
+pub fn run_load<P: Balancer, K: Sink>(
+    alloc: Global,
+    load: Load,
+    policies: Vec<P>,
+    report: &mut K,
+) -> u8
+    requires { are_ready (map P.seen policies.items) ≡ true }
+    ensures done { result ≡ 0 → WritesAll (IsLoadDone (kinds_of (map P.seen policies.items)) load) (K.taken report.old) (K.taken report.new) }
+    ensures refused { result ≡ 2 → WritesAll (RefusesLoad (kinds_of (map P.seen policies.items))) (K.taken report.old) (K.taken report.new) }
+    ensures writing { result ≡ 5 → Rises (K.faults report.old) (K.faults report.new) × WritesFront (IsLoadText (kinds_of (map P.seen policies.items)) load) (K.taken report.old) (K.taken report.new) }
+    ensures memory { result ≡ 6 → WritesSome (IsLoadText (kinds_of (map P.seen policies.items)) load) (K.taken report.old) (K.taken report.new) }
+    ensures full { result ≡ 7 → WritesAll (FillsLoad load) (K.taken report.old) (K.taken report.new) }
+    ensures known { (result ≡ 0) ⊎ (result ≡ 2) ⊎ (result ≡ 5) ⊎ (result ≡ 6) ⊎ (result ≡ 7) }
+{
+    let kinds = set_of(policies.as_slice());
+    if !kinds.has(Kind::RoundRobin) {
+        return tell_refused(report);
+    }
+    match summarize(alloc, load, policies) {
+        Ok(summary) => tell_summary(alloc, &summary, report),
+        Err(fault) => match fault {
+            LoadFault::SessionFull => tell_full(report),
+            LoadFault::NoMemory => 6,
+        },
+    }
+}
+
+/// Tells that a policy is not there, as wrong words are told, and gives the status of the program.
+fn tell_refused<K: Sink>(report: &mut K) -> u8
+    ensures whole { result ≡ 2 → Appends (K.taken report.old) (K.taken report.new) words_fault_text }
+    ensures writing { result ≡ 5 → Rises (K.faults report.old) (K.faults report.new) }
+    ensures front { result ≡ 5 → AppendsFront (K.taken report.old) (K.taken report.new) words_fault_text }
+    ensures known { (result ≡ 2) ⊎ (result ≡ 5) }
+{
+    if write_whole(report, WORDS_FAULT) {
+        return 2;
+    }
+    5
+}
+
+/// Tells that the journal is full, and gives the status of the program.
+fn tell_full<K: Sink>(report: &mut K) -> u8
+    ensures whole { result ≡ 7 → Appends (K.taken report.old) (K.taken report.new) session_full_text }
+    ensures writing { result ≡ 5 → Rises (K.faults report.old) (K.faults report.new) }
+    ensures front { result ≡ 5 → AppendsFront (K.taken report.old) (K.taken report.new) session_full_text }
+    ensures known { (result ≡ 7) ⊎ (result ≡ 5) }
+{
+    if write_whole(report, SESSION_FULL) {
+        return 7;
+    }
+    5
+}
+
+/// Writes the line of a load, and gives the status of the program.
+fn tell_summary<K: Sink>(alloc: Global, summary: &LoadSummary, report: &mut K) -> u8
+    ensures done { result ≡ 0 → Appends (K.taken report.old) (K.taken report.new) (summary_line summary.now ++ 10 ∷ []) }
+    ensures writing { result ≡ 5 → Rises (K.faults report.old) (K.faults report.new) }
+    ensures front { (result ≡ 5) ⊎ (result ≡ 6) → AppendsFront (K.taken report.old) (K.taken report.new) (summary_line summary.now ++ 10 ∷ []) }
+    ensures known { (result ≡ 0) ⊎ (result ≡ 5) ⊎ (result ≡ 6) }
+{
+    match write_summary(alloc, summary, report) {
+        Ok(()) => 0,
+        Err(fault) => unwritten(fault),
+    }
+}
+
+/// Writes the line of a load.
+#[tactic(auto, using(crate::proofs::WrittenLaws::none_written))]
+fn write_summary<K: Sink>(
+    alloc: Global,
+    summary: &LoadSummary,
+    report: &mut K,
+) -> Result<(), ReportFault>
+    ensures ok { OnOk result (Appends (K.taken report.old) (K.taken report.new) (summary_line summary.now ++ 10 ∷ [])) }
+    ensures err { OnErr result (AppendsFront (K.taken report.old) (K.taken report.new) (summary_line summary.now ++ 10 ∷ [])) }
+    ensures write { (result ≡ Err ReportFault.Write) → Rises (K.faults report.old) (K.faults report.new) }
+{
+    let text = summary_text(alloc, summary)?;
+    write_text(report, text.as_slice())
+}
+
+/// The line of a load, with its line feed.
+fn summary_text(alloc: Global, summary: &LoadSummary) -> Result<Text, NoMemory>
+    ensures { IfOk result (λ t. t ≡ summary_line summary.now ++ 10 ∷ []) }
+{
+    let line = summary.line(alloc)?;
+    let mut text = Text::of_slice(alloc, line.as_slice())?;
+    text.push(b'\n')?;
+    Ok(text)
+}
