@@ -10,3 +10,4 @@ pub mod SettleLaws
 pub mod TurnLaws
 pub mod ViewLaws
 pub mod ViewRuns
+pub mod TakeOvers

@@ -376,7 +376,26 @@ impl<P: Balancer> Net<P> {
 
     /// Lets a pending generation take over if it may, and tells whether it did. The list is then of the links that it
     /// shut.
+    #[tactic(auto, using(crate::proofs::TakeOvers::none_takes_over))]
     fn take_over(
+        &mut self,
+        generations: &mut Items<Generation>,
+        entry: u64,
+        shut: &mut Items<u32>,
+    ) -> Result<bool, NoMemory>
+        ensures after { OnOk result (steps.left self.new shut.new ≡ steps.net_taken_over (steps.left self.old shut.old)) }
+        ensures stamps { OnOk result (generations.new ≡ steps.taken_over_stamps entry self.old generations.old) }
+        ensures moved { IfOk result (λ b. b ≡ may_take_over self.old.asker.rack) }
+    {
+        // Mostly no generation is pending, and then nothing further is looked at.
+        if self.asker.pending().is_none() {
+            return Ok(false);
+        }
+        self.take_over_pending(generations, entry, shut)
+    }
+
+    /// The same where a generation is pending.
+    fn take_over_pending(
         &mut self,
         generations: &mut Items<Generation>,
         entry: u64,

@@ -250,6 +250,10 @@ impl GrpcLink {
 fn append(all: &mut Items<News>, more: Items<News>) -> Result<(), NoMemory>
     ensures { OnOk result (all.new ≡ all.old ++ more) }
 {
+    if all.is_empty() {
+        *all = more;
+        return Ok(());
+    }
     let mut rest = more.into_vec().into_iter();
     while let Some(news) = rest.next() {
         all.push(news)?;

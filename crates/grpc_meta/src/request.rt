@@ -10,6 +10,9 @@ use grpc_base::{Field, Fields, Metadata, NoMemory, Octets, Request, Text};
 use itoa::Buffer;
 use std::alloc::Global;
 
+/// How many fields a request has at most beside its metadata.
+const FIXED_FIELDS: usize = 8;
+
 /// The header list of an attempt's request (gRPC over HTTP/2, "Requests"). `authority` is that of the channel's target, `left` the
 /// time that the call has left in nanoseconds, and `number` counts its attempts from 1.
 ///
@@ -29,6 +32,7 @@ pub fn request_fields(
     ensures fits { IfOk result (λ fields. list_size fields ≤ list_limit) }
 {
     let mut fields = Fields::new(alloc);
+    fields.reserve(FIXED_FIELDS.saturating_add(request.meta().len()))?;
     push_fixed(&mut fields, b":method", b"POST")?;
     push_fixed(&mut fields, b":scheme", b"http")?;
     push(alloc, &mut fields, b":path", request.path().as_slice())?;

@@ -1,7 +1,7 @@
 -- An index past the static table is one of the dynamic table.
-use Rattle.std.proofs.Common.{◌≡◌, ℕ, zero, suc, ◌+◌, ◌-◌, ◌<◌, ◌≤◌, List, [], ◌∷◌, ◌++◌, length, refl, ap, sym, ◌∙◌, arith, Some, None, Bool, true, false, ◌&&◌, cond, drop, Option}
+use Rattle.std.proofs.Common.{◌≡◌, ℕ, zero, suc, ◌+◌, ◌-◌, ◌<◌, ◌≤◌, List, [], ◌∷◌, ◌++◌, length, refl, ap, sym, ◌∙◌, arith, Some, None, Bool, true, false, ◌&&◌, ◌||◌, cond, drop, take, get_or, Option}
 use Rattle.std.specs.Prelude.{bytes_eq, is_some, slice_get, option_map, unwrap_or}
-use Rattle.std.specs.List.{position_from}
+use Rattle.std.specs.List.{list_any, position_from}
 use Rattle.std.proofs.lemmas.Bool.{false≢true}
 use Rattle.std.proofs.lemmas.List.{drop_all}
 use Rattle.h2_hpack.specs.Encoding.{index_where, is_at, same_name, same_pair}
@@ -93,3 +93,123 @@ other_name name value (Some entry) h = ap (λ b. b && bytes_eq entry.value value
 
 pub no_pair : (name value : List ℕ) (place : ℕ) → is_at (same_name name) place ≡ false → is_at (same_pair name value) place ≡ false
 no_pair name value place h = other_name name value (slice_get static_table place) h
+
+-- no entry of some passes a test
+or_first : (b c : Bool) → (b || c) ≡ false → (b ≡ false) × (c ≡ false)
+or_first true c h = absurd (cc h)
+or_first false c h = (refl, h)
+
+passed : (test : Field → Bool) (xs : List Field) (place n : ℕ) → list_any test (take n xs) ≡ false → position_from test place xs ≡ position_from test (place + n) (drop n xs)
+passed test xs place zero none = ap (λ p. position_from test p xs) {x = place} {y = place + 0} (omega arith)
+passed test [] place (suc n) none = refl
+passed test (x ∷ xs) place (suc n) none =
+    let each = or_first (test x) (list_any test (take n xs)) none in
+    ap (λ b. cond b (Some place) (position_from test (place + 1) xs)) each.0 ∙ passed test xs (place + 1) n each.1 ∙ ap (λ p. position_from test p (drop n xs)) {x = place + 1 + n} {y = place + suc n} (omega arith)
+
+pub sought_from : (test : Field → Bool) (place : ℕ) → list_any test (take place static_table) ≡ false → IsSought test place
+sought_from test place none = passed test static_table 1 place none ∙ ap (λ p. position_from test p (drop place static_table)) {x = 1 + place} {y = place + 1} (omega arith)
+
+none_dropped : (test : Field → Bool) (xs : List Field) (n : ℕ) → list_any test xs ≡ false → list_any test (drop n xs) ≡ false
+none_dropped test xs zero none = none
+none_dropped test [] (suc n) none = refl
+none_dropped test (x ∷ xs) (suc n) none = none_dropped test xs n (or_first (test x) (list_any test xs) none).1
+
+none_behind : (test : Field → Bool) (xs : List Field) (last place : ℕ) → last ≤ place → list_any test (drop last xs) ≡ false → list_any test (drop place xs) ≡ false
+none_behind test xs zero place within none = none_dropped test xs place none
+none_behind test [] (suc last) zero within none = refl
+none_behind test [] (suc last) (suc place) within none = refl
+none_behind test (x ∷ xs) (suc last) zero within none = absurd (omega (arith, within))
+none_behind test (x ∷ xs) (suc last) (suc place) within none = none_behind test xs last place (omega (arith, within)) none
+
+none_in : (test : Field → Bool) (xs : List Field) (place : ℕ) → list_any test xs ≡ false → position_from test place xs ≡ None
+none_in test [] place none = refl
+none_in test (x ∷ xs) place none =
+    let each = or_first (test x) (list_any test xs) none in
+    ap (λ b. cond b (Some place) (position_from test (place + 1) xs)) each.0 ∙ none_in test xs (place + 1) each.1
+
+pub sought_past : (test : Field → Bool) (last place : ℕ) → last ≤ place → list_any test (drop last static_table) ≡ false → IsSought test place → index_where test ≡ None
+sought_past test last place within none so = so ∙ none_in test (drop place static_table) (place + 1) (none_behind test static_table last place within none)
+
+pub name_past : (test : Field → Bool) (last place : ℕ) (named : Option ℕ) → last ≤ place → list_any test (drop last static_table) ≡ false → IsNameSought test place named → index_where test ≡ named
+name_past test last place None within none so = sought_past test last place within none so
+name_past test last place (Some index) within none so = so
+
+-- where no entry has a name, none has it with a value
+pub pairless : (name value : List ℕ) (xs : List Field) → list_any (same_name name) xs ≡ false → list_any (same_pair name value) xs ≡ false
+pairless name value [] none = refl
+pairless name value (x ∷ xs) none =
+    let each = or_first (same_name name x) (list_any (same_name name) xs) none in
+    ap (λ b. (b && bytes_eq x.value value) || list_any (same_pair name value) xs) each.0 ∙ pairless name value xs each.1
+
+-- where the entries stand that begin with a letter
+begins_with : (name : List ℕ) (letter : ℕ) → get_or name 0 0 ≡ letter → 0 < letter → (rest : List ℕ) × (name ≡ letter ∷ rest)
+begins_with [] letter is some = absurd (omega (arith, is, some))
+begins_with (x ∷ xs) letter is some = (xs, ap (λ l. l ∷ xs) is)
+
+behind_colon : (rest : List ℕ) → list_any (same_name (58 ∷ rest)) (drop 14 static_table) ≡ false
+unfolding static_table
+behind_colon rest = refl
+
+before_c : (rest : List ℕ) → list_any (same_name (99 ∷ rest)) (take 23 static_table) ≡ false
+unfolding static_table
+before_c rest = refl
+
+behind_c : (rest : List ℕ) → list_any (same_name (99 ∷ rest)) (drop 32 static_table) ≡ false
+unfolding static_table
+behind_c rest = refl
+
+without_g : (rest : List ℕ) → list_any (same_name (103 ∷ rest)) static_table ≡ false
+unfolding static_table
+without_g rest = refl
+
+before_t : (rest : List ℕ) → list_any (same_name (116 ∷ rest)) (take 56 static_table) ≡ false
+unfolding static_table
+before_t rest = refl
+
+behind_t : (rest : List ℕ) → list_any (same_name (116 ∷ rest)) (drop 57 static_table) ≡ false
+unfolding static_table
+behind_t rest = refl
+
+before_u : (rest : List ℕ) → list_any (same_name (117 ∷ rest)) (take 57 static_table) ≡ false
+unfolding static_table
+before_u rest = refl
+
+behind_u : (rest : List ℕ) → list_any (same_name (117 ∷ rest)) (drop 58 static_table) ≡ false
+unfolding static_table
+behind_u rest = refl
+
+-- some entries have no name that begins with a letter
+abbrev pub Lacks : ℕ → List Field → Type 0
+Lacks letter xs = (name : List ℕ) → get_or name 0 0 ≡ letter → list_any (same_name name) xs ≡ false
+
+lacking : (letter : ℕ) (xs : List Field) → 0 < letter → ((rest : List ℕ) → list_any (same_name (letter ∷ rest)) xs ≡ false) → Lacks letter xs
+lacking letter xs some none name is =
+    let begun = begins_with name letter is some in
+    ap (λ l. list_any (same_name l) xs) begun.1 ∙ none begun.0
+
+pub colon_behind : Lacks 58 (drop 14 static_table)
+colon_behind = lacking 58 (drop 14 static_table) (omega arith) behind_colon
+
+pub c_before : Lacks 99 (take 23 static_table)
+c_before = lacking 99 (take 23 static_table) (omega arith) before_c
+
+pub c_behind : Lacks 99 (drop 32 static_table)
+c_behind = lacking 99 (drop 32 static_table) (omega arith) behind_c
+
+pub g_nowhere : Lacks 103 static_table
+g_nowhere = lacking 103 static_table (omega arith) without_g
+
+pub t_before : Lacks 116 (take 56 static_table)
+t_before = lacking 116 (take 56 static_table) (omega arith) before_t
+
+pub t_behind : Lacks 116 (drop 57 static_table)
+t_behind = lacking 116 (drop 57 static_table) (omega arith) behind_t
+
+pub u_before : Lacks 117 (take 57 static_table)
+u_before = lacking 117 (take 57 static_table) (omega arith) before_u
+
+pub u_behind : Lacks 117 (drop 58 static_table)
+u_behind = lacking 117 (drop 58 static_table) (omega arith) behind_u
+
+pub none_past_all : (test : Field → Bool) → list_any test (drop 61 static_table) ≡ false
+none_past_all test = ap (list_any test) (nothing_left 61 (omega arith))

@@ -1,8 +1,9 @@
 -- Texts that are appended to one run of memory.
-use Rattle.std.proofs.Common.{◌≡◌, ℕ, ◌-◌, arith, List, [], ◌∷◌, ◌++◌, length, take, drop, refl, sym, ◌∙◌, ap, Result, Ok, Err}
-use Rattle.std.specs.Prelude.{slice_range}
+use Rattle.std.proofs.Common.{◌≡◌, ℕ, ◌-◌, arith, List, [], ◌∷◌, ◌++◌, length, take, drop, refl, sym, ◌∙◌, ap, Result, Ok, Err, Some, false, true}
+use Rattle.std.specs.Prelude.{bytes_eq, slice_range}
+use Rattle.std.proofs.lemmas.Slice.Eq.{bytes_eq-Decides}
 use Rattle.h2_hpack.specs.declared.fault.HpackFault.{HpackFault}
-use Rattle.h2_hpack.specs.Blocks.{and_then, spelled_at, text_at, text_behind}
+use Rattle.h2_hpack.specs.Blocks.{RawString, and_then, raw_string_at, spelled_at, text_at, text_behind}
 
 ok_parts : (x y : List ℕ × List ℕ) → ◌≡◌ {A = Result (List ℕ × List ℕ) HpackFault} (Ok x) (Ok y) → (x.0 ≡ y.0) × (x.1 ≡ y.1)
 ok_parts x y h =
@@ -53,3 +54,10 @@ cut_apart bytes start name rest both end whole front back len empty first len_is
     let cut : front ≡ take (length name) both = front_is ∙ slice_front whole len ∙ ap (λ k. take k whole) len_is ∙ ap (take (length name)) whole_is in
     let left : back ≡ drop (length name) both = back_is ∙ ap (λ k. drop k whole) len_is ∙ ap (drop (length name)) whole_is in
     rw (cut, left) (two_texts bytes name rest both end begun second)
+
+pub same_text : (a b : List ℕ) → bytes_eq a b ≡ true → a ≡ b
+same_text a b = (bytes_eq-Decides a b).0
+
+-- a string that is no Huffman text
+pub plain_text : (bytes text rest : List ℕ) (raw : RawString) → Some raw ≡ raw_string_at bytes → raw.huffman ≡ false → text ≡ raw.bytes → rest ≡ raw.rest → text_at bytes ≡ Ok (text, rest)
+plain_text bytes text rest raw is plain text_is rest_is = rw (sym is, plain, text_is, rest_is) refl

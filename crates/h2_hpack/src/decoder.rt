@@ -69,7 +69,7 @@ fn read_block(alloc: Global, table: &mut DynamicTable, block: &[u8]) -> Result<F
     ensures ok { IfOk result (λ fields. block_of table.old block.now ≡ Ok (record { fields = fields; table = table.new })) }
     ensures fault { IfErr result (λ e. e ≢ HpackFault.NoMemory → block_of table.old block.now ≡ Err e) }
 {
-    let mut list = HeaderList::new(alloc);
+    let mut list = HeaderList::new(alloc)?;
     let mut rest = block;
     while let [first, after @ ..] = rest {
         rest = read_representation(alloc, table, &mut list, *first, after)?;

@@ -12,6 +12,9 @@ use std::alloc::Global;
 /// A dynamic table size update to 0, which may stand before a block (RFC 7541, section 6.3).
 pub const SIZE_UPDATE_TO_ZERO: u8 = 0x20;
 
+/// Room that most blocks find enough, so that their memory is taken once.
+const FIRST_ROOM: usize = 192;
+
 /// The block of a header list: each field by its index where the static table has it, else as a literal that the
 /// peer does not add to its table; no Huffman text. A decoder reads the list back whatever its table, if the sizes
 /// of the fields come to 16,384 at most.
@@ -19,15 +22,15 @@ pub const SIZE_UPDATE_TO_ZERO: u8 = 0x20;
 pub fn encode_fields(alloc: Global, fields: &Fields) -> Result<BytesMut, NoMemory>
     ensures { IfOk result (λ block. block.items ≡ block_bytes fields.now) }
 {
-    let mut block = BytesMut::new(alloc);
+    let mut block = Vec::with_capacity(alloc, FIRST_ROOM)?;
     for field in fields.as_slice() {
         put_field(&mut block, field)?;
     }
-    Ok(block)
+    Ok(BytesMut::from_vec(block))
 }
 
 /// Appends a field.
-fn put_field(block: &mut BytesMut, field: &Field) -> Result<(), NoMemory>
+fn put_field(block: &mut Vec<u8>, field: &Field) -> Result<(), NoMemory>
     ensures { OnOk result (block.new.items ≡ block.old.items ++ field_bytes field.now) }
 {
     let name = field.name.as_slice();
@@ -40,7 +43,7 @@ fn put_field(block: &mut BytesMut, field: &Field) -> Result<(), NoMemory>
 }
 
 /// Appends a literal without indexing by the index of its name (RFC 7541, section 6.2.2).
-fn put_named(block: &mut BytesMut, index: u64, value: &[u8]) -> Result<(), NoMemory>
+fn put_named(block: &mut Vec<u8>, index: u64, value: &[u8]) -> Result<(), NoMemory>
     ensures { OnOk result (block.new.items ≡ block.old.items ++ (integer_bytes 4 0 index ++ text_bytes value.now)) }
 {
     put_integer(block, 4, 0, index)?;
@@ -48,7 +51,7 @@ fn put_named(block: &mut BytesMut, index: u64, value: &[u8]) -> Result<(), NoMem
 }
 
 /// Appends a literal without indexing whose name is written out.
-fn put_spelled(block: &mut BytesMut, name: &[u8], value: &[u8]) -> Result<(), NoMemory>
+fn put_spelled(block: &mut Vec<u8>, name: &[u8], value: &[u8]) -> Result<(), NoMemory>
     ensures { OnOk result (block.new.items ≡ block.old.items ++ (name_bytes name.now None ++ text_bytes value.now)) }
 {
     put_integer(block, 4, 0, 0)?;
@@ -57,7 +60,7 @@ fn put_spelled(block: &mut BytesMut, name: &[u8], value: &[u8]) -> Result<(), No
 }
 
 /// Appends a string as it is (RFC 7541, section 5.2).
-fn put_text(block: &mut BytesMut, text: &[u8]) -> Result<(), NoMemory>
+fn put_text(block: &mut Vec<u8>, text: &[u8]) -> Result<(), NoMemory>
     ensures { OnOk result (block.new.items ≡ block.old.items ++ text_bytes text.now) }
 {
     put_integer(block, 7, 0, text.len() as u64)?;

@@ -2,7 +2,6 @@
 ghost use Rattle.std.specs.Prelude.{◌≡◌, ◌<◌, ◌≤◌, ◌^◌, ◌+◌, ◌++◌, length, IfSome, OnOk, option_map};
 ghost use Rattle.h2_hpack.specs.Integers.{tail_at, integer_at, tail_bytes, integer_bytes};
 
-use bytes::BytesMut;
 use grpc_base::NoMemory;
 
 /// The rest of an integer at the front of some bytes, in at most `most` of them, and what follows it.
@@ -59,7 +58,7 @@ fn prefix_size(bits: u32) -> u8
 
 /// Appends an integer, with `mark` in the bits before its prefix.
 pub(crate) fn put_integer(
-    out: &mut BytesMut,
+    out: &mut Vec<u8>,
     bits: u32,
     mark: u8,
     value: u64,
@@ -70,24 +69,24 @@ pub(crate) fn put_integer(
 {
     let full = prefix_size(bits) - 1;
     if value < full as u64 {
-        out.extend_from_slice(&[mark + value as u8])?;
+        out.push(mark + value as u8)?;
         return Ok(());
     }
-    out.extend_from_slice(&[mark + full])?;
+    out.push(mark + full)?;
     put_tail(out, value - full as u64, 10)
 }
 
 /// Appends the rest of an integer, seven bits a byte, in at most so many bytes.
-fn put_tail(out: &mut BytesMut, value: u64, most: u32) -> Result<(), NoMemory>
+fn put_tail(out: &mut Vec<u8>, value: u64, most: u32) -> Result<(), NoMemory>
     ensures { OnOk result (out.new.items ≡ out.old.items ++ tail_bytes most value) }
 {
     if most == 0 {
         return Ok(());
     }
     if value < 128 {
-        out.extend_from_slice(&[value as u8])?;
+        out.push(value as u8)?;
         return Ok(());
     }
-    out.extend_from_slice(&[(value % 128 + 128) as u8])?;
+    out.push((value % 128 + 128) as u8)?;
     put_tail(out, value / 128, most - 1)
 }

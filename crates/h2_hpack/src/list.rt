@@ -1,13 +1,16 @@
 // The header list of a block while it is read.
-ghost use Rattle.std.specs.Prelude.{◌≡◌, ◌≢◌, [], ◌∷◌, ◌++◌, IsTrue, ◌↔◌, OnOk, IfErr, Ok, Err};
+ghost use Rattle.std.specs.Prelude.{◌≡◌, ◌≢◌, [], ◌∷◌, ◌++◌, IsTrue, ◌↔◌, OnOk, IfErr, IfOk, Ok, Err};
 ghost use Rattle.h2_hpack.specs.Blocks.{with_field};
 ghost use Rattle.h2_hpack.specs.Tables.{Table};
 
 use crate::fault::HpackFault;
 use crate::size::room_after;
-use grpc_base::{Field, Fields};
+use grpc_base::{Field, Fields, NoMemory};
 use std::alloc::Global;
 use std::marker::Model;
+
+/// For so many fields memory is taken at once.
+const FIRST_FIELDS: usize = 8;
 
 /// The fields of a block so far, and what is left of the 16,384 that their sizes may come to.
 #[derive(Debug, Drop)]
@@ -29,14 +32,16 @@ impl Model for HeaderList {
 }
 
 impl HeaderList {
-    /// The empty list.
-    pub(crate) fn new(alloc: Global) -> HeaderList
-        ensures { result ≡ [] }
+    /// The empty list, with the memory that most lists find enough.
+    pub(crate) fn new(alloc: Global) -> Result<HeaderList, NoMemory>
+        ensures { IfOk result (λ l. l ≡ []) }
     {
-        HeaderList {
-            fields: Fields::new(alloc),
+        let mut fields = Fields::new(alloc);
+        fields.reserve(FIRST_FIELDS)?;
+        Ok(HeaderList {
+            fields,
             room: 16_384,
-        }
+        })
     }
 
     /// Appends a field, unless the sizes then come to more than 16,384.

@@ -1,6 +1,8 @@
 // Static entries by their names and values.
-ghost use Rattle.std.specs.Prelude.{◌≡◌};
+ghost use Rattle.std.specs.Prelude.{◌≡◌, ◌≤◌, drop, false, take};
+ghost use Rattle.std.specs.List.{list_any};
 ghost use Rattle.h2_hpack.specs.Encoding.{index_where, is_at, match_of, same_name, same_pair};
+ghost use Rattle.h2_hpack.specs.StaticTable.{static_table};
 
 use crate::static_table::static_entry;
 
@@ -15,12 +17,33 @@ pub(crate) enum StaticMatch {
     Nothing,
 }
 
+/// The places from which and up to which entries of a name are to be sought. No entry, or few, begin with the letters with
+/// which the names of gRPC begin.
+fn places_of(name: &[u8]) -> (u64, u64)
+    ensures before { list_any (same_name name.now) (take result.0 static_table) ≡ false }
+    ensures behind { list_any (same_name name.now) (drop result.1 static_table) ≡ false }
+    ensures within { result.1 ≤ 61 }
+{
+    let [first, ..] = name else {
+        return (0, 61);
+    };
+    match *first {
+        b':' => (0, 14),
+        b'c' => (23, 32),
+        b'g' => (0, 0),
+        b't' => (56, 57),
+        b'u' => (57, 58),
+        _ => (0, 61),
+    }
+}
+
 /// What the static table has of a name and a value, in one pass.
 pub(crate) fn static_match(name: &[u8], value: &[u8]) -> StaticMatch
     ensures { result ≡ match_of (index_where (same_pair name.now value.now)) (index_where (same_name name.now)) }
 {
+    let (start, end) = places_of(name);
     let mut named = None;
-    for place in 0..61 {
+    for place in start..end {
         if has_name(place, name) {
             if has_pair(place, name, value) {
                 return StaticMatch::Pair(place + 1);

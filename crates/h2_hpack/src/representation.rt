@@ -1,5 +1,5 @@
 // Representations: indexed fields, literals, and dynamic table size updates.
-ghost use Rattle.std.specs.Prelude.{◌≡◌, ◌≢◌, ◌≤◌, length, Ok, Err, IfOk, IfErr, ok_or};
+ghost use Rattle.std.specs.Prelude.{◌≡◌, ◌≢◌, ◌≤◌, length, Ok, Err, IfOk, IfErr, IfSome, ok_or};
 ghost use Rattle.h2_hpack.specs.Blocks.{indexed_at, literal_at, size_at, spelled_at};
 ghost use Rattle.h2_hpack.specs.Tables.{field_at, table_limit};
 
@@ -7,7 +7,7 @@ use crate::fault::HpackFault;
 use crate::integer::integer;
 use crate::static_table::static_entry;
 use crate::table::DynamicTable;
-use crate::text::{append_text, text};
+use crate::text::{append_text, frequent_text, text};
 use grpc_base::{Field, Octets};
 use std::alloc::Global;
 
@@ -78,6 +78,20 @@ pub(crate) fn literal<'a>(
     Ok((Field { name, value }, rest))
 }
 
+/// A field whose name and value both follow as strings, where both are frequent ones, and what follows them.
+fn frequent_field(bytes: &[u8]) -> Option<(Field, &[u8])>
+    ensures field { IfSome result (λ x. spelled_at bytes.now ≡ Ok (x.0, x.1.now)) }
+    ensures shorter { IfSome result (λ x. length x.1.now ≤ length bytes.now) }
+{
+    let (name, rest) = frequent_text(bytes)?;
+    let (value, rest) = frequent_text(rest)?;
+    let field = Field {
+        name: Octets::of_static(name),
+        value: Octets::of_static(value),
+    };
+    Some((field, rest))
+}
+
 /// A field whose name and value both follow as strings, and what follows them. They share one run of memory.
 #[tactic(auto, using(crate::proofs::TextLemmas::two_texts, crate::proofs::TextLemmas::bad_name, crate::proofs::TextLemmas::bad_value))]
 fn spelled_field(alloc: Global, bytes: &[u8]) -> Result<(Field, &[u8]), HpackFault>
@@ -85,6 +99,9 @@ fn spelled_field(alloc: Global, bytes: &[u8]) -> Result<(Field, &[u8]), HpackFau
     ensures shorter { IfOk result (λ x. length x.1.now ≤ length bytes.now) }
     ensures fault { IfErr result (λ e. e ≢ HpackFault.NoMemory → spelled_at bytes.now ≡ Err e) }
 {
+    if let Some(found) = frequent_field(bytes) {
+        return Ok(found);
+    }
     let mut both = Vec::with_capacity(alloc, bytes.len().min(FIRST_ROOM))?;
     let rest = append_text(&mut both, bytes)?;
     let name_len = both.len();

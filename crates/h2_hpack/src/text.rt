@@ -16,6 +16,36 @@ struct RawString<'a> {
     rest: &'a [u8],
 }
 
+/// Texts that most blocks of gRPC have, and which are so not copied.
+static FREQUENT: [&str; 5] = ["application/grpc", "trailers", "te", "grpc-status", "0"];
+
+/// These bytes as a text that lives as long as the program, where it is a frequent one.
+#[tactic(auto, using(crate::proofs::TextLemmas::same_text))]
+fn frequent(bytes: &[u8]) -> Option<&'static [u8]>
+    ensures { IfSome result (λ text. text.now ≡ bytes.now) }
+{
+    for text in &FREQUENT {
+        if text.as_bytes() == bytes {
+            return Some(text.as_bytes());
+        }
+    }
+    None
+}
+
+/// The text at the front of some bytes, where it is a frequent one that is spelled plainly, and what follows it.
+#[tactic(auto, using(crate::proofs::TextLemmas::plain_text))]
+pub(crate) fn frequent_text(bytes: &[u8]) -> Option<(&'static [u8], &[u8])>
+    ensures text { IfSome result (λ x. text_at bytes.now ≡ Ok (x.0.now, x.1.now)) }
+    ensures shorter { IfSome result (λ x. length x.1.now ≤ length bytes.now) }
+{
+    let raw = raw_string(bytes)?;
+    if raw.huffman {
+        return None;
+    }
+    let text = frequent(raw.bytes)?;
+    Some((text, raw.rest))
+}
+
 /// The text at the front of some bytes, and what follows it.
 #[tactic(auto, using(crate::proofs::TextLemmas::alone))]
 pub(crate) fn text(alloc: Global, bytes: &[u8]) -> Result<(Octets, &[u8]), HpackFault>
@@ -23,6 +53,9 @@ pub(crate) fn text(alloc: Global, bytes: &[u8]) -> Result<(Octets, &[u8]), Hpack
     ensures shorter { IfOk result (λ x. length x.1.now ≤ length bytes.now) }
     ensures fault { IfErr result (λ e. e ≢ HpackFault.NoMemory → text_at bytes.now ≡ Err e) }
 {
+    if let Some((text, rest)) = frequent_text(bytes) {
+        return Ok((Octets::of_static(text), rest));
+    }
     let mut text = Vec::new(alloc);
     let rest = append_text(&mut text, bytes)?;
     Ok((Octets::of_vec(text)?, rest))

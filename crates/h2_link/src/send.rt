@@ -275,6 +275,7 @@ impl State {
         if HEADER_SIZE as u64 + u64::from(resizes) + block.len() as u64 > left {
             return Ok(false);
         }
+        out.reserve(HEADER_SIZE + 1 + block.len())?;
         let number = StreamNumber::of_place(self.opened);
         write_head(out, &number, resizes, block.as_slice())?;
         self.live.push(LiveStream {
@@ -316,6 +317,7 @@ impl State {
             stream: stream.number.get(),
             length: len,
         };
+        out.reserve(HEADER_SIZE + len as usize)?;
         write_header(out, header)?;
         feed.take(stream.tag, len, out)?;
         self.window -= len;

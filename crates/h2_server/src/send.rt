@@ -15,7 +15,7 @@ use crate::state::State;
 use bytes::BytesMut;
 use grpc_base::NoMemory;
 use h2_frame::{
-    Frame, FrameHeader, flags, kinds, write_data, write_frame, write_header, write_ping_ack,
+    Frame, FrameHeader, HEADER_SIZE, flags, kinds, write_data, write_frame, write_header, write_ping_ack,
     write_rst_stream, write_settings, write_settings_ack, write_window_update,
 };
 use h2_hpack::SIZE_UPDATE_TO_ZERO;
@@ -65,6 +65,7 @@ fn write_head(
         stream: number.get(),
         length: block.len() as u32 + u32::from(resizes),
     };
+    out.reserve(HEADER_SIZE + 1 + block.len())?;
     write_header(out, header)?;
     if resizes {
         out.extend_from_slice(&[SIZE_UPDATE_TO_ZERO])?;

@@ -6,3 +6,4 @@ pub mod Going
 pub mod Sizes
 pub mod Moves
 pub mod Answering
+pub mod Heads

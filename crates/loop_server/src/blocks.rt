@@ -18,6 +18,13 @@ const PUSHBACK_ROOM: usize = 16_000;
 /// The size of a field beyond its value's: 22 bytes of its name and 32 (RFC 7541, section 4.1).
 const PUSHBACK_SIZE: usize = 54;
 
+/// The header block that begins a response: `:status: 200` by its index, and the type of gRPC behind the index of
+/// `content-type`.
+const HEAD_BLOCK: &[u8] = b"\x88\x0f\x10\x10application/grpc";
+
+/// The name of the field with the code of a response.
+const STATUS_NAME: &[u8] = b"grpc-status";
+
 /// Appends a field whose name and value live as long as the program.
 fn push_fixed(
     fields: &mut Fields,
@@ -108,12 +115,16 @@ fn fits(text: &[u8], room: usize) -> bool
     PUSHBACK_SIZE <= room && text.len() <= room - PUSHBACK_SIZE
 }
 
+/// Appends the code of a response; that of most, 0, is not copied.
 fn push_status(alloc: Global, fields: &mut Fields, code: u32) -> Result<(), NoMemory>
     ensures { OnOk result (fields.new ≡ fields.old ++ field (codes "grpc-status") (decimal code) ∷ []) }
 {
+    if code == 0 {
+        return push_fixed(fields, STATUS_NAME, b"0");
+    }
     let mut buffer = Buffer::new();
     let digits = buffer.format(code);
-    push_copied(alloc, fields, b"grpc-status", digits.as_bytes())
+    push_copied(alloc, fields, STATUS_NAME, digits.as_bytes())
 }
 
 fn is_head(part: &AnswerPart) -> bool
@@ -144,13 +155,12 @@ fn push_head_unless(fields: &mut Fields, sent: bool) -> Result<(), NoMemory>
 }
 
 /// The header block that begins a response.
-pub(crate) fn head_block(alloc: Global) -> Result<BytesMut, NoMemory>
-    ensures block { IfOk result (λ block. block.items ≡ block_bytes head_fields) }
-    ensures fits { IfOk result (λ block. length block.items < 16384) }
+#[tactic(auto, using(crate::proofs::Heads::head_written))]
+pub(crate) fn head_block() -> &'static [u8]
+    ensures block { result.now ≡ block_bytes head_fields }
+    ensures fits { length result.now < 16384 }
 {
-    let mut fields = Fields::new(alloc);
-    push_head(&mut fields)?;
-    encode_block(alloc, &fields)
+    HEAD_BLOCK
 }
 
 /// The header list that ends a response behind these parts.

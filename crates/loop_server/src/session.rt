@@ -16,6 +16,12 @@ use h2_server::{LinkFault, RequestNews, ServerLink};
 use std::alloc::Global;
 use std::marker::Model;
 
+/// Room that most answers find enough, so that their memory is taken once.
+const ANSWER_ROOM: usize = 128;
+
+/// For how many answers room is taken at once, at most.
+const MOST_ROOMS: usize = 64;
+
 /// A request that has not ended.
 #[derive(Debug, Drop)]
 pub struct OpenRequest {
@@ -204,7 +210,8 @@ impl Session {
     ) -> Result<BytesMut, NoMemory>
         ensures { IfOk result (λ out. Drains lines.now self.old answered.old (record { session = self.new; answered = answered.new; octets = out.items })) }
     {
-        let mut out = BytesMut::new(alloc);
+        let room = self.turns.len().min(MOST_ROOMS) * ANSWER_ROOM;
+        let mut out = BytesMut::with_capacity(alloc, room)?;
         loop {
             if !self.give_next(alloc, lines, answered, &mut out)? {
                 return Ok(out);

@@ -80,10 +80,7 @@ fn send_part(
     ensures out { OnOk result (out.new.items ≡ out.old.items ++ (part_sent link.old.wire stream before.now part.now).octets) }
 {
     match part {
-        AnswerPart::Head => {
-            let block = head_block(alloc)?;
-            link.send_block(stream, block.as_slice(), false, out)
-        }
+        AnswerPart::Head => link.send_block(stream, head_block(), false, out),
         AnswerPart::Status(code) => {
             let block = status_block(alloc, before, *code)?;
             link.send_block(stream, block.as_slice(), true, out)
