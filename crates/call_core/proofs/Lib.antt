@@ -20,11 +20,13 @@ mod Leaving
 mod Licensing
 mod Limits
 mod Making
+mod Marks
 mod Moved
 mod Moves
 mod NamedRows
 mod Numbers
 mod Outstanding
+pub mod Queued
 mod Reasons
 mod Refusals
 mod Room

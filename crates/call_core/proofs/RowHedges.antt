@@ -33,7 +33,7 @@ use Rattle.call_core.specs.declared.judge.Judged.{Judged}
 use Rattle.call_core.specs.declared.live.LiveRow.{LiveRow}
 use Rattle.call_core.specs.Commitments.{IsRowOf}
 use Rattle.call_core.specs.Laws.{IsKept}
-use Rattle.call_core.specs.Orders.{AreTimed}
+use Rattle.call_core.specs.Orders.{AreDue}
 use Rattle.call_core.specs.Parts.{committed_buffer, count_of, cut_end, find_live, furthest, has_none, is_above, is_followed as follows_end, judged, kind_of_next, names, plan_of, pushed_over, row_end, stopped_attempts}
 use Rattle.call_core.specs.Reasons.{HasReasons, IsDelayedBefore, IsForcedBefore, IsKeptRow, Reason}
 use Rattle.call_core.specs.RowLaws.{AreHedged, EndsHedging, EndsKeep, HasNoRows, HedgesBy, IsFollowedAt, KeepsHedges, NeverBreaks, StopsHedging, WasHedge, rows_of}
@@ -320,13 +320,13 @@ hedged_made due s e old =
           let no : true ≡ false = sym was ∙ going in cc));
     }
 
-timed_by : (now moment : ℕ) (s : Stepped) → now ≤ moment → AreTimed now s → AreHedged s → AreHedgedBy moment s
+timed_by : (now moment : ℕ) (s : Stepped) → now ≤ moment → AreDue now s → AreHedged s → AreHedgedBy moment s
 timed_by now moment s le timed old = record {
   hedged = old;
-  by = λ place row is h. (let due : row.due ≤ now = (timed place row is).due in omega (arith, due, le));
+  by = λ place row is h. (let due : row.due ≤ now = timed place row is in omega (arith, due, le));
 }
 
-pub hedged_moves : Moves (λ chosen. Unit {0}) (λ s row told. follows_end s.call.attempts told.cause told.unseen ≡ true → is_stop told.pushback ≡ false) (λ moment s t. (now : ℕ) → now ≤ moment → IsKept s.call → IsApart s → AreTimed now s → HasNoRows s → AreHedged s → AreHedged t)
+pub hedged_moves : Moves (λ chosen. Unit {0}) (λ s row told. follows_end s.call.attempts told.cause told.unseen ≡ true → is_stop told.pushback ≡ false) (λ moment s t. (now : ℕ) → now ≤ moment → IsKept s.call → IsApart s → AreDue now s → HasNoRows s → AreHedged s → AreHedged t)
 hedged_moves = record {
   same = λ moment s now le kept apart timed none old. old;
   configured = λ chosen moment s known e fresh now le kept apart timed none old. no_rows s (with_chosen chosen moment s) refl refl (none fresh);

@@ -5,6 +5,7 @@ pub mod Going
 pub mod Holding
 pub mod Laws
 pub mod Leaving
+pub mod Marks
 pub mod Numbering
 pub mod Orders
 pub mod Outstanding

@@ -17,6 +17,10 @@ pub record IsTimed (now : ℕ) (row : Row) : Type 0 where
 abbrev pub AreTimed : ℕ → Stepped → Type 0
 AreTimed now s = (place : ℕ) (row : Row) → IsRowOf s.call.number s.ledger.rows place row → IsTimed now row
 
+-- each row of the call was due by a moment
+abbrev pub AreDue : ℕ → Stepped → Type 0
+AreDue now s = (place : ℕ) (row : Row) → IsRowOf s.call.number s.ledger.rows place row → row.due ≤ now
+
 -- what is told of a row that isn't placed: that no link was found for it
 abbrev pub IsFair : LiveRow → EndNews → Type 0
 IsFair live told = live.link ≡ None → (told.code ≡ code.Unavailable) × (told.cause ≡ cause.Pick)

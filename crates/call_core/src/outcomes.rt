@@ -1,5 +1,5 @@
 // How a call goes on, and how it comes out, whatever was done to it.
-ghost use Rattle.std.specs.Prelude.{◌≡◌, ◌≤◌, ◌<◌, ◌+◌, ◌==◌, ℕ, true, false, Option, None, Some, is_some, List, ◌∷◌, length};
+ghost use Rattle.std.specs.Prelude.{◌≡◌, ◌≤◌, ◌<◌, ◌⊎◌, ◌+◌, ◌==◌, ℕ, true, false, Option, None, Some, is_some, List, [], ◌∷◌, length};
 ghost use Rattle.grpc_base.specs.Requests.{RequestSeen};
 ghost use Rattle.grpc_base.specs.declared.event.EndCause.{EndCause};
 ghost use Rattle.grpc_base.specs.declared.event.EndCause.TheVariants as ends;
@@ -26,11 +26,12 @@ ghost use Rattle.call_core.specs.Following.{IsRetried, is_retried};
 ghost use Rattle.call_core.specs.Going.{IsGoing};
 ghost use Rattle.call_core.specs.Holding.{HoldsTokens};
 ghost use Rattle.call_core.specs.Leaving.{IsSameCall};
-ghost use Rattle.call_core.specs.Laws.{IsKept, came, message_items, waiting};
+ghost use Rattle.call_core.specs.Laws.{IsForbidden, IsKept, IsMade, came, message_items, waiting};
+ghost use Rattle.call_core.specs.Marks.{AreMarks, IsOpen, Mark, due_in, marks_configured, marks_due, marks_ended, marks_heard, marks_placed};
 ghost use Rattle.call_core.specs.Numbering.{IsNumbered};
 ghost use Rattle.call_core.specs.Orders.{AreTimed, IsFair, KeepsTimes};
 ghost use Rattle.call_core.specs.Outstanding.{AreHeld, AreOverBut};
-ghost use Rattle.call_core.specs.Parts.{count_of, find_live, is_by_row, is_followed, is_too_long, names};
+ghost use Rattle.call_core.specs.Parts.{count_of, find_live, is_by_row, is_followed, is_too_long, names, pick_end};
 ghost use Rattle.call_core.specs.Reasons.{HasReasons, KeepsReasons};
 ghost use Rattle.call_core.specs.Rows.{IsApart, IsTied, KeepsRows, row_in};
 ghost use Rattle.call_core.specs.Steps.{Stepped, call_plan, closed_by, committed, configured, deadline_at, ended_as, ended_at, fed_row, finished, heard_head, heard_news, lent, made_due, new_call, next_due, pick_failed, placed_at, send_refusal, sent, taken, timed_out};
@@ -187,4 +188,23 @@ pub fn due_moments_follow_each_step()
     ensures followed { (place : ℕ) (row : LiveRow) (told : EndNews) (moment word : ℕ) (s : Stepped) → find_live place s.call.live ≡ Some row → is_followed s.call.attempts told.cause told.unseen ≡ true → next_due (ended_at place told moment word s).call ≡ next_due s.call }
     ensures committed { (place moment : ℕ) (s : Stepped) → next_due (committed place moment s).call ≡ None }
     ensures ended { (why : EndCause) (moment : ℕ) (s : Stepped) → next_due (ended_as why moment s).call ≡ None }
+{}
+
+/// A law for proofs: over a whole run of a hedged call its next attempt is due as all that happened to it says: at the moment that the
+/// last end since the newest making asked for, or else the delay after the newest attempt's own row was placed, unless hedging
+/// stopped. One that is due is made, unless the tokens forbid it; and none is made that isn't due. The call does nothing.
+pub fn hedges_follow_their_marks()
+    ensures due { (policy : HedgePolicy) (marks : List Mark) (s : Stepped) → IsOpen s.call → call_plan s.call ≡ plans.Hedge policy → AreMarks policy marks s → next_due s.call ≡ due_in policy marks }
+    ensures missing { (policy : HedgePolicy) (marks : List Mark) (moment due : ℕ) (s : Stepped) → IsOpen s.call → call_plan s.call ≡ plans.Hedge policy → AreMarks policy marks s → due_in policy marks ≡ Some due → due ≤ moment → IsForbidden moment s (made_due moment s) ⊎ IsMade moment s (made_due moment s) }
+    ensures right { (policy : HedgePolicy) (marks : List Mark) (moment : ℕ) (s : Stepped) → IsOpen s.call → call_plan s.call ≡ plans.Hedge policy → AreMarks policy marks s → (made : IsMade moment s (made_due moment s)) → due_in policy marks ≡ Some made.row.due }
+    ensures begun { (policy : HedgePolicy) (number : ℕ) (request : RequestSeen) (begun : ℕ) (ledger : Ledger) (tokens : Option Bucket) (acts : List CallAct) → AreMarks policy [] (lent (new_call number request begun) ledger tokens acts) }
+    ensures elsewhere { (policy : HedgePolicy) (marks : List Mark) (s : Stepped) (ledger : Ledger) (tokens : Option Bucket) → AreMarks policy marks s → AreMarks policy marks (record s { ledger = ledger; tokens = tokens }) }
+    ensures configured { (policy : HedgePolicy) (marks : List Mark) (chosen : Chosen) (moment : ℕ) (s : Stepped) → IsNumbered s → AreMarks policy marks s → AreMarks policy (marks_configured moment s.call marks) (configured chosen moment s) }
+    ensures sent { (policy : HedgePolicy) (marks : List Mark) (message : List ℕ) (moment : ℕ) (s : Stepped) → AreMarks policy marks s → AreMarks policy marks (sent message moment s) }
+    ensures closed { (policy : HedgePolicy) (marks : List Mark) (why : EndCause) (moment : ℕ) (s : Stepped) → AreMarks policy marks s → AreMarks policy marks (closed_by why moment s) }
+    ensures timed_out { (policy : HedgePolicy) (marks : List Mark) (moment : ℕ) (s : Stepped) → AreMarks policy marks s → AreMarks policy marks (timed_out moment s) }
+    ensures placed { (policy : HedgePolicy) (marks : List Mark) (row : ℕ) (at : Placed) (s : Stepped) → AreMarks policy marks s → AreMarks policy (marks_placed row at.moment s.call marks) (placed_at row at s) }
+    ensures failed { (policy : HedgePolicy) (marks : List Mark) (row moment word : ℕ) (s : Stepped) → AreMarks policy marks s → AreMarks policy (marks_ended row pick_end moment s marks) (pick_failed row moment word s) }
+    ensures heard { (policy : HedgePolicy) (marks : List Mark) (row : ℕ) (told : News) (moment word : ℕ) (s : Stepped) → AreMarks policy marks s → AreMarks policy (marks_heard row told moment s marks) (heard_news row told moment word s) }
+    ensures made { (policy : HedgePolicy) (marks : List Mark) (moment : ℕ) (s : Stepped) → policy.max ≤ 4294967295 → AreMarks policy marks s → AreMarks policy (marks_due policy moment s marks) (made_due moment s) }
 {}

@@ -16,7 +16,7 @@ ghost use Rattle.call_core.specs.declared.live.LiveRow.{LiveRow};
 ghost use Rattle.call_core.specs.Commitments.{IsCommittedOnce, IsRowOf};
 ghost use Rattle.call_core.specs.Laws.{IsKept};
 ghost use Rattle.call_core.specs.Numbering.{IsNumbered};
-ghost use Rattle.call_core.specs.Orders.{AreTimed};
+ghost use Rattle.call_core.specs.Orders.{AreDue, AreTimed};
 ghost use Rattle.call_core.specs.Parts.{find_live, is_by_row, is_followed};
 ghost use Rattle.call_core.specs.Reasons.{HasReasons};
 ghost use Rattle.call_core.specs.RowChains.{AreChained, KeepsChains};
@@ -54,14 +54,14 @@ pub fn rows_keep_hedging()
     ensures law { (chosen : Chosen) (s : Stepped) → s.call.chosen ≡ Some chosen → HasReasons s → AreHedged s → NeverBreaks 10 chosen s }
     ensures begun { (number : ℕ) (request : RequestSeen) (begun : ℕ) (ledger : Ledger) (tokens : Option Bucket) (acts : List CallAct) → AreHedged (lent (new_call number request begun) ledger tokens acts) }
     ensures elsewhere { (s : Stepped) (ledger : Ledger) → KeepsHedges s.call.number s.ledger.rows ledger.rows → AreHedged s → AreHedged (record s { ledger = ledger }) }
-    ensures configured { (chosen : Chosen) (moment : ℕ) (s : Stepped) → (now : ℕ) → now ≤ moment → IsKept s.call → IsApart s → AreTimed now s → HasNoRows s → AreHedged s → AreHedged (configured chosen moment s) }
-    ensures sent { (message : List ℕ) (moment : ℕ) (s : Stepped) → (now : ℕ) → now ≤ moment → IsKept s.call → IsApart s → AreTimed now s → HasNoRows s → AreHedged s → AreHedged (sent message moment s) }
-    ensures closed { (why : EndCause) (moment : ℕ) (s : Stepped) → is_by_row why ≡ false → (now : ℕ) → now ≤ moment → IsKept s.call → IsApart s → AreTimed now s → HasNoRows s → AreHedged s → AreHedged (closed_by why moment s) }
-    ensures timed_out { (moment : ℕ) (s : Stepped) → (now : ℕ) → now ≤ moment → IsKept s.call → IsApart s → AreTimed now s → HasNoRows s → AreHedged s → AreHedged (timed_out moment s) }
-    ensures placed { (row : ℕ) (at : Placed) (s : Stepped) → at.entry ≡ s.ledger.entry → (now : ℕ) → now ≤ at.moment → IsKept s.call → IsApart s → AreTimed now s → HasNoRows s → AreHedged s → AreHedged (placed_at row at s) }
-    ensures failed { (row moment word : ℕ) (s : Stepped) → (now : ℕ) → now ≤ moment → IsKept s.call → IsApart s → AreTimed now s → HasNoRows s → AreHedged s → AreHedged (pick_failed row moment word s) }
-    ensures heard { (row : ℕ) (told : News) (moment word : ℕ) (s : Stepped) → ((tag : ℕ) (end : EndNews) → told ≡ news.Ended tag end → is_followed s.call.attempts end.cause end.unseen ≡ true → is_stop end.pushback ≡ false) → (now : ℕ) → now ≤ moment → IsKept s.call → IsApart s → AreTimed now s → HasNoRows s → AreHedged s → AreHedged (heard_news row told moment word s) }
-    ensures made { (moment : ℕ) (s : Stepped) → (now : ℕ) → now ≤ moment → IsKept s.call → IsApart s → AreTimed now s → HasNoRows s → AreHedged s → AreHedged (made_due moment s) }
+    ensures configured { (chosen : Chosen) (moment : ℕ) (s : Stepped) → (now : ℕ) → now ≤ moment → IsKept s.call → IsApart s → AreDue now s → HasNoRows s → AreHedged s → AreHedged (configured chosen moment s) }
+    ensures sent { (message : List ℕ) (moment : ℕ) (s : Stepped) → (now : ℕ) → now ≤ moment → IsKept s.call → IsApart s → AreDue now s → HasNoRows s → AreHedged s → AreHedged (sent message moment s) }
+    ensures closed { (why : EndCause) (moment : ℕ) (s : Stepped) → is_by_row why ≡ false → (now : ℕ) → now ≤ moment → IsKept s.call → IsApart s → AreDue now s → HasNoRows s → AreHedged s → AreHedged (closed_by why moment s) }
+    ensures timed_out { (moment : ℕ) (s : Stepped) → (now : ℕ) → now ≤ moment → IsKept s.call → IsApart s → AreDue now s → HasNoRows s → AreHedged s → AreHedged (timed_out moment s) }
+    ensures placed { (row : ℕ) (at : Placed) (s : Stepped) → at.entry ≡ s.ledger.entry → (now : ℕ) → now ≤ at.moment → IsKept s.call → IsApart s → AreDue now s → HasNoRows s → AreHedged s → AreHedged (placed_at row at s) }
+    ensures failed { (row moment word : ℕ) (s : Stepped) → (now : ℕ) → now ≤ moment → IsKept s.call → IsApart s → AreDue now s → HasNoRows s → AreHedged s → AreHedged (pick_failed row moment word s) }
+    ensures heard { (row : ℕ) (told : News) (moment word : ℕ) (s : Stepped) → ((tag : ℕ) (end : EndNews) → told ≡ news.Ended tag end → is_followed s.call.attempts end.cause end.unseen ≡ true → is_stop end.pushback ≡ false) → (now : ℕ) → now ≤ moment → IsKept s.call → IsApart s → AreDue now s → HasNoRows s → AreHedged s → AreHedged (heard_news row told moment word s) }
+    ensures made { (moment : ℕ) (s : Stepped) → (now : ℕ) → now ≤ moment → IsKept s.call → IsApart s → AreDue now s → HasNoRows s → AreHedged s → AreHedged (made_due moment s) }
 {}
 
 /// A law for proofs: of the rows of one number each later one is a transparent retry, so that one end of them counts at most, and a live
