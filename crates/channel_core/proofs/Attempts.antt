@@ -1,5 +1,5 @@
 -- The attempts of each call are numbered, whatever events a channel is given.
-use Rattle.std.proofs.Common.{◌≡◌, ◌≤◌, ◌<◌, ℕ, zero, suc, Option, Some, None, is_some, true, IfSome, List, [], ◌∷◌, length, refl, sym, ap, subst, ◌∙◌, arith, slice_get}
+use Rattle.std.proofs.Common.{◌≡◌, ◌≤◌, ◌<◌, ℕ, zero, suc, Option, Some, None, is_some, true, IfSome, List, [], ◌∷◌, length, refl, sym, ap, subst, arith, slice_get}
 use Rattle.std.specs.List.{AllByRecursion}
 use Rattle.std.proofs.lemmas.Option.{slice_get_within}
 use Rattle.grpc_base.specs.Requests.{RequestSeen}
@@ -13,7 +13,6 @@ use Rattle.attempt_ledger.specs.declared.row.Row.{Row}
 use Rattle.call_core.specs.Numbering.{IsNumbered}
 use Rattle.call_core.specs.Parts.{plan_of}
 use Rattle.call_core.specs.Reasons.{HasReasons}
-use Rattle.call_core.specs.Rows.{row_in}
 use Rattle.call_core.specs.Steps.{Stepped, call_plan}
 use Rattle.channel_core.specs.Attempts.{AreAttempts, HasAttempts, IsOfCall, IsOrdered}
 use Rattle.channel_core.specs.States.{StateSeen}

@@ -1,10 +1,8 @@
 -- The rows of a call that ended are over, whatever events a channel is given.
-use Rattle.std.proofs.Common.{◌≡◌, ℕ, true, false, Option, Some, None, is_some, List, [], length, refl, sym, ap, subst, ◌∙◌}
+use Rattle.std.proofs.Common.{◌≡◌, ℕ, true, Option, Some, is_some, List, [], refl, sym, ap, subst, ◌∙◌}
 use Rattle.grpc_base.specs.declared.event.EndCause.{EndCause}
 use Rattle.grpc_base.specs.declared.event.EndCause.TheVariants as ending
-use Rattle.attempt_ledger.specs.Ends.{is_cut}
 use Rattle.attempt_ledger.specs.declared.ledger.CallEnd.{CallEnd}
-use Rattle.attempt_ledger.specs.declared.ledger.CallSeen.{CallSeen}
 use Rattle.grpc_base.specs.Requests.{RequestSeen}
 use Rattle.grpc_base.specs.declared.plan.Chosen.{Chosen}
 use Rattle.service_config.specs.declared.config.Config.{Config}
@@ -20,13 +18,11 @@ use Rattle.call_core.specs.declared.live.LiveRow.{LiveRow}
 use Rattle.channel_core.specs.CallEnds.{AreEnded, EndsByRow, IsOver}
 use Rattle.channel_core.specs.Commitments.{IsOutstandingRow}
 use Rattle.channel_core.specs.States.{StateSeen}
-use Rattle.channel_core.specs.Tables.{numbered}
 use Rattle.channel_core.proofs.CallLaws.{IsSound, are_held_by, kept_by, once_by}
 use Rattle.channel_core.proofs.Calls.{bare}
 use Rattle.channel_core.proofs.OneCommitment.{same_row}
 use Rattle.channel_core.proofs.Lifted.{SoundIn}
 use Rattle.channel_core.proofs.Lifting.{IsTied, OfCall, cause_of, same_number}
-use Rattle.channel_core.proofs.SoundCalls.{IsAllowed}
 
 module _ (s : Stepped) (once : IsCommittedOnce s) (held : AreHeld s) (kept : IsKept s.call) where
   none : is_some s.call.ended ≡ true → (place : ℕ) (row : Row) → IsOutstandingRow s.ledger.rows s.call.number place row → ⊥

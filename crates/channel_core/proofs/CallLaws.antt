@@ -13,16 +13,19 @@ use Rattle.call_core.specs.Going.{IsGoing}
 use Rattle.call_core.specs.Laws.{IsKept}
 use Rattle.call_core.specs.Leaving.{IsSameCall}
 use Rattle.call_core.specs.Numbering.{IsNumbered, attempts_in}
+use Rattle.call_core.specs.Orders.{AreDue}
 use Rattle.call_core.specs.Outstanding.{AreHeld}
 use Rattle.call_core.specs.Reasons.{HasReasons, KeepsReasons}
 use Rattle.call_core.specs.RowChains.{AreChained, KeepsChains}
+use Rattle.call_core.specs.RowLaws.{AreHedged, HasNoRows, KeepsHedges, NeverBreaks}
 use Rattle.call_core.specs.Rows.{IsApart, KeepsRows, row_in}
 use Rattle.call_core.specs.Steps.{Stepped, lent, new_call}
 use Rattle.channel_core.proofs.Calls.{Both, Does, EndedStay, IsCallLaw, Leaves, Nothing, both}
 use Rattle.channel_core.proofs.CommittedCalls.{ChainedLaw, HasNone, OnceLaw, chained_law, once_law}
 use Rattle.channel_core.proofs.FairNews.{IsFair}
+use Rattle.channel_core.proofs.HedgedCalls.{HedgedLaw, hedged_law, without_rows}
 use Rattle.channel_core.proofs.OrderedCalls.{OrderLaw, order_law}
-use Rattle.channel_core.proofs.OverCalls.{OverLaw, over_law}
+use Rattle.channel_core.proofs.OverCalls.{IsOverBy, OverLaw, over_law}
 use Rattle.channel_core.proofs.Owning.{IsOwner}
 use Rattle.channel_core.proofs.ReasonedCalls.{GoingLaw, ReasonsLaw, going_law, reasons_law}
 use Rattle.channel_core.proofs.SoundCalls.{AllowedLaw, ApartLaw, HeldLaw, IsAllowed, KeptLaw, NumberedLaw, OwnerLaw, allowed_law, apart_law, held_law, kept_law, numbered_law, owner_law}
@@ -59,15 +62,18 @@ Goes = Both Once GoingLaw
 abbrev pub Reasoned : ℕ → ℕ → Stepped → Type 0
 Reasoned = Both Goes ReasonsLaw
 
+abbrev pub Timed : ℕ → ℕ → Stepped → Type 0
+Timed = Both Reasoned OrderLaw
+
 abbrev pub Ordered : ℕ → ℕ → Stepped → Type 0
-Ordered = Both Reasoned OrderLaw
+Ordered = Both Timed HedgedLaw
 
 abbrev pub IsSound : ℕ → ℕ → Stepped → Type 0
 IsSound = Both Ordered OverLaw
 
 -- each of them, the last one aside
 pub held_by : (m n : ℕ) (s : Stepped) → Ordered m n s → Held m n s
-held_by m n s h = h.one.one.one.one.one
+held_by m n s h = h.one.one.one.one.one.one
 
 pub owner_by : (m n : ℕ) (s : Stepped) → Ordered m n s → IsOwner s.call.number s
 owner_by m n s h = (held_by m n s h).one.one.one.one.one
@@ -88,22 +94,46 @@ pub are_held_by : (m n : ℕ) (s : Stepped) → Ordered m n s → AreHeld s
 are_held_by m n s h = (held_by m n s h).other
 
 pub chained_by : (m n : ℕ) (s : Stepped) → Ordered m n s → AreChained s
-chained_by m n s h = h.one.one.one.one.other
+chained_by m n s h = h.one.one.one.one.one.other
 
 pub once_by : (m n : ℕ) (s : Stepped) → Ordered m n s → IsCommittedOnce s
-once_by m n s h = h.one.one.one.other
+once_by m n s h = h.one.one.one.one.other
 
 pub reasons_by : (m n : ℕ) (s : Stepped) → Ordered m n s → HasReasons s
-reasons_by m n s h = h.one.other
+reasons_by m n s h = h.one.one.other
 
 pub order_by : (m n : ℕ) (s : Stepped) → Ordered m n s → OrderLaw m n s
-order_by m n s h = h.other
+order_by m n s h = h.one.other
+
+pub hedged_by : (m n : ℕ) (s : Stepped) → Ordered m n s → AreHedged s
+hedged_by m n s h = h.other
 
 pub owner_in : (m n : ℕ) (s : Stepped) → IsSound m n s → IsOwner s.call.number s
 owner_in m n s h = owner_by m n s h.one
 
 pub kept_in : (m n : ℕ) (s : Stepped) → IsSound m n s → IsKept s.call
 kept_in m n s h = kept_by m n s h.one
+
+pub going_in : (m n : ℕ) (s : Stepped) → IsSound m n s → IsGoing s.call
+going_in m n s h = h.one.one.one.one.other
+
+pub numbered_in : (m n : ℕ) (s : Stepped) → IsSound m n s → IsNumbered s
+numbered_in m n s h = numbered_by m n s h.one
+
+pub apart_in : (m n : ℕ) (s : Stepped) → IsSound m n s → IsApart s
+apart_in m n s h = apart_by m n s h.one
+
+pub once_in : (m n : ℕ) (s : Stepped) → IsSound m n s → IsCommittedOnce s
+once_in m n s h = once_by m n s h.one
+
+pub chained_in : (m n : ℕ) (s : Stepped) → IsSound m n s → AreChained s
+chained_in m n s h = chained_by m n s h.one
+
+pub reasons_in : (m n : ℕ) (s : Stepped) → IsSound m n s → HasReasons s
+reasons_in m n s h = reasons_by m n s h.one
+
+pub over_in : (m n : ℕ) (s : Stepped) → IsSound m n s → IsOverBy n s
+over_in m n s h = h.other
 
 -- the laws that others use
 pub kept_now : (m n : ℕ) (s : Stepped) → Held m n s → IsKept s.call
@@ -117,6 +147,18 @@ apart_now m n s h = h.one.other
 
 pub going_now : (m n : ℕ) (s : Stepped) → Goes m n s → IsGoing s.call
 going_now m n s h = h.other
+
+pub timed_kept : (m n : ℕ) (s : Stepped) → Timed m n s → IsKept s.call
+timed_kept m n s h = kept_now m n s h.one.one.one.one.one
+
+pub timed_apart : (m n : ℕ) (s : Stepped) → Timed m n s → IsApart s
+timed_apart m n s h = apart_now m n s h.one.one.one.one.one
+
+pub timed_due : (m n : ℕ) (s : Stepped) → Timed m n s → AreDue m s
+timed_due m n s h place row is = (h.other place row is).due
+
+pub timed_fresh : (m n : ℕ) (s : Stepped) → Timed m n s → HasNoRows s
+timed_fresh m n s h = without_rows s (numbered_now m n s h.one.one.one.one.one) h.one.other
 
 -- what the laws of one call say of it
 pub record CallLaws : Type 0 where
@@ -143,6 +185,10 @@ pub record CallLaws : Type 0 where
   pub reasons : (m n : ℕ) → Does m n IsAllowed FairNews (Goes m n) (ReasonsLaw m n)
   pub reasons_begun : (number : ℕ) (request : RequestSeen) (begun : ℕ) (ledger : Ledger) (tokens : Option Bucket) (acts : List CallAct) → HasNone number ledger.rows → HasReasons (lent (new_call number request begun) ledger tokens acts)
   pub reasons_elsewhere : (s : Stepped) (ledger : Ledger) → KeepsReasons s.call.number s.ledger.rows ledger.rows → HasReasons s → HasReasons (record s { ledger = ledger })
+  pub hedged : (m n : ℕ) → Does m n IsAllowed FairNews (Timed m n) (HedgedLaw m n)
+  pub hedged_begun : (number : ℕ) (request : RequestSeen) (begun : ℕ) (ledger : Ledger) (tokens : Option Bucket) (acts : List CallAct) → AreHedged (lent (new_call number request begun) ledger tokens acts)
+  pub hedged_elsewhere : (s : Stepped) (ledger : Ledger) → KeepsHedges s.call.number s.ledger.rows ledger.rows → AreHedged s → AreHedged (record s { ledger = ledger })
+  pub never_unhedged : (chosen : Chosen) (s : Stepped) → s.call.chosen ≡ Some chosen → HasReasons s → AreHedged s → NeverBreaks 10 chosen s
   pub leaves : Leaves
   pub ended : EndedStay
 
@@ -159,5 +205,6 @@ sound_law l =
     let once : IsCallLaw C T Nothing Once = both C T Chained OnceLaw chained (once_law C T Chained l.once l.once_begun l.once_elsewhere) in
     let going : IsCallLaw C T Nothing Goes = both C T Once GoingLaw once (going_law C T Once l.going l.going_begun l.going_same) in
     let reasons : IsCallLaw C T Nothing Reasoned = both C T Goes ReasonsLaw going (reasons_law C T Goes l.reasons l.reasons_begun l.reasons_elsewhere) in
-    let ordered : IsCallLaw C T Nothing Ordered = both C T Reasoned OrderLaw reasons (order_law C T Reasoned (λ m n s h. h.one.one.one.one.one.one.one.one.one) (λ m n s h. apart_now m n s h.one.one.one.one)) in
+    let timed : IsCallLaw C T Nothing Timed = both C T Reasoned OrderLaw reasons (order_law C T Reasoned (λ m n s h. h.one.one.one.one.one.one.one.one.one) (λ m n s h. apart_now m n s h.one.one.one.one)) in
+    let ordered : IsCallLaw C T Nothing Ordered = both C T Timed HedgedLaw timed (hedged_law C T Timed l.hedged l.hedged_begun l.hedged_elsewhere) in
     both C T Ordered OverLaw ordered (over_law C T Ordered ordered owner_by apart_by once_by are_held_by kept_by)

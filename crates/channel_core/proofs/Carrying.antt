@@ -42,8 +42,8 @@ with_book book s = record s { book = book }
 
 pub record Carries (R : StateSeen → StateSeen → Type 0) : Type 0 where
   pub joined : (s t u : StateSeen) → R s t → R t u → R s u
-  -- what leaves the book, the config that is held and the number of links
-  pub beside : (s t : StateSeen) → t.book ≡ s.book → t.held ≡ s.held → length t.links ≡ length s.links → R s t
+  -- what leaves the book, the config that is held and the number of links, and opens no channel that was shut
+  pub beside : (s t : StateSeen) → t.book ≡ s.book → t.held ≡ s.held → length t.links ≡ length s.links → (s.shut ≡ true → t.shut ≡ true) → R s t
   -- what is done to one call
   pub timed_out : (number : ℕ) (s : StateSeen) → R s (with_book (book_asked (call.timed_out s.book.moment) number s.book).book s)
   pub closed : (why : EndCause) (number : ℕ) (s : StateSeen) → is_by_row why ≡ false → R s (with_book (book_asked (call.closed_by why s.book.moment) number s.book).book s)
@@ -70,7 +70,7 @@ pub record Carries (R : StateSeen → StateSeen → Type 0) : Type 0 where
 pub weaken : (R Q : StateSeen → StateSeen → Type 0) → ((s t : StateSeen) → R s t → Q s t) → ((s t u : StateSeen) → Q s t → Q t u → Q s u) → Carries R → Carries Q
 weaken R Q less joined c = record {
   joined = joined;
-  beside = λ s t book held links. less s t (c.beside s t book held links);
+  beside = λ s t book held links shut. less s t (c.beside s t book held links shut);
   timed_out = λ number s. less s _ (c.timed_out number s);
   closed = λ why number s by. less s _ (c.closed why number s by);
   sent = λ message number s. less s _ (c.sent message number s);
@@ -135,7 +135,7 @@ Carried R e = Unit {0}
 
 module _ (R : StateSeen → StateSeen → Type 0) (c : Carries R) where
   pub same : (s : StateSeen) → R s s
-  same s = c.beside s s refl refl refl
+  same s = c.beside s s refl refl refl (λ e. e)
 
   pub either : (b : Bool) (s t u : StateSeen) → R s t → R s u → R s (if b then t else u)
   either true s t u first second = first
@@ -153,19 +153,19 @@ module _ (R : StateSeen → StateSeen → Type 0) (c : Carries R) where
   left_one : (link row : ℕ) (s : StateSeen) → R s (step.left_on link row s)
   left_one link row s =
       let t : StateSeen = step.left_behind link row s in
-      c.joined s t _ (c.beside s t refl refl refl) (gone_one link t)
+      c.joined s t _ (c.beside s t refl refl refl (λ e. e)) (gone_one link t)
 
   cut_one : (row : ℕ) (s : StateSeen) → R s (step.cut row s)
   cut_one row s =
       let link : ℕ = link_of (row_at s.book row) in
       let t : StateSeen = step.reset_on link row s in
-      c.joined s t _ (c.beside s t refl refl (changed_length (with_link (reset_link row)) s.links link)) (left_one link row t)
+      c.joined s t _ (c.beside s t refl refl (changed_length (with_link (reset_link row)) s.links link) (λ e. e)) (left_one link row t)
 
   act_one : (number : ℕ) (a : CallAct) (s : StateSeen) → R s (step.act_done number a s)
   act_one number (act.Cut row) s = cut_one row s
-  act_one number (act.Drop row) s = c.beside s _ refl refl refl
-  act_one number (act.Queue row) s = c.beside s _ refl refl refl
-  act_one number (act.End why) s = c.beside s _ refl refl refl
+  act_one number (act.Drop row) s = c.beside s _ refl refl refl (λ e. e)
+  act_one number (act.Queue row) s = c.beside s _ refl refl refl (λ e. e)
+  act_one number (act.End why) s = c.beside s _ refl refl refl (λ e. e)
 
   act_all : (number : ℕ) (acts : List CallAct) (s : StateSeen) → R s (step.acts_done number acts s)
   act_all number [] s = same s
@@ -175,7 +175,7 @@ module _ (R : StateSeen → StateSeen → Type 0) (c : Carries R) where
   timers_of number s =
       let slot : Option CallSlot = slot_at s.book number in
       let t : StateSeen = with_book (timers_set (due_at slot) (deadline_of slot) number s.book) s in
-      c.joined s t _ (c.timers (due_at slot) (deadline_of slot) number s) (c.beside t _ refl refl refl)
+      c.joined s t _ (c.timers (due_at slot) (deadline_of slot) number s) (c.beside t _ refl refl refl (λ e. e))
 
   follow : (number : ℕ) (acts : List CallAct) (s : StateSeen) → R s (step.followed number acts s)
   follow number acts s =
@@ -183,32 +183,32 @@ module _ (R : StateSeen → StateSeen → Type 0) (c : Carries R) where
       c.joined s t _ (act_all number acts s) (timers_of number t)
 
   -- what a call did is followed, with what else changed beside the book
-  pub after_book : (b : BookActs) (number : ℕ) (s t : StateSeen) → t.held ≡ s.held → length t.links ≡ length s.links → R s (with_book b.book s) → R s (step.with_book b number t)
-  after_book b number s t e l h =
+  pub after_book : (b : BookActs) (number : ℕ) (s t : StateSeen) → t.held ≡ s.held → length t.links ≡ length s.links → (s.shut ≡ true → t.shut ≡ true) → R s (with_book b.book s) → R s (step.with_book b number t)
+  after_book b number s t e l shut h =
       let u : StateSeen = with_book b.book t in
-      c.joined s u _ (c.joined s (with_book b.book s) u h (c.beside (with_book b.book s) u refl e l)) (follow number b.acts u)
+      c.joined s u _ (c.joined s (with_book b.book s) u h (c.beside (with_book b.book s) u refl e l shut)) (follow number b.acts u)
 
   -- resets are sealed
   seal_all : (links : List ℕ) (s : StateSeen) → R s (step.links_sealed links s)
   seal_all [] s = same s
   seal_all (link ∷ links) s =
       let t : StateSeen = step.sealed_one link s in
-      c.joined s t _ (c.beside s t refl refl (changed_length (with_link sealed_link) s.links link)) (seal_all links t)
+      c.joined s t _ (c.beside s t refl refl (changed_length (with_link sealed_link) s.links link) (λ e. e)) (seal_all links t)
 
   seal : (s : StateSeen) → R s (step.sealed s)
   seal s =
       let t : StateSeen = step.resets_taken s in
-      c.joined s t _ (c.beside s t refl refl refl) (seal_all s.resets t)
+      c.joined s t _ (c.beside s t refl refl refl (λ e. e)) (seal_all s.resets t)
 
   pub then_seal : (s t : StateSeen) → R s t → R s (step.sealed t)
   then_seal s t h = c.joined s t _ h (seal t)
 
   -- the ends by the channel
   time_out : (number : ℕ) (s : StateSeen) → R s (step.timed_out number s)
-  time_out number s = then_seal s _ (after_book (book_asked (call.timed_out s.book.moment) number s.book) number s s refl refl (c.timed_out number s))
+  time_out number s = then_seal s _ (after_book (book_asked (call.timed_out s.book.moment) number s.book) number s s refl refl (λ e. e) (c.timed_out number s))
 
   pub close : (why : EndCause) (number : ℕ) (s : StateSeen) → is_by_row why ≡ false → R s (step.closed why number s)
-  close why number s by = then_seal s _ (after_book (book_asked (call.closed_by why s.book.moment) number s.book) number s s refl refl (c.closed why number s by))
+  close why number s by = then_seal s _ (after_book (book_asked (call.closed_by why s.book.moment) number s.book) number s s refl refl (λ e. e) (c.closed why number s by))
 
   time_out_all : (calls : List ℕ) (s : StateSeen) → R s (step.all_timed_out calls s)
   time_out_all [] s = same s
@@ -220,29 +220,29 @@ module _ (R : StateSeen → StateSeen → Type 0) (c : Carries R) where
   unfolding overdue_ended
   overdue s =
       let t : StateSeen = record s { deadlines = later s.book.moment s.deadlines } in
-      c.joined s t _ (c.beside s t refl refl refl) (time_out_all (due_keys s.book.moment s.deadlines) t)
+      c.joined s t _ (c.beside s t refl refl refl (λ e. e)) (time_out_all (due_keys s.book.moment s.deadlines) t)
 
   -- what a call is told, and what it draws
-  told_after : (b : BookActs) (number row : ℕ) (s t : StateSeen) → t.held ≡ s.held → length t.links ≡ length s.links → R s (with_book b.book s) → R s (step.told_acts b number row t)
-  told_after b number row s t e l h = after_book b number s (step.drawn_if (has_drawn (row_at b.book row)) t) e l h
+  told_after : (b : BookActs) (number row : ℕ) (s t : StateSeen) → t.held ≡ s.held → length t.links ≡ length s.links → (s.shut ≡ true → t.shut ≡ true) → R s (with_book b.book s) → R s (step.told_acts b number row t)
+  told_after b number row s t e l shut h = after_book b number s (step.drawn_if (has_drawn (row_at b.book row)) t) e l shut h
 
   tell_to : (number row : ℕ) (n : News) (s : StateSeen) → IsFair n → R s (step.told_to number row n s)
   tell_to number row n s fair =
-      told_after (book_acted (call.heard_news row n s.book.moment (next_word s)) number s.book) number row s s refl refl (c.heard row n number s fair)
+      told_after (book_acted (call.heard_news row n s.book.moment (next_word s)) number s.book) number row s s refl refl (λ e. e) (c.heard row n number s fair)
 
   tell : (row : ℕ) (n : News) (s : StateSeen) → IsFair n → R s (step.told row n s)
   tell row n s fair = tell_to (call_of (row_at s.book row)) row n s fair
 
   pub fail : (number row : ℕ) (s : StateSeen) → R s (step.pick_failed number row s)
   fail number row s =
-      then_seal s _ (told_after (book_acted (call.pick_failed row s.book.moment (next_word s)) number s.book) number row s (step.unqueued number row s) refl refl (c.failed row number s))
+      then_seal s _ (told_after (book_acted (call.pick_failed row s.book.moment (next_word s)) number s.book) number row s (step.unqueued number row s) refl refl (λ e. e) (c.failed row number s))
 
   -- the ends of attempts
   end_one : (link row : ℕ) (end : EndNews) (s : StateSeen) → IsFairEnd end → R s (arrivals.ended_on link row end s)
   end_one link row end s fair =
       let t : StateSeen = step.left_behind link row s in
       let u : StateSeen = step.told row (news.Ended row end) t in
-      either (has_ended (row_at s.book row)) s s _ (same s) (c.joined s t _ (c.beside s t refl refl refl) (c.joined t u _ (tell row (news.Ended row end) t fair) (gone_one link u)))
+      either (has_ended (row_at s.book row)) s s _ (same s) (c.joined s t _ (c.beside s t refl refl refl (λ e. e)) (c.joined t u _ (tell row (news.Ended row end) t fair) (gone_one link u)))
 
   end_all : (link : ℕ) (ends : List (ℕ × EndNews)) (s : StateSeen) → AreFairEnds ends → R s (arrivals.all_ended_on link ends s)
   end_all link [] s fair = same s
@@ -268,16 +268,16 @@ module _ (R : StateSeen → StateSeen → Type 0) (c : Carries R) where
   lose link each s =
       let t : StateSeen = step.buried link s in
       let u : StateSeen = arrivals.rows_lost arrivals.most_rows link each 0 t in
-      c.joined s t _ (c.beside s t refl refl (changed_length buried s.links link)) (c.joined t u _ (lose_rows arrivals.most_rows link each 0 t) (gone_one link u))
+      c.joined s t _ (c.beside s t refl refl (changed_length buried s.links link) (λ e. e)) (c.joined t u _ (lose_rows arrivals.most_rows link each 0 t) (gone_one link u))
 
   retire : (link : ℕ) (s : StateSeen) → R s (step.retired link s)
   retire link s =
       let t : StateSeen = record (step.downed link s) { links = retired_in link s.links } in
-      c.joined s t _ (c.beside s t refl refl (changed_length retired s.links link)) (gone_one link t)
+      c.joined s t _ (c.beside s t refl refl (changed_length retired s.links link) (λ e. e)) (gone_one link t)
 
   -- the news of a frame, and the frames of a piece
   hear_one : (link : ℕ) (n : News) (s : StateSeen) → R s (arrivals.heard_one link n s)
-  hear_one link news.Ready s = c.beside s _ refl refl refl
+  hear_one link news.Ready s = c.beside s _ refl refl refl (λ e. e)
   hear_one link news.Retiring s = retire link s
   hear_one link (news.Broken why) s = lose link false s
   hear_one link (news.Ended tag end) s = same s
@@ -296,13 +296,13 @@ module _ (R : StateSeen → StateSeen → Type 0) (c : Carries R) where
       let t : StateSeen = arrivals.heard_all link ns s in
       let u : StateSeen = arrivals.all_ended_on link (step.ends_kept ns []) t in
       let v : StateSeen = step.sealed_one link u in
-      then_seal s v (c.joined s t v (hear_all link ns s) (c.joined t u v (end_all link (step.ends_kept ns []) t (fair_ends ns [] fair tt)) (c.beside u v refl refl (changed_length (with_link sealed_link) u.links link))))
+      then_seal s v (c.joined s t v (hear_all link ns s) (c.joined t u v (end_all link (step.ends_kept ns []) t (fair_ends ns [] fair tt)) (c.beside u v refl refl (changed_length (with_link sealed_link) u.links link) (λ e. e))))
 
   hear_frame : (link : ℕ) (h : Heard) (s : StateSeen) → length h.links ≡ length s.links → AreFair h.news → R s (arrivals.frame_heard link h s)
   hear_frame link h s l fair =
       let t : StateSeen = record s { links = h.links } in
       let u : StateSeen = arrivals.read_to link h.read t in
-      c.joined s t _ (c.beside s t refl refl l) (c.joined t u _ (c.read link h.read t) (hear link h.news u fair))
+      c.joined s t _ (c.beside s t refl refl l (λ e. e)) (c.joined t u _ (c.read link h.read t) (hear link h.news u fair))
 
   frames_on : (further : ℕ → StateSeen → StateSeen) (link : ℕ) (h : Option Heard) (s : StateSeen) → IfSome h (λ x. length x.links ≡ length s.links) → IfSome h (λ x. AreFair x.news) → ((skip : ℕ) (s : StateSeen) → R s (further skip s)) → R s (arrivals.frames_from further link h s)
   frames_on further link None s l fair more = same s

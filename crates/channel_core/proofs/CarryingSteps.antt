@@ -104,7 +104,7 @@ module _ (R : StateSeen → StateSeen → Type 0) (c : Carries R) where
   left_net : (n : NetSeen) (g : List Generation) (links : List ℕ) (s : StateSeen) → R s (with_generations g s) → R s (step.all_stamped_gone links (with_generations g (record s { net = n })))
   left_net n g links s h =
       let t : StateSeen = with_generations g (record s { net = n }) in
-      c.joined s t _ (c.joined s (with_generations g s) t h (c.beside (with_generations g s) t refl refl refl)) (gone_all R c links t)
+      c.joined s t _ (c.joined s (with_generations g s) t h (c.beside (with_generations g s) t refl refl refl (λ e. e))) (gone_all R c links t)
 
   -- a result of the resolver
   pub readdress : (kind : Option Kind) (addresses : List Address) (s : StateSeen) → R s (applying.readdressed_by kind addresses s)
@@ -115,23 +115,23 @@ module _ (R : StateSeen → StateSeen → Type 0) (c : Carries R) where
 
   take_config : (kinds : KindsSeen) (text : Option (List ℕ)) (read : Result Config ConfigFault) (s : StateSeen) → Holds R text → config_read kinds text ≡ read → R s (applying.config_taken read s).state
   take_config kinds text (Ok config) s holds e = holds config kinds s e
-  take_config kinds text (Err fault) s holds e = c.beside s _ refl refl refl
+  take_config kinds text (Err fault) s holds e = c.beside s _ refl refl refl (λ e. e)
 
   resolve : (addresses : List Address) (text : Option (List ℕ)) (s : StateSeen) → Holds R text → R s (applying.resolved addresses text s).state
   resolve addresses text s holds =
       let kinds : KindsSeen = kinds_of s.net.asker.rack.policies in
       let t : StateSeen = applying.answered_question s in
       let u : StateSeen = (applying.config_taken (config_read kinds text) t).state in
-      c.joined s t _ (c.beside s t refl refl refl) (c.joined t u _ (take_config kinds text (config_read kinds text) t holds refl) (readdress (applying.kind_held u) addresses u))
+      c.joined s t _ (c.beside s t refl refl refl (λ e. e)) (c.joined t u _ (take_config kinds text (config_read kinds text) t holds refl) (readdress (applying.kind_held u) addresses u))
 
   -- a Shutdown
-  close_all : (more index : ℕ) (s : StateSeen) → R s (applying.calls_closed more index s)
+  pub close_all : (more index : ℕ) (s : StateSeen) → R s (applying.calls_closed more index s)
   close_all zero index s = same R c s
   close_all (suc more) index s =
       let t : StateSeen = applying.closed_at index s in
       c.joined s t _ (close R c ends.Shut (min (number_of index + 1) 4294967295) s refl) (close_all more (index + 1) t)
 
-  close_net : (s : StateSeen) → R s (applying.net_closed s)
+  pub close_net : (s : StateSeen) → R s (applying.net_closed s)
   close_net s =
       let r : RackSeen = s.net.asker.rack in
       left_net (net.net_shut s.net).net _ (net.net_shut s.net).gone s (gen_retired_live s (live_of r.policies r.pending) _ (gen_retired_live s (live_of r.policies r.current) s.book.ledger.generations (same R c s)))
@@ -140,7 +140,7 @@ module _ (R : StateSeen → StateSeen → Type 0) (c : Carries R) where
   shut_off s =
       let t : StateSeen = record s { shut = true } in
       let u : StateSeen = applying.all_closed t in
-      c.joined s t _ (c.beside s t refl refl refl) (c.joined t u _ (close_all (length t.book.calls) 0 t) (close_net u))
+      c.joined s t _ (c.beside s t refl refl refl (λ e. refl)) (c.joined t u _ (close_all (length t.book.calls) 0 t) (close_net u))
 
   shut_down : (s : StateSeen) → R s (applying.shut_down s)
   shut_down s = either R c s.shut s s _ (same R c s) (shut_off s)
@@ -163,7 +163,7 @@ module _ (R : StateSeen → StateSeen → Type 0) (c : Carries R) where
       let fed : R s (with_book d.fed s) = subst (λ (b : Book). R s (with_book b s)) (sym d.feeds.1) (feed_all d.feeds.0 s) in
       let u : StateSeen = with_book (with_streams (opened_by d.drained) d.fed) s in
       let v : StateSeen = record s { links = t.links; book = with_streams (opened_by d.drained) d.fed } in
-      let there : R s v = c.joined s u v (c.joined s (with_book d.fed s) u fed (stream_all (opened_by d.drained) (with_book d.fed s))) (c.beside u v refl refl (drained_length room s.links link (lines_of s.book) d.drained t.links (lines_of d.fed) d.gives)) in
+      let there : R s v = c.joined s u v (c.joined s (with_book d.fed s) u fed (stream_all (opened_by d.drained) (with_book d.fed s))) (c.beside u v refl refl (drained_length room s.links link (lines_of s.book) d.drained t.links (lines_of d.fed) d.gives) (λ e. e)) in
       subst (λ (x : StateSeen). R s x) (sym d.state_is) there
 
   -- a link comes up, a dial is taken
@@ -172,12 +172,12 @@ module _ (R : StateSeen → StateSeen → Type 0) (c : Carries R) where
   link_up (Some why) sub s up = same R c s
 
   dial_down : (refused : Option Refusal) (sub : ℕ) (s : StateSeen) → R s (arrivals.dial_failed_for refused sub s).state
-  dial_down None sub s = c.beside s _ refl refl refl
+  dial_down None sub s = c.beside s _ refl refl refl (λ e. e)
   dial_down (Some why) sub s = same R c s
 
   dial_drawn : (d : Option Dialing) (s t : StateSeen) → R s t → R s (step.dial_draw d t)
   dial_drawn None s t h = h
-  dial_drawn (Some d) s t h = c.joined s t _ h (c.beside t _ refl refl refl)
+  dial_drawn (Some d) s t h = c.joined s t _ h (c.beside t _ refl refl refl (λ e. e))
 
   -- an event
   begin : (request : RequestSeen) (s : StateSeen) → Begins R request → R s (arrivals.begun_by request s).state
@@ -185,25 +185,25 @@ module _ (R : StateSeen → StateSeen → Type 0) (c : Carries R) where
       let number : ℕ = length s.book.ledger.calls + 1 in
       let t : StateSeen = with_book (book_begun request s.book) s in
       let u : StateSeen = step.bare_added number (step.says_yes request.wait) t in
-      c.joined s t _ (begins s) (c.joined t u _ (c.beside t u refl refl refl) (timers_of R c number u))
+      c.joined s t _ (begins s) (c.joined t u _ (c.beside t u refl refl refl (λ e. e)) (timers_of R c number u))
 
   applied : (e : Event) (s t : StateSeen) (r : Reply) → Carried R e → Applies e s t r → R s t
   applied (event.Begin request) s t r k g = subst (λ (x : StateSeen). R s x) (sym g.0) (begin request s k)
   applied (event.Send number message) s t r k g =
-      subst (λ (x : StateSeen). R s x) (sym g.0) (then_seal R c s _ (after_book R c (book_asked (call.sent message s.book.moment) number s.book) number s s refl refl (c.sent message number s)))
+      subst (λ (x : StateSeen). R s x) (sym g.0) (then_seal R c s _ (after_book R c (book_asked (call.sent message s.book.moment) number s.book) number s s refl refl (λ e. e) (c.sent message number s)))
   applied (event.Finish number) s t r k g = subst (λ (x : StateSeen). R s x) (sym g.0) (c.finished number s)
   applied (event.Take number) s t r k g = subst (λ (x : StateSeen). R s x) (sym g.0) (c.taken number s)
   applied (event.Cancel number) s t r k g = subst (λ (x : StateSeen). R s x) (sym g.0) (close R c ends.Cancelled number s refl)
   applied (event.Resolved addresses text) s t r k g = subst (λ (x : StateSeen). R s x) (sym g.0) (resolve addresses text s k)
-  applied event.ResolveFailed s t r k g = subst (λ (x : StateSeen). R s x) (sym g.0) (c.beside s _ refl refl refl)
+  applied event.ResolveFailed s t r k g = subst (λ (x : StateSeen). R s x) (sym g.0) (c.beside s _ refl refl refl (λ e. e))
   applied event.TakeDial s t r k g =
-      subst (λ (x : StateSeen). R s x) (sym g.0) (dial_drawn (net.dial_answer s.book.moment (next_word s) s.net) s (step.dialed s) (c.beside s _ refl refl refl))
+      subst (λ (x : StateSeen). R s x) (sym g.0) (dial_drawn (net.dial_answer s.book.moment (next_word s) s.net) s (step.dialed s) (c.beside s _ refl refl refl (λ e. e)))
   applied (event.LinkUp sub) s t r k g = subst (λ (x : StateSeen). R s x) (sym g.0) (link_up (net.dial_refusal (numbered s.net.board sub)) sub s k)
   applied (event.DialFailed sub) s t r k g = subst (λ (x : StateSeen). R s x) (sym g.0) (dial_down (net.dial_refusal (numbered s.net.board sub)) sub s)
   applied (event.Arrived link piece) s t r k g = subst (λ (x : StateSeen). R s x) (sym g.0) (frames R c link piece 0 s)
   applied (event.LinkLost link) s t r k g = subst (λ (x : StateSeen). R s x) (sym g.0) (lose R c link true s)
   applied (event.Drain link room) s t r k g = drain link (min room drained_limit) s r t g
-  applied (event.Ping link word) s t r k g = subst (λ (x : StateSeen). R s x) (sym g.0) (c.beside s _ refl refl (changed_length (with_link (pinged_link word)) s.links link))
+  applied (event.Ping link word) s t r k g = subst (λ (x : StateSeen). R s x) (sym g.0) (c.beside s _ refl refl (changed_length (with_link (pinged_link word)) s.links link) (λ e. e))
   applied event.Tick s t r k g = subst (λ (x : StateSeen). R s x) (sym g.0) (same R c s)
   applied event.Shutdown s t r k g = subst (λ (x : StateSeen). R s x) (sym g.0) (shut_down s)
 
@@ -217,14 +217,14 @@ module _ (R : StateSeen → StateSeen → Type 0) (c : Carries R) where
   limit_all (link ∷ links) s =
       let t : StateSeen = record s { links = buried_in link s.links; resolver = true } in
       let u : StateSeen = step.limit_passed link s in
-      c.joined s u _ (c.joined s t u (c.beside s t refl refl (changed_length buried s.links link)) (gone_one R c link t)) (limit_all links u)
+      c.joined s u _ (c.joined s t u (c.beside s t refl refl (changed_length buried s.links link) (λ e. e)) (gone_one R c link t)) (limit_all links u)
 
   clock : (s : StateSeen) → R s (clocked s)
   unfolding clocked
   clock s =
       let l : NetLeft = net.net_clocked s.book.moment s.net in
       let t : StateSeen = record s { net = l.net } in
-      c.joined s t _ (c.beside s t refl refl refl) (limit_all l.gone t)
+      c.joined s t _ (c.beside s t refl refl refl (λ e. e)) (limit_all l.gone t)
 
   settle_net : (s : StateSeen) → R s (net_settled s)
   unfolding net_settled
@@ -236,7 +236,7 @@ module _ (R : StateSeen → StateSeen → Type 0) (c : Carries R) where
   -- calls without a configuration
   configure : (chosen : Option Chosen) (number : ℕ) (s : StateSeen) → Configures R → chosen_in s.held (slot_at s.book number) ≡ chosen → R s (step.configured_as number chosen s)
   configure None number s f e = same R c s
-  configure (Some chosen) number s f e = after_book R c (book_configured chosen number s.book) number s s refl refl (f chosen number s e)
+  configure (Some chosen) number s f e = after_book R c (book_configured chosen number s.book) number s s refl refl (λ e. e) (f chosen number s e)
 
   configure_all : (calls : List ℕ) (s : StateSeen) → Configures R → R s (step.all_configured calls s)
   configure_all [] s f = same R c s
@@ -256,8 +256,8 @@ module _ (R : StateSeen → StateSeen → Type 0) (c : Carries R) where
   serve_bare s f =
       let t : StateSeen = record s { bare = later 0 s.bare; impatient = [] } in
       let u : StateSeen = record s { impatient = later 0 s.impatient } in
-      either R c (is_some s.held) s _ _ (c.joined s t _ (c.beside s t refl refl refl) (configure_all (due_keys 0 s.bare) t f))
-      (either R c s.unconfigured s _ s (c.joined s u _ (c.beside s u refl refl refl) (unconfigure_all (due_keys 0 s.impatient) u)) (same R c s))
+      either R c (is_some s.held) s _ _ (c.joined s t _ (c.beside s t refl refl refl (λ e. e)) (configure_all (due_keys 0 s.bare) t f))
+      (either R c s.unconfigured s _ s (c.joined s u _ (c.beside s u refl refl refl (λ e. e)) (unconfigure_all (due_keys 0 s.impatient) u)) (same R c s))
 
   -- due attempts
   make_all : (calls : List ℕ) (s : StateSeen) → R s (step.all_made calls s)
@@ -265,7 +265,7 @@ module _ (R : StateSeen → StateSeen → Type 0) (c : Carries R) where
   make_all (key ∷ calls) s =
       let number : ℕ = number_of key in
       let t : StateSeen = step.made_one number s in
-      c.joined s t _ (then_seal R c s _ (after_book R c (book_asked (call.made_due s.book.moment) number s.book) number s s refl refl (c.made number s))) (make_all calls t)
+      c.joined s t _ (then_seal R c s _ (after_book R c (book_asked (call.made_due s.book.moment) number s.book) number s s refl refl (λ e. e) (c.made number s))) (make_all calls t)
 
   forget_all : (calls : List ℕ) (s : StateSeen) → R s (step.dues_forgotten calls s)
   forget_all [] s = same R c s
@@ -278,19 +278,19 @@ module _ (R : StateSeen → StateSeen → Type 0) (c : Carries R) where
       let keys : List ℕ = due_keys s.book.moment s.dues in
       let t : StateSeen = record s { dues = later s.book.moment s.dues } in
       let u : StateSeen = step.dues_forgotten keys t in
-      c.joined s t _ (c.beside s t refl refl refl) (c.joined t u _ (forget_all keys t) (make_all (due_keys 0 (sorted_into [] keys)) u))
+      c.joined s t _ (c.beside s t refl refl refl (λ e. e)) (c.joined t u _ (forget_all keys t) (make_all (due_keys 0 (sorted_into [] keys)) u))
 
   -- the queue
   place_if : (takes : Bool) (number row : ℕ) (at : Placed) (s : StateSeen) → at.entry ≡ s.book.ledger.entry → at.moment ≡ s.book.moment → R s (settling.placed_if takes number row at s).state
   place_if true number row at s entry moment =
-      after_book R c (book_placed row at number s.book) number s (settling.outstanding_on at.link row (step.unqueued number row s)) refl refl (c.placed row at number s entry moment)
+      after_book R c (book_placed row at number s.book) number s (settling.outstanding_on at.link row (step.unqueued number row s)) refl refl (λ e. e) (c.placed row at number s entry moment)
   place_if false number row at s entry moment = same R c s
 
   place_on : (number row generation sub : ℕ) (link : Option ℕ) (s : StateSeen) → R s (settling.placed_on number row generation sub link s).state
   place_on number row generation sub None s = same R c s
   place_on number row generation sub (Some link) s =
       let t : StateSeen = settling.offered link row (limit_at (slot_at s.book number)) s in
-      c.joined s t _ (c.beside s t refl refl (placed_length (takes_rows link s.links) link row (limit_at (slot_at s.book number)) s.links)) (place_if (takes_rows link s.links) number row (settling.place_at generation sub link s) t refl refl)
+      c.joined s t _ (c.beside s t refl refl (placed_length (takes_rows link s.links) link row (limit_at (slot_at s.book number)) s.links) (λ e. e)) (place_if (takes_rows link s.links) number row (settling.place_at generation sub link s) t refl refl)
 
   pick_for : (number row generation : ℕ) (p : Pick) (s : StateSeen) → R s (settling.picked number row generation p s).state
   pick_for number row generation (pick.Place sub) s = place_on number row generation sub (net_lists.link_of s.net.links sub) s
@@ -306,7 +306,7 @@ module _ (R : StateSeen → StateSeen → Type 0) (c : Carries R) where
   serve : (number row : ℕ) (s : StateSeen) → R s (settling.served number row s).state
   serve number row s =
       let t : StateSeen = settling.asked s in
-      c.joined s t _ (c.beside s t refl refl refl) (serve_by number row (net.net_answer s.net) t)
+      c.joined s t _ (c.beside s t refl refl refl (λ e. e)) (serve_by number row (net.net_answer s.net) t)
 
   pass_on : (further : ℕ × ℕ → Moved → Moved) (next : Option (ℕ × ℕ)) (m : Moved) → ((p : ℕ × ℕ) (m : Moved) → R m.state (further p m).state) → R m.state (settling.passed_on further next m).state
   pass_on further None m more = same R c m.state

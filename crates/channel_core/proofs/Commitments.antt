@@ -1,20 +1,15 @@
 -- Each call is committed once, whatever events a channel is given.
-use Rattle.std.proofs.Common.{◌≡◌, ◌≤◌, ◌<◌, ℕ, Bool, true, false, if◌then◌else◌, Option, Some, None, is_some, List, [], ◌∷◌, length, refl, sym, ap, subst, ◌∙◌}
-use Rattle.std.proofs.lemmas.Bool.{eqb-true}
+use Rattle.std.proofs.Common.{◌≡◌, ◌≤◌, ℕ, Option, length, sym, subst}
 use Rattle.grpc_base.specs.Requests.{RequestSeen}
 use Rattle.grpc_base.specs.declared.plan.Chosen.{Chosen}
 use Rattle.service_config.specs.declared.config.Config.{Config}
 use Rattle.attempt_ledger.specs.declared.ledger.Ledger.{Ledger}
-use Rattle.attempt_ledger.specs.declared.row.Row.{Row}
-use Rattle.call_core.specs.Commitments.{IsCommittedOnce, IsInChain, IsRowOf, IsStamped}
-use Rattle.call_core.specs.Laws.{AllAt, IsKept}
-use Rattle.call_core.specs.Outstanding.{AreHeld, IsOutstanding}
-use Rattle.call_core.specs.Parts.{find_live, is_row}
+use Rattle.call_core.specs.Commitments.{IsCommittedOnce}
+use Rattle.call_core.specs.Laws.{IsKept}
+use Rattle.call_core.specs.Outstanding.{AreHeld}
 use Rattle.call_core.specs.RowChains.{AreChained}
-use Rattle.call_core.specs.Rows.{row_in}
 use Rattle.call_core.specs.Steps.{Stepped}
-use Rattle.call_core.specs.declared.live.LiveRow.{LiveRow}
-use Rattle.channel_core.specs.Commitments.{AreCommittedOnce, HasOneCommitment, IsCommittedRow, IsOutstandingRow}
+use Rattle.channel_core.specs.Commitments.{AreCommittedOnce, HasOneCommitment}
 use Rattle.channel_core.specs.States.{StateSeen}
 use Rattle.channel_core.proofs.Attempts.{number_there}
 use Rattle.channel_core.proofs.CallLaws.{IsSound, are_held_by, chained_by, kept_by, once_by}
@@ -23,7 +18,6 @@ use Rattle.channel_core.proofs.Lifted.{SoundIn}
 use Rattle.channel_core.proofs.Lifting.{OfCall}
 use Rattle.channel_core.proofs.OneCommitment.{one, over}
 use Rattle.channel_core.proofs.OverCalls.{IsOverBy}
-use Rattle.channel_core.proofs.SoundCalls.{IsAllowed}
 
 one_commitment : (n : ℕ) (s : Stepped) → IsCommittedOnce s → AreChained s → AreHeld s → IsKept s.call → IsOverBy n s → HasOneCommitment s.ledger.rows s.call.number
 one_commitment n s once chained held kept by = record {

@@ -1,16 +1,12 @@
 -- Each call has the configuration that the journal gives it.
-use Rattle.std.proofs.Common.{◌≡◌, ◌≤◌, ◌<◌, ℕ, zero, suc, ◌+◌, Bool, true, false, if◌then◌else◌, Option, Some, None, is_some, IfSome, List, [], ◌∷◌, ◌++◌, length, Result, Ok, Err, refl, sym, ap, subst, ◌∙◌, arith, slice_get, take}
+use Rattle.std.proofs.Common.{◌≡◌, ◌≤◌, ℕ, zero, suc, ◌+◌, false, Option, Some, None, is_some, IfSome, List, [], ◌∷◌, ◌++◌, length, Result, Ok, Err, refl, sym, ap, subst, ◌∙◌, arith, slice_get, take}
 use Rattle.std.proofs.lemmas.List.{length-append}
 use Rattle.std.specs.Option.{option_map, option_or}
 use Rattle.grpc_base.specs.Kinds.{KindsSeen}
 use Rattle.grpc_base.specs.Requests.{RequestSeen}
 use Rattle.grpc_base.specs.declared.event.ConfigFault.{ConfigFault}
 use Rattle.grpc_base.specs.declared.event.Entry.{Entry}
-use Rattle.grpc_base.specs.declared.event.Event.{Event}
-use Rattle.grpc_base.specs.declared.event.Event.TheVariants as event
 use Rattle.grpc_base.specs.declared.event.JsonFault.{JsonFault}
-use Rattle.grpc_base.specs.declared.event.Reply.{Reply}
-use Rattle.grpc_base.specs.declared.event.Reply.TheVariants as reply
 use Rattle.grpc_base.specs.declared.kind.Kind.{Kind}
 use Rattle.grpc_base.specs.declared.plan.Chosen.{Chosen}
 use Rattle.grpc_base.specs.declared.plan.Throttle.{Throttle}
@@ -22,7 +18,7 @@ use Rattle.config_values.specs.declared.place.Object.TheVariants as object
 use Rattle.ledger_stamps.specs.Steps.{stamped}
 use Rattle.service_config.specs.Choice.{chosen_for}
 use Rattle.service_config.specs.Entries.{methods_in}
-use Rattle.service_config.specs.Reading.{config_at, config_in, config_in_tree, config_of, kind_in, told_by}
+use Rattle.service_config.specs.Reading.{config_at, config_in, config_in_tree, kind_in, told_by}
 use Rattle.service_config.specs.declared.config.Config.{Config}
 use Rattle.service_config.specs.declared.config.Method.{Method}
 use Rattle.channel_core.specs.Applying.{config_read}

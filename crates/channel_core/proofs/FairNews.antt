@@ -221,3 +221,13 @@ own_ends (news.Broken why) fair tag end e = absurd (let no : ⊥ = (cc) in no)
 own_ends (news.Head t meta seen) fair tag end e = absurd (let no : ⊥ = (cc) in no)
 own_ends (news.Message t octets seen) fair tag end e = absurd (let no : ⊥ = (cc) in no)
 own_ends (news.TooLarge t seen) fair tag end e = absurd (let no : ⊥ = (cc) in no)
+
+-- an end that a transparent retry may follow forbids none
+pub asking_ends : (a : Attempts) (told : News) → IsFair told → (tag : ℕ) (end : EndNews) → told ≡ news.Ended tag end → is_followed a end.cause end.unseen ≡ true → is_stop end.pushback ≡ false
+asking_ends a (news.Ended t x) fair tag end e = (let same : x ≡ end = (cc) in subst (λ (y : EndNews). is_followed a y.cause y.unseen ≡ true → is_stop y.pushback ≡ false) same (fair.asks a))
+asking_ends a news.Ready fair tag end e = absurd (let no : ⊥ = (cc) in no)
+asking_ends a news.Retiring fair tag end e = absurd (let no : ⊥ = (cc) in no)
+asking_ends a (news.Broken why) fair tag end e = absurd (let no : ⊥ = (cc) in no)
+asking_ends a (news.Head t meta seen) fair tag end e = absurd (let no : ⊥ = (cc) in no)
+asking_ends a (news.Message t octets seen) fair tag end e = absurd (let no : ⊥ = (cc) in no)
+asking_ends a (news.TooLarge t seen) fair tag end e = absurd (let no : ⊥ = (cc) in no)

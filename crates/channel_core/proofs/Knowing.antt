@@ -1,5 +1,5 @@
 -- What a channel knows of its calls, whatever events it is given.
-use Rattle.std.proofs.Common.{◌≡◌, ◌≤◌, ℕ, zero, suc, ◌+◌, Bool, true, false, if◌then◌else◌, Option, Some, None, is_some, IfSome, List, [], ◌∷◌, ◌++◌, length, max, Result, Ok, Err, refl, sym, ap, subst, ◌∙◌, arith}
+use Rattle.std.proofs.Common.{◌≡◌, ◌≤◌, ℕ, zero, suc, ◌+◌, Option, Some, None, List, [], ◌∷◌, ◌++◌, length, Result, Ok, Err, refl, sym, ap, subst, ◌∙◌, arith}
 use Rattle.std.specs.Option.{option_map, option_or}
 use Rattle.std.proofs.lemmas.List.{length-append}
 use Rattle.grpc_base.specs.declared.address.Address.{Address}
@@ -22,13 +22,15 @@ use Rattle.service_config.specs.declared.config.Config.{Config}
 use Rattle.call_core.specs.Rows.{row_in}
 use Rattle.channel_core.specs.Applying as applying
 use Rattle.channel_core.specs.Applying.{AnswersBy, begun_at, config_read, conn_of, new_state}
-use Rattle.channel_core.specs.Configurations.{Settings, brought_by, held_after, request_by, settings_of}
+use Rattle.channel_core.specs.Configurations.{Settings, brought_by, held_after, request_by}
 use Rattle.channel_core.specs.Core.{CoreSeen, IsNew, Runs, Steps, last_moment, moment_of}
 use Rattle.channel_core.specs.Settling as settling
 use Rattle.channel_core.specs.States.{StateSeen}
 use Rattle.channel_core.specs.Steps.{overdue_ended}
 use Rattle.channel_core.specs.Tables.{numbered}
-use Rattle.channel_core.proofs.CallLaws.{CallLaws, FairNews, IsSound, kept_in, owner_in, sound_law}
+use Rattle.channel_core.proofs.CallLaws.{FairNews}
+use Rattle.channel_core.proofs.LicensedCalls.{IsKnown, MoreLaws, known_kept, known_law, known_owner}
+use Rattle.channel_core.proofs.Tokens.{FitsIn}
 use Rattle.channel_core.proofs.Carrying.{Carried, Carries, Configures, overdue}
 use Rattle.channel_core.proofs.CarryingSteps.{answered, carried, readdress, settle}
 use Rattle.channel_core.proofs.ConfiguredCalls.{IsChosen, begins_now, choose_now, held_more, is_more, settings_by, settings_read}
@@ -46,7 +48,7 @@ within_plan config path is = record { least = is.least; most = is.most }
 empty_plan : (path : List ℕ) → IsAllowed (chosen_for empty_config path)
 empty_plan path = within_plan empty_config path (chosen_plan empty_config path tt)
 
-allowed : (config : Config) (kinds : KindsSeen) (text : Option (List ℕ)) → config_read kinds text ≡ Ok config → (path : List ℕ) → IsAllowed (chosen_for config path)
+pub allowed : (config : Config) (kinds : KindsSeen) (text : Option (List ℕ)) → config_read kinds text ≡ Ok config → (path : List ℕ) → IsAllowed (chosen_for config path)
 allowed config kinds None e path = (let same : empty_config ≡ config = (cc) in subst (λ (c : Config). IsAllowed (chosen_for c path)) same (empty_plan path))
 allowed config kinds (Some text) e path = within_plan config path (chosen_plan config path (read_plans kinds text config e))
 
@@ -57,7 +59,7 @@ SameHeld s t = t.held ≡ s.held
 same_held : Carries SameHeld
 same_held = record {
   joined = λ s t u first second. second ∙ first;
-  beside = λ s t book held links. held;
+  beside = λ s t book held links shut. held;
   timed_out = λ number s. refl;
   closed = λ why number s by. refl;
   sent = λ message number s. refl;
@@ -147,7 +149,8 @@ pub record HoldsLast (entries : List Entry) (held : Option Config) : Type 0 wher
 
 -- what a run keeps: the laws of each call, at the moment and in the entry of the last step
 pub record Knows (core : CoreSeen) : Type 0 where
-  pub sound : SoundIn IsSound (IsChosen core.journal.entries) (HoldsLast core.journal.entries) core.state
+  pub sound : SoundIn IsKnown (IsChosen core.journal.entries) (HoldsLast core.journal.entries) core.state
+  pub fits : FitsIn core.state
   pub moment : core.state.book.moment ≡ last_from 0 core.journal.entries
   pub entry : core.state.book.ledger.entry ≤ length core.journal.entries
 
@@ -156,42 +159,71 @@ unfolding last_from
 last_more from [] x = refl
 last_more from (e ∷ es) x = last_more e.moment es x
 
-module _ (laws : CallLaws) where
+module _ (laws : MoreLaws) where
   abbrev Law : (ℕ → Option ℕ → RequestSeen → Option Chosen → Type 0) → (Option Config → Type 0) → ℕ → StateSeen → StateSeen → Type 0
-  Law J K N = Lifts IsSound J K N
+  Law J K N = Lifts IsKnown J K N
 
   law_lifts : (J : ℕ → Option ℕ → RequestSeen → Option Chosen → Type 0) (K : Option Config → Type 0) (N : ℕ) → Carries (Law J K N)
-  law_lifts J K N = lifts IsAllowed FairNews IsSound (sound_law laws) owner_in laws.leaves laws.ended kept_in (λ x row told fair. fair) J K N
+  law_lifts J K N = lifts IsAllowed FairNews IsKnown (known_law laws) known_owner laws.calls.leaves laws.calls.ended laws.settles known_kept (λ x row told fair. fair) J K N
 
   law_event : (es : List Entry) (x : Entry) (e : Event) → x.event ≡ e → Carried (Law (IsChosen (es ++ x ∷ [])) (Allows IsAllowed) (length es + 1)) e
-  law_event es x (event.Begin request) is = lifts_begin IsAllowed FairNews IsSound (sound_law laws) owner_in laws.leaves laws.ended kept_in (λ y row told fair. fair) (IsChosen (es ++ x ∷ [])) (Allows IsAllowed) (length es + 1) request (begins_now es x request (ap request_by is))
-  law_event es x (event.LinkUp sub) is = lifts_up IsAllowed FairNews IsSound (sound_law laws) owner_in laws.leaves laws.ended kept_in (λ y row told fair. fair) (IsChosen (es ++ x ∷ [])) (Allows IsAllowed) (length es + 1) sub
-  law_event es x (event.Resolved addresses text) is = lifts_held IsAllowed FairNews IsSound (sound_law laws) owner_in laws.leaves laws.ended kept_in (λ y row told fair. fair) (IsChosen (es ++ x ∷ [])) (Allows IsAllowed) (length es + 1) text (λ config kinds read path. allowed config kinds text read path)
+  law_event es x (event.Begin request) is = lifts_begin IsAllowed FairNews IsKnown (known_law laws) known_owner laws.calls.leaves laws.calls.ended laws.settles known_kept (λ y row told fair. fair) (IsChosen (es ++ x ∷ [])) (Allows IsAllowed) (length es + 1) request (begins_now es x request (ap request_by is))
+  law_event es x (event.LinkUp sub) is = lifts_up IsAllowed FairNews IsKnown (known_law laws) known_owner laws.calls.leaves laws.calls.ended laws.settles known_kept (λ y row told fair. fair) (IsChosen (es ++ x ∷ [])) (Allows IsAllowed) (length es + 1) sub
+  law_event es x (event.Resolved addresses text) is = lifts_held IsAllowed FairNews IsKnown (known_law laws) known_owner laws.calls.leaves laws.calls.ended laws.settles known_kept (λ y row told fair. fair) (IsChosen (es ++ x ∷ [])) (Allows IsAllowed) (length es + 1) text (λ config kinds read path. allowed config kinds text read path)
   law_event es x e is = tt
 
   law_configured : (entries : List Entry) → Configures (Law (IsChosen entries) (HoldsLast entries) (length entries))
-  law_configured entries = lifts_configured IsAllowed FairNews IsSound (sound_law laws) owner_in laws.leaves laws.ended kept_in (λ y row told fair. fair) (IsChosen entries) (HoldsLast entries) (length entries) (λ held k. k.allows) (λ begun configured config request k h. choose_now entries (length entries) begun configured config request refl (sym k.is) h)
+  law_configured entries = lifts_configured IsAllowed FairNews IsKnown (known_law laws) known_owner laws.calls.leaves laws.calls.ended laws.settles known_kept (λ y row told fair. fair) (IsChosen entries) (HoldsLast entries) (length entries) (λ held k. k.allows) (λ begun configured config request k h. choose_now entries (length entries) begun configured config request refl (sym k.is) h)
 
   -- a step: what comes before the settling, and the settling
-  sound_after : (es : List Entry) (x : Entry) (m w : ℕ) (old new : StateSeen) (r : Reply) → x.reply ≡ r → old.book.moment ≤ m → old.book.ledger.entry ≤ length es + 1 → applying.Stepped (length es + 1) m w x.event old new r → SoundIn IsSound (IsChosen es) (HoldsLast es) old → SoundIn IsSound (IsChosen (es ++ x ∷ [])) (HoldsLast (es ++ x ∷ [])) new
-  sound_after es x m w old new r replied le lt h sound =
+  sound_after : (es : List Entry) (x : Entry) (m w : ℕ) (old new : StateSeen) (r : Reply) → x.reply ≡ r → old.book.moment ≤ m → old.book.ledger.entry ≤ length es + 1 → applying.Stepped (length es + 1) m w x.event old new r → FitsIn old → SoundIn IsKnown (IsChosen es) (HoldsLast es) old → SoundIn IsKnown (IsChosen (es ++ x ∷ [])) (HoldsLast (es ++ x ∷ [])) new × FitsIn new
+  sound_after es x m w old new r replied le lt h fitted sound =
       let n : ℕ = length es + 1 in
       let entries : List Entry = es ++ x ∷ [] in
       let J : ℕ → Option ℕ → RequestSeen → Option Chosen → Type 0 = IsChosen entries in
       let first : StateSeen = begun_at n m w old in
       let s : StateSeen = overdue_ended first in
       let c : Carries (Law J (Allows IsAllowed) n) = law_lifts J (Allows IsAllowed) n in
-      let began : SoundIn IsSound (IsChosen es) (HoldsLast es) first = lifts_later IsAllowed FairNews IsSound (sound_law laws) owner_in laws.leaves laws.ended kept_in (λ y row told fair. fair) (IsChosen es) (HoldsLast es) n m n w old le lt sound in
-      let weak : SoundIn IsSound J (Allows IsAllowed) first = sound_more IsSound (IsChosen es) J (HoldsLast es) (Allows IsAllowed) first (λ begun configured request chosen is. is_more es x begun configured request chosen is) (λ k. k.allows) began in
+      let began : SoundIn IsKnown (IsChosen es) (HoldsLast es) first = lifts_later IsAllowed FairNews IsKnown (known_law laws) known_owner laws.calls.leaves laws.calls.ended laws.settles known_kept (λ y row told fair. fair) (IsChosen es) (HoldsLast es) n m n w old le lt sound in
+      let weak : SoundIn IsKnown J (Allows IsAllowed) first = sound_more IsKnown (IsChosen es) J (HoldsLast es) (Allows IsAllowed) first (λ begun configured request chosen is. is_more es x begun configured request chosen is) (λ k. k.allows) began in
+      let fits : FitsIn first = fitted in
       let before : Law J (Allows IsAllowed) n first s = overdue (Law J (Allows IsAllowed) n) c first in
       let answers : Law J (Allows IsAllowed) n s h.answered = answered (Law J (Allows IsAllowed) n) c (applying.refusal_of x.event s) x.event s h.answered r (law_event es x x.event refl) h.answers in
-      let at : SoundIn IsSound J (Allows IsAllowed) h.answered = answers.sound before.writes.entry (before.sound refl weak) in
+      let there : SoundIn IsKnown J (Allows IsAllowed) s = before.sound refl fits weak in
+      let fits_there : FitsIn s = before.fits refl fits weak in
+      let at : SoundIn IsKnown J (Allows IsAllowed) h.answered = answers.sound before.writes.entry fits_there there in
+      let fits_at : FitsIn h.answered = answers.fits before.writes.entry fits_there there in
       let held : HeldBy x.event s h.answered r = held_event (applying.refusal_of x.event s) x.event s h.answered r h.answers in
       let last : option_map settings_by h.answered.held ≡ held_after entries = held_last es x old s h.answered r replied (overdue SameHeld same_held first) held sound.knows.is in
-      let known : SoundIn IsSound J (HoldsLast entries) h.answered = sound_more IsSound J J (Allows IsAllowed) (HoldsLast entries) h.answered (λ begun configured request chosen is. is) (λ k. record { allows = k; is = last }) at in
+      let known : SoundIn IsKnown J (HoldsLast entries) h.answered = sound_more IsKnown J J (Allows IsAllowed) (HoldsLast entries) h.answered (λ begun configured request chosen is. is) (λ k. record { allows = k; is = last }) at in
       let now : h.answered.book.ledger.entry ≡ length entries = answers.writes.entry ∙ before.writes.entry ∙ sym (length-append es (x ∷ [])) in
       let settles : Law J (HoldsLast entries) (length entries) h.answered (settling.settled h.answered) = settle (Law J (HoldsLast entries) (length entries)) (law_lifts J (HoldsLast entries) (length entries)) h.answered (law_configured entries) in
-      subst (λ (y : StateSeen). SoundIn IsSound J (HoldsLast entries) y) (sym h.settles) (settles.sound now known)
+      (subst (λ (y : StateSeen). SoundIn IsKnown J (HoldsLast entries) y) (sym h.settles) (settles.sound now fits_at known), subst FitsIn (sym h.settles) (settles.fits now fits_at known))
+
+  -- where the event finds the channel: the calls whose deadline has come have ended
+  pub sound_overdue : (es : List Entry) (m w : ℕ) (old : StateSeen) → old.book.moment ≤ m → old.book.ledger.entry ≤ length es + 1 → FitsIn old → SoundIn IsKnown (IsChosen es) (HoldsLast es) old → SoundIn IsKnown (IsChosen es) (HoldsLast es) (overdue_ended (begun_at (length es + 1) m w old))
+  sound_overdue es m w old le lt fitted sound =
+      let n : ℕ = length es + 1 in
+      let first : StateSeen = begun_at n m w old in
+      let began : SoundIn IsKnown (IsChosen es) (HoldsLast es) first = lifts_later IsAllowed FairNews IsKnown (known_law laws) known_owner laws.calls.leaves laws.calls.ended laws.settles known_kept (λ y row told fair. fair) (IsChosen es) (HoldsLast es) n m n w old le lt sound in
+      let fits : FitsIn first = fitted in
+      let before : Law (IsChosen es) (HoldsLast es) n first (overdue_ended first) = overdue (Law (IsChosen es) (HoldsLast es) n) (law_lifts (IsChosen es) (HoldsLast es) n) first in
+      before.sound refl fits began
+
+  -- and what the event leaves, before the channel settles
+  pub sound_answered : (es : List Entry) (x : Entry) (m w : ℕ) (old new : StateSeen) (r : Reply) → old.book.moment ≤ m → old.book.ledger.entry ≤ length es + 1 → (h : applying.Stepped (length es + 1) m w x.event old new r) → FitsIn old → SoundIn IsKnown (IsChosen es) (HoldsLast es) old → SoundIn IsKnown (IsChosen (es ++ x ∷ [])) (Allows IsAllowed) h.answered
+  sound_answered es x m w old new r le lt h fitted sound =
+      let n : ℕ = length es + 1 in
+      let J : ℕ → Option ℕ → RequestSeen → Option Chosen → Type 0 = IsChosen (es ++ x ∷ []) in
+      let first : StateSeen = begun_at n m w old in
+      let s : StateSeen = overdue_ended first in
+      let c : Carries (Law J (Allows IsAllowed) n) = law_lifts J (Allows IsAllowed) n in
+      let began : SoundIn IsKnown (IsChosen es) (HoldsLast es) first = lifts_later IsAllowed FairNews IsKnown (known_law laws) known_owner laws.calls.leaves laws.calls.ended laws.settles known_kept (λ y row told fair. fair) (IsChosen es) (HoldsLast es) n m n w old le lt sound in
+      let weak : SoundIn IsKnown J (Allows IsAllowed) first = sound_more IsKnown (IsChosen es) J (HoldsLast es) (Allows IsAllowed) first (λ begun configured request chosen is. is_more es x begun configured request chosen is) (λ k. k.allows) began in
+      let fits : FitsIn first = fitted in
+      let before : Law J (Allows IsAllowed) n first s = overdue (Law J (Allows IsAllowed) n) c first in
+      let answers : Law J (Allows IsAllowed) n s h.answered = answered (Law J (Allows IsAllowed) n) c (applying.refusal_of x.event s) x.event s h.answered r (law_event es x x.event refl) h.answers in
+      answers.sound before.writes.entry (before.fits refl fits weak) (before.sound refl fits weak)
 
   pub knows_step : (old new : CoreSeen) (s : Stamped) (r : Reply) → Steps old new s r → Knows old → Knows new
   knows_step old new s r h k =
@@ -203,9 +235,10 @@ module _ (laws : CallLaws) where
       let next : old.state.book.ledger.entry ≤ n = (let e = k.entry in omega (arith, e)) in
       let w : Writes (begun_at n m s.word old.state) new.state = carried Writes writes n m s.word s.event old.state new.state r writes_configured (begins s.event) h.by in
       let longer : length new.journal.entries ≡ length es + 1 = ap (λ (l : List Entry). length l) h.journal ∙ length-append es (x ∷ []) in
-      let sound : SoundIn IsSound (IsChosen (es ++ x ∷ [])) (HoldsLast (es ++ x ∷ [])) new.state = sound_after es x m s.word old.state new.state r refl late next h.by k.sound in
+      let after = sound_after es x m s.word old.state new.state r refl late next h.by k.fits k.sound in
       record {
-        sound = subst (λ (l : List Entry). SoundIn IsSound (IsChosen l) (HoldsLast l) new.state) (sym h.journal) sound;
+        sound = subst (λ (l : List Entry). SoundIn IsKnown (IsChosen l) (HoldsLast l) new.state) (sym h.journal) after.0;
+        fits = after.1;
         moment = w.moment ∙ sym (last_more 0 es x) ∙ sym (ap (λ (l : List Entry). last_from 0 l) h.journal);
         entry = (let a : new.state.book.ledger.entry ≡ n = w.entry in omega (arith, a, longer));
       }
@@ -226,16 +259,23 @@ no_row (suc i) row e = (cc)
 pub knows_new : (authority : List ℕ) (core : CoreSeen) → IsNew authority core → Knows core
 unfolding last_from
 knows_new authority core is =
-    let none : SoundIn IsSound (IsChosen []) (HoldsLast []) (new_state is.0 authority is.1) = record {
+    let none : SoundIn IsKnown (IsChosen []) (HoldsLast []) (new_state is.0 authority is.1) = record {
       each = λ k slot e. absurd (none_at k slot e);
       owned = λ place row e. absurd (no_row place row e);
       count = refl;
       tied = λ k slot record_of e r. absurd (none_at k slot e);
       knows = record { allows = tt; is = refl };
     } in
-    let state : SoundIn IsSound (IsChosen []) (HoldsLast []) core.state = subst (λ (s : StateSeen). SoundIn IsSound (IsChosen []) (HoldsLast []) s) (sym is.2.state) none in
+    let state : SoundIn IsKnown (IsChosen []) (HoldsLast []) core.state = subst (λ (s : StateSeen). SoundIn IsKnown (IsChosen []) (HoldsLast []) s) (sym is.2.state) none in
+    let first : FitsIn (new_state is.0 authority is.1) = record {
+      least = omega arith;
+      each = λ k slot e. absurd (none_at k slot e);
+      last = tt;
+      known = tt;
+    } in
     record {
-      sound = subst (λ (l : List Entry). SoundIn IsSound (IsChosen l) (HoldsLast l) core.state) (sym is.2.journal) state;
+      sound = subst (λ (l : List Entry). SoundIn IsKnown (IsChosen l) (HoldsLast l) core.state) (sym is.2.journal) state;
+      fits = subst FitsIn (sym is.2.state) first;
       moment = ap (λ (s : StateSeen). s.book.moment) is.2.state ∙ sym (ap (λ (l : List Entry). last_from 0 l) is.2.journal);
       entry = (let e : core.state.book.ledger.entry ≡ 0 = ap (λ (s : StateSeen). s.book.ledger.entry) is.2.state in omega (arith, e));
     }

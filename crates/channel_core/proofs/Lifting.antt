@@ -23,7 +23,7 @@ use Rattle.channel_core.specs.declared.state.slots.CallSlot.{CallSlot}
 use Rattle.channel_core.specs.Books.{fresh_slot}
 use Rattle.channel_core.specs.Tables.{Acted, acted, acted_as, acted_at, acted_on, changed_slot, changed_slot_at, changed_slot_on, numbered, with_call}
 use Rattle.channel_core.proofs.BookLaws.{number_changed, number_other}
-use Rattle.channel_core.proofs.Calls.{IsCallLaw, IsLeftAt, IsLeftRow, LeavesRows, Nothing, WasLeftAt, bare, bare_same}
+use Rattle.channel_core.proofs.Calls.{IsCallLaw, IsLeftAt, IsLeftRow, LeavesRows, WasLeftAt, bare, bare_same}
 use Rattle.channel_core.proofs.Carrying.{changed_length}
 use Rattle.channel_core.proofs.OwnRows.{OwnBut}
 use Rattle.channel_core.proofs.Recording.{LeavesOthers}
@@ -40,7 +40,7 @@ others_left n k rows after own off = record {
 }
 
 -- so are all rows, where one gets a stream
-at_number : (rows : List Row) (place : ℕ) → row_in rows place ≡ numbered rows place
+pub at_number : (rows : List Row) (place : ℕ) → row_in rows place ≡ numbered rows place
 at_number rows zero = refl
 at_number rows (suc index) = refl
 
@@ -82,7 +82,7 @@ streams_left k stream rows p = record {
 }
 
 -- writes into the table are changes at a number
-set_changed : {X : Type 0} (xs : List X) (index : ℕ) (v : X) → slice_set xs index v ≡ changed (λ x. v) xs index
+pub set_changed : {X : Type 0} (xs : List X) (index : ℕ) (v : X) → slice_set xs index v ≡ changed (λ x. v) xs index
 set_changed [] index v = refl
 set_changed (x ∷ xs) zero v = refl
 set_changed (x ∷ xs) (suc index) v = ap (λ l. x ∷ l) (set_changed xs index v)
@@ -100,11 +100,11 @@ slot_on : (f : CallSlot → CallSlot) (calls : List CallSlot) (o : Option ℕ) �
 slot_on f calls None = refl
 slot_on f calls (Some k) = slot_there f calls k
 
-put_slot : (f : CallSlot → CallSlot) (calls : List CallSlot) (n : ℕ) → changed_slot f calls n ≡ changed_at f calls n
+pub put_slot : (f : CallSlot → CallSlot) (calls : List CallSlot) (n : ℕ) → changed_slot f calls n ≡ changed_at f calls n
 put_slot f calls n = slot_on f calls (index_at n (length calls))
 
 -- what stands at a number after such a change
-slot_was : (g : CallSlot → CallSlot) (o : Option CallSlot) (new : CallSlot) → option_map g o ≡ Some new → (old : CallSlot) × ((o ≡ Some old) × (new ≡ g old))
+pub slot_was : (g : CallSlot → CallSlot) (o : Option CallSlot) (new : CallSlot) → option_map g o ≡ Some new → (old : CallSlot) × ((o ≡ Some old) × (new ≡ g old))
 slot_was g None new e = absurd (cc)
 slot_was g (Some old) new e = (old, (refl, (cc)))
 
@@ -120,7 +120,7 @@ some_changed g calls n k =
     ]
 
 -- the element of a list that has grown by one
-got_more : {X : Type 0} (xs : List X) (x : X) (i : ℕ) (y : X) → slice_get (xs ++ x ∷ []) i ≡ Some y → ((i ≡ length xs) × (y ≡ x)) ⊎ (slice_get xs i ≡ Some y)
+pub got_more : {X : Type 0} (xs : List X) (x : X) (i : ℕ) (y : X) → slice_get (xs ++ x ∷ []) i ≡ Some y → ((i ≡ length xs) × (y ≡ x)) ⊎ (slice_get xs i ≡ Some y)
 got_more [] x zero y e = inl (refl, (cc))
 got_more [] x (suc i) y e = absurd (cc)
 got_more (z ∷ xs) x zero y e = inr e
@@ -198,8 +198,8 @@ pub record DoesOne (P : ℕ → ℕ → Stepped → Type 0) (J : ℕ → Option 
   pub as_many : length t.ledger.calls ≡ length s.ledger.calls
   pub record_of : (seen : CallSeen) → numbered s.ledger.calls s.call.number ≡ Some seen → IsTied J s.call seen → HasRecord J s.call.number t
 
--- the law of each call, the rows of which are those of calls
-module _ (C : Chosen → Type 0) (T : Stepped → ℕ → News → Type 0) (P : ℕ → ℕ → Stepped → Type 0) (law : IsCallLaw C T Nothing P) (J : ℕ → Option ℕ → RequestSeen → Option Chosen → Type 0) (K : Option Config → Type 0) where
+-- the law of each call, the rows of which are those of calls; `A` is known of what is lent to a call
+module _ (C : Chosen → Type 0) (T : Stepped → ℕ → News → Type 0) (A P : ℕ → ℕ → Stepped → Type 0) (known_bare : (m n : ℕ) (c : CallState) (rows : List Row) → A m n (bare c rows)) (law : IsCallLaw C T A P) (J : ℕ → Option ℕ → RequestSeen → Option Chosen → Type 0) (K : Option Config → Type 0) where
   module _ (m n : ℕ) (f : Stepped → Stepped) (calls : List CallSlot) (number : ℕ) (l : Ledger) (tokens : Option Bucket) (held : Option Config) (does : (slot : CallSlot) → numbered calls number ≡ Some slot → P m n (lent slot.call l tokens []) → DoesOne P J m n (lent slot.call l tokens []) (f (lent slot.call l tokens []))) (h : Sound P J K m n calls l.rows l.calls held) where
     abbrev DoneBy : Acted → Type 0
     DoneBy a = Sound P J K m n a.calls a.ledger.rows a.ledger.calls held
@@ -230,7 +230,7 @@ module _ (C : Chosen → Type 0) (T : Stepped → ℕ → News → Type 0) (P : 
       each_at k new e (inr off) =
           let old : OfCall P m n k new.call l.rows = h.each k new (sym (number_other put calls number k off) ∙ e) in
           let far : new.call.number ≡ slot.call.number → ⊥ = λ same. off (sym old.number_is ∙ same ∙ own_call.number_is) in
-          record { number_is = old.number_is; holds = law.elsewhere m n new.call l.rows (f before).ledger.rows (others_left slot.call.number new.call.number l.rows (f before).ledger.rows done.rows far) tt old.holds }
+          record { number_is = old.number_is; holds = law.elsewhere m n new.call l.rows (f before).ledger.rows (others_left slot.call.number new.call.number l.rows (f before).ledger.rows done.rows far) (known_bare m n new.call l.rows) old.holds }
 
       owned_at : (place : ℕ) (row : Row) → row_in (f before).ledger.rows place ≡ Some row → (row.call ≡ slot.call.number) ⊎ (row.call ≡ slot.call.number → ⊥) → is_some (numbered calls row.call) ≡ true
       owned_at place row e (inl mine) = ap (λ (k : ℕ). is_some (numbered calls k)) (mine ∙ own_call.number_is) ∙ ap is_some is
@@ -318,7 +318,7 @@ module _ (C : Chosen → Type 0) (T : Stepped → ℕ → News → Type 0) (P : 
   sound_streamed m n stream calls rows p seen held h = record {
     each = λ k slot e.
         let old : OfCall P m n k slot.call rows = h.each k slot e in
-        record { number_is = old.number_is; holds = law.elsewhere m n slot.call rows (changed_at (streamed_row stream) rows p) (streams_left slot.call.number stream rows p) tt old.holds };
+        record { number_is = old.number_is; holds = law.elsewhere m n slot.call rows (changed_at (streamed_row stream) rows p) (streams_left slot.call.number stream rows p) (known_bare m n slot.call rows) old.holds };
     owned = λ place row e.
         let was = streamed_call row.call stream rows p place row e in
         ap (λ (k : ℕ). is_some (numbered calls k)) (sym was.1.1) ∙ h.owned place was.0 was.1.0;

@@ -274,7 +274,7 @@ share_is window initial g place s live (Some y) un other h =
     let none : place - place ≡ 0 = omega arith in
     (omega arith, ap (λ (n : ℕ). slice_get (s ∷ live) n) none, un y refl)
 
-sender_is : (window initial : ℕ) (g : ℕ → Line) (place : ℕ) (live : List LiveStream) → IfSome (sender window initial g place live) (λ x. (place ≤ x.place) × (slice_get live (x.place - place) ≡ Some x.stream) × (x.stream.finished ≡ false))
+pub sender_is : (window initial : ℕ) (g : ℕ → Line) (place : ℕ) (live : List LiveStream) → IfSome (sender window initial g place live) (λ x. (place ≤ x.place) × (slice_get live (x.place - place) ≡ Some x.stream) × (x.stream.finished ≡ false))
 sender_is window initial g place [] = tt
 sender_is window initial g place (s ∷ live) =
     share_is window initial g place s live (share_of window initial s (length (g s.tag).left) (g s.tag).finished) (λ y is. unfinished_by s.finished _ y is) (sender window initial g (place + 1) live) (sender_is window initial g (place + 1) live)

@@ -15,7 +15,7 @@ use Rattle.call_core.specs.Steps.{Stepped, lent}
 use Rattle.channel_core.specs.declared.state.book.Book.{Book}
 use Rattle.channel_core.specs.declared.state.links.LinkSlot.{LinkSlot}
 use Rattle.channel_core.specs.declared.state.slots.CallSlot.{CallSlot}
-use Rattle.channel_core.specs.Books.{link_at}
+use Rattle.channel_core.specs.Books.{bucket_set, link_at}
 use Rattle.channel_core.specs.States.{StateSeen}
 use Rattle.channel_core.specs.Steps as step
 use Rattle.channel_core.specs.Steps.{has_outstanding, is_gone, is_of_shut_sub, next_word, stamped_gone, with_ledger_links}
@@ -248,7 +248,9 @@ stays k = record {
   made = λ number s. does k (call.made_due s.book.moment) number _ s _ refl refl (λ x e. (quiet_due s.book.moment x).links);
   heard = λ row told number s. does k (call.heard_news row told s.book.moment (next_word s)) number _ s _ refl refl (λ x e. (quiet_news row told s.book.moment (next_word s) x).links);
   failed = λ row number s. does k (call.pick_failed row s.book.moment (next_word s)) number _ s _ refl refl (λ x e. (quiet_ended_at row pick_end s.book.moment (next_word s) x).links);
-  configured = λ chosen number s is. does k (call.configured chosen s.book.moment) number _ s _ refl refl (λ x e. (quiet_configured chosen s.book.moment x).links);
+  configured = λ chosen number s is.
+      let calls : List CallSlot = bucket_set number s.book in
+      stays_same k s _ refl (one_on (call.configured chosen s.book.moment) calls s.book.ledger None (index_at number (length calls)) (λ x e. (quiet_configured chosen s.book.moment x).links));
   placed = λ row limit at number s entry moment.
       let t : StateSeen = with_links (changed_at (with_link (placed_link row limit)) s.links at.link) s in
       stays_joined k s t _ (slot_kept k at.link (with_link (placed_link row limit)) s (λ x. refl) (λ x. refl))

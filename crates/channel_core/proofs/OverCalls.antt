@@ -28,6 +28,7 @@ use Rattle.channel_core.proofs.Timely.{Quiet, quiet_closed_by, quiet_configured,
 pub record IsStampedBy (n : ℕ) (row : Row) : Type 0 where
   pub placed : IfSome row.placed (λ p. p.entry ≤ n)
   pub ended : IfSome row.ended (λ e. e.entry ≤ n)
+  pub committed : IfSome row.committed (λ e. e ≤ n)
 
 -- a row that was placed was so, and ended, by this entry
 abbrev pub IsBy : ℕ → Row → Type 0
@@ -51,10 +52,10 @@ was_none at n None b w e = refl
 was_none at n (Some x) b w e = absurd (let both : Some x ≡ None = sym w ∙ e in (let never : ⊥ = (cc) in never))
 
 stamps_old : (n : ℕ) (x y : Row) → LaterRow n x y → IsStampedBy n x → IsStampedBy n y
-stamps_old n x y l h = record { placed = by_now (λ p. p.entry) n x.placed y.placed l.stamps.placed h.placed; ended = by_now (λ e. e.entry) n x.ended y.ended l.stamps.ended h.ended }
+stamps_old n x y l h = record { placed = by_now (λ p. p.entry) n x.placed y.placed l.stamps.placed h.placed; ended = by_now (λ e. e.entry) n x.ended y.ended l.stamps.ended h.ended; committed = by_now (λ e. e) n x.committed y.committed l.stamps.committed h.committed }
 
 stamps_at : (n k : ℕ) (rows : List Row) (place : ℕ) (y : Row) (o : Option Row) → row_in rows place ≡ o → GrewAt (LaterRow n) (NewRow n) o y → y.call ≡ k → ((x : Row) → IsRowOf k rows place x → IsStampedBy n x) → IsStampedBy n y
-stamps_at n k rows place y None e later mine h = record { placed = by_now (λ p. p.entry) n None y.placed later.stamps.placed tt; ended = by_now (λ e. e.entry) n None y.ended later.stamps.ended tt }
+stamps_at n k rows place y None e later mine h = record { placed = by_now (λ p. p.entry) n None y.placed later.stamps.placed tt; ended = by_now (λ e. e.entry) n None y.ended later.stamps.ended tt; committed = by_now (λ e. e) n None y.committed later.stamps.committed tt }
 stamps_at n k rows place y (Some x) e later mine h = stamps_old n x y later (h x (record { there = e; call = sym later.call ∙ mine }))
 
 -- a row was there and was placed
@@ -195,7 +196,7 @@ module _ (n place : ℕ) (row : LiveRow) (at : Placed) (s : Stepped) (found : fi
       let none : standing.row.placed ≡ None = unplaced standing.row.placed row.link free standing.placed in
       let written_at : stamped at standing.row.placed ≡ Some at = ap (λ (o : Option Placed). stamped at o) none in
       let mine : at.entry ≤ n = omega (arith, now) in
-      let new : IsStampedBy n (placed_row at standing.row) = record { placed = subst (λ (o : Option Placed). IfSome o (λ p. p.entry ≤ n)) (sym written_at) mine; ended = old.ended } in
+      let new : IsStampedBy n (placed_row at standing.row) = record { placed = subst (λ (o : Option Placed). IfSome o (λ p. p.entry ≤ n)) (sym written_at) mine; ended = old.ended; committed = old.committed } in
       subst (λ (r : Row). IsStampedBy n r) (sym same) new
   stamps_placed q y is (inr off) = h.stamps q y (record { there = sym (place_other (placed_row at) s.ledger.rows row.place q off) ∙ is.there; call = is.call })
 
@@ -243,8 +244,8 @@ module _ (C : Chosen → Type 0) (T : Stepped → ℕ → News → Type 0) (A : 
   left_by entry old new placed ended h =
       subst (λ (p : Option Placed). IfSome p (λ x. (x.entry ≤ entry) × EndedBy entry new.ended)) (sym placed) (subst (λ (e : Option RowEnd). IfSome old.placed (λ x. (x.entry ≤ entry) × EndedBy entry e)) (sym ended) h)
 
-  left_stamps : (n : ℕ) (old new : Row) → new.placed ≡ old.placed → new.ended ≡ old.ended → IsStampedBy n old → IsStampedBy n new
-  left_stamps n old new placed ended h = record { placed = subst (λ (p : Option Placed). IfSome p (λ x. x.entry ≤ n)) (sym placed) h.placed; ended = subst (λ (e : Option RowEnd). IfSome e (λ x. x.entry ≤ n)) (sym ended) h.ended }
+  left_stamps : (n : ℕ) (old new : Row) → new.placed ≡ old.placed → new.ended ≡ old.ended → new.committed ≡ old.committed → IsStampedBy n old → IsStampedBy n new
+  left_stamps n old new placed ended committed h = record { placed = subst (λ (p : Option Placed). IfSome p (λ x. x.entry ≤ n)) (sym placed) h.placed; ended = subst (λ (e : Option RowEnd). IfSome e (λ x. x.entry ≤ n)) (sym ended) h.ended; committed = subst (λ (e : Option ℕ). IfSome e (λ x. x ≤ n)) (sym committed) h.committed }
 
   later_stamp : {X : Type 0} (at : X → ℕ) (n l : ℕ) (o : Option X) → n ≤ l → IfSome o (λ x. at x ≤ n) → IfSome o (λ x. at x ≤ l)
   later_stamp at n l None le h = tt
@@ -258,14 +259,14 @@ module _ (C : Chosen → Type 0) (T : Stepped → ℕ → News → Type 0) (A : 
       before = λ place other entry row next a c b free. absurd (none place row a.there a.call);
     };
     elsewhere = λ m n c rows after leaves a h. record {
-      stamps = λ place row is. (let at : WasLeftAt c.number rows place row = leaves.back place row is in left_stamps n at.row row at.left.placed at.left.ended (h.stamps place at.row at.is));
+      stamps = λ place row is. (let at : WasLeftAt c.number rows place row = leaves.back place row is in left_stamps n at.row row at.left.placed at.left.ended at.left.committed (h.stamps place at.row at.is));
       before = λ place other entry row next x committed b free.
           let first : WasLeftAt c.number rows place row = leaves.back place row x in
           let second : WasLeftAt c.number rows other next = leaves.back other next b in
           left_by entry second.row next second.left.placed second.left.ended (h.before place other entry first.row second.row first.is (sym first.left.committed ∙ committed) second.is (sym second.left.committed ∙ free));
     };
     later = λ m n k l s le lt h. record {
-      stamps = λ place row is. (let old = h.stamps place row is in record { placed = later_stamp (λ p. p.entry) n l row.placed lt old.placed; ended = later_stamp (λ e. e.entry) n l row.ended lt old.ended });
+      stamps = λ place row is. (let old = h.stamps place row is in record { placed = later_stamp (λ p. p.entry) n l row.placed lt old.placed; ended = later_stamp (λ e. e.entry) n l row.ended lt old.ended; committed = later_stamp (λ e. e) n l row.committed lt old.committed });
       before = h.before;
     };
     to_bare = λ m n s h. bare_over n s (bare s.call s.ledger.rows) refl refl h;

@@ -36,7 +36,7 @@ going_law C T A does begun same = record {
 abbrev pub ReasonsLaw : ℕ → ℕ → Stepped → Type 0
 ReasonsLaw m n s = HasReasons s
 
-kept_row : (old new : Row) → IsLeftRow old new → IsKeptRow old new
+pub kept_row : (old new : Row) → IsLeftRow old new → IsKeptRow old new
 kept_row old new l = record { call = l.call; number = l.number; kind = l.kind; due = l.due; placed = λ at e. l.placed ∙ e; ended = λ end e. l.ended ∙ e }
 
 reasons_kept : (c : ℕ) (rows after : List Row) → LeavesRows c rows after → KeepsReasons c rows after

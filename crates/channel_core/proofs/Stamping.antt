@@ -21,6 +21,7 @@ use Rattle.call_core.specs.Steps.{Stepped, lent}
 use Rattle.channel_core.specs.declared.state.book.Book.{Book}
 use Rattle.channel_core.specs.declared.state.slots.CallSlot.{CallSlot}
 use Rattle.channel_core.specs.Applying as applying
+use Rattle.channel_core.specs.Books.{bucket_set}
 use Rattle.channel_core.specs.States.{StateSeen}
 use Rattle.channel_core.specs.Steps.{next_word}
 use Rattle.channel_core.specs.Tables.{acted, acted_at, acted_on}
@@ -151,7 +152,7 @@ joined s t u first second = record { writes = then_writes s t u first.writes sec
 pub keeps : Carries Keeps
 keeps = record {
   joined = joined;
-  beside = λ s t book held links. leaves s t links (ap (λ (b : Book). b.moment) book) (ap (λ (b : Book). b.ledger) book);
+  beside = λ s t book held links shut. leaves s t links (ap (λ (b : Book). b.moment) book) (ap (λ (b : Book). b.ledger) book);
   timed_out = λ number s. does (call.timed_out s.book.moment) number _ s _ refl refl refl (λ x e. quiet_timed_out s.book.moment x);
   closed = λ why number s by. does (call.closed_by why s.book.moment) number _ s _ refl refl refl (λ x e. quiet_closed_by why s.book.moment x);
   sent = λ message number s. does (call.sent message s.book.moment) number _ s _ refl refl refl (λ x e. quiet_sent message s.book.moment x);
@@ -174,7 +175,8 @@ keeps = record {
 }
 
 pub keeps_configured : Configures Keeps
-keeps_configured = λ chosen number s is. does (call.configured chosen s.book.moment) number _ s _ refl refl refl (λ x e. quiet_configured chosen s.book.moment x)
+keeps_configured = λ chosen number s is.
+    kept s _ refl refl (one (Quiet s.book.moment) (quiet_same s.book.moment) (call.configured chosen s.book.moment) (bucket_set number s.book) number s.book.ledger None (λ c. quiet_configured chosen s.book.moment (lent c s.book.ledger None [])))
 
 pub keeps_held : (text : Option (List ℕ)) → Holds Keeps text
 keeps_held text = λ config kinds s is. leaves s _ refl refl refl

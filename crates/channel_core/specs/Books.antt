@@ -133,19 +133,18 @@ asked_in f call bucket b =
 abbrev pub book_asked : (Stepped → Stepped) → ℕ → Book → BookActs
 book_asked f call b = asked_in f call (bucket_at (slot_at b call)) b
 
--- the configuration: the call's bucket is that of the config that is held
-abbrev pub configured_in : Acted → ℕ → Book → BookActs
-configured_in a call b = record {
-  book = record b { calls = changed_slot (with_bucket (last_run b.buckets)) a.calls call; ledger = a.ledger };
-  acts = a.acts;
-}
-
-abbrev pub book_configured : Chosen → ℕ → Book → BookActs
-book_configured chosen call b = configured_in (acted (configured chosen b.moment) b.calls call b.ledger None) call b
-
--- a placing has no tokens to look at
+-- the same, where there are no tokens to look at
 abbrev pub placed_in_book : Acted → Book → BookActs
 placed_in_book a b = record { book = record b { calls = a.calls; ledger = a.ledger }; acts = a.acts }
+
+-- the configuration: the bucket of a call that has none yet is that of the config that is held
+abbrev pub bucket_set : ℕ → Book → List CallSlot
+bucket_set call b = changed_slot (with_bucket (last_run b.buckets)) b.calls call
+
+abbrev pub book_configured : Chosen → ℕ → Book → BookActs
+book_configured chosen call b = placed_in_book (acted (configured chosen b.moment) (bucket_set call b) call b.ledger None) b
+
+-- a placing
 
 abbrev pub book_placed : ℕ → Placed → ℕ → Book → BookActs
 book_placed row at call b = placed_in_book (acted (step.placed_at row at) b.calls call b.ledger None) b

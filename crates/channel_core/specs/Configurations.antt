@@ -1,5 +1,5 @@
 -- Which configuration each call has, by the journal (gRPC, "Service Config in gRPC").
-use Rattle.std.specs.Prelude.{◌≡◌, ℕ, zero, suc, Option, Some, None, List, [], ◌∷◌, Result, Ok, Err, take}
+use Rattle.std.specs.Prelude.{ℕ, Option, Some, None, List, [], ◌∷◌, Result, Ok, Err, take}
 use Rattle.std.specs.Option.{option_map, option_or}
 use Rattle.grpc_base.specs.Requests.{RequestSeen, names_of_path}
 use Rattle.grpc_base.specs.declared.event.Entry.{Entry}
@@ -18,7 +18,6 @@ use Rattle.config_values.specs.declared.place.Object.TheVariants as object
 use Rattle.service_config.specs.Choice.{entry_for, taken}
 use Rattle.service_config.specs.Entries.{methods_in}
 use Rattle.service_config.specs.declared.config.Method.{Method}
-use Rattle.channel_core.specs.Tables.{numbered}
 
 -- what a config says of calls: its methods and its throttling; which policies balance it is another matter
 pub record Settings : Type 0 where

@@ -12,13 +12,20 @@ use Rattle.attempt_ledger.specs.declared.ledger.Ledger.{Ledger}
 use Rattle.attempt_ledger.specs.declared.ledger.LinkSeen.{LinkSeen}
 use Rattle.attempt_ledger.specs.declared.row.Row.{Row}
 use Rattle.channel_core.specs.Attempts.{AreAttempts}
+use Rattle.channel_core.specs.CallAnswers.{AreAnswered}
+use Rattle.channel_core.specs.Cancels.{AreCancelled}
 use Rattle.channel_core.specs.CallEnds.{AreEnded}
 use Rattle.channel_core.specs.Commitments.{AreCommittedOnce}
 use Rattle.attempt_ledger.specs.Journals.{received, sent}
+use Rattle.channel_core.specs.Finishes.{AreFinished}
 use Rattle.channel_core.specs.Losses.{AreOver}
 use Rattle.channel_core.specs.Reads.{IsReadOf}
 use Rattle.channel_core.specs.Rooms.{AreWithinRoom}
+use Rattle.channel_core.specs.RowLaws.{KeepRowLaw}
+use Rattle.channel_core.specs.Shutdowns.{AreShut}
+use Rattle.channel_core.specs.StreamRows.{AreStreamsOf}
 use Rattle.channel_core.specs.Tables.{numbered}
+use Rattle.channel_core.specs.Takes.{AreTaken, AreTakenOnce}
 use Rattle.channel_core.specs.Wires.{IsSentOn}
 
 -- moments never fall, from one on
@@ -96,14 +103,38 @@ pub record IsLawful (entries : List Entry) (ledger : Ledger) : Type 0 where
   pub links : length ledger.links ≤ 4294967295 → told_from link_told 1 entries ≡ counted_from 1 (map (λ l. l.up) ledger.links)
   -- attempts: those of each call are numbered, of its plan's kinds, and at most as many as the plan allows
   pub attempts : AreAttempts entries ledger
+  -- numbering: each call's rows are numbered, of its plan's kinds, and in order; a row with a stream is placed, and one that ended
+  -- unplaced ended by its pick
+  pub numbering : KeepRowLaw 8 entries ledger
+  -- hedging: no hedge is due before what makes it due, nor after an end that stops hedging
+  pub hedging : KeepRowLaw 10 entries ledger
   -- commitments: each call is committed to one attempt at most, and from then on no row of another one is outstanding
   pub commitments : AreCommittedOnce ledger
   -- ends: no row of a call that ended is outstanding, and one that ended by a row has a committed row that ended
   pub ends : AreEnded ledger
+  -- throttling: the count of tokens after each end of a call's rows is one that the bucket of the call's config can have
+  pub throttling : KeepRowLaw 12 entries ledger
+  -- retries: each follows an end that licenses it, when that is due; and an end that counts and licenses nothing commits its row
+  pub retries : KeepRowLaw 9 entries ledger
+  -- taking: no Take behind the end of a call is told that nothing is there yet, and the end that a Take tells is the call's, with code,
+  -- text and metadata of the end of its committed row, or with the code of its cause alone
+  pub takes : AreTaken entries ledger
+  -- and the end of a call is taken once
+  pub once : AreTakenOnce entries
+  -- applications: no Send, Finish or Cancel behind the end of its call is taken, and one is refused for it only from the end on
+  pub answers : AreAnswered entries ledger
+  -- finishing: behind a Finish that is done each Send and each further Finish of its call is refused
+  pub finishes : AreFinished entries
+  -- shutting down: behind a Shutdown all but a Take, a Tick and a further Shutdown is refused, and from it on the channel is in SHUTDOWN
+  pub shutdowns : AreShut entries
+  -- cancelling: a Cancel that is done ends its call in this entry, with the cause of a Cancel
+  pub cancels : AreCancelled entries ledger
   -- reading: of what arrived on a link the ledger counts whole frames, and all of them while the link is not gone
   pub reads : (number : ℕ) (link : LinkSeen) → numbered ledger.links number ≡ Some link → length (received number entries) ≤ 18446744073709551615 → IsReadOf (received number entries) link
   -- sending: what was drained on a link is the client's preface and SETTINGS, and then frames that keep the order of streams
   pub sends : (number : ℕ) → IsSentOn (sent number entries)
+  -- streams: what was sent on a link opens one stream for each row that was placed on it and has one, in this order
+  pub streams : (number : ℕ) → AreStreamsOf (sent number entries) ledger.rows number
   -- losses: on a link that was lost nothing happens any more
   pub losses : AreOver [] entries
   -- room: a drain gives no more bytes than it has room, and at most 1,048,576

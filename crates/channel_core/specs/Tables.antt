@@ -115,8 +115,9 @@ with_timers due deadline slot = record slot { due = due; deadline = deadline }
 abbrev pub without_due : CallSlot → CallSlot
 without_due slot = record slot { due = None }
 
+-- the bucket of a call that has no configuration yet
 abbrev pub with_bucket : ℕ → CallSlot → CallSlot
-with_bucket bucket slot = record slot { bucket = bucket }
+with_bucket bucket slot = record slot { bucket = if is_some slot.call.chosen then slot.bucket else bucket }
 
 -- the buckets, one for each run of configs with equal throttling, behind that of calls without a configuration
 pub record BucketsSeen : Type 0 where

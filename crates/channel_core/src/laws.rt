@@ -8,8 +8,9 @@ ghost use Rattle.channel_core.specs.Laws.{IsLawful};
 
 use call_core::{
     attempts_are_numbered, calls_are_committed_once, calls_are_kept, calls_go_on, ended_calls_stay,
-    live_rows_stand, outstanding_rows_are_live, rows_are_chained, rows_have_reasons,
-    takes_leave_rows,
+    live_rows_stand, outstanding_rows_are_live, rows_are_chained, rows_are_in_order,
+    rows_have_reasons, rows_keep_hedging, rows_keep_numbering, rows_keep_retries,
+    rows_keep_throttling, takes_leave_rows, tokens_count_ends,
 };
 
 /// A law for proofs: a step changes the ledger only as one entry can, and journal and ledger of a channel are lawful whatever events
@@ -27,5 +28,11 @@ pub fn channels_are_lawful()
     calls_are_committed_once();
     calls_go_on();
     rows_have_reasons();
+    rows_are_in_order();
+    rows_keep_hedging();
+    rows_keep_numbering();
     takes_leave_rows();
+    tokens_count_ends();
+    rows_keep_throttling();
+    rows_keep_retries();
 }

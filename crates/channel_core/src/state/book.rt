@@ -272,11 +272,9 @@ impl Book {
         ensures book { OnOk result (self.new ≡ (book_configured chosen call self.old).book) }
         ensures acts { IfOk result (λ acts. acts ≡ (book_configured chosen call self.old).acts) }
     {
-        let acts = self
-            .calls
-            .configure(call, &mut self.ledger, chosen, self.moment)?;
         self.calls.set_bucket(call, self.buckets.last());
-        Ok(acts)
+        self.calls
+            .configure(call, &mut self.ledger, chosen, self.moment)
     }
 
     pub fn close(&mut self, call: u32, cause: EndCause) -> Result<Items<CallAct>, NoMemory>

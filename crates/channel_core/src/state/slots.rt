@@ -305,6 +305,7 @@ impl Slots {
         }
     }
 
+    /// The bucket of a call that has no configuration yet.
     pub fn set_bucket(&mut self, number: u32, bucket: usize)
         ensures { self.new ≡ tables.changed_slot (with_bucket bucket) self.old number }
     {
@@ -346,8 +347,10 @@ fn set_bucket_at(list: &mut Vec<CallSlot>, index: usize, bucket: usize)
     requires { index < length list.old.items }
     ensures { list.new.items ≡ tables.changed_slot_at (with_bucket bucket) list.old.items index (slice_get list.old.items index) }
 {
-    let chosen = &mut list[index];
-    chosen.bucket = bucket;
+    let slot = &mut list[index];
+    if slot.call.chosen().is_none() {
+        slot.bucket = bucket;
+    }
 }
 
 fn send_at(
