@@ -145,7 +145,6 @@ abbrev pub book_configured : Chosen → ℕ → Book → BookActs
 book_configured chosen call b = placed_in_book (acted (configured chosen b.moment) (bucket_set call b) call b.ledger None) b
 
 -- a placing
-
 abbrev pub book_placed : ℕ → Placed → ℕ → Book → BookActs
 book_placed row at call b = placed_in_book (acted (step.placed_at row at) b.calls call b.ledger None) b
 

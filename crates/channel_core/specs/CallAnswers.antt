@@ -1,4 +1,4 @@
--- What an application is told that sends, finishes or cancels: a call refuses it exactly once it has ended.
+-- What an application is told that sends, finishes or cancels: from its end on a call refuses it, and not for its end before.
 use Rattle.std.specs.Prelude.{◌≡◌, ◌≤◌, ℕ, false, Option, Some, None, List}
 use Rattle.grpc_base.specs.declared.event.EndCause.{EndCause}
 use Rattle.grpc_base.specs.declared.event.Entry.{Entry}

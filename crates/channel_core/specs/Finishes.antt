@@ -1,4 +1,4 @@
--- Behind a Finish that is done a call takes nothing more from its application.
+-- Behind a Finish that is done a call takes no message and no further Finish from its application.
 use Rattle.std.specs.Prelude.{◌≡◌, ◌<◌, ℕ, true, Option, Some, None, List}
 use Rattle.grpc_base.specs.declared.event.Entry.{Entry}
 use Rattle.grpc_base.specs.declared.event.Event.{Event}
