@@ -15,8 +15,8 @@ use crate::state::State;
 use bytes::BytesMut;
 use grpc_base::NoMemory;
 use h2_frame::{
-    Frame, FrameHeader, HEADER_SIZE, flags, kinds, write_data, write_frame, write_header, write_ping_ack,
-    write_rst_stream, write_settings, write_settings_ack, write_window_update,
+    Frame, FrameHeader, HEADER_SIZE, flags, kinds, write_data, write_frame, write_header,
+    write_ping_ack, write_rst_stream, write_settings, write_settings_ack, write_window_update,
 };
 use h2_hpack::SIZE_UPDATE_TO_ZERO;
 
