@@ -84,6 +84,7 @@ fn once_of(came: &Result<Reply, PostError>) -> DnsOnce
 fn tell<P: Post>(alloc: Global, post: &mut P, answer: Looked, config: &Option<Octets>) -> DnsOnce
     ensures told { let before : HandleSeen = record { made = P.made post.old; errors = P.errors post.old; last = P.last_error post.old } in let after : HandleSeen = record { made = P.made post.new; errors = P.errors post.new; last = P.last_error post.new } in Tells (event_of answer config.now) before after result }
     ensures looks { (P.looks post.new ≡ P.looks post.old) × (P.last_look post.new ≡ P.last_look post.old) }
+    ensures share { P.share post.new ≡ P.share post.old }
 {
     match event_of(alloc, answer, config) {
         Ok(event) => {
@@ -113,6 +114,7 @@ pub fn dns_once<P: Post + Glance, L: Lookup, C: Clock, D: Draws>(
 ) -> DnsOnce
     ensures turn { let before : JobSeen = record { handle = record { made = P.made post.old; errors = P.errors post.old; last = P.last_error post.old }; search = record { watch = watch.old; lookups = L.lookups lookup.old; faults = L.faults lookup.old; last = L.last lookup.old; words = D.words draws.old } } in let after : JobSeen = record { handle = record { made = P.made post.new; errors = P.errors post.new; last = P.last_error post.new }; search = record { watch = watch.new; lookups = L.lookups lookup.new; faults = L.faults lookup.new; last = L.last lookup.new; words = D.words draws.new } } in (view : View) × (P.last_look post.new ≡ Some (look.Glance view)) × Turns view (C.may_give clock.now) (L.may_find lookup.old) config.now before after result }
     ensures looks { P.looks post.new ≡ one_more (P.looks post.old) }
+    ensures share { P.share post.new ≡ P.share post.old }
 {
     let view = post.glance();
     if is_shut(view.state) {

@@ -73,11 +73,15 @@ pub trait Post {
     /// The last look.
     ghost last_look: { Self → Option Look };
 
+    /// Numbers that name the channel and the share in it that is the handle's. No call changes them.
+    ghost share: { Self → List ℕ };
+
     /// Makes an entry of an event, and answers its reply.
     fn post(&mut self, event: Event) -> Result<Reply, PostError>
         ensures made { Posts (made self.old) (made self.new) event result }
         ensures errors { CountsErrors (errors self.old) (errors self.new) (last_error self.old) (last_error self.new) result }
-        ensures looks { (looks self.new ≡ looks self.old) × (last_look self.new ≡ last_look self.old) };
+        ensures looks { (looks self.new ≡ looks self.old) × (last_look self.new ≡ last_look self.old) }
+        ensures share { share self.new ≡ share self.old };
 }
 
 /// A channel that can be looked at, with no entry made.
@@ -86,25 +90,29 @@ pub trait Glance: Post {
     fn glance(&mut self) -> View
         ensures made { Self.made self.new ≡ Self.made self.old }
         ensures errors { (Self.errors self.new ≡ Self.errors self.old) × (Self.last_error self.new ≡ Self.last_error self.old) }
-        ensures looks { (Self.looks self.new ≡ one_more (Self.looks self.old)) × (Self.last_look self.new ≡ Some (look.Glance result)) };
+        ensures looks { (Self.looks self.new ≡ one_more (Self.looks self.old)) × (Self.last_look self.new ≡ Some (look.Glance result)) }
+        ensures share { Self.share self.new ≡ Self.share self.old };
 
     /// Whether a Drain of this link would give bytes.
     fn can_drain(&mut self, link: u32) -> bool
         ensures made { Self.made self.new ≡ Self.made self.old }
         ensures errors { (Self.errors self.new ≡ Self.errors self.old) × (Self.last_error self.new ≡ Self.last_error self.old) }
-        ensures looks { (Self.looks self.new ≡ one_more (Self.looks self.old)) × (Self.last_look self.new ≡ Some (look.CanDrain link result)) };
+        ensures looks { (Self.looks self.new ≡ one_more (Self.looks self.old)) × (Self.last_look self.new ≡ Some (look.CanDrain link result)) }
+        ensures share { Self.share self.new ≡ Self.share self.old };
 
     /// Whether a Take of this call would be answered with other than NotYet.
     fn can_take(&mut self, call: u32) -> bool
         ensures made { Self.made self.new ≡ Self.made self.old }
         ensures errors { (Self.errors self.new ≡ Self.errors self.old) × (Self.last_error self.new ≡ Self.last_error self.old) }
-        ensures looks { (Self.looks self.new ≡ one_more (Self.looks self.old)) × (Self.last_look self.new ≡ Some (look.CanTake call result)) };
+        ensures looks { (Self.looks self.new ≡ one_more (Self.looks self.old)) × (Self.last_look self.new ≡ Some (look.CanTake call result)) }
+        ensures share { Self.share self.new ≡ Self.share self.old };
 
     /// Whether a Send of a message of this length would be answered with other than Full.
     fn can_send(&mut self, call: u32, len: u32) -> bool
         ensures made { Self.made self.new ≡ Self.made self.old }
         ensures errors { (Self.errors self.new ≡ Self.errors self.old) × (Self.last_error self.new ≡ Self.last_error self.old) }
-        ensures looks { (Self.looks self.new ≡ one_more (Self.looks self.old)) × (Self.last_look self.new ≡ Some (look.CanSend call len result)) };
+        ensures looks { (Self.looks self.new ≡ one_more (Self.looks self.old)) × (Self.last_look self.new ≡ Some (look.CanSend call len result)) }
+        ensures share { Self.share self.new ≡ Self.share self.old };
 }
 
 /// A channel on which a caller can wait. Waiting makes no entries.
@@ -114,12 +122,14 @@ pub trait Caller: Post {
         ensures made { Posts (Self.made self.old) (Self.made self.new) (event.Take call) result }
         ensures come { IfOk result (λ r. is_not_yet r ≡ false) }
         ensures errors { CountsErrors (Self.errors self.old) (Self.errors self.new) (Self.last_error self.old) (Self.last_error self.new) result }
-        ensures looks { (Self.looks self.new ≡ Self.looks self.old) × (Self.last_look self.new ≡ Self.last_look self.old) };
+        ensures looks { (Self.looks self.new ≡ Self.looks self.old) × (Self.last_look self.new ≡ Self.last_look self.old) }
+        ensures share { Self.share self.new ≡ Self.share self.old };
 
     /// Sends a message as soon as the call has room for it.
     fn await_send(&mut self, call: u32, message: Octets) -> Result<Reply, PostError>
         ensures made { Posts (Self.made self.old) (Self.made self.new) (event.Send call message) result }
         ensures taken { IfOk result (λ r. is_full r ≡ false) }
         ensures errors { CountsErrors (Self.errors self.old) (Self.errors self.new) (Self.last_error self.old) (Self.last_error self.new) result }
-        ensures looks { (Self.looks self.new ≡ Self.looks self.old) × (Self.last_look self.new ≡ Self.last_look self.old) };
+        ensures looks { (Self.looks self.new ≡ Self.looks self.old) × (Self.last_look self.new ≡ Self.last_look self.old) }
+        ensures share { Self.share self.new ≡ Self.share self.old };
 }

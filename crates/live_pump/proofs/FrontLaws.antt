@@ -15,8 +15,8 @@ use Rattle.grpc_base.specs.declared.tender.Tend.{Tend}
 use Rattle.grpc_base.specs.declared.tender.Tend.TheVariants as tend
 use Rattle.live_pump.specs.Dials.{AfterTakeDial, DialerSeen, Dials, DialsIf, Failed, Gone, Nothing, Opened as OpenedTurn, Refused, TurnSeen, down_answer, idle_answer, sub_of, turn_of, up_answer}
 use Rattle.live_pump.specs.Fronts.{ArrivesInFront, IsFront, Told, Unopened, opened, told_by, told_event, told_up}
-use Rattle.live_pump.specs.Pumps.{AfterDrain, Arrives, HandleSeen, OutSeen, PostsNothing, PostsOne, PostsTo, PumpsIn, PumpsOut, answer_of, drained_of}
-use Rattle.live_pump.specs.Runs.{Asks, Closes, ClosesUnless, DialsLink, Eyes, KeepsDialled, PumpsLink, RoundOf, RoundsOn, RunsTo, Site, Stand, Ticks, TurnsLinks, is_given_up, looked_at}
+use Rattle.live_pump.specs.Pumps.{AfterDrain, HandleSeen, OutSeen, PostsOne, PumpsIn, PumpsOut, answer_of, drained_of}
+use Rattle.live_pump.specs.Runs.{ClosesUnless, DialsLink, Eyes, KeepsDialled, PumpsLink, RoundOf, RoundsOn, RunsTo, Site, Stand, TurnsLinks, is_given_up, looked_at}
 use Rattle.live_pump.specs.Ticks.{TicksIfDue}
 use Rattle.live_pump.specs.Workers.{TendsTo, is_going, is_quiet}
 use Rattle.live_pump.specs.declared.dial.DialTurn.{DialTurn}

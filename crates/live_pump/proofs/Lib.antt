@@ -4,6 +4,7 @@ pub mod DialLaws
 pub mod FrontLaws
 pub mod FrontLists
 pub mod HandleLaws
+pub mod KindLaws
 pub mod PumpLaws
 pub mod RunLaws
 pub mod WorkerLaws

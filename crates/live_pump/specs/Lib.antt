@@ -1,6 +1,7 @@
 pub mod Calls
 pub mod Dials
 pub mod Fronts
+pub mod Kinds
 pub mod Pumps
 pub mod Runs
 pub mod Ticks

@@ -16,6 +16,7 @@ fn send<P: Caller>(post: &mut P, call: u32, message: &Octets) -> Result<Reply, P
     ensures sent { IfOk result (λ r. AddsEntry (P.made post.old) (P.made post.new) (event.Send call message.now) r × (P.errors post.new ≡ P.errors post.old)) }
     ensures error { IfErr result (λ e. let before : HandleSeen = record { made = P.made post.old; errors = P.errors post.old; last = P.last_error post.old } in let after : HandleSeen = record { made = P.made post.new; errors = P.errors post.new; last = P.last_error post.new } in IsCauseOf e before after) }
     ensures front { OnErr result (P.made post.new ≡ P.made post.old) }
+    ensures share { P.share post.new ≡ P.share post.old }
 {
     let message = match message.share() {
         Ok(message) => message,
@@ -37,6 +38,7 @@ fn send_all<P: Caller>(post: &mut P, call: u32, messages: &[Octets]) -> Result<(
     ensures sent { OnOk result (SendsAll call messages.now (P.made post.old) (P.made post.new) × (P.errors post.new ≡ P.errors post.old)) }
     ensures error { IfErr result (λ e. let before : HandleSeen = record { made = P.made post.old; errors = P.errors post.old; last = P.last_error post.old } in let after : HandleSeen = record { made = P.made post.new; errors = P.errors post.new; last = P.last_error post.new } in IsCauseOf e before after) }
     ensures front { OnErr result (SendsFront call messages.now (P.made post.old) (P.made post.new)) }
+    ensures share { P.share post.new ≡ P.share post.old }
 {
     let mut rest = messages;
     while let Some((message, later)) = first_message(rest) {
@@ -58,6 +60,7 @@ fn take_one<P: Caller>(post: &mut P, call: u32) -> Result<bool, PostError>
     ensures taken { IfOk result (λ ended. (r : Reply) × AddsEntry (P.made post.old) (P.made post.new) (event.Take call) r × (ended ≡ ends_takes r) × (P.errors post.new ≡ P.errors post.old)) }
     ensures error { IfErr result (λ e. let before : HandleSeen = record { made = P.made post.old; errors = P.errors post.old; last = P.last_error post.old } in let after : HandleSeen = record { made = P.made post.new; errors = P.errors post.new; last = P.last_error post.new } in IsCauseOf e before after) }
     ensures front { OnErr result (P.made post.new ≡ P.made post.old) }
+    ensures share { P.share post.new ≡ P.share post.old }
 {
     let reply = post.await_take(call)?;
     Ok(ends_takes(&reply))
@@ -68,6 +71,7 @@ fn take_all<W: Wait, P: Caller>(rt: &W, post: &mut P, call: u32) -> Result<(), P
     ensures taken { OnOk result (TakesAll call (P.made post.old) (P.made post.new) × (P.errors post.new ≡ P.errors post.old)) }
     ensures error { IfErr result (λ e. let before : HandleSeen = record { made = P.made post.old; errors = P.errors post.old; last = P.last_error post.old } in let after : HandleSeen = record { made = P.made post.new; errors = P.errors post.new; last = P.last_error post.new } in IsCauseOf e before after) }
     ensures front { OnErr result (TakesFront call (P.made post.old) (P.made post.new)) }
+    ensures share { P.share post.new ≡ P.share post.old }
 {
     for _ in rt.forever() {
         if take_one(post, call)? {
@@ -82,6 +86,7 @@ fn begin<P: Caller>(post: &mut P, line: &CallLine) -> Result<Option<u32>, PostEr
     ensures begun { IfOk result (λ call. (r : Reply) × AddsEntry (P.made post.old) (P.made post.new) (event.Begin line.now.request) r × (call ≡ call_of r) × (P.errors post.new ≡ P.errors post.old)) }
     ensures error { IfErr result (λ e. let before : HandleSeen = record { made = P.made post.old; errors = P.errors post.old; last = P.last_error post.old } in let after : HandleSeen = record { made = P.made post.new; errors = P.errors post.new; last = P.last_error post.new } in IsCauseOf e before after) }
     ensures front { OnErr result (P.made post.new ≡ P.made post.old) }
+    ensures share { P.share post.new ≡ P.share post.old }
 {
     let request = match line.request.copy() {
         Ok(request) => request,
@@ -106,6 +111,7 @@ fn finish<P: Caller>(post: &mut P, call: u32) -> Result<(), PostError>
     ensures finished { OnOk result ((r : Reply) × AddsEntry (P.made post.old) (P.made post.new) (event.Finish call) r × (P.errors post.new ≡ P.errors post.old)) }
     ensures error { IfErr result (λ e. let before : HandleSeen = record { made = P.made post.old; errors = P.errors post.old; last = P.last_error post.old } in let after : HandleSeen = record { made = P.made post.new; errors = P.errors post.new; last = P.last_error post.new } in IsCauseOf e before after) }
     ensures front { OnErr result (P.made post.new ≡ P.made post.old) }
+    ensures share { P.share post.new ≡ P.share post.old }
 {
     match post.post(Event::Finish { call }) {
         Ok(_) => Ok(()),
@@ -124,6 +130,7 @@ fn make_call<W: Wait, P: Caller>(
     ensures made { OnOk result (GoesOn line.now call (P.made post.old) (P.made post.new) × (P.errors post.new ≡ P.errors post.old)) }
     ensures error { IfErr result (λ e. let before : HandleSeen = record { made = P.made post.old; errors = P.errors post.old; last = P.last_error post.old } in let after : HandleSeen = record { made = P.made post.new; errors = P.errors post.new; last = P.last_error post.new } in IsCauseOf e before after) }
     ensures front { OnErr result (GoesOnFront line.now call (P.made post.old) (P.made post.new)) }
+    ensures share { P.share post.new ≡ P.share post.old }
 {
     send_all(post, call, line.messages.as_slice())?;
     finish(post, call)?;
@@ -137,6 +144,7 @@ fn make_line<W: Wait, P: Caller>(rt: &W, post: &mut P, line: &CallLine) -> Resul
     ensures made { OnOk result (MakesLine line.now (P.made post.old) (P.made post.new) × (P.errors post.new ≡ P.errors post.old)) }
     ensures error { IfErr result (λ e. let before : HandleSeen = record { made = P.made post.old; errors = P.errors post.old; last = P.last_error post.old } in let after : HandleSeen = record { made = P.made post.new; errors = P.errors post.new; last = P.last_error post.new } in IsCauseOf e before after) }
     ensures front { OnErr result (LineFront line.now (P.made post.old) (P.made post.new)) }
+    ensures share { P.share post.new ≡ P.share post.old }
 {
     match begin(post, line)? {
         Some(call) => make_call(rt, post, line, call),
@@ -164,6 +172,7 @@ pub fn call_worker<W: Wait, P: Caller>(
     ensures made { OnOk result (MakesLines calls.now (P.made post.old) (P.made post.new) × (P.errors post.new ≡ P.errors post.old)) }
     ensures error { IfErr result (λ e. let before : HandleSeen = record { made = P.made post.old; errors = P.errors post.old; last = P.last_error post.old } in let after : HandleSeen = record { made = P.made post.new; errors = P.errors post.new; last = P.last_error post.new } in IsCauseOf e before after) }
     ensures front { OnErr result (LinesFront calls.now (P.made post.old) (P.made post.new)) }
+    ensures share { P.share post.new ≡ P.share post.old }
 {
     let mut rest = calls;
     while let Some((line, later)) = first_line(rest) {

@@ -77,6 +77,7 @@ fn link_up<P: Post, O: LinkOut>(post: &mut P, output: &mut O, sub: u32) -> Resul
     ensures posted { let before : HandleSeen = record { made = P.made post.old; errors = P.errors post.old; last = P.last_error post.old } in let after : HandleSeen = record { made = P.made post.new; errors = P.errors post.new; last = P.last_error post.new } in PostsOne (event.LinkUp sub) before after result }
     ensures looks { (P.looks post.new ≡ P.looks post.old) × (P.last_look post.new ≡ P.last_look post.old) }
     ensures closed { is_link result ≡ false → O.closed output.new ≡ true }
+    ensures share { P.share post.new ≡ P.share post.old }
 {
     let came = post.post(Event::LinkUp { sub });
     if !matches!(&came, Ok(Reply::Link { .. })) {
@@ -117,6 +118,7 @@ fn dial_of(came: &Result<Reply, PostError>) -> Option<Dial>
 fn dial_to<P: Post, N: Dialer>(post: &mut P, dialer: &mut N, dial: &Dial) -> DialTurn<N::In, N::Out>
     ensures posted { let before : HandleSeen = record { made = P.made post.old; errors = P.errors post.old; last = P.last_error post.old } in let after : HandleSeen = record { made = P.made post.new; errors = P.errors post.new; last = P.last_error post.new } in Dials dial.now.sub (record { coming = N.coming dialer.old; faults = N.faults dialer.old }) (record { coming = N.coming dialer.new; faults = N.faults dialer.new }) before after (turn_of N.In.LinkIn.left result) }
     ensures looks { (P.looks post.new ≡ P.looks post.old) × (P.last_look post.new ≡ P.last_look post.old) }
+    ensures share { P.share post.new ≡ P.share post.old }
 {
     let sub = dial.sub;
     match dialer.dial(dial.address, dial.until) {
@@ -135,6 +137,7 @@ fn dial_to<P: Post, N: Dialer>(post: &mut P, dialer: &mut N, dial: &Dial) -> Dia
 fn dial_wanted<P: Post, N: Dialer>(post: &mut P, dialer: &mut N) -> DialTurn<N::In, N::Out>
     ensures posted { let before : HandleSeen = record { made = P.made post.old; errors = P.errors post.old; last = P.last_error post.old } in let after : HandleSeen = record { made = P.made post.new; errors = P.errors post.new; last = P.last_error post.new } in DialsIf true (record { coming = N.coming dialer.old; faults = N.faults dialer.old }) (record { coming = N.coming dialer.new; faults = N.faults dialer.new }) before after (turn_of N.In.LinkIn.left result) }
     ensures looks { (P.looks post.new ≡ P.looks post.old) × (P.last_look post.new ≡ P.last_look post.old) }
+    ensures share { P.share post.new ≡ P.share post.old }
 {
     let came = post.post(Event::TakeDial);
     match dial_of(&came) {
@@ -151,6 +154,7 @@ pub fn dial_once<P: Post + Glance, N: Dialer>(
 ) -> DialTurn<N::In, N::Out>
     ensures posted { let before : HandleSeen = record { made = P.made post.old; errors = P.errors post.old; last = P.last_error post.old } in let after : HandleSeen = record { made = P.made post.new; errors = P.errors post.new; last = P.last_error post.new } in (view : View) × (P.last_look post.new ≡ Some (look.Glance view)) × DialsIf view.dialable (record { coming = N.coming dialer.old; faults = N.faults dialer.old }) (record { coming = N.coming dialer.new; faults = N.faults dialer.new }) before after (turn_of N.In.LinkIn.left result) }
     ensures looks { P.looks post.new ≡ one_more (P.looks post.old) }
+    ensures share { P.share post.new ≡ P.share post.old }
 {
     if !post.glance().dialable {
         return DialTurn::Nothing;

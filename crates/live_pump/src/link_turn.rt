@@ -33,6 +33,7 @@ fn tend_link<P: Post, C: Clock, T: Tender>(
     ensures turns { T.turns tender.new ≡ one_more (T.turns tender.old) }
     ensures looks { (P.looks post.new ≡ P.looks post.old) × (P.last_look post.new ≡ P.last_look post.old) }
     ensures tells { let before : HandleSeen = record { made = P.made post.old; errors = P.errors post.old; last = P.last_error post.old } in let after : HandleSeen = record { made = P.made post.new; errors = P.errors post.new; last = P.last_error post.new } in Tells before after result }
+    ensures share { P.share post.new ≡ P.share post.old }
 {
     match tender.turn(link, clock.now()) {
         Tend::Nothing => Pumped::Going,
@@ -62,6 +63,7 @@ fn pump_link<P: Post + Glance, I: LinkIn, O: LinkOut, C: Clock, T: Tender>(
     ensures looks { HasNotFallen (P.looks post.old) (P.looks post.new) }
     ensures tells { let before : HandleSeen = record { made = P.made post.old; errors = P.errors post.old; last = P.last_error post.old } in let after : HandleSeen = record { made = P.made post.new; errors = P.errors post.new; last = P.last_error post.new } in Tells before after result }
     ensures pumped { let eyes : Eyes P T I O = eyes_of P.made P.errors P.last_error P.last_look T.turns T.last_turn I.left I.faults I.quiet O.taken O.faults O.closed in PumpsLink eyes (record { post = post.old; tender = tender.old }) kept.old (record { post = post.new; tender = tender.new }) kept.new result }
+    ensures share { P.share post.new ≡ P.share post.old }
 {
     let link = kept.link;
     let wrote = send_link(post, patience, &mut kept.output, link);
@@ -89,6 +91,7 @@ pub(crate) fn turn_link<P: Post + Glance, I: LinkIn, O: LinkOut, C: Clock, T: Te
     ensures tells { let before : HandleSeen = record { made = P.made post.old; errors = P.errors post.old; last = P.last_error post.old } in let after : HandleSeen = record { made = P.made post.new; errors = P.errors post.new; last = P.last_error post.new } in Tells before after result }
     ensures closed { is_going result ≡ false → O.closed kept.new.output ≡ true }
     ensures turned { let eyes : Eyes P T I O = eyes_of P.made P.errors P.last_error P.last_look T.turns T.last_turn I.left I.faults I.quiet O.taken O.faults O.closed in TurnsLink eyes (record { post = post.old; tender = tender.old }) kept.old (record { post = post.new; tender = tender.new }) kept.new result }
+    ensures share { P.share post.new ≡ P.share post.old }
 {
     let answer = pump_link(alloc, post, clock, tender, patience, kept);
     close_unless(answer.is_going(), kept);

@@ -65,6 +65,7 @@ pub(crate) fn post_to<P: Post>(post: &mut P, event: Event, done: Pumped) -> Pump
     ensures posted { let before : HandleSeen = record { made = P.made post.old; errors = P.errors post.old; last = P.last_error post.old } in let after : HandleSeen = record { made = P.made post.new; errors = P.errors post.new; last = P.last_error post.new } in PostsTo event done before after result }
     ensures looks { (P.looks post.new ≡ P.looks post.old) × (P.last_look post.new ≡ P.last_look post.old) }
     ensures tells { let before : HandleSeen = record { made = P.made post.old; errors = P.errors post.old; last = P.last_error post.old } in let after : HandleSeen = record { made = P.made post.new; errors = P.errors post.new; last = P.last_error post.new } in is_quiet done ≡ true → Tells before after result }
+    ensures share { P.share post.new ≡ P.share post.old }
 {
     let came = post.post(event);
     answer_of(done, &came)

@@ -23,6 +23,7 @@ fn arrived<P: Post>(alloc: Global, post: &mut P, link: u32, piece: &[u8]) -> Pum
     ensures posted { let before : HandleSeen = record { made = P.made post.old; errors = P.errors post.old; last = P.last_error post.old } in let after : HandleSeen = record { made = P.made post.new; errors = P.errors post.new; last = P.last_error post.new } in Arrives link piece.now before after result }
     ensures looks { (P.looks post.new ≡ P.looks post.old) × (P.last_look post.new ≡ P.last_look post.old) }
     ensures tells { let before : HandleSeen = record { made = P.made post.old; errors = P.errors post.old; last = P.last_error post.old } in let after : HandleSeen = record { made = P.made post.new; errors = P.errors post.new; last = P.last_error post.new } in Tells before after result }
+    ensures share { P.share post.new ≡ P.share post.old }
 {
     match Octets::of_slice(alloc, piece) {
         Ok(piece) => post_to(post, Event::Arrived { link, piece }, Pumped::Going),
@@ -40,6 +41,7 @@ fn pump_read<P: Post, I: LinkIn>(
     ensures posted { let before : HandleSeen = record { made = P.made post.old; errors = P.errors post.old; last = P.last_error post.old } in let after : HandleSeen = record { made = P.made post.new; errors = P.errors post.new; last = P.last_error post.new } in PumpsIn link (record { left = I.left input.old; faults = I.faults input.old; quiet = I.quiet input.old }) (record { left = I.left input.new; faults = I.faults input.new; quiet = I.quiet input.new }) before after result.0 }
     ensures looks { (P.looks post.new ≡ P.looks post.old) × (P.last_look post.new ≡ P.last_look post.old) }
     ensures tells { let before : HandleSeen = record { made = P.made post.old; errors = P.errors post.old; last = P.last_error post.old } in let after : HandleSeen = record { made = P.made post.new; errors = P.errors post.new; last = P.last_error post.new } in Tells before after result.0 }
+    ensures share { P.share post.new ≡ P.share post.old }
 {
     let mut piece = [0u8; READ_BYTES];
     match input.read(&mut piece) {
@@ -62,6 +64,7 @@ pub(crate) fn read_link<P: Post, I: LinkIn>(
     ensures posted { let before : HandleSeen = record { made = P.made post.old; errors = P.errors post.old; last = P.last_error post.old } in let after : HandleSeen = record { made = P.made post.new; errors = P.errors post.new; last = P.last_error post.new } in PumpsIn link (record { left = I.left input.old; faults = I.faults input.old; quiet = I.quiet input.old }) (record { left = I.left input.new; faults = I.faults input.new; quiet = I.quiet input.new }) before after result.0 }
     ensures looks { (P.looks post.new ≡ P.looks post.old) × (P.last_look post.new ≡ P.last_look post.old) }
     ensures tells { let before : HandleSeen = record { made = P.made post.old; errors = P.errors post.old; last = P.last_error post.old } in let after : HandleSeen = record { made = P.made post.new; errors = P.errors post.new; last = P.last_error post.new } in Tells before after result.0 }
+    ensures share { P.share post.new ≡ P.share post.old }
 {
     input.wait_at_most(Pause::None);
     let (read, came) = pump_read(alloc, post, input, link);
@@ -79,6 +82,7 @@ pub fn pump_in<P: Post, I: LinkIn>(alloc: Global, post: &mut P, input: &mut I, l
     ensures posted { let before : HandleSeen = record { made = P.made post.old; errors = P.errors post.old; last = P.last_error post.old } in let after : HandleSeen = record { made = P.made post.new; errors = P.errors post.new; last = P.last_error post.new } in PumpsIn link (record { left = I.left input.old; faults = I.faults input.old; quiet = I.quiet input.old }) (record { left = I.left input.new; faults = I.faults input.new; quiet = I.quiet input.new }) before after result }
     ensures looks { (P.looks post.new ≡ P.looks post.old) × (P.last_look post.new ≡ P.last_look post.old) }
     ensures tells { let before : HandleSeen = record { made = P.made post.old; errors = P.errors post.old; last = P.last_error post.old } in let after : HandleSeen = record { made = P.made post.new; errors = P.errors post.new; last = P.last_error post.new } in Tells before after result }
+    ensures share { P.share post.new ≡ P.share post.old }
 {
     pump_read(alloc, post, input, link).0
 }
@@ -108,6 +112,7 @@ fn write_out<P: Post, O: LinkOut>(post: &mut P, output: &mut O, link: u32, piece
     ensures looks { (P.looks post.new ≡ P.looks post.old) × (P.last_look post.new ≡ P.last_look post.old) }
     ensures closed { O.closed output.new ≡ O.closed output.old }
     ensures tells { let before : HandleSeen = record { made = P.made post.old; errors = P.errors post.old; last = P.last_error post.old } in let after : HandleSeen = record { made = P.made post.new; errors = P.errors post.new; last = P.last_error post.new } in Tells before after result }
+    ensures share { P.share post.new ≡ P.share post.old }
 {
     if write_link(output, piece) {
         return Pumped::Going;
@@ -131,6 +136,7 @@ fn drain_out<P: Post, O: LinkOut>(post: &mut P, output: &mut O, link: u32) -> Pu
     ensures looks { (P.looks post.new ≡ P.looks post.old) × (P.last_look post.new ≡ P.last_look post.old) }
     ensures closed { O.closed output.new ≡ O.closed output.old }
     ensures tells { let before : HandleSeen = record { made = P.made post.old; errors = P.errors post.old; last = P.last_error post.old } in let after : HandleSeen = record { made = P.made post.new; errors = P.errors post.new; last = P.last_error post.new } in Tells before after result }
+    ensures share { P.share post.new ≡ P.share post.old }
 {
     let room = DRAIN_ROOM;
     let came = post.post(Event::Drain { link, room });
@@ -152,6 +158,7 @@ pub(crate) fn send_link<P: Post + Glance, O: LinkOut>(
     ensures looks { P.looks post.new ≡ one_more (P.looks post.old) }
     ensures closed { O.closed output.new ≡ O.closed output.old }
     ensures tells { let before : HandleSeen = record { made = P.made post.old; errors = P.errors post.old; last = P.last_error post.old } in let after : HandleSeen = record { made = P.made post.new; errors = P.errors post.new; last = P.last_error post.new } in Tells before after result }
+    ensures share { P.share post.new ≡ P.share post.old }
 {
     if !post.can_drain(link) {
         return Pumped::Going;
@@ -167,6 +174,7 @@ pub fn pump_out<P: Post + Glance, O: LinkOut>(post: &mut P, output: &mut O, link
     ensures looks { P.looks post.new ≡ one_more (P.looks post.old) }
     ensures closed { O.closed output.new ≡ O.closed output.old }
     ensures tells { let before : HandleSeen = record { made = P.made post.old; errors = P.errors post.old; last = P.last_error post.old } in let after : HandleSeen = record { made = P.made post.new; errors = P.errors post.new; last = P.last_error post.new } in Tells before after result }
+    ensures share { P.share post.new ≡ P.share post.old }
 {
     send_link(post, &mut Patience::new(), output, link)
 }

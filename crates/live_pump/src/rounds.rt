@@ -4,6 +4,7 @@ ghost use Rattle.grpc_base.specs.Counts.{Rises};
 ghost use Rattle.grpc_base.specs.declared.event.Conn.TheVariants as conn;
 ghost use Rattle.grpc_base.specs.declared.post.PostError.{PostError};
 ghost use Rattle.live_pump.specs.Fronts.{ArrivesInFront};
+ghost use Rattle.live_pump.specs.Kinds.{AddsOnly, IsOfLinks};
 ghost use Rattle.live_pump.specs.Pumps.{HandleSeen, OutSeen};
 ghost use Rattle.live_pump.specs.Runs.{Closes, DialsLink, Eyes, IsCaused, RoundOf, RunsOn, RunsTo, Site, TurnsLinks, eyes_of, is_shut};
 ghost use Rattle.live_pump.specs.Workers.{Ends, HasNotFallen, Parts, Rounds};
@@ -50,6 +51,7 @@ fn dial_part<P: Post + Glance, N: Dialer, C: Clock, T: Tender>(
     ensures part { let before : HandleSeen = record { made = P.made post.old; errors = P.errors post.old; last = P.last_error post.old } in let after : HandleSeen = record { made = P.made post.new; errors = P.errors post.new; last = P.last_error post.new } in Parts before after result }
     ensures looks { HasNotFallen (P.looks post.old) (P.looks post.new) }
     ensures dialled { let eyes : Eyes P T N.In N.Out = eyes_of P.made P.errors P.last_error P.last_look T.turns T.last_turn N.In.LinkIn.left N.In.LinkIn.faults N.In.LinkIn.quiet N.Out.LinkOut.taken N.Out.LinkOut.faults N.Out.LinkOut.closed in DialsLink eyes (λ (d : N). record { coming = N.coming d; faults = N.faults d }) (record { site = record { post = post.old; tender = tender.old }; dialer = dialer.old; links = links.old.items }) (record { site = record { post = post.new; tender = tender.new }; dialer = dialer.new; links = links.new.items }) result }
+    ensures share { P.share post.new ≡ P.share post.old }
 {
     match dial_once(post, dialer) {
         DialTurn::Opened {
@@ -89,6 +91,7 @@ fn turn_at<P: Post + Glance, I: LinkIn, O: LinkOut, C: Clock, T: Tender>(
     ensures passed { IfOk result (λ passed. (at + passed ≤ length links.new.items) × (length links.new.items + 1 ≡ length links.old.items + passed)) }
     ensures turned { IfOk result (λ passed. (after : Site P T) (left : List (OpenLink I O)) (end : Option PostError) → let eyes : Eyes P T I O = eyes_of P.made P.errors P.last_error P.last_look T.turns T.last_turn I.left I.faults I.quiet O.taken O.faults O.closed in TurnsLinks eyes (take (at + passed) links.new.items) (record { post = post.new; tender = tender.new }) (drop (at + passed) links.new.items) after left end → TurnsLinks eyes (take at links.old.items) (record { post = post.old; tender = tender.old }) (drop at links.old.items) after left end) }
     ensures ended { IfErr result (λ error. let eyes : Eyes P T I O = eyes_of P.made P.errors P.last_error P.last_look T.turns T.last_turn I.left I.faults I.quiet O.taken O.faults O.closed in TurnsLinks eyes (take at links.old.items) (record { post = post.old; tender = tender.old }) (drop at links.old.items) (record { post = post.new; tender = tender.new }) links.new.items (Some error)) }
+    ensures share { P.share post.new ≡ P.share post.old }
 {
     let kept = &mut links[at];
     let answer = turn_link(alloc, post, clock, tender, patience, kept);
@@ -114,6 +117,7 @@ fn links_part<P: Post + Glance, I: LinkIn, O: LinkOut, C: Clock, T: Tender>(
     ensures part { let before : HandleSeen = record { made = P.made post.old; errors = P.errors post.old; last = P.last_error post.old } in let after : HandleSeen = record { made = P.made post.new; errors = P.errors post.new; last = P.last_error post.new } in Parts before after result }
     ensures looks { HasNotFallen (P.looks post.old) (P.looks post.new) }
     ensures turned { let eyes : Eyes P T I O = eyes_of P.made P.errors P.last_error P.last_look T.turns T.last_turn I.left I.faults I.quiet O.taken O.faults O.closed in TurnsLinks eyes [] (record { post = post.old; tender = tender.old }) links.old.items (record { post = post.new; tender = tender.new }) links.new.items result }
+    ensures share { P.share post.new ≡ P.share post.old }
 {
     let mut at = 0;
     while at < links.len() {
@@ -153,6 +157,7 @@ fn round<P: Post + Glance, N: Dialer, C: Clock, T: Tender>(
     ensures round { let before : HandleSeen = record { made = P.made post.old; errors = P.errors post.old; last = P.last_error post.old } in let after : HandleSeen = record { made = P.made post.new; errors = P.errors post.new; last = P.last_error post.new } in Rounds before after (P.last_look post.new) result }
     ensures looks { Rises (P.looks post.old) (P.looks post.new) }
     ensures parts { let eyes : Eyes P T N.In N.Out = eyes_of P.made P.errors P.last_error P.last_look T.turns T.last_turn N.In.LinkIn.left N.In.LinkIn.faults N.In.LinkIn.quiet N.Out.LinkOut.taken N.Out.LinkOut.faults N.Out.LinkOut.closed in RoundOf eyes (λ (d : N). record { coming = N.coming d; faults = N.faults d }) (C.may_give clock.now) (record { site = record { post = post.old; tender = tender.old }; dialer = dialer.old; links = links.old.items }) (record { site = record { post = post.new; tender = tender.new }; dialer = dialer.new; links = links.new.items }) result }
+    ensures share { P.share post.new ≡ P.share post.old }
 {
     let view = post.glance();
     if is_shut(view.state) {
@@ -186,6 +191,7 @@ fn make_rounds<W: Wait, P: Post + Glance, N: Dialer, C: Clock, T: Tender>(
     ensures looks { Rises (P.looks post.old) (P.looks post.new) }
     ensures run { let eyes : Eyes P T N.In N.Out = eyes_of P.made P.errors P.last_error P.last_look T.turns T.last_turn N.In.LinkIn.left N.In.LinkIn.faults N.In.LinkIn.quiet N.Out.LinkOut.taken N.Out.LinkOut.faults N.Out.LinkOut.closed in RunsTo eyes (λ (d : N). record { coming = N.coming d; faults = N.faults d }) (C.may_give clock.now) (record { site = record { post = post.old; tender = tender.old }; dialer = dialer.old; links = links.old.items }) (record { post = post.new; tender = tender.new }) dialer.new result }
     ensures left { links.new.items ≡ [] }
+    ensures share { P.share post.new ≡ P.share post.old }
 {
     let end = run_rounds(rt, alloc, post, dialer, clock, tender, links);
     close_links(links);
@@ -206,6 +212,7 @@ fn run_rounds<W: Wait, P: Post + Glance, N: Dialer, C: Clock, T: Tender>(
     ensures end { let before : HandleSeen = record { made = P.made post.old; errors = P.errors post.old; last = P.last_error post.old } in let after : HandleSeen = record { made = P.made post.new; errors = P.errors post.new; last = P.last_error post.new } in Ends before after (P.last_look post.new) result }
     ensures looks { Rises (P.looks post.old) (P.looks post.new) }
     ensures run { let eyes : Eyes P T N.In N.Out = eyes_of P.made P.errors P.last_error P.last_look T.turns T.last_turn N.In.LinkIn.left N.In.LinkIn.faults N.In.LinkIn.quiet N.Out.LinkOut.taken N.Out.LinkOut.faults N.Out.LinkOut.closed in RunsOn eyes (λ (d : N). record { coming = N.coming d; faults = N.faults d }) (C.may_give clock.now) (record { site = record { post = post.old; tender = tender.old }; dialer = dialer.old; links = links.old.items }) (record { site = record { post = post.new; tender = tender.new }; dialer = dialer.new; links = links.new.items }) result }
+    ensures share { P.share post.new ≡ P.share post.old }
 {
     let mut patience = Patience::new();
     for _ in rt.forever() {
@@ -234,6 +241,8 @@ pub fn net_worker<W: Wait, P: Post + Glance, N: Dialer, C: Clock, T: Tender>(
     ensures run { let eyes : Eyes P T N.In N.Out = eyes_of P.made P.errors P.last_error P.last_look T.turns T.last_turn N.In.LinkIn.left N.In.LinkIn.faults N.In.LinkIn.quiet N.Out.LinkOut.taken N.Out.LinkOut.faults N.Out.LinkOut.closed in RunsTo eyes (λ (d : N). record { coming = N.coming d; faults = N.faults d }) (C.may_give clock.now) (record { site = record { post = post.old; tender = tender.old }; dialer = dialer.old; links = [] }) (record { post = post.new; tender = tender.new }) dialer.new result }
     ensures causes { let eyes : Eyes P T N.In N.Out = eyes_of P.made P.errors P.last_error P.last_look T.turns T.last_turn N.In.LinkIn.left N.In.LinkIn.faults N.In.LinkIn.quiet N.Out.LinkOut.taken N.Out.LinkOut.faults N.Out.LinkOut.closed in IsCaused eyes (eyes.handle post.old) (eyes.handle post.new) }
     ensures fronts { let before : HandleSeen = record { made = P.made post.old; errors = P.errors post.old; last = P.last_error post.old } in let after : HandleSeen = record { made = P.made post.new; errors = P.errors post.new; last = P.last_error post.new } in ArrivesInFront (N.coming dialer.old) before after }
+    ensures kinds { AddsOnly IsOfLinks (P.made post.old) (P.made post.new) }
+    ensures share { P.share post.new ≡ P.share post.old }
 {
     let mut links = Vec::new(alloc);
     make_rounds(rt, alloc, post, dialer, clock, tender, &mut links)

@@ -13,6 +13,7 @@ use grpc_base::{Event, Glance, Post, PostError};
 pub fn tick_if_due<P: Post + Glance, C: Clock>(post: &mut P, clock: &C) -> Result<bool, PostError>
     ensures posted { let before : HandleSeen = record { made = P.made post.old; errors = P.errors post.old; last = P.last_error post.old } in let after : HandleSeen = record { made = P.made post.new; errors = P.errors post.new; last = P.last_error post.new } in (view : View) × (moment : ℕ) × (P.last_look post.new ≡ Some (look.Glance view)) × C.may_give clock.now moment × TicksIfDue view.next moment before after result }
     ensures looks { P.looks post.new ≡ one_more (P.looks post.old) }
+    ensures share { P.share post.new ≡ P.share post.old }
 {
     let moment = clock.now();
     let next = post.glance().next;

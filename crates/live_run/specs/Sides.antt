@@ -1,12 +1,16 @@
 -- What each worker of a side did.
-use Rattle.std.specs.Prelude.{ℕ, Option, List}
+use Rattle.std.specs.Prelude.{◌≡◌, ℕ, Option, List}
 use Rattle.grpc_base.specs.declared.event.Entry.{Entry}
+use Rattle.grpc_base.specs.declared.event.Event.{Event}
+use Rattle.grpc_base.specs.declared.event.Event.TheVariants as event
 use Rattle.grpc_base.specs.declared.post.Look.{Look}
 use Rattle.grpc_base.specs.declared.post.PostError.{PostError}
 use Rattle.live_pump.specs.Fronts.{ArrivesInFront}
+use Rattle.live_pump.specs.Kinds.{AddsOnly, IsOfLinks}
 use Rattle.live_pump.specs.Pumps.{HandleSeen}
 use Rattle.live_run.specs.Outcomes.{KeepsLinks, MakesCalls}
 use Rattle.live_run.specs.declared.jobs.CallJob.{CallJob}
+use Rattle.live_run.specs.declared.jobs.NameJob.{NameJob}
 use Rattle.live_run.specs.declared.jobs.NetJob.{NetJob}
 use Rattle.live_run.specs.declared.link_job.LinkJob.{LinkJob}
 use Rattle.live_run.specs.declared.link_job.LinkJob.TheVariants as job
@@ -16,20 +20,35 @@ use Rattle.live_run.specs.declared.outcome.Outcome.{Outcome}
 abbrev pub seen_by : {H : Type 0} → (H → List Entry) → (H → ℕ) → (H → Option PostError) → H → HandleSeen
 seen_by made errors last post = record { made = made post; errors = errors post; last = last post }
 
--- a worker that makes calls did its work
-abbrev pub CallDone : {H : Type 0} → (H → HandleSeen) → CallJob H → CallJob H → Type 0
-CallDone seen before after = MakesCalls before.lines.items (seen before.post) (seen after.post) after.outcome
+-- a worker that makes calls did its work, and its handle has the share of the channel that it had
+pub record CallDone {H : Type 0} (seen : H → HandleSeen) (share : H → List ℕ) (before after : CallJob H) : Type 0 where
+  pub makes : MakesCalls before.lines.items (seen before.post) (seen after.post) after.outcome
+  pub same_share : share after.post ≡ share before.post
 
--- a worker that keeps links open ended, and what it posted as Arrived are fronts of what its dialer held
-abbrev pub NetDone : {H N : Type 0} → (H → HandleSeen) → (H → Option Look) → (N → Option (List (List ℕ))) → NetJob H N → NetJob H N → Type 0
-NetDone seen last_look coming before after =
-    KeepsLinks (seen before.post) (seen after.post) (last_look after.post) after.outcome × ArrivesInFront (coming before.dialer) (seen before.post) (seen after.post)
+-- a worker that keeps links open ended. What it posted as Arrived are fronts of what its dialer held, and it posted nothing but
+-- what is of dials, of links and of the clock. Its handle has the share of the channel that it had
+pub record NetDone {H N : Type 0} (seen : H → HandleSeen) (share : H → List ℕ) (last_look : H → Option Look) (coming : N → Option (List (List ℕ))) (before after : NetJob H N) : Type 0 where
+  pub keeps : KeepsLinks (seen before.post) (seen after.post) (last_look after.post) after.outcome
+  pub fronts : ArrivesInFront (coming before.dialer) (seen before.post) (seen after.post)
+  pub posts : AddsOnly IsOfLinks (seen before.post).made (seen after.post).made
+  pub same_share : share after.post ≡ share before.post
 
--- a worker beside the calls did its work; of the one that looks a name up nothing more is said here
-abbrev pub LinkDone : {H N L D : Type 0} → (H → HandleSeen) → (H → Option Look) → (N → Option (List (List ℕ))) → LinkJob H N L D → LinkJob H N L D → Type 0
-LinkDone seen last_look coming (job.Net before) (job.Net after) = NetDone seen last_look coming before after
-LinkDone seen last_look coming (job.Name before) (job.Name after) = Unit {0}
-LinkDone seen last_look coming before after = ⊥
+-- an event that tells of a lookup
+abbrev pub IsOfNames : Event → Type 0
+IsOfNames (event.Resolved addresses config) = Unit {0}
+IsOfNames event.ResolveFailed = Unit {0}
+IsOfNames _ = ⊥
+
+-- the worker that looks a name up posted nothing but what is of lookups. Its handle has the share of the channel that it had
+pub record NameDone {H L D : Type 0} (seen : H → HandleSeen) (share : H → List ℕ) (before after : NameJob H L D) : Type 0 where
+  pub posts : AddsOnly IsOfNames (seen before.post).made (seen after.post).made
+  pub same_share : share after.post ≡ share before.post
+
+-- a worker beside the calls did its work
+abbrev pub LinkDone : {H N L D : Type 0} → (H → HandleSeen) → (H → List ℕ) → (H → Option Look) → (N → Option (List (List ℕ))) → LinkJob H N L D → LinkJob H N L D → Type 0
+LinkDone seen share last_look coming (job.Net before) (job.Net after) = NetDone seen share last_look coming before after
+LinkDone seen share last_look coming (job.Name before) (job.Name after) = NameDone seen share before after
+LinkDone seen share last_look coming before after = ⊥
 
 -- how a worker beside the calls ended
 abbrev pub outcome_in : {H N L D : Type 0} → LinkJob H N L D → Outcome

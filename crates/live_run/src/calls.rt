@@ -7,7 +7,7 @@ use script_input::WorkerLine;
 use std::alloc::Global;
 
 /// How many workers make calls, at most.
-const WORKERS: usize = 16;
+pub const WORKERS: usize = 16;
 
 /// The calls of each worker in their order: those of worker n stand at place n - 1, for n from 1 to 16.
 pub fn by_worker(alloc: Global, calls: Vec<WorkerLine>) -> Result<Vec<Vec<CallLine>>, NoMemory>

@@ -1,8 +1,10 @@
 // The work of each worker.
 ghost use Rattle.std.specs.Prelude.{◌≡◌};
 ghost use Rattle.live_pump.specs.Fronts.{ArrivesInFront};
+ghost use Rattle.live_pump.specs.Kinds.{AddsOnly, IsOfLinks};
 ghost use Rattle.live_pump.specs.Pumps.{HandleSeen};
 ghost use Rattle.live_run.specs.Outcomes.{KeepsLinks, MakesCalls, ended_with};
+ghost use Rattle.live_run.specs.Sides.{IsOfNames};
 
 use crate::{Outcome, Tending};
 use dns_watch::{DnsOnce, DnsWatch, Lookup, dns_once};
@@ -15,6 +17,7 @@ use std::sync::Wait;
 /// The work of one that keeps links open.
 #[derive(Drop)]
 pub struct NetJob<H, N> {
+    pub alloc: Global,
     pub post: H,
     pub dialer: N,
     pub tender: Tending,
@@ -23,13 +26,15 @@ pub struct NetJob<H, N> {
 
 impl<H: Post + Glance, N: Dialer> NetJob<H, N> {
     /// Keeps links open until the channel is shut down.
-    pub(crate) fn work<W: Wait, C: Clock>(&mut self, rt: &W, alloc: Global, clock: &C)
+    pub(crate) fn work<W: Wait, C: Clock>(&mut self, rt: &W, clock: &C)
         ensures end { let before : HandleSeen = record { made = H.made self.old.post; errors = H.errors self.old.post; last = H.last_error self.old.post } in let after : HandleSeen = record { made = H.made self.new.post; errors = H.errors self.new.post; last = H.last_error self.new.post } in KeepsLinks before after (H.last_look self.new.post) self.new.outcome }
         ensures fronts { let before : HandleSeen = record { made = H.made self.old.post; errors = H.errors self.old.post; last = H.last_error self.old.post } in let after : HandleSeen = record { made = H.made self.new.post; errors = H.errors self.new.post; last = H.last_error self.new.post } in ArrivesInFront (N.coming self.old.dialer) before after }
+        ensures posts { AddsOnly IsOfLinks (H.made self.old.post) (H.made self.new.post) }
+        ensures share { H.share self.new.post ≡ H.share self.old.post }
     {
         let end = net_worker(
             rt,
-            alloc,
+            self.alloc,
             &mut self.post,
             &mut self.dialer,
             clock,
@@ -62,6 +67,7 @@ impl<H: Caller> CallJob<H> {
     pub(crate) fn work<W: Wait>(&mut self, rt: &W)
         ensures made { let before : HandleSeen = record { made = H.made self.old.post; errors = H.errors self.old.post; last = H.last_error self.old.post } in let after : HandleSeen = record { made = H.made self.new.post; errors = H.errors self.new.post; last = H.last_error self.new.post } in MakesCalls self.old.lines.items before after self.new.outcome }
         ensures lines { self.new.lines ≡ self.old.lines }
+        ensures share { H.share self.new.post ≡ H.share self.old.post }
     {
         self.outcome = match call_worker(rt, &mut self.post, self.lines.as_slice()) {
             Ok(()) => Outcome::Whole,
@@ -73,6 +79,7 @@ impl<H: Caller> CallJob<H> {
 /// The work of the one that looks a name up and tells the channel.
 #[derive(Drop)]
 pub struct NameJob<H, L, D> {
+    pub alloc: Global,
     pub post: H,
     pub watch: DnsWatch,
     pub lookup: L,
@@ -83,11 +90,14 @@ pub struct NameJob<H, L, D> {
 
 impl<H: Post + Glance, L: Lookup, D: Draws> NameJob<H, L, D> {
     /// Looks the name up whenever it is its turn, until the channel is shut down.
-    pub(crate) fn work<W: Wait, C: Clock>(&mut self, rt: &W, alloc: Global, clock: &C) {
+    pub(crate) fn work<W: Wait, C: Clock>(&mut self, rt: &W, clock: &C)
+        ensures posts { AddsOnly IsOfNames (H.made self.old.post) (H.made self.new.post) }
+        ensures share { H.share self.new.post ≡ H.share self.old.post }
+    {
         let mut patience = Patience::new();
         for _ in rt.forever() {
             match dns_once(
-                alloc,
+                self.alloc,
                 &mut self.post,
                 &mut self.watch,
                 &mut self.lookup,

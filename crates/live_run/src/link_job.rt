@@ -6,7 +6,6 @@ use crate::{NameJob, NetJob, Outcome};
 use dns_watch::Lookup;
 use gate_io::{Clock, Dialer, Draws};
 use grpc_base::{Glance, Post};
-use std::alloc::Global;
 use std::sync::Wait;
 
 /// The work of one that keeps links open, or of the one that looks a name up.
@@ -30,12 +29,12 @@ impl<H, N, L, D> LinkJob<H, N, L, D> {
 
 impl<H: Post + Glance, N: Dialer, L: Lookup, D: Draws> LinkJob<H, N, L, D> {
     /// Works until the channel is shut down.
-    pub(crate) fn work<W: Wait, C: Clock>(&mut self, rt: &W, alloc: Global, clock: &C)
-        ensures { LinkDone (seen_by H.made H.errors H.last_error) H.last_look N.coming self.old self.new }
+    pub(crate) fn work<W: Wait, C: Clock>(&mut self, rt: &W, clock: &C)
+        ensures { LinkDone (seen_by H.made H.errors H.last_error) H.share H.last_look N.coming self.old self.new }
     {
         match self {
-            LinkJob::Net(job) => job.work(rt, alloc, clock),
-            LinkJob::Name(job) => job.work(rt, alloc, clock),
+            LinkJob::Net(job) => job.work(rt, clock),
+            LinkJob::Name(job) => job.work(rt, clock),
         }
     }
 }

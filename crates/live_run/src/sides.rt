@@ -5,19 +5,16 @@ ghost use Rattle.live_run.specs.Sides.{CallDone, LinkDone, outcome_in, seen_by};
 ghost use Rattle.live_run.specs.declared.jobs.CallJob.{CallJob};
 ghost use Rattle.live_run.specs.declared.link_job.LinkJob.{LinkJob};
 
+use crate::calls::WORKERS;
 use crate::{CallJob, LinkJob, Outcome};
 use dns_watch::Lookup;
 use gate_io::{Clock, Dialer, Draws};
 use grpc_base::{Caller, Glance, Post};
-use std::alloc::Global;
 use std::sync::Wait;
 use std::thread::{Threads, for_each_mut};
 
 /// The most threads of the workers that keep links open and look a name up.
 const LINKERS: usize = 5;
-
-/// The most threads of the workers that make calls.
-const CALLERS: usize = 16;
 
 /// Keeps links open and looks a name up, each worker in a thread of its own, until the channel is shut down. May never return.
 pub fn work_links<
@@ -27,8 +24,8 @@ pub fn work_links<
     L: Lookup,
     C: Clock,
     D: Draws,
->(rt: &R, alloc: Global, clock: &C, links: &mut [LinkJob<H, N, L, D>]) -> Outcome
-    ensures each { (i : ℕ) (d : LinkJob H N L D) → i < length links.old → LinkDone (seen_by H.made H.errors H.last_error) H.last_look N.coming (slice_index_or links.old i d) (slice_index_or links.new i d) }
+>(rt: &R, clock: &C, links: &mut [LinkJob<H, N, L, D>]) -> Outcome
+    ensures each { (i : ℕ) (d : LinkJob H N L D) → i < length links.old → LinkDone (seen_by H.made H.errors H.last_error) H.share H.last_look N.coming (slice_index_or links.old i d) (slice_index_or links.new i d) }
     ensures outcome { result ≡ gravest (map (λ j. outcome_in j) links.new) }
 {
     for_each_mut(
@@ -36,8 +33,8 @@ pub fn work_links<
         links,
         LINKERS,
         &|_: usize, job: &mut LinkJob<H, N, L, D>| -> ()
-            ensures { LinkDone (seen_by H.made H.errors H.last_error) H.last_look N.coming job.entry.now job.exit.now }
-        { job.work(rt, alloc, clock) },
+            ensures { LinkDone (seen_by H.made H.errors H.last_error) H.share H.last_look N.coming job.entry.now job.exit.now }
+        { job.work(rt, clock) },
     );
     outcome_of_links(links)
 }
@@ -57,15 +54,15 @@ pub fn work_calls<R: Threads + Wait + Sync, H: Caller + Send>(
     rt: &R,
     calls: &mut [CallJob<H>],
 ) -> Outcome
-    ensures each { (i : ℕ) (d : CallJob H) → i < length calls.old → CallDone (seen_by H.made H.errors H.last_error) (slice_index_or calls.old i d) (slice_index_or calls.new i d) }
+    ensures each { (i : ℕ) (d : CallJob H) → i < length calls.old → CallDone (seen_by H.made H.errors H.last_error) H.share (slice_index_or calls.old i d) (slice_index_or calls.new i d) }
     ensures outcome { result ≡ gravest (map (λ j. j.outcome) calls.new) }
 {
     for_each_mut(
         rt,
         calls,
-        CALLERS,
+        WORKERS,
         &|_: usize, job: &mut CallJob<H>| -> ()
-            ensures { CallDone (seen_by H.made H.errors H.last_error) job.entry.now job.exit.now }
+            ensures { CallDone (seen_by H.made H.errors H.last_error) H.share job.entry.now job.exit.now }
         { job.work(rt) },
     );
     outcome_of_calls(calls)

@@ -237,6 +237,8 @@ impl Post for Channel {
 
     ghost last_look = { λ c. c.last_look };
 
+    ghost share = { λ c. [] };
+
     fn post(&mut self, event: Event) -> Result<Reply, PostError> {
         if self.plan.fails {
             return Err(self.fail(PostError::NoMemory { spent: true }));

@@ -1,5 +1,5 @@
 -- What a turn does to the channel under the lock, and what its handle then knows.
-use Rattle.std.specs.Prelude.{◌≡◌, ◌↔◌, ◌⊎◌, ℕ, zero, suc, Bool, true, false, Option, Some, None, Result, Ok, Err, List, ◌++◌, length, map, IfOk}
+use Rattle.std.specs.Prelude.{◌≡◌, ◌↔◌, ◌⊎◌, ℕ, zero, suc, Bool, true, false, Option, Some, None, Result, Ok, Err, List, ◌∷◌, ◌++◌, length, map, IfOk}
 use Rattle.grpc_base.specs.Posts.{MayReply, is_full, is_not_yet}
 use Rattle.grpc_base.specs.declared.event.Entry.{Entry}
 use Rattle.grpc_base.specs.declared.event.Event.{Event}
@@ -67,6 +67,11 @@ pub record Looks (tells : CoreSeen → Type 0) (before after : SeatSeen Entry) :
 -- the entries that a handle made
 abbrev pub entries_of : List (ℕ × Entry) → List Entry
 entries_of own = map (λ p. p.1) own
+
+-- numbers that name the channel of a handle, and how many parts of it are the handle's
+abbrev pub share_of : SeatSeen Entry → List ℕ
+share_of seat =
+    seat.parts ∷ seat.lock.words ∷ seat.lock.slots ∷ seat.lock.views_name ∷ seat.lock.atom ∷ seat.lock.block ∷ seat.lock.offset ∷ seat.lock.slot_names
 
 -- the random words to come: one is drawn ahead of those that are still to be drawn
 abbrev pub words_of : ℕ → (ℕ → ℕ) → ℕ → ℕ

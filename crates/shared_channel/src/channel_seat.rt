@@ -6,7 +6,9 @@ ghost use Rattle.grpc_base.specs.declared.event.Event.TheVariants as event;
 ghost use Rattle.grpc_base.specs.declared.post.Look.TheVariants as look;
 ghost use Rattle.channel_core.specs.Applying.{can_drain_in};
 ghost use Rattle.channel_core.specs.Core.{view_of};
-ghost use Rattle.shared_channel.specs.Turns.{CanSend, CanTake, Looks, TakesPlace, entries_of, words_of};
+ghost use Rattle.shared_channel.specs.Turns.{CanSend, CanTake, Looks, TakesPlace, entries_of, share_of, words_of};
+ghost use Rattle.turn_lock.specs.History.{Ascends, Stands, merged};
+ghost use Rattle.turn_lock.specs.Turn.{Sees};
 
 use crate::jobs::{AtDrain, AtSend, AtTake, AtView, SendStep, Step, TakeStep, moment_of};
 use crate::shared::{Seat, Shared};
@@ -18,7 +20,7 @@ use std::sync::Wait;
 use turn_lock::{Chronicle, TurnLock};
 
 /// A thread's handle of a shared channel, with the clock and the random words of its entries. Each of its calls but `into_seat`
-/// may wait for other threads.
+/// and `take_in` may wait for other threads.
 #[derive(Drop)]
 pub struct ChannelSeat<'a, P: Balancer, W, C: Clock, D: Draws>
 where
@@ -42,6 +44,19 @@ impl<'a, P: Balancer, W, C: Clock, D: Draws> ChannelSeat<'a, P, W, C, D> {
     {
         self.seat
     }
+
+    /// Takes in another handle of the channel: its parts and its own entries, which stand in order in what is then seen. Waits for nobody.
+    pub fn take_in(&mut self, mut other: Seat<P>)
+        requires lock { other.lock ≡ self.old.seat.lock }
+        ensures joined { self.new.seat ≡ record self.old.seat { seen = self.new.seat.seen; own = merged self.old.seat.own other.own; parts = self.old.seat.parts + other.parts } }
+        ensures sees { Sees self.old.seat self.new.seat }
+        ensures other { Stands self.new.seat.seen other.own × Ascends 0 other.own }
+        ensures kept { (self.new.clock.now ≡ self.old.clock.now) × (self.new.next ≡ self.old.next) × (self.new.draws ≡ self.old.draws) × (self.new.tally ≡ self.old.tally) }
+    {
+        // The look tells the order of the other's entries, which the joined lists don't.
+        self.lock.front(&mut other);
+        self.lock.join_seat(&mut self.seat, other);
+    }
 }
 
 impl<P: Balancer, W: Wait, C: Clock, D: Draws> Post for ChannelSeat<'_, P, W, C, D> {
@@ -55,12 +70,15 @@ impl<P: Balancer, W: Wait, C: Clock, D: Draws> Post for ChannelSeat<'_, P, W, C,
 
     ghost last_look = { λ s. s.tally.last_look };
 
+    ghost share = { λ s. share_of s.seat };
+
     /// One step of the channel, at the clock's moment and with the next random word. The step is the last of a history that begins
     /// with all that the handle had seen.
     fn post(&mut self, event: Event) -> Result<Reply, PostError>
         ensures made { Posts (entries_of self.old.seat.own) (entries_of self.new.seat.own) event result }
         ensures errors { CountsErrors self.old.tally.errors self.new.tally.errors self.old.tally.last_error self.new.tally.last_error result }
         ensures looks { (self.new.tally.looks ≡ self.old.tally.looks) × (self.new.tally.last_look ≡ self.old.tally.last_look) }
+        ensures share { share_of self.new.seat ≡ share_of self.old.seat }
         ensures place { TakesPlace (C.may_give self.old.clock.now) (words_of self.old.next (D.words self.old.draws) 0) event result self.old.seat self.new.seat }
         ensures words { (k : ℕ) → words_of self.new.next (D.words self.new.draws) k ≡ words_of self.old.next (D.words self.old.draws) (k + 1) }
     {
@@ -83,6 +101,7 @@ impl<P: Balancer, W: Wait, C: Clock, D: Draws> Glance for ChannelSeat<'_, P, W, 
         ensures made { entries_of self.new.seat.own ≡ entries_of self.old.seat.own }
         ensures errors { (self.new.tally.errors ≡ self.old.tally.errors) × (self.new.tally.last_error ≡ self.old.tally.last_error) }
         ensures looks { (self.new.tally.looks ≡ one_more self.old.tally.looks) × (self.new.tally.last_look ≡ Some (look.Glance result)) }
+        ensures share { share_of self.new.seat ≡ share_of self.old.seat }
         ensures told { Looks (λ core. result ≡ view_of core) self.old.seat self.new.seat }
     {
         let view = self.lock.turn(self.rt, &mut self.seat, &mut AtView);
@@ -94,6 +113,7 @@ impl<P: Balancer, W: Wait, C: Clock, D: Draws> Glance for ChannelSeat<'_, P, W, 
         ensures made { entries_of self.new.seat.own ≡ entries_of self.old.seat.own }
         ensures errors { (self.new.tally.errors ≡ self.old.tally.errors) × (self.new.tally.last_error ≡ self.old.tally.last_error) }
         ensures looks { (self.new.tally.looks ≡ one_more self.old.tally.looks) × (self.new.tally.last_look ≡ Some (look.CanDrain link result)) }
+        ensures share { share_of self.new.seat ≡ share_of self.old.seat }
         ensures told { Looks (λ core. result ≡ can_drain_in link core.state) self.old.seat self.new.seat }
     {
         let answer = self
@@ -107,6 +127,7 @@ impl<P: Balancer, W: Wait, C: Clock, D: Draws> Glance for ChannelSeat<'_, P, W, 
         ensures made { entries_of self.new.seat.own ≡ entries_of self.old.seat.own }
         ensures errors { (self.new.tally.errors ≡ self.old.tally.errors) × (self.new.tally.last_error ≡ self.old.tally.last_error) }
         ensures looks { (self.new.tally.looks ≡ one_more self.old.tally.looks) × (self.new.tally.last_look ≡ Some (look.CanTake call result)) }
+        ensures share { share_of self.new.seat ≡ share_of self.old.seat }
         ensures told { Looks (CanTake call result) self.old.seat self.new.seat }
     {
         let answer = self
@@ -120,6 +141,7 @@ impl<P: Balancer, W: Wait, C: Clock, D: Draws> Glance for ChannelSeat<'_, P, W, 
         ensures made { entries_of self.new.seat.own ≡ entries_of self.old.seat.own }
         ensures errors { (self.new.tally.errors ≡ self.old.tally.errors) × (self.new.tally.last_error ≡ self.old.tally.last_error) }
         ensures looks { (self.new.tally.looks ≡ one_more self.old.tally.looks) × (self.new.tally.last_look ≡ Some (look.CanSend call len result)) }
+        ensures share { share_of self.new.seat ≡ share_of self.old.seat }
         ensures told { Looks (CanSend call len result) self.old.seat self.new.seat }
     {
         let answer = self
@@ -138,6 +160,7 @@ impl<P: Balancer, W: Wait, C: Clock, D: Draws> Caller for ChannelSeat<'_, P, W, 
         ensures come { IfOk result (λ r. is_not_yet r ≡ false) }
         ensures errors { CountsErrors self.old.tally.errors self.new.tally.errors self.old.tally.last_error self.new.tally.last_error result }
         ensures looks { (self.new.tally.looks ≡ self.old.tally.looks) × (self.new.tally.last_look ≡ self.old.tally.last_look) }
+        ensures share { share_of self.new.seat ≡ share_of self.old.seat }
         ensures place { TakesPlace (C.may_give self.old.clock.now) (words_of self.old.next (D.words self.old.draws) 0) (event.Take call) result self.old.seat self.new.seat }
         ensures words { (k : ℕ) → words_of self.new.next (D.words self.new.draws) k ≡ words_of self.old.next (D.words self.old.draws) (k + 1) }
     {
@@ -166,6 +189,7 @@ impl<P: Balancer, W: Wait, C: Clock, D: Draws> Caller for ChannelSeat<'_, P, W, 
         ensures taken { IfOk result (λ r. is_full r ≡ false) }
         ensures errors { CountsErrors self.old.tally.errors self.new.tally.errors self.old.tally.last_error self.new.tally.last_error result }
         ensures looks { (self.new.tally.looks ≡ self.old.tally.looks) × (self.new.tally.last_look ≡ self.old.tally.last_look) }
+        ensures share { share_of self.new.seat ≡ share_of self.old.seat }
         ensures place { TakesPlace (C.may_give self.old.clock.now) (words_of self.old.next (D.words self.old.draws) 0) (event.Send call message) result self.old.seat self.new.seat }
         ensures words { (k : ℕ) → words_of self.new.next (D.words self.new.draws) k ≡ words_of self.old.next (D.words self.old.draws) (k + 1) }
     {

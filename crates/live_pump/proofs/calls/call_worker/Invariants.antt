@@ -7,6 +7,7 @@ use Rattle.live_pump.proofs.calls.call_worker.Given as goal
 abbrev pub invariant-loop-line : goal.invariant-loop-line
 invariant-loop-line g l = record {
   errors : g.P.Post.errors l.post ≡ g.P.Post.errors l.fn.post;
+  share : g.P.Post.share l.post ≡ g.P.Post.share l.fn.post;
   done : List CallLine;
   parts : l.calls ≡ done ++ l.rest;
   so_far : MakesLines done (g.P.Post.made l.fn.post) (g.P.Post.made l.post);

@@ -6,6 +6,7 @@ use Rattle.live_pump.proofs.calls.send_all.Given as goal
 abbrev pub invariant-loop-message : goal.invariant-loop-message
 invariant-loop-message g l = record {
   errors : g.P.Post.errors l.post ≡ g.P.Post.errors l.fn.post;
+  share : g.P.Post.share l.post ≡ g.P.Post.share l.fn.post;
   done : List (List ℕ);
   parts : l.messages ≡ done ++ l.rest;
   so_far : SendsAll l.call done (g.P.Post.made l.fn.post) (g.P.Post.made l.post);

@@ -7,6 +7,7 @@ use Rattle.live_pump.proofs.calls.take_all.Given as goal
 abbrev pub invariant-loop : goal.invariant-loop
 invariant-loop g l = record {
   errors : g.P.Post.errors l.post ≡ g.P.Post.errors l.fn.post;
+  share : g.P.Post.share l.post ≡ g.P.Post.share l.fn.post;
   takes : List Entry;
   each : All (IsTake l.call) takes;
   made : g.P.Post.made l.post ≡ g.P.Post.made l.fn.post ++ takes;

@@ -4,12 +4,13 @@ use Rattle.live_pump.proofs.RunLaws.{turned_all}
 use Rattle.live_pump.proofs.rounds.links_part.Goals as goal
 
 pub loop-at-init : goal.loop-at-init
-loop-at-init g c = record { within = omega arith; errors = refl; looks = omega arith; turns = λ after left end later. later }
+loop-at-init g c = record { within = omega arith; errors = refl; share = refl; looks = omega arith; turns = λ after left end later. later }
 
 pub loop-at-preserved : goal.loop-at-preserved
 loop-at-preserved g c = record {
   within = c.in-Ok.ensures.passed.0;
   errors = c.in-Ok.ensures.part ∙ c.loop-at.invariant.errors;
+  share = c.turn_at.ensures.share ∙ c.loop-at.invariant.share;
   looks = omega arith;
   turns = λ after left end later. c.loop-at.invariant.turns after left end (c.in-Ok.ensures.turned after left end later);
 }

@@ -12,6 +12,7 @@ invariant-loop-at g l =
     g.I.LinkIn.left g.I.LinkIn.faults g.I.LinkIn.quiet g.O.LinkOut.taken g.O.LinkOut.faults g.O.LinkOut.closed in record {
       within : l.at ≤ length l.links.items;
       errors : g.P.Post.errors l.post ≡ g.P.Post.errors l.fn.post;
+      share : g.P.Post.share l.post ≡ g.P.Post.share l.fn.post;
       looks : HasNotFallen (g.P.Post.looks l.fn.post) (g.P.Post.looks l.post);
       turns : (after : Site g.row.P.Denot g.row.T.Denot) (left : List (OpenLink g.row.I.Denot g.row.O.Denot)) (end : Option PostError)
           → TurnsLinks eyes (take l.at l.links.items) (record { post = l.post; tender = l.tender }) (drop l.at l.links.items) after left end

@@ -5,7 +5,7 @@ use Rattle.live_pump.proofs.RunLaws.{rounds_more}
 use Rattle.live_pump.proofs.rounds.run_rounds.Goals as goal
 
 pub loop-init : goal.loop-init
-loop-init g c = record { errors = refl; looks = omega arith; rounds = []; goes_on = refl }
+loop-init g c = record { errors = refl; share = refl; looks = omega arith; rounds = []; goes_on = refl }
 
 pub loop-preserved : goal.loop-preserved
 loop-preserved g c =
@@ -14,6 +14,7 @@ loop-preserved g c =
     let sees : g.row.N.Denot → DialerSeen = λ d. record { coming = g.N.Dialer.coming d; faults = g.N.Dialer.faults d } in
     record {
       errors = c.in_default.ensures.round ∙ c.loop.invariant.errors;
+      share = c.round.ensures.share ∙ c.loop.invariant.share;
       looks = omega arith;
       rounds = c.loop.invariant.rounds ++ record { site = record { post = c.round.new.post; tender = c.round.new.tender }; dialer = c.round.new.dialer; links = c.round.new.links.items } ∷ [];
       goes_on = rounds_more eyes sees (g.C.Clock.may_give c.args.clock.now) _ c.loop.invariant.rounds _ _ c.loop.invariant.goes_on c.in_default.ensures.parts;

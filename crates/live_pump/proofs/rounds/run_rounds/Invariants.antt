@@ -11,6 +11,7 @@ invariant-loop g l =
     g.N.In.LinkIn.left g.N.In.LinkIn.faults g.N.In.LinkIn.quiet g.N.Out.LinkOut.taken g.N.Out.LinkOut.faults g.N.Out.LinkOut.closed in
     let sees : g.row.N.Denot → DialerSeen = λ d. record { coming = g.N.Dialer.coming d; faults = g.N.Dialer.faults d } in record {
       errors : g.P.Post.errors l.post ≡ g.P.Post.errors l.fn.post;
+      share : g.P.Post.share l.post ≡ g.P.Post.share l.fn.post;
       looks : HasNotFallen (g.P.Post.looks l.fn.post) (g.P.Post.looks l.post);
       rounds : List (Stand g.row.P.Denot g.row.T.Denot g.row.N.Denot _ _);
       goes_on : RoundsOn eyes sees (g.C.Clock.may_give l.clock) (record { site = record { post = l.fn.post; tender = l.fn.tender }; dialer = l.fn.dialer; links = l.fn.links.items }) rounds

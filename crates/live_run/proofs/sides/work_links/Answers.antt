@@ -20,5 +20,5 @@ for_each_mut-requires-clause-accepts g c = λ a b i p within same. (
 pub returns-clause-each : goal.returns-clause-each
 returns-clause-each g c = λ i d within.
     let k = (c.for_each_mut.ensures i d within).1 in
-    link_done_at (seen_by g.H.Post.made g.H.Post.errors g.H.Post.last_error) g.H.Post.last_look g.N.Dialer.coming k.argument.now k.after_call.now
+    link_done_at (seen_by g.H.Post.made g.H.Post.errors g.H.Post.last_error) g.H.Post.share g.H.Post.last_look g.N.Dialer.coming k.argument.now k.after_call.now
     (slice_index_or c.args.links.now i d) (slice_index_or c.for_each_mut.new.s i d) k.argument_is k.left k.call

@@ -1,0 +1,11 @@
+use Rattle.std.proofs.Common.{◌≡◌}
+use Rattle.live_pump.specs.Kinds.{AddsOnly}
+use Rattle.live_run.specs.Sides.{IsOfNames}
+use Rattle.live_run.proofs.jobs.NameJob.work.Given as goal
+
+-- nothing but what is of lookups was posted so far
+abbrev pub invariant-loop : goal.invariant-loop
+invariant-loop g l = record {
+  posts : AddsOnly IsOfNames (g.H.Post.made l.fn.self.post) (g.H.Post.made l.self.post);
+  share : g.H.Post.share l.self.post ≡ g.H.Post.share l.fn.self.post;
+}
