@@ -20,8 +20,9 @@ use Rattle.channel_top.specs.Migrate.{IsMigrated}
 use Rattle.script_input.proofs.ScriptLaws.{AreMoved, script_again}
 use Rattle.resolver_core.specs.AnyTargets.{IsTarget}
 use Rattle.resolver_core.proofs.KeptLaws.{target_kept}
-use Rattle.channel_top.specs.Top.{AreEntriesOf, EndsFull, IsDone, IsFullReport, IsReplayText, IsReport, IsRunReport, IsScriptAgain, highest_so_far}
-use Rattle.channel_top.specs.declared.ran.Ran.TheVariants as ran
+use Rattle.session_text.specs.Sessions.{AreEntriesOf, highest_so_far}
+use Rattle.channel_top.specs.Top.{EndsFull, IsDone, IsFullReport, IsReplayText, IsReport, IsRunReport, IsScriptAgain}
+use Rattle.session_text.specs.declared.ran.Ran.TheVariants as ran
 
 moment_within : (texts : List (List ℕ)) (s : Stamped) → IsStampedText texts s → s.moment ≤ moment_limit
 moment_within (moment ∷ (word ∷ others)) s t = t.0.0

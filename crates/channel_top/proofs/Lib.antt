@@ -1,4 +1,5 @@
 pub mod AgainLaws
+pub mod ChoiceLaws
 pub mod ConfigLaws
 pub mod OptionLaws
 pub mod ReportLaws

@@ -15,11 +15,14 @@ some_none : {X : Type 0} (x : X) → Some x ≡ None → ⊥
 some_none x e = (cc)
 
 -- how a number of 64 bits is read, as its own text says
-pub reads_number : (t : List ℕ) (r : Result ℕ ParseIntError) → ParsesUnsigned 64 10 t r × ExplainsUnsignedError 10 t r × HasUnsignedDigitsIfOk t r → ParsesUnsigned 64 10 t r
+abbrev pub GivesNumber : List ℕ → Result ℕ ParseIntError → Type 0
+GivesNumber t r = ParsesUnsigned 64 10 t r × ExplainsUnsignedError 10 t r × HasUnsignedDigitsIfOk t r
+
+pub reads_number : (t : List ℕ) (r : Result ℕ ParseIntError) → GivesNumber t r → ParsesUnsigned 64 10 t r
 reads_number t r h = h.0
 
 -- how a number of 64 bits is read
-abbrev IsReading : {E : Type 0} → (List ℕ → Result ℕ E → Type 0) → Type 0
+abbrev pub IsReading : {E : Type 0} → (List ℕ → Result ℕ E → Type 0) → Type 0
 IsReading {E} gives = (t : List ℕ) (r : Result ℕ E) → gives t r → ParsesUnsigned 64 10 t r
 
 -- a number that was read and is within the bounds

@@ -1,31 +1,21 @@
--- How much of an output was written, for one that is more than another.
-use Rattle.std.proofs.Common.{◌≡◌, ◌∙◌, ℕ, Option, List, ap, inl, inr, subst, sym}
-use Rattle.std.specs.Prelude.{Result, Ok, Err, OnOk, OnErr}
+-- The output of a mode is that of the program.
+use Rattle.std.proofs.Common.{◌≡◌, ℕ, Option, List, inl, inr, subst, sym}
 use Rattle.grpc_base.specs.Kinds.{KindsSeen}
 use Rattle.load_plan.specs.declared.load.Load.{Load}
-use Rattle.gate_io.specs.Outside.{Appends, AppendsFront}
+use Rattle.gate_io.specs.Outside.{AppendsFront}
 use Rattle.script_text.proofs.Passing.{AppendsFront-none}
 use Rattle.channel_top.specs.Load.{FillsLoad, IsLoadDone, IsLoadText, RefusesLoad}
 use Rattle.channel_top.specs.Modes.{FillsIn, IsDoneIn, IsOutput, IsOutputIn, RefusesIn}
+use Rattle.live_mode.specs.Live.{IsLiveText}
+use Rattle.live_mode.specs.declared.settings.LiveSettings.{LiveSettings}
 use Rattle.channel_top.specs.Top.{IsReplayText}
 use Rattle.channel_top.specs.Words.{Runs}
-use Rattle.channel_top.specs.Writing.{WritesAll, WritesFront, WritesSome}
 use Rattle.channel_top.specs.declared.words.Mode.{Mode}
 use Rattle.channel_top.specs.declared.words.Mode.TheVariants as mode
 
 -- nothing written is a front of any text
 pub none_written : (taken : Option (List ℕ)) (text : List ℕ) → AppendsFront taken taken text
 none_written taken text = AppendsFront-none taken text
-
-pub all_as : (P Q : List ℕ → Type 0) (taken taken' : Option (List ℕ)) → ((text : List ℕ) → P text → Q text) → WritesAll P taken taken' → WritesAll Q taken taken'
-all_as P Q taken taken' more all = (all.0, more all.0 all.1, all.2)
-
-pub front_as : (P Q : List ℕ → Type 0) (taken taken' : Option (List ℕ)) → ((text : List ℕ) → P text → Q text) → WritesFront P taken taken' → WritesFront Q taken taken'
-front_as P Q taken taken' more front = (front.0, more front.0 front.1, front.2)
-
-pub some_as : (P Q : List ℕ → Type 0) (taken taken' : Option (List ℕ)) → ((text : List ℕ) → P text → Q text) → WritesSome P taken taken' → WritesSome Q taken taken'
-some_as P Q taken taken' more (inl same) = inl same
-some_as P Q taken taken' more (inr front) = inr (front_as P Q taken taken' more front)
 
 -- the output of the mode that the words run is that of the program
 pub output_of : (kinds : KindsSeen) (m : Mode) (words : List (List ℕ)) (left left' : Option (List ℕ)) → Runs m words → (text : List ℕ) → IsOutputIn kinds m left left' text → IsOutput kinds words left left' text
@@ -41,6 +31,9 @@ output_of kinds (mode.Serve port links) words left left' runs text (inr fault) =
 output_of kinds (mode.Load load) words left left' runs text (same, inl done) = inl (inl (mode.Load load, runs, (same, done)))
 output_of kinds (mode.Load load) words left left' runs text (same, inr (inl refused)) = inr (inl (inr (mode.Load load, runs, (same, refused))))
 output_of kinds (mode.Load load) words left left' runs text (same, inr (inr full)) = inr (inr (inr (mode.Load load, runs, (same, full))))
+output_of kinds (mode.Live settings) words left left' runs text (inl (inl done)) = inl (inl (mode.Live settings, runs, done))
+output_of kinds (mode.Live settings) words left left' runs text (inl (inr full)) = inr (inr (inr (mode.Live settings, runs, full)))
+output_of kinds (mode.Live settings) words left left' runs text (inr fault) = inr (inr (inl (mode.Live settings, runs, fault)))
 
 -- the output of the mode `replay` is that of its mode
 pub replay_output : (kinds : KindsSeen) (m : Mode) (left left' : Option (List ℕ)) → m ≡ mode.Replay → (text : List ℕ) → IsReplayText left left' text → IsOutputIn kinds m left left' text
@@ -59,19 +52,6 @@ load_refused kinds m load left left' is same text refused = subst (λ (x : Mode)
 pub load_full : (m : Mode) (load : Load) (left left' : Option (List ℕ)) → m ≡ mode.Load load → left' ≡ left → (text : List ℕ) → FillsLoad load text → FillsIn m left left' text
 load_full m load left left' is same text full = subst (λ (x : Mode). FillsIn x left left' text) (sym is) (same, full)
 
--- what holds where a call succeeded, or where it failed, holds of what follows from it
-pub on_ok_as : {T E P Q : Type 0} → (r : Result T E) → (P → Q) → OnOk r P → OnOk r Q
-on_ok_as (Ok value) more holds = more holds
-on_ok_as (Err fault) more holds = tt
-
-pub on_err_as : {T E P Q : Type 0} → (r : Result T E) → (P → Q) → OnErr r P → OnErr r Q
-on_err_as (Ok value) more holds = tt
-on_err_as (Err fault) more holds = more holds
-
-pub err_holds : {T E P : Type 0} → (r : Result T E) (fault : E) → r ≡ Err fault → OnErr r P → P
-err_holds (Ok value) fault same holds = absurd (cc)
-err_holds (Err other) fault same holds = holds
-
--- a fault that is a failed write
-pub err_write : {T E P : Type 0} → {write : E} → (r : Result T E) (fault : E) → r ≡ Err fault → fault ≡ write → (r ≡ Err write → P) → P
-err_write {T} {E} r fault same is holds = holds (same ∙ ap (λ (e : E). Err e) is)
+-- the output of the mode `live` is that of its mode
+pub live_output : (kinds : KindsSeen) (m : Mode) (settings : LiveSettings) (left left' : Option (List ℕ)) → m ≡ mode.Live settings → (text : List ℕ) → IsLiveText left left' text → IsOutputIn kinds m left left' text
+live_output kinds m settings left left' is text told = subst (λ (x : Mode). IsOutputIn kinds x left left' text) (sym is) told

@@ -8,4 +8,3 @@ pub mod Runs
 pub mod Serve
 pub mod Top
 pub mod Words
-pub mod Writing

@@ -8,7 +8,7 @@ use Rattle.load_plan.specs.declared.load.Load.{Load}
 use Rattle.load_plan.specs.declared.summary.LoadSummary.{LoadSummary}
 use Rattle.load_session.specs.Session.{GetsFull, SumsUp}
 use Rattle.policy_rack.specs.Kinds.{kinds_of}
-use Rattle.channel_top.specs.Top.{session_full_text}
+use Rattle.session_text.specs.Sessions.{session_full_text}
 use Rattle.channel_top.specs.Words.{words_fault_text}
 
 -- a session of a load wants `round_robin`

@@ -7,7 +7,8 @@ use Rattle.script_input.specs.declared.form.Form.TheVariants as form
 use Rattle.script_input.specs.Reading.{FindsBad, StopsReading}
 use Rattle.script_input.specs.Scripts.{IsOnlyScript, IsScript}
 use Rattle.script_lines.specs.Spelling.{script_of}
-use Rattle.channel_top.specs.Top.{IsScriptAgain, line_fault_text}
+use Rattle.session_text.specs.Sessions.{line_fault_text}
+use Rattle.channel_top.specs.Top.{IsScriptAgain}
 
 -- the bytes are a script, or the report that holds it, of one target and one list of events, and the text is that script, of
 -- version 2; it is read as the same target and events

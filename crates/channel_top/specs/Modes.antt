@@ -3,6 +3,7 @@ use Rattle.std.specs.Prelude.{◌≡◌, ◌⊎◌, ℕ, Option, List}
 use Rattle.grpc_base.specs.Kinds.{KindsSeen}
 use Rattle.channel_top.specs.Top.{EndsFull, IsDone, IsReplayText, StopsAtRead, TellsBadLine}
 use Rattle.channel_top.specs.ConfigMode.{IsConfigDone, IsConfigText, StopsInConfig, TellsConfigFault}
+use Rattle.live_mode.specs.Live.{EndsLiveFull, IsLiveText, IsLived, StopsInCalls, TellsBadCall}
 use Rattle.channel_top.specs.Migrate.{IsMigrateText, IsMigrated, StopsInReport, TellsBadReport}
 use Rattle.channel_top.specs.Serve.{EndsUnheard, IsServeText, IsServed, StopsInServer, TellsBadAnswer}
 use Rattle.channel_top.specs.Load.{FillsLoad, IsLoadDone, IsLoadText, RefusesLoad}
@@ -17,6 +18,7 @@ IsDoneIn kinds mode.Config left left' text = IsConfigDone kinds left left' text
 IsDoneIn kinds mode.Migrate left left' text = IsMigrated left left' text
 IsDoneIn kinds (mode.Serve port links) left left' text = IsServed links left left' text
 IsDoneIn kinds (mode.Load load) left left' text = (left' ≡ left) × IsLoadDone kinds load text
+IsDoneIn kinds (mode.Live settings) left left' text = IsLived left left' text
 
 -- this text of a mode tells the fault of its input
 abbrev pub TellsFaultIn : KindsSeen → Mode → Option (List ℕ) → Option (List ℕ) → List ℕ → Type 0
@@ -25,6 +27,7 @@ TellsFaultIn kinds mode.Config left left' text = TellsConfigFault kinds left lef
 TellsFaultIn kinds mode.Migrate left left' text = TellsBadReport left left' text
 TellsFaultIn kinds (mode.Serve port links) left left' text = TellsBadAnswer left left' text
 TellsFaultIn kinds (mode.Load load) left left' text = ⊥
+TellsFaultIn kinds (mode.Live settings) left left' text = TellsBadCall left left' text
 
 -- a read failed in a mode
 abbrev pub StopsIn : Mode → Option (List ℕ) → Option (List ℕ) → Option (List ℕ) → Option (List ℕ) → ℕ → ℕ → Type 0
@@ -33,6 +36,7 @@ StopsIn mode.Config left left' taken taken' faults faults' = StopsInConfig left 
 StopsIn mode.Migrate left left' taken taken' faults faults' = StopsInReport left left' taken taken' faults faults'
 StopsIn (mode.Serve port links) left left' taken taken' faults faults' = StopsInServer left left' taken taken' faults faults'
 StopsIn (mode.Load load) left left' taken taken' faults faults' = ⊥
+StopsIn (mode.Live settings) left left' taken taken' faults faults' = StopsInCalls left left' taken taken' faults faults'
 
 -- the output of a mode, by what it read
 abbrev pub IsOutputIn : KindsSeen → Mode → Option (List ℕ) → Option (List ℕ) → List ℕ → Type 0
@@ -41,6 +45,7 @@ IsOutputIn kinds mode.Config left left' text = IsConfigText kinds left left' tex
 IsOutputIn kinds mode.Migrate left left' text = IsMigrateText left left' text
 IsOutputIn kinds (mode.Serve port links) left left' text = IsServeText links left left' text
 IsOutputIn kinds (mode.Load load) left left' text = (left' ≡ left) × IsLoadText kinds load text
+IsOutputIn kinds (mode.Live settings) left left' text = IsLiveText left left' text
 
 -- status 0: the mode that the words run is done, and this is its text; or the words ask for the text of help or of the version, and
 -- nothing is read
@@ -66,6 +71,7 @@ TellsFault kinds words left left' text = (m : Mode) × Runs m words × TellsFaul
 abbrev pub FillsIn : Mode → Option (List ℕ) → Option (List ℕ) → List ℕ → Type 0
 FillsIn mode.Replay left left' text = EndsFull left left' text
 FillsIn (mode.Load load) left left' text = (left' ≡ left) × FillsLoad load text
+FillsIn (mode.Live settings) left left' text = EndsLiveFull left left' text
 FillsIn m left left' text = ⊥
 
 -- status 7: the words run a mode whose journal got full

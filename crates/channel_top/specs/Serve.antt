@@ -3,7 +3,7 @@ use Rattle.std.specs.Prelude.{◌≡◌, ◌⊎◌, ℕ, Option, List, [], ◌�
 use Rattle.grpc_base.specs.declared.script.AnswerLine.{AnswerLine}
 use Rattle.gate_io.specs.Outside.{one_more}
 use Rattle.script_input.specs.Servers.{FindsBadAnswer, ReadsServer, StopsInAnswers}
-use Rattle.channel_top.specs.Top.{line_fault_text}
+use Rattle.session_text.specs.Sessions.{line_fault_text}
 
 -- the line that tells how many links were served
 abbrev pub served_text : ℕ → List ℕ

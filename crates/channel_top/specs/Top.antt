@@ -1,5 +1,5 @@
 -- What the mode `replay` reads and runs, and the text that it makes of it, by its status.
-use Rattle.std.specs.Prelude.{◌≡◌, ◌≤◌, ◌⊎◌, ℕ, Option, List, [], ◌∷◌, ◌++◌, length, map, max, codes, decimal, All}
+use Rattle.std.specs.Prelude.{◌≡◌, ◌≤◌, ◌⊎◌, ℕ, Option, List, [], ◌∷◌, ◌++◌, length, map, All}
 use Rattle.grpc_base.specs.declared.event.Stamped.{Stamped}
 use Rattle.grpc_base.specs.Limits.{line_limit}
 use Rattle.grpc_base.specs.Posts.{HasNoRoom}
@@ -8,10 +8,10 @@ use Rattle.attempt_ledger.specs.declared.journal.Journal.{Journal}
 use Rattle.attempt_ledger.specs.declared.ledger.Ledger.{Ledger}
 use Rattle.gate_io.specs.Outside.{IsAtEnd, Takes}
 use Rattle.channel_core.specs.Sizes.{journal_bytes}
-use Rattle.channel_core.specs.Core.{CoreSeen, IsNew, Runs, ledger_in}
-use Rattle.channel_core.specs.Laws.{IsLawful}
-use Rattle.channel_top.specs.declared.ran.Ran.{Ran}
-use Rattle.channel_top.specs.declared.ran.Ran.TheVariants as ran
+use Rattle.channel_core.specs.Core.{CoreSeen, IsNew}
+use Rattle.session_text.specs.declared.ran.Ran.{Ran}
+use Rattle.session_text.specs.declared.ran.Ran.TheVariants as ran
+use Rattle.session_text.specs.Sessions.{IsSession, line_fault_text, session_full_text}
 use Rattle.channel_top.specs.Runs.{RunsTo}
 use Rattle.script_input.specs.Reading.{FindsBad, StopsReading}
 use Rattle.script_input.specs.Scripts.{IsOnlyScript, IsScript}
@@ -20,38 +20,6 @@ use Rattle.resolver_core.specs.AnyTargets.{authority_of}
 use Rattle.resolver_core.specs.declared.any_target.Target.{Target}
 use Rattle.script_lines.specs.Spelling.{script_of, stamped_text}
 use Rattle.script_text.specs.Report.{report_of}
-
--- the line that tells the first bad line of a script
-abbrev pub line_fault_text : ℕ → ℕ → List ℕ
-line_fault_text line cause = codes "fault line " ++ decimal line ++ codes " cause " ++ decimal cause ++ 10 ∷ []
-
--- moments that never fall: each the highest so far
-abbrev pub highest_so_far : ℕ → List ℕ → List ℕ
-highest_so_far last [] = []
-highest_so_far last (m ∷ moments) = max m last ∷ highest_so_far (max m last) moments
-
--- the line behind the report of a session whose journal is full
-abbrev pub session_full_text : List ℕ
-session_full_text = codes "fault session full" ++ 10 ∷ []
-
--- what journal and ledger say of events that a new channel was given in order, and nothing else: each with its word and at the later
--- of its moment and the last step's
-pub record AreEntriesOf (events : List Stamped) (journal : Journal) : Type 0 where
-  pub events_are : map (λ e. e.event) journal.entries ≡ map (λ s. s.event) events
-  pub words_are : map (λ e. e.word) journal.entries ≡ map (λ s. s.word) events
-  pub moments_are : map (λ e. e.moment) journal.entries ≡ highest_so_far 0 (map (λ s. s.moment) events)
-
--- a session: a new channel, whose requests have this authority, ran these events and no other, and this is its journal and ledger,
--- which are lawful
-pub record IsSession (authority : List ℕ) (events : List Stamped) (journal : Journal) (ledger : Ledger) : Type 0 where
-  pub new : CoreSeen
-  pub core : CoreSeen
-  pub is_new : IsNew authority new
-  pub runs : Runs new events core
-  pub journal_is : journal ≡ core.journal
-  pub ledger_is : ledger ≡ ledger_in core
-  pub entries : AreEntriesOf events journal
-  pub lawful : IsLawful journal.entries ledger
 
 -- the script of these events is read as them, where none of its lines is too long for a script
 abbrev pub IsScriptAgain : List ℕ → Target → List Stamped → Type 0
@@ -88,11 +56,6 @@ IsRunReport target value events text = (ran : Ran) × IsReportBy ran target valu
 -- a channel that was new with this authority was given these events
 abbrev pub HasRun : Ran → List ℕ → List Stamped → CoreSeen → Type 0
 HasRun ran authority events core = (new : CoreSeen) × IsNew authority new × RunsTo ran new events core
-
--- what is written of a channel that was given events
-abbrev pub run_text : Ran → List ℕ → Journal → Ledger → List ℕ
-run_text ran.Whole target journal ledger = report_of target journal ledger
-run_text ran.Full target journal ledger = report_of target journal ledger ++ session_full_text
 
 -- the bytes spell one script, and the text is the report of its session; the report's lines of entries are, up to each ` = `, a
 -- script again

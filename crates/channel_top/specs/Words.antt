@@ -1,11 +1,14 @@
 -- What the words of a command line ask for: a mode, or the text of help or of the version.
-use Rattle.std.specs.Prelude.{◌≡◌, ◌⊎◌, ℕ, true, if◌then◌else◌, Option, Some, None, List, [], ◌∷◌, ◌++◌, codes, Result, Ok, Err}
+use Rattle.std.specs.Prelude.{◌≡◌, ◌≢◌, ◌⊎◌, ℕ, ◌*◌, true, if◌then◌else◌, Option, Some, None, List, [], ◌∷◌, ◌++◌, codes, Result, Ok, Err}
 use Rattle.std.specs.Str.{bytes_eq}
 use Rattle.std.specs.Str.Parse.{digits_value, without_leading_plus}
 use Rattle.clap.specs.Values.{IsUnsignedIn}
 use Rattle.clap.specs.Words.{App, Row, Rule, fault_of, matches_of, new_app, new_rule, one_of, with_rule}
 use Rattle.clap.specs.Kinds.{Kinds, IsAmong}
 use Rattle.clap.specs.declared.error.kind.ErrorKind.TheVariants as kind
+use Rattle.keepalive_core.specs.declared.rule.KeepRule.{KeepRule}
+use Rattle.channel_top.specs.declared.live_words.Given.{Given}
+use Rattle.channel_top.specs.declared.live_words.Given.TheVariants as was
 use Rattle.channel_top.specs.declared.words.Mode.{Mode}
 use Rattle.channel_top.specs.declared.words.Mode.TheVariants as mode
 use Rattle.channel_top.specs.declared.words.ModeName.{ModeName}
@@ -22,6 +25,7 @@ name_text name.Config = codes "config"
 name_text name.Migrate = codes "migrate"
 name_text name.Serve = codes "serve"
 name_text name.Load = codes "load"
+name_text name.Live = codes "live"
 
 abbrev pub mode_named : List ℕ → Option ModeName
 mode_named word =
@@ -30,6 +34,7 @@ mode_named word =
     else if bytes_eq word (name_text name.Migrate) then Some name.Migrate
     else if bytes_eq word (name_text name.Serve) then Some name.Serve
     else if bytes_eq word (name_text name.Load) then Some name.Load
+    else if bytes_eq word (name_text name.Live) then Some name.Live
     else None
 
 -- the mode of the first word, if it is a mode's name
@@ -60,16 +65,32 @@ bare_for (Some name.Config) = app_named (codes "grpcc config")
 bare_for (Some name.Migrate) = app_named (codes "grpcc migrate")
 bare_for (Some name.Serve) = app_named (codes "grpcc serve")
 bare_for (Some name.Load) = app_named (codes "grpcc load")
+bare_for (Some name.Live) = app_named (codes "grpcc live")
 bare_for None = record (app_named (codes "grpcc")) { top = record (app_named (codes "grpcc")).top { no_binary_name = true } }
 
 -- an option that has to be there and takes one value
 abbrev pub option_rule : List ℕ → Rule
 option_rule id = record (new_rule id) { long = Some id; required = true; value_names = 1 }
 
--- the command of a mode: only `serve` and `load` have options
+-- an option that may be left out and takes one value
+abbrev pub choice_rule : List ℕ → Rule
+choice_rule id = record (new_rule id) { long = Some id; value_names = 1 }
+
+-- a command with the options of `live`: the seed and the number of net workers, and the times of keepalives
+abbrev pub with_workers : App → App
+with_workers app = with_rule (with_rule app (choice_rule (codes "seed"))) (choice_rule (codes "nets"))
+
+abbrev pub with_keepalives : App → App
+with_keepalives app = with_rule (with_rule app (choice_rule (codes "keepalive"))) (choice_rule (codes "keepalive-timeout"))
+
+abbrev pub with_live : App → App
+with_live app = with_keepalives (with_workers app)
+
+-- the command of a mode: options are those of `serve`, `load` and `live`
 unfoldable pub app_for : Option ModeName → App
 app_for (Some name.Serve) = with_rule (with_rule (bare_for (Some name.Serve)) (option_rule (codes "port"))) (option_rule (codes "links"))
 app_for (Some name.Load) = with_rule (with_rule (bare_for (Some name.Load)) (option_rule (codes "seed"))) (option_rule (codes "calls"))
+app_for (Some name.Live) = with_live (bare_for (Some name.Live))
 app_for m = bare_for m
 
 -- the kinds of error that clap gives for the words at such a command, by clap's own definitions; none where it takes them
@@ -109,6 +130,29 @@ abbrev pub IsLoadOf : ℕ → ℕ → Mode → Type 0
 IsLoadOf seed calls (mode.Load load) = (load.seed ≡ seed) × (load.calls ≡ calls)
 IsLoadOf seed calls m = ⊥
 
+-- an option was given such a number, or was not given and counts as the default
+abbrev pub IsChoice : List ℕ → ℕ → ℕ → ℕ → List Row → ℕ → Type 0
+IsChoice id low high default rows n = IsOption id low high rows n ⊎ ((one_of id rows ≡ None) × (n ≡ default))
+
+-- what an option was given: nothing, a number within its bounds, or what is none
+abbrev pub IsGiven : List ℕ → ℕ → ℕ → List Row → Given → Type 0
+IsGiven id low high rows was.Nothing = one_of id rows ≡ None
+IsGiven id low high rows (was.Number n) = IsOption id low high rows n
+IsGiven id low high rows was.Wrong = (one_of id rows ≢ None) × ((n : ℕ) → IsOption id low high rows n → ⊥)
+
+-- the options of keepalives, in milliseconds: the timeout stands beside the time alone, and is 20 s where it is not given
+abbrev pub IsKeepBy : List Row → Option KeepRule → Type 0
+IsKeepBy rows None = (one_of (codes "keepalive") rows ≡ None) × (one_of (codes "keepalive-timeout") rows ≡ None)
+IsKeepBy rows (Some rule) =
+    (time : ℕ) × (timeout : ℕ) × IsOption (codes "keepalive") 1 86400000 rows time × IsChoice (codes "keepalive-timeout") 1 86400000 20000 rows timeout
+    × (rule ≡ record { time = time * 1000000; timeout = timeout * 1000000 })
+
+-- the mode `live` with the values of its options
+abbrev pub IsLiveBy : List Row → Mode → Type 0
+IsLiveBy rows (mode.Live settings) =
+    IsChoice (codes "seed") 0 18446744073709551615 1 rows settings.seed × IsChoice (codes "nets") 1 4 2 rows settings.nets × IsKeepBy rows settings.keep
+IsLiveBy rows m = ⊥
+
 -- the words run a mode with options: clap takes them at its command, and their matches there give the options their values
 pub record RunsByOptions (n : ModeName) (IsBy : List Row → Type 0) (words : List (List ℕ)) : Type 0 where
   pub named : mode_of words ≡ Some n
@@ -122,6 +166,7 @@ Runs mode.Config words = RunsPlain name.Config words
 Runs mode.Migrate words = RunsPlain name.Migrate words
 Runs (mode.Serve port links) words = RunsByOptions name.Serve (λ rows. IsServeBy rows (mode.Serve port links)) words
 Runs (mode.Load load) words = RunsByOptions name.Load (λ rows. IsLoadBy rows (mode.Load load)) words
+Runs (mode.Live settings) words = RunsByOptions name.Live (λ rows. IsLiveBy rows (mode.Live settings)) words
 
 -- clap answers the words with the text of help or of the version
 abbrev pub AskForText : List (List ℕ) → Type 0

@@ -1,7 +1,7 @@
 // The commands of `clap`, one for each mode.
 ghost use Rattle.std.specs.Prelude.{◌≡◌, IfOk};
 ghost use Rattle.clap.specs.Words.{app_of, with_rule};
-ghost use Rattle.channel_top.specs.Words.{app_for, bare_for, option_rule};
+ghost use Rattle.channel_top.specs.Words.{app_for, bare_for, choice_rule, option_rule, with_keepalives, with_live, with_workers};
 
 use crate::help;
 use crate::words::ModeName;
@@ -25,6 +25,7 @@ pub fn command<'a>(alloc: Global, name: Option<ModeName>) -> Result<Command<'a>,
             let command = with_number(alloc, command, "seed", "The seed, below 2^64")?;
             with_number(alloc, command, "calls", "How many calls, from 1 to 10000")
         }
+        Some(ModeName::Live) => with_live_options(alloc, command),
         _ => Ok(command),
     }
 }
@@ -55,6 +56,12 @@ fn bare<'a>(alloc: Global, name: Option<ModeName>) -> Command<'a>
             .version(VERSION)
             .about(help::of_load())
             .override_usage("grpcc load --seed N --calls N"),
+        Some(ModeName::Live) => Command::new(alloc, "grpcc live")
+            .version(VERSION)
+            .about(help::of_live())
+            .override_usage(
+                "grpcc live [--seed N] [--nets N] [--keepalive MS] [--keepalive-timeout MS] < SCRIPT",
+            ),
         None => Command::new(alloc, "grpcc")
             .version(VERSION)
             .about(help::of_program())
@@ -78,4 +85,61 @@ fn with_number<'a>(
         .help(text)
         .required(true);
     command.arg(option)
+}
+
+/// A command with one more option, which takes a number and may be left out.
+fn with_choice<'a>(
+    alloc: Global,
+    command: Command<'a>,
+    id: &'a str,
+    text: &'a str,
+) -> Result<Command<'a>, AllocError>
+    ensures { IfOk result (λ c. app_of c ≡ with_rule (app_of command.entry) (choice_rule id.entry.now)) }
+{
+    let option = Arg::new(alloc, id).long(id).value_name("N").help(text);
+    command.arg(option)
+}
+
+/// A command with the options of `live`.
+fn with_live_options<'a>(alloc: Global, command: Command<'a>) -> Result<Command<'a>, AllocError>
+    ensures { IfOk result (λ c. app_of c ≡ with_live (app_of command.entry)) }
+{
+    let command = with_workers(alloc, command)?;
+    with_keepalives(alloc, command)
+}
+
+/// A command with the seed and the number of net workers.
+fn with_workers<'a>(alloc: Global, command: Command<'a>) -> Result<Command<'a>, AllocError>
+    ensures { IfOk result (λ c. app_of c ≡ with_workers (app_of command.entry)) }
+{
+    let command = with_choice(
+        alloc,
+        command,
+        "seed",
+        "The seed of the random choices (default 1)",
+    )?;
+    with_choice(
+        alloc,
+        command,
+        "nets",
+        "How many threads keep links open, from 1 to 4 (default 2)",
+    )
+}
+
+/// A command with the options of keepalives.
+fn with_keepalives<'a>(alloc: Global, command: Command<'a>) -> Result<Command<'a>, AllocError>
+    ensures { IfOk result (λ c. app_of c ≡ with_keepalives (app_of command.entry)) }
+{
+    let command = with_choice(
+        alloc,
+        command,
+        "keepalive",
+        "After how many ms without bytes a link is pinged, from 1 to 86400000",
+    )?;
+    with_choice(
+        alloc,
+        command,
+        "keepalive-timeout",
+        "How many ms a ping may stay unanswered, from 1 to 86400000 (default 20000)",
+    )
 }

@@ -3,15 +3,15 @@ ghost use Rattle.std.specs.Prelude.{◌≡◌, ◌⊎◌, Err, OnErr, OnOk};
 ghost use Rattle.gate_io.specs.Outside.{Appends, AppendsFront, Rises};
 ghost use Rattle.service_config.specs.Text.{fault_text};
 ghost use Rattle.channel_top.specs.ConfigMode.{IsConfigDone, IsConfigText, StopsInConfig, TellsConfigFault};
-ghost use Rattle.channel_top.specs.Writing.{WritesAll, WritesFront, WritesSome};
+ghost use Rattle.session_text.specs.Writing.{WritesAll, WritesFront, WritesSome};
 
 use crate::input::{Ending, read_input};
-use crate::tell::{unwritten, write_text};
 use gate_io::{Sink, Source};
 use grpc_base::limits::CONFIG_BYTES;
 use grpc_base::{ConfigFault, KindSet};
 use script_text::{ReportFault, write_config};
 use service_config::{fault_text, read_config};
+use session_text::{unwritten, write_text};
 use std::alloc::Global;
 
 /// How many bytes of a config are read: one more than a config may have, so that the longest and those above it are told apart.

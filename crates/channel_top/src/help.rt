@@ -13,6 +13,8 @@ pub fn of_program() -> &'static str {
              grpcc serve --port 50051 --links 1 < examples/hello.server
   load     makes a session from a seed, plays it in memory and sums it up
              grpcc load --seed 1 --calls 1000
+  live     reads calls, makes them over TCP and writes the report of the session
+             grpcc live < examples/hello.live
 
 Statuses, explained on standard error:
   0  done; the whole output is written
@@ -154,4 +156,20 @@ Output:  load <seed> calls <calls> entries <n> rows <n> ok <n> failed <n> open <
   open         calls whose end was not taken
   retries      attempts that the retry policy made
   transparent  attempts made again since the server never saw the one before"
+}
+
+/// Of `live`: what it does, the lines of a script, and the options.
+pub fn of_live() -> &'static str {
+    "Reads a live script, makes its calls over TCP, and writes the report of the session: each event
+with its reply, cut off at each ' = ' a script that 'grpcc replay' runs to the same report.
+
+Line 1 is: channel 2 <target>       as for grpcc replay --help
+Line 2 may be: config <hex>         a service config
+All others:  call <worker> <path> <wait> <timeout> <metadata> <message>..
+  <worker>     from 1 to 16; the calls of a worker are made one behind another, and all workers
+               at once
+  <message>    hex, or - for the empty one; 0 to 64 of them
+
+It ends when the calls are made and the channel is shut down. Causes of bad lines are those of
+scripts: grpcc replay --help"
 }

@@ -1,14 +1,12 @@
 // The mode `load`.
-ghost use Rattle.std.specs.Prelude.{◌≡◌, ◌⊎◌, ◌++◌, ◌∷◌, [], Err, IfOk, OnErr, OnOk, map, true};
+ghost use Rattle.std.specs.Prelude.{◌≡◌, ◌≢◌, ◌⊎◌, ◌++◌, ◌∷◌, [], Err, IfOk, OnErr, OnOk, map, true};
 ghost use Rattle.gate_io.specs.Outside.{Appends, AppendsFront, Rises};
 ghost use Rattle.channel_top.specs.Load.{FillsLoad, IsLoadDone, IsLoadText, RefusesLoad};
-ghost use Rattle.channel_top.specs.Top.{session_full_text};
-ghost use Rattle.channel_top.specs.Words.{words_fault_text};
-ghost use Rattle.channel_top.specs.Writing.{WritesAll, WritesFront, WritesSome};
+ghost use Rattle.session_text.specs.Writing.{WritesAll, WritesFront, WritesSome};
 ghost use Rattle.load_plan.specs.Lines.{summary_line};
 ghost use Rattle.policy_rack.specs.Kinds.{are_ready, kinds_of};
 
-use crate::tell::{SESSION_FULL, WORDS_FAULT, unwritten, write_text};
+use crate::tell::WORDS_FAULT;
 use gate_io::{Sink, write_whole};
 use grpc_base::{Kind, NoMemory, Text};
 use lb_policy::Balancer;
@@ -16,6 +14,7 @@ use load_plan::{Load, LoadSummary};
 use load_session::{LoadFault, summarize};
 use policy_rack::set_of;
 use script_text::ReportFault;
+use session_text::{SESSION_FULL, unwritten, write_text};
 use std::alloc::Global;
 
 /// Plays the session of a load in memory with these policies, writes the line that sums it up, and gives the status of the
@@ -44,39 +43,27 @@ pub fn run_load<P: Balancer, K: Sink>(
 {
     let kinds = set_of(policies.as_slice());
     if !kinds.has(Kind::RoundRobin) {
-        return tell_refused(report);
+        return tell_line(report, WORDS_FAULT, 2);
     }
     match summarize(alloc, load, policies) {
         Ok(summary) => tell_summary(alloc, &summary, report),
         Err(fault) => match fault {
-            LoadFault::SessionFull => tell_full(report),
+            LoadFault::SessionFull => tell_line(report, SESSION_FULL, 7),
             LoadFault::NoMemory => 6,
         },
     }
 }
 
-/// Tells that a policy is not there, as wrong words are told, and gives the status of the program.
-fn tell_refused<K: Sink>(report: &mut K) -> u8
-    ensures whole { result ≡ 2 → Appends (K.taken report.old) (K.taken report.new) words_fault_text }
+/// Tells a fault by its line, and gives the status of the program: this one, or that of a write that failed.
+fn tell_line<K: Sink>(report: &mut K, line: &[u8], status: u8) -> u8
+    requires { status ≢ 5 }
+    ensures whole { result ≡ status → Appends (K.taken report.old) (K.taken report.new) line.now }
     ensures writing { result ≡ 5 → Rises (K.faults report.old) (K.faults report.new) }
-    ensures front { result ≡ 5 → AppendsFront (K.taken report.old) (K.taken report.new) words_fault_text }
-    ensures known { (result ≡ 2) ⊎ (result ≡ 5) }
+    ensures front { result ≡ 5 → AppendsFront (K.taken report.old) (K.taken report.new) line.now }
+    ensures known { (result ≡ status) ⊎ (result ≡ 5) }
 {
-    if write_whole(report, WORDS_FAULT) {
-        return 2;
-    }
-    5
-}
-
-/// Tells that the journal is full, and gives the status of the program.
-fn tell_full<K: Sink>(report: &mut K) -> u8
-    ensures whole { result ≡ 7 → Appends (K.taken report.old) (K.taken report.new) session_full_text }
-    ensures writing { result ≡ 5 → Rises (K.faults report.old) (K.faults report.new) }
-    ensures front { result ≡ 5 → AppendsFront (K.taken report.old) (K.taken report.new) session_full_text }
-    ensures known { (result ≡ 7) ⊎ (result ≡ 5) }
-{
-    if write_whole(report, SESSION_FULL) {
-        return 7;
+    if write_whole(report, line) {
+        return status;
     }
     5
 }

@@ -3,12 +3,12 @@ ghost use Rattle.std.specs.Prelude.{◌≡◌, ◌⊎◌};
 ghost use Rattle.gate_io.specs.Outside.{Appends, AppendsFront, Rises};
 ghost use Rattle.script_lines.specs.Spelling.{script_of};
 ghost use Rattle.channel_top.specs.Migrate.{IsMigrateText, IsMigrated, StopsInReport, TellsBadReport};
-ghost use Rattle.channel_top.specs.Writing.{WritesAll, WritesFront, WritesSome};
+ghost use Rattle.session_text.specs.Writing.{WritesAll, WritesFront, WritesSome};
 
-use crate::tell::{tell_bad, unwritten};
 use gate_io::{Sink, Source};
 use script_input::{InputFault, Script, read_report};
 use script_text::write_script;
+use session_text::{tell_bad, unwritten};
 use std::alloc::Global;
 
 /// Reads a script or a report, of either version, writes the script of version 2, and gives the status of the program. The

@@ -2,16 +2,15 @@
 ghost use Rattle.std.specs.Prelude.{◌≡◌, ◌⊎◌, map, true};
 ghost use Rattle.gate_io.specs.Outside.{Rises};
 ghost use Rattle.channel_top.specs.Top.{EndsFull, IsDone, IsFullReport, IsReplayText, IsReport, IsRunReport, StopsAtRead, TellsBadLine};
-ghost use Rattle.channel_top.specs.Writing.{WritesAll, WritesFront, WritesSome};
+ghost use Rattle.session_text.specs.Writing.{WritesAll, WritesFront, WritesSome};
 ghost use Rattle.policy_rack.specs.Kinds.{are_ready};
 ghost use Rattle.resolver_core.specs.AnyTargets.{IsTarget};
 
-use crate::ran::Ran;
 use crate::session::report_session;
-use crate::tell::{tell_bad, unwritten};
 use gate_io::{Sink, Source};
 use lb_policy::Balancer;
 use script_input::{InputFault, Script, read_replay};
+use session_text::{Ran, tell_bad, unwritten};
 use std::alloc::Global;
 
 /// Reads a script, runs it with these policies, writes the report, and gives the status of the program.

@@ -2,10 +2,10 @@
 ghost use Rattle.std.specs.Prelude.{◌≡◌, ℕ, Err, IfOk};
 ghost use Rattle.channel_top.specs.Runs.{RunsTo, StepsTo};
 
-use crate::ran::Ran;
 use channel_core::{ChannelCore, CoreError};
 use grpc_base::{NoMemory, Stamped};
 use lb_policy::Balancer;
+use session_text::Ran;
 
 /// Gives a channel these events in order, up to the first for which its journal has no room.
 pub fn run_events<P: Balancer>(

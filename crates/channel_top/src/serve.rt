@@ -3,14 +3,15 @@ ghost use Rattle.std.specs.Prelude.{◌≡◌, ◌⊎◌, ◌≢◌};
 ghost use Rattle.gate_io.specs.Outside.{Appends, AppendsFront, Rises, one_more};
 ghost use Rattle.grpc_base.specs.Scripts.{IsServerScript};
 ghost use Rattle.channel_top.specs.Serve.{EndsUnheard, IsServeText, IsServed, StopsInServer, TellsBadAnswer, served_text};
-ghost use Rattle.channel_top.specs.Writing.{WritesAll, WritesFront, WritesSome};
+ghost use Rattle.session_text.specs.Writing.{WritesAll, WritesFront, WritesSome};
 
 use crate::links::{Place, Served, serve_at};
-use crate::tell::{tell_bad, tell_served, unwritten};
+use crate::tell::tell_served;
 use gate_io::{Listener, Sink, Source};
 use grpc_base::ServerScript;
 use loop_server::ServerCore;
 use script_input::{InputFault, read_server};
+use session_text::{tell_bad, unwritten};
 use std::alloc::Global;
 use std::sync::{Mutex, Wait};
 use std::thread::Threads;

@@ -1,23 +1,21 @@
 // A script that is run and reported.
-ghost use Rattle.std.specs.Prelude.{◌≡◌, Err, IfOk, OnErr, OnOk, map, true};
-ghost use Rattle.gate_io.specs.Outside.{Appends, AppendsFront, Rises};
+ghost use Rattle.std.specs.Prelude.{◌≡◌, Err, IfOk, OnErr, map, true};
+ghost use Rattle.gate_io.specs.Outside.{Rises};
 ghost use Rattle.grpc_base.specs.Authorities.{IsAuthority};
-ghost use Rattle.channel_core.specs.Core.{ledger_in};
-ghost use Rattle.channel_top.specs.Top.{HasRun, IsReportBy, IsRunReport, run_text};
-ghost use Rattle.channel_top.specs.Writing.{WritesAll, WritesFront, WritesSome};
+ghost use Rattle.channel_top.specs.Top.{HasRun, IsReportBy, IsRunReport};
+ghost use Rattle.session_text.specs.Writing.{WritesAll, WritesFront, WritesSome};
 ghost use Rattle.policy_rack.specs.Kinds.{are_ready};
 ghost use Rattle.resolver_core.specs.AnyTargets.{IsTarget, authority_of};
 
-use crate::ran::Ran;
 use crate::run::run_events;
-use crate::tell::{SESSION_FULL, write_text};
 use channel_core::{ChannelCore, channels_are_lawful};
 use gate_io::Sink;
 use grpc_base::{NoMemory, Stamped, Text};
 use lb_policy::Balancer;
 use resolver_core::Target;
 use script_input::Script;
-use script_text::{ReportFault, write_report};
+use script_text::ReportFault;
+use session_text::{Ran, write_session};
 use std::alloc::Global;
 
 /// A channel that was given the events of a script, and how far.
@@ -78,25 +76,4 @@ fn authority_of(alloc: Global, target: Target) -> Result<Text, NoMemory>
     ensures is_authority { IfOk result IsAuthority }
 {
     target.authority(alloc)
-}
-
-/// Writes the report of a channel; where its journal had no room for an event, a line behind it says so.
-fn write_session<P: Balancer, K: Sink>(
-    alloc: Global,
-    core: &ChannelCore<P>,
-    ran: Ran,
-    target: &Text,
-    report: &mut K,
-) -> Result<(), ReportFault>
-    ensures ok { OnOk result (Appends (K.taken report.old) (K.taken report.new) (run_text ran target.now core.now.journal (ledger_in core.now))) }
-    ensures err { OnErr result (AppendsFront (K.taken report.old) (K.taken report.new) (run_text ran target.now core.now.journal (ledger_in core.now))) }
-    ensures write { (result ≡ Err ReportFault.Write) → Rises (K.faults report.old) (K.faults report.new) }
-{
-    match write_report(alloc, core.journal(), core.ledger(), target, report) {
-        Ok(()) => match ran {
-            Ran::Whole => Ok(()),
-            Ran::Full => write_text(report, SESSION_FULL),
-        },
-        Err(fault) => Err(fault),
-    }
 }

@@ -2,7 +2,7 @@
 ghost use Rattle.std.specs.Prelude.{◌≡◌, ◌≢◌, ◌⊎◌, Some, None, map, string_bytes, true};
 ghost use Rattle.gate_io.specs.Outside.{Rises};
 ghost use Rattle.channel_top.specs.Modes.{EndsSession, FillsIn, Finishes, IsDoneIn, IsOutput, IsOutputIn, RefusesIn, RefusesWords, StopsIn, StopsReading, TellsFault, TellsFaultIn, Unheard, UnheardIn};
-ghost use Rattle.channel_top.specs.Writing.{WritesAll, WritesFront, WritesSome};
+ghost use Rattle.session_text.specs.Writing.{WritesAll, WritesFront, WritesSome};
 ghost use Rattle.policy_rack.specs.Kinds.{are_ready, kinds_of};
 
 use crate::config_mode::run_config;
@@ -16,6 +16,7 @@ use crate::words::{Asked, Mode, WordsFault, read_words};
 use dns_watch::NamedWorld;
 use gate_io::{Listener, Sink, Source, SteadySink, SteadySource, write_whole};
 use lb_policy::{Balancer, Policy};
+use live_mode::run_live;
 use policy_rack::set_of;
 use std::alloc::Global;
 use std::sync::Wait;
@@ -30,6 +31,7 @@ use std::thread::Threads;
 /// | `migrate` | reads a script or a report of either version and writes the script of version 2 |
 /// | `serve --port <n> --links <1..1024>` | reads a server script, serves so many links of the listener by it until each has ended, and writes `served <links>`; it may never return |
 /// | `load --seed <n> --calls <1..10000>` | reads nothing, plays the session that is made from the seed in memory, on both links of a scripted server, and writes the line that sums it up |
+/// | `live [--seed <n>] [--nets <1..4>] [--keepalive <ms>] [--keepalive-timeout <ms>]` | reads a live script, makes its calls over the world's links, and writes the report of the session; it may never return |
 /// | `--help`, `--version`, alone or behind a mode | writes that text, and reads nothing |
 ///
 /// | Status | When | Written |
@@ -48,7 +50,7 @@ pub fn run_channel<R: Threads + Wait + Sync, S: Source, K: Sink, W: NamedWorld, 
     words: &[String],
     script: &mut S,
     report: &mut K,
-    _world: W,
+    world: W,
     listener: &mut L,
     boxes: Vec<Box<dyn Policy>>,
 ) -> u8
@@ -64,17 +66,25 @@ pub fn run_channel<R: Threads + Wait + Sync, S: Source, K: Sink, W: NamedWorld, 
     ensures heard { result ≢ 6 → result ≢ 8 → L.faults listener.new ≡ L.faults listener.old }
     ensures known { (result ≡ 0) ⊎ (result ≡ 2) ⊎ (result ≡ 3) ⊎ (result ≡ 4) ⊎ (result ≡ 5) ⊎ (result ≡ 6) ⊎ (result ≡ 7) ⊎ (result ≡ 8) }
 {
-    run_words(rt, alloc, words, boxes, script, report, listener)
+    run_words(rt, alloc, words, boxes, script, report, world, listener)
 }
 
 /// Runs the program with these policies.
-fn run_words<R: Threads + Wait + Sync, P: Balancer, S: Source, K: Sink, L: Listener>(
+fn run_words<
+    R: Threads + Wait + Sync,
+    P: Balancer + Send,
+    S: Source,
+    K: Sink,
+    W: NamedWorld,
+    L: Listener,
+>(
     rt: &R,
     alloc: Global,
     words: &[String],
     policies: Vec<P>,
     script: &mut S,
     report: &mut K,
+    world: W,
     listener: &mut L,
 ) -> u8
     requires { are_ready (map P.seen policies.items) ≡ true }
@@ -91,7 +101,9 @@ fn run_words<R: Threads + Wait + Sync, P: Balancer, S: Source, K: Sink, L: Liste
 {
     match read_words(alloc, words) {
         Ok(asked) => match asked {
-            Asked::Run(mode) => run_mode(rt, alloc, mode, policies, script, report, listener),
+            Asked::Run(mode) => run_mode(
+                rt, alloc, mode, policies, script, report, world, listener,
+            ),
             Asked::Print(text) => {
                 if write_whole(report, text.as_bytes()) {
                     return 0;
@@ -112,13 +124,21 @@ fn run_words<R: Threads + Wait + Sync, P: Balancer, S: Source, K: Sink, L: Liste
 }
 
 /// Runs a mode.
-fn run_mode<R: Threads + Wait + Sync, P: Balancer, S: Source, K: Sink, L: Listener>(
+fn run_mode<
+    R: Threads + Wait + Sync,
+    P: Balancer + Send,
+    S: Source,
+    K: Sink,
+    W: NamedWorld,
+    L: Listener,
+>(
     rt: &R,
     alloc: Global,
     mode: Mode,
     policies: Vec<P>,
     script: &mut S,
     report: &mut K,
+    world: W,
     listener: &mut L,
 ) -> u8
     requires { are_ready (map P.seen policies.items) ≡ true }
@@ -141,6 +161,7 @@ fn run_mode<R: Threads + Wait + Sync, P: Balancer, S: Source, K: Sink, L: Listen
             run_serve(rt, alloc, Place { port, links }, script, report, listener)
         }
         Mode::Load(load) => run_load(alloc, load, policies, report),
+        Mode::Live { settings } => run_live(rt, alloc, settings, policies, world, script, report),
     }
 }
 

@@ -5,8 +5,10 @@ ghost use Rattle.channel_top.specs.declared.words.Mode.{Mode};
 ghost use Rattle.channel_top.specs.Words.{AskForText, IsAlone, IsAskedBy, IsLoadBy, IsLoadOf, IsOption, IsServeBy, Runs, app_for, dashes, kinds_at, mode_named, mode_of};
 
 use crate::command::command;
+use crate::live_words::live_of;
 use clap::error::ErrorKind;
 use clap::{ArgMatches, Error};
+use live_mode::LiveSettings;
 use load_plan::Load;
 use std::alloc::Global;
 
@@ -18,6 +20,7 @@ pub enum ModeName {
     Migrate,
     Serve,
     Load,
+    Live,
 }
 
 /// What the program does.
@@ -33,6 +36,8 @@ pub enum Mode {
     Serve { port: u16, links: u32 },
     /// Plays the session of a load in memory and writes the line that sums it up.
     Load(Load),
+    /// Reads a live script, makes its calls and writes the report.
+    Live { settings: LiveSettings },
 }
 
 /// What the words ask for.
@@ -69,6 +74,9 @@ fn mode_named(word: &[u8]) -> Option<ModeName>
     }
     if word == b"load".as_slice() {
         return Some(ModeName::Load);
+    }
+    if word == b"live".as_slice() {
+        return Some(ModeName::Live);
     }
     None
 }
@@ -119,7 +127,7 @@ fn parse<'a>(
 }
 
 /// A number, where it is within these bounds.
-fn within(number: u64, low: u64, high: u64) -> Option<u64>
+pub fn within(number: u64, low: u64, high: u64) -> Option<u64>
     ensures some { IfSome result (λ n. (n ≡ number) × (low ≤ n) × (n ≤ high)) }
     ensures none { IfNone result (low ≤ number → number ≤ high → ⊥) }
 {
@@ -208,6 +216,7 @@ fn taken_mode(name: ModeName, words: &[String], matches: &ArgMatches<'_>) -> Opt
         ModeName::Migrate => plain_of(words, Mode::Migrate),
         ModeName::Serve => serve_of(matches),
         ModeName::Load => load_of(matches),
+        ModeName::Live => live_of(matches),
     }
 }
 

@@ -38,7 +38,7 @@ impl Cause {
         Some(cause)
     }
 
-    /// What it means of any line.
+    /// What it means of any line of a script or a report.
     pub fn meaning(self) -> &'static str {
         match self {
             Cause::NoChannel => {
@@ -50,7 +50,7 @@ impl Cause {
                 "a number that is not spelled as numbers are, or is outside its range"
             }
             Cause::UnknownKind => {
-                "an event after the rows; in a report all events stand before them"
+                "no event of that name, a wait that is not yes, no or -, or, in a report, an event after the rows"
             }
             Cause::BadCount => "another count of fields than its event takes",
             Cause::BadHex => "bytes that are not in lower-case hex",

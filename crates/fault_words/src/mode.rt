@@ -8,16 +8,18 @@ pub enum Mode {
     Migrate,
     Serve,
     Load,
+    Live,
 }
 
 impl Mode {
     /// All modes, in the order in which help names them.
-    pub const ALL: [Mode; 5] = [
+    pub const ALL: [Mode; 6] = [
         Mode::Replay,
         Mode::Config,
         Mode::Migrate,
         Mode::Serve,
         Mode::Load,
+        Mode::Live,
     ];
 
     /// Its first word.
@@ -28,6 +30,7 @@ impl Mode {
             Mode::Migrate => "migrate",
             Mode::Serve => "serve",
             Mode::Load => "load",
+            Mode::Live => "live",
         }
     }
 
@@ -42,6 +45,9 @@ impl Mode {
             }
             Mode::Load => {
                 "takes --seed <0..18446744073709551615> and --calls <1..10000>, as grpcc load --seed 1 --calls 1000; it reads nothing"
+            }
+            Mode::Live => {
+                "takes --seed <0..18446744073709551615>, --nets <1..4>, --keepalive <1..86400000> and, beside --keepalive alone, --keepalive-timeout <1..86400000>, all optional; it reads standard input: grpcc live < f.live"
             }
         }
     }

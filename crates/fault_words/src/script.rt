@@ -5,7 +5,8 @@ use crate::cause::Cause;
 use crate::channel::say_channel;
 use crate::event::say_event;
 use crate::excerpt::{Excerpt, Said, say_excerpt};
-use crate::line::{Line, line_of};
+use crate::line::{End, Line, line_of};
+use crate::live::{meaning_in_live, say_live, say_nothing};
 use crate::mode::Mode;
 use crate::not_text::say_not_text;
 use crate::remembered::Remembered;
@@ -26,10 +27,10 @@ pub fn say_line(
     say(out, &[Text("error: line "), Number(bad.line), Text(": ")])?;
     let end = input.end(alloc)?;
     let Some(line) = line_of(input, end.as_slice(), bad.line) else {
-        return say(out, &[Text(bad.cause.meaning()), Text("\n")]);
+        return say(out, &[Text(meaning_in(mode, bad.cause)), Text("\n")]);
     };
     let said = match say_text(alloc, out, mode, &line, bad.cause)? {
-        Said::Nothing => say_meaning(out, bad.cause)?,
+        Said::Nothing => say_meaning(out, mode, bad.cause)?,
         said => said,
     };
     say(out, &[Text("\n")])?;
@@ -42,9 +43,18 @@ pub fn say_line(
     say_excerpt(out, &excerpt)
 }
 
-fn say_meaning(out: &mut Vec<u8>, cause: Cause) -> Result<Said, NoMemory> {
-    say(out, &[Text(cause.meaning())])?;
+fn say_meaning(out: &mut Vec<u8>, mode: Mode, cause: Cause) -> Result<Said, NoMemory> {
+    say(out, &[Text(meaning_in(mode, cause))])?;
     Ok(Said::Line)
+}
+
+/// What a cause means of a line in the input of a mode.
+fn meaning_in(mode: Mode, cause: Cause) -> &'static str {
+    match mode {
+        Mode::Serve => meaning_in_answer(cause),
+        Mode::Live => meaning_in_live(cause),
+        _ => cause.meaning(),
+    }
 }
 
 /// Says what is wrong with the text of a line, where all of it is there.
@@ -84,12 +94,18 @@ fn say_fields(
     mode: Mode,
     line: &Line<'_>,
 ) -> Result<Said, NoMemory> {
+    if mode == Mode::Live && line.text.is_empty() && line.end == End::Open {
+        return say_nothing(out);
+    }
     if let Some(words) = no_fields(line.text) {
         say(out, &[Text(words)])?;
         return Ok(Said::Line);
     }
     if line.number != 1 {
-        return say_event(alloc, out, part_of(mode, line.text));
+        return match mode {
+            Mode::Live => say_live(alloc, out, line),
+            _ => say_event(alloc, out, part_of(mode, line.text)),
+        };
     }
     match target_of(line.text) {
         Some(target) => {

@@ -16,6 +16,9 @@ use std::alloc::Global;
 pub const EMPTY_FIELD: &str =
     "an empty field; one space stands between two fields, and none at a line's end";
 
+/// The greatest number of a worker of a live script.
+const WORKERS: u64 = 16;
+
 /// What a field takes.
 #[derive(Clone, Copy, PartialEq, Eq)]
 pub enum Takes {
@@ -34,6 +37,10 @@ pub enum Takes {
     Config,
     Piece,
     Digits,
+    /// The worker of a call.
+    Worker,
+    /// The config of a live script, which is there.
+    LiveConfig,
 }
 
 impl Takes {
@@ -49,6 +56,11 @@ impl Takes {
             Takes::Config => config_of(alloc, text).is_err(),
             Takes::Piece => piece_of(alloc, text)?.is_none(),
             Takes::Digits => word_of_hex(text).is_none(),
+            Takes::Worker => !is_worker(text),
+            Takes::LiveConfig => match piece_of(alloc, text)? {
+                Some(config) => config.len() > CONFIG_BYTES,
+                None => true,
+            },
             _ => number_within(text, self.most()).is_none(),
         };
         Ok(refuses)
@@ -99,6 +111,12 @@ impl Takes {
                 text,
                 "' is not the word of a ping; it takes 16 digits of lower-case hex",
             ),
+            Takes::Worker => say_quoted(
+                out,
+                text,
+                "' is not a worker: it takes a number from 1 to 16, without leading zeros",
+            ),
+            Takes::LiveConfig => say_live_config(out, text),
             _ => self.say_number(out, text),
         }
     }
@@ -112,6 +130,23 @@ impl Takes {
             &[Text(" up to "), most, Text(", without leading zeros")],
         )
     }
+}
+
+/// Whether this is the number of a worker.
+fn is_worker(text: &[u8]) -> bool {
+    match number_within(text, WORKERS) {
+        Some(number) => number > 0,
+        None => false,
+    }
+}
+
+fn say_live_config(out: &mut Vec<u8>, text: &[u8]) -> Result<(), NoMemory> {
+    if text == b"-".as_slice() {
+        let words =
+            "no bytes: a config has one byte at least; leave its line out where there is none";
+        return say(out, &[Text(words)]);
+    }
+    say_bytes(out, text, CONFIG_BYTES)
 }
 
 /// Says what this text is not.

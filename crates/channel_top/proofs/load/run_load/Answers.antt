@@ -1,4 +1,4 @@
-use Rattle.std.proofs.Common.{◌≡◌, ◌∙◌, ◌++◌, ◌∷◌, [], ap, inl, inr, map, refl, rules, sym}
+use Rattle.std.proofs.Common.{◌∙◌, ◌++◌, ◌∷◌, [], ap, inl, inr, map, refl, rules, sym}
 use Rattle.std.specs.Prelude.{Err}
 use Rattle.grpc_base.specs.Kinds.{KindsSeen, has_kind}
 use Rattle.grpc_base.specs.declared.kind.Kind.TheVariants as kind
@@ -6,7 +6,7 @@ use Rattle.load_plan.specs.Lines.{summary_line}
 use Rattle.load_session.specs.declared.fault.LoadFault.{LoadFault}
 use Rattle.policy_rack.specs.Kinds.{kinds_of}
 use Rattle.channel_top.specs.Load.{FillsLoad, IsLoadDone, RefusesLoad}
-use Rattle.channel_top.specs.Top.{session_full_text}
+use Rattle.session_text.specs.Sessions.{session_full_text}
 use Rattle.channel_top.specs.Words.{words_fault_text}
 use Rattle.channel_top.proofs.load.run_load.Goals as goal
 
@@ -16,8 +16,8 @@ returns-then-not-has g c =
     (sym (c.has.ensures ∙ ap (λ (k : KindsSeen). has_kind k kind.RoundRobin) (c.set_of-kinds.ensures ∙ ap (λ ps. kinds_of (map g.P.Balancer.seen ps)) c.as_slice.ensures.value)) ∙ c.if-not-has.true, refl) in
     record {
       done = search rules;
-      refused = λ two. (words_fault_text, refused, c.tell_refused.ensures.whole two);
-      writing = λ five. (c.tell_refused.ensures.writing five, (words_fault_text, inr (inl refused), c.tell_refused.ensures.front five));
+      refused = λ two. (words_fault_text, refused, c.tell_line.ensures.whole two);
+      writing = λ five. (c.tell_line.ensures.writing five, (words_fault_text, inr (inl refused), c.tell_line.ensures.front five));
       memory = search rules;
       full = search rules;
       known = search rules;
@@ -50,8 +50,8 @@ returns-in-SessionFull g c =
     record {
       done = search rules;
       refused = search rules;
-      writing = λ five. (c.tell_full.ensures.writing five, (session_full_text, inr (inr fills), c.tell_full.ensures.front five));
+      writing = λ five. (c.tell_line-in-SessionFull.ensures.writing five, (session_full_text, inr (inr fills), c.tell_line-in-SessionFull.ensures.front five));
       memory = search rules;
-      full = λ seven. (session_full_text, fills, c.tell_full.ensures.whole seven);
+      full = λ seven. (session_full_text, fills, c.tell_line-in-SessionFull.ensures.whole seven);
       known = search rules;
     }

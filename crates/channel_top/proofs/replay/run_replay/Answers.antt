@@ -2,9 +2,10 @@ use Rattle.std.proofs.Common.{List, ℕ, inr, refl, rules, subst}
 use Rattle.script_input.specs.declared.fault.InputFault.{InputFault}
 use Rattle.script_input.specs.declared.form.Form.TheVariants as form
 use Rattle.script_input.specs.Reading.{GivesNone}
-use Rattle.channel_top.specs.Top.{EndsFull, IsDone, IsReplayText, IsRunReport, line_fault_text}
+use Rattle.session_text.specs.Sessions.{line_fault_text}
+use Rattle.channel_top.specs.Top.{EndsFull, IsDone, IsReplayText, IsRunReport}
 use Rattle.channel_top.proofs.AgainLaws.{replay_text, report_done, report_ends, target_read}
-use Rattle.channel_top.proofs.WrittenLaws.{all_as, front_as, some_as}
+use Rattle.session_text.proofs.WrittenLaws.{all_as, front_as, some_as}
 use Rattle.channel_top.proofs.replay.run_replay.Goals as goal
 
 pub report_script-requires-clause-target : goal.report_script-requires-clause-target

@@ -1,5 +1,5 @@
 use Rattle.std.proofs.Common.{subst}
-use Rattle.channel_top.specs.declared.ran.Ran.{Ran}
+use Rattle.session_text.specs.declared.ran.Ran.{Ran}
 use Rattle.channel_top.specs.Runs.{StepsTo}
 use Rattle.channel_top.proofs.RunLaws.{IsRunning-done, IsRunning-full, IsRunning-new, IsRunning-step}
 use Rattle.channel_top.proofs.run.run_events.Goals as goal

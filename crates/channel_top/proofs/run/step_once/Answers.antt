@@ -2,14 +2,14 @@ use Rattle.std.proofs.Common.{◌≡◌, ◌∙◌, ap}
 use Rattle.std.specs.Prelude.{Err}
 use Rattle.channel_core.specs.declared.channel.CoreError.{CoreError}
 use Rattle.channel_core.specs.declared.channel.CoreError.TheVariants as failed
-use Rattle.channel_top.proofs.RunLaws.{is_full}
+use Rattle.load_session.proofs.Ran.{lacks_room}
 use Rattle.channel_top.proofs.run.step_once.Goals as goal
 
 pub returns-in-SessionFull : goal.returns-in-SessionFull
 returns-in-SessionFull g c =
     let told : c.step.result ≡ Err (failed.SessionFull c.in-SessionFull.entries c.in-SessionFull.octets) =
     c.in-Err.is ∙ ap (λ (e : CoreError). Err e) c.in-SessionFull.is in (
-      is_full c.args.core.now c.args.stamped.event c.in-SessionFull.entries c.in-SessionFull.octets
+      lacks_room c.args.core.now c.args.stamped.event c.in-SessionFull.entries c.in-SessionFull.octets
           ((c.step.ensures.full c.in-SessionFull.entries c.in-SessionFull.octets).0 told),
       c.step.ensures.refused c.in-SessionFull.entries c.in-SessionFull.octets told,
     )

@@ -2,7 +2,7 @@ use Rattle.std.proofs.Common.{inl, inr, refl, rules, subst}
 use Rattle.script_input.specs.declared.fault.InputFault.{InputFault}
 use Rattle.script_input.specs.Servers.{GivesNoServer}
 use Rattle.channel_top.specs.Serve.{IsServed, served_text}
-use Rattle.channel_top.specs.Top.{line_fault_text}
+use Rattle.session_text.specs.Sessions.{line_fault_text}
 use Rattle.channel_top.proofs.serve.run_serve.Goals as goal
 
 pub returns-in-Ok : goal.returns-in-Ok

@@ -1,9 +1,9 @@
 use Rattle.std.proofs.Common.{◌≡◌, inr}
 use Rattle.script_text.specs.declared.report.ReportFault.TheVariants as unwritten_by
 use Rattle.channel_core.specs.Core.{ledger_in}
-use Rattle.channel_top.specs.Top.{run_text}
+use Rattle.session_text.specs.Sessions.{run_text}
 use Rattle.channel_top.proofs.ReportLaws.{report_by}
-use Rattle.channel_top.proofs.WrittenLaws.{err_write}
+use Rattle.session_text.proofs.WrittenLaws.{err_write}
 use Rattle.channel_top.proofs.session.report_session.Goals as goal
 
 pub returns-in-Ok-clause-ok : goal.returns-in-Ok-clause-ok

@@ -1,6 +1,7 @@
 use Rattle.std.proofs.Common.{map, refl}
 use Rattle.policy_rack.specs.Kinds.{kinds_of}
-use Rattle.channel_top.proofs.WrittenLaws.{all_as, front_as, load_done, load_full, load_output, load_refused, replay_output, some_as}
+use Rattle.session_text.proofs.WrittenLaws.{all_as, front_as, some_as}
+use Rattle.channel_top.proofs.WrittenLaws.{live_output, load_done, load_full, load_output, load_refused, replay_output}
 use Rattle.channel_top.proofs.top.run_mode.Goals as goal
 
 pub returns-in-Replay-clause-writing : goal.returns-in-Replay-clause-writing
@@ -31,3 +32,13 @@ returns-in-Load-clause-memory g c = λ six.
 
 pub returns-in-Load-clause-full : goal.returns-in-Load-clause-full
 returns-in-Load-clause-full g c = λ seven. all_as _ _ _ _ (load_full c.args.mode c.in-Load.load _ _ c.in-Load.is refl) (c.run_load.ensures.full seven)
+
+pub returns-in-Live-clause-writing : goal.returns-in-Live-clause-writing
+returns-in-Live-clause-writing g c = λ five. (
+  (c.run_live.ensures.writing five).0,
+  front_as _ _ _ _ (live_output _ c.args.mode c.in-Live.settings _ _ c.in-Live.is) (c.run_live.ensures.writing five).1,
+)
+
+pub returns-in-Live-clause-memory : goal.returns-in-Live-clause-memory
+returns-in-Live-clause-memory g c = λ six.
+    some_as _ _ _ _ (live_output _ c.args.mode c.in-Live.settings _ _ c.in-Live.is) (c.run_live.ensures.memory six)

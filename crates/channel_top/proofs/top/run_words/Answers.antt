@@ -1,5 +1,6 @@
 use Rattle.std.proofs.Common.{map, rules, string_bytes}
-use Rattle.channel_top.proofs.WrittenLaws.{front_as, output_of, some_as}
+use Rattle.session_text.proofs.WrittenLaws.{front_as, some_as}
+use Rattle.channel_top.proofs.WrittenLaws.{output_of}
 use Rattle.channel_top.proofs.top.run_words.Goals as goal
 
 pub returns-in-Run-clause-writing : goal.returns-in-Run-clause-writing

@@ -1,4 +1,4 @@
-use Rattle.channel_top.proofs.WordFaults.{load_none, load_some, plain_none, plain_some, serve_none, serve_some}
+use Rattle.channel_top.proofs.WordFaults.{live_none, live_some, load_none, load_some, plain_none, plain_some, serve_none, serve_some}
 use Rattle.channel_top.proofs.words.taken_mode.Goals as goal
 
 pub returns-in-Serve-clause-some : goal.returns-in-Serve-clause-some
@@ -12,3 +12,9 @@ returns-in-Load-clause-some c = load_some c.args.name _ _ c.load_of.result c.in-
 
 pub returns-in-Load-clause-none : goal.returns-in-Load-clause-none
 returns-in-Load-clause-none c = load_none c.args.name _ _ c.load_of.result c.in-Load.is c.requires.name c.requires.matches c.load_of.ensures.none
+
+pub returns-in-Live-clause-some : goal.returns-in-Live-clause-some
+returns-in-Live-clause-some c = live_some c.args.name _ _ c.live_of.result c.in-Live.is c.requires.name c.requires.taken c.requires.matches c.live_of.ensures.some
+
+pub returns-in-Live-clause-none : goal.returns-in-Live-clause-none
+returns-in-Live-clause-none c = live_none c.args.name _ _ c.live_of.result c.in-Live.is c.requires.name c.requires.matches c.live_of.ensures.none

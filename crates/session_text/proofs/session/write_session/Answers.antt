@@ -1,7 +1,7 @@
 use Rattle.channel_core.specs.Core.{ledger_in}
-use Rattle.channel_top.proofs.ReportLaws.{full_front, full_written, report_front}
-use Rattle.channel_top.proofs.WrittenLaws.{on_err_as, on_ok_as}
-use Rattle.channel_top.proofs.session.write_session.Goals as goal
+use Rattle.session_text.proofs.SessionLaws.{full_front, full_written, report_front}
+use Rattle.session_text.proofs.WrittenLaws.{on_err_as, on_ok_as}
+use Rattle.session_text.proofs.session.write_session.Goals as goal
 
 pub returns-in-Full-clause-ok : goal.returns-in-Full-clause-ok
 returns-in-Full-clause-ok g c =

@@ -1,0 +1,7 @@
+pub mod CarriedLaws
+pub mod EventLaws
+pub mod GroupLaws
+pub mod LiveLaws
+pub mod OwnLaws
+pub mod SeatLaws
+pub mod SideLaws

@@ -1,0 +1,4 @@
+pub mod Handles
+pub mod Live
+pub mod Made
+pub mod Sides

@@ -1,0 +1,69 @@
+-- What the mode `live` reads and runs, and the text that it makes of it, by its status.
+use Rattle.std.specs.Prelude.{◌≡◌, ◌⊎◌, ℕ, Option, List, ◌∷◌}
+use Rattle.grpc_base.specs.declared.event.Entry.{Entry}
+use Rattle.grpc_base.specs.declared.event.Event.{Event}
+use Rattle.grpc_base.specs.declared.event.Event.TheVariants as event
+use Rattle.grpc_base.specs.declared.event.Stamped.{Stamped}
+use Rattle.attempt_ledger.specs.declared.journal.Journal.{Journal}
+use Rattle.attempt_ledger.specs.declared.ledger.Ledger.{Ledger}
+use Rattle.resolver_core.specs.declared.any_target.Target.{Target}
+use Rattle.resolver_core.specs.declared.any_target.Target.TheVariants as target
+use Rattle.script_input.specs.Lives.{FindsBadLive, ReadsLive, StopsInLive}
+use Rattle.script_input.specs.declared.live_script.LiveScript.{LiveScript}
+use Rattle.session_text.specs.declared.ran.Ran.{Ran}
+use Rattle.session_text.specs.declared.ran.Ran.TheVariants as ran
+use Rattle.session_text.specs.Sessions.{IsSession, line_fault_text, run_text}
+use Rattle.live_mode.specs.Made.{CarriesCalls}
+
+-- the first entry is of this event
+abbrev pub IsToldFirst : Event → List Entry → Type 0
+IsToldFirst e entries = (first : Entry) × (rest : List Entry) × (first.event ≡ e) × (entries ≡ first ∷ rest)
+
+-- a channel is told first the addresses of its target, where that is a list of some, and the config of the script; a name is looked up
+abbrev pub TellsTarget : Target → Option (List ℕ) → List Entry → Type 0
+TellsTarget (target.Ipv4 addresses) config entries = IsToldFirst (event.Resolved addresses config) entries
+TellsTarget (target.Dns name) config entries = Unit {0}
+
+-- the text is the report of the one channel of a live run: a new channel was given exactly the events of this journal, one behind
+-- another, and the journal and its ledger are lawful. The journal begins with what the channel is told first, and has the calls of the
+-- script, as each worker made them, and the Shutdown behind them
+pub record IsLiveReport (r : Ran) (script : LiveScript) (text : List ℕ) : Type 0 where
+  pub authority : List ℕ
+  pub events : List Stamped
+  pub journal : Journal
+  pub ledger : Ledger
+  pub session : IsSession authority events journal ledger
+  pub told : TellsTarget script.value script.config journal.entries
+  pub calls : CarriesCalls r script.calls.items journal.entries
+  pub text_is : text ≡ run_text r script.target journal ledger
+
+abbrev pub IsAnyLiveReport : LiveScript → List ℕ → Type 0
+IsAnyLiveReport script text = (r : Ran) × IsLiveReport r script text
+
+-- status 0: the input was read to its end and is a live script, and the text is the report of its run
+pub record IsLived (left left' : Option (List ℕ)) (text : List ℕ) : Type 0 where
+  pub script : LiveScript
+  pub read : ReadsLive left left' script
+  pub report : IsLiveReport ran.Whole script text
+
+-- status 7: the same, but the session had no room for an event, as the text says behind the report
+pub record EndsLiveFull (left left' : Option (List ℕ)) (text : List ℕ) : Type 0 where
+  pub script : LiveScript
+  pub read : ReadsLive left left' script
+  pub report : IsLiveReport ran.Full script text
+
+-- status 3: the text tells the first bad line
+pub record TellsBadCall (left left' : Option (List ℕ)) (text : List ℕ) : Type 0 where
+  pub line : ℕ
+  pub cause : ℕ
+  pub bad : FindsBadLive left left' line cause
+  pub text_is : text ≡ line_fault_text line cause
+
+-- the output of the mode
+abbrev pub IsLiveText : Option (List ℕ) → Option (List ℕ) → List ℕ → Type 0
+IsLiveText left left' text = (IsLived left left' text ⊎ EndsLiveFull left left' text) ⊎ TellsBadCall left left' text
+
+-- status 4: a read failed before the input's end and before its first bad line; nothing was written
+pub record StopsInCalls (left left' taken taken' : Option (List ℕ)) (faults faults' : ℕ) : Type 0 where
+  pub stops : StopsInLive left left' faults faults'
+  pub written : taken' ≡ taken

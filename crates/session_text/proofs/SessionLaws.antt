@@ -1,0 +1,64 @@
+-- The session of a channel that was given events, and the text that is written of it.
+use Rattle.std.proofs.Common.{◌≡◌, ℕ, Option, List, [], ◌++◌, refl, sym, subst}
+use Rattle.grpc_base.specs.declared.event.Stamped.{Stamped}
+use Rattle.attempt_ledger.specs.declared.journal.Journal.{Journal}
+use Rattle.attempt_ledger.specs.declared.ledger.Ledger.{Ledger}
+use Rattle.gate_io.specs.Outside.{Appends, AppendsFront}
+use Rattle.gate_io.proofs.AppendLaws.{Appends-append}
+use Rattle.script_text.specs.Report.{report_of}
+use Rattle.script_text.proofs.Passing.{AppendsFront-behind, AppendsFront-more, Passes-all}
+use Rattle.channel_core.specs.Core.{CoreSeen, IsNew, Runs, ledger_in}
+use Rattle.channel_core.specs.Laws.{IsLawful}
+use Rattle.session_text.specs.declared.ran.Ran.{Ran}
+use Rattle.session_text.specs.declared.ran.Ran.TheVariants as ran
+use Rattle.session_text.specs.Sessions.{AreEntriesOf, IsSession, run_text, session_full_text}
+use Rattle.session_text.proofs.EntryLaws.{entries_of}
+
+-- what is known of each channel that was given events
+abbrev pub AreLawful : Type 0
+AreLawful = (authority : List ℕ) (new core : CoreSeen) (events : List Stamped) → IsNew authority new → Runs new events core → IsLawful authority core.journal.entries (ledger_in core)
+
+pub session_of : AreLawful → (authority : List ℕ) (new core : CoreSeen) (events : List Stamped) (journal : Journal) (ledger : Ledger) → IsNew authority new → Runs new events core → journal ≡ core.journal → ledger ≡ ledger_in core → IsSession authority events journal ledger
+session_of lawful authority new core events journal ledger is_new runs j l = record {
+  new = new;
+  core = core;
+  is_new = is_new;
+  runs = runs;
+  journal_is = j;
+  ledger_is = l;
+  entries = subst (λ (x : Journal). AreEntriesOf events x) (sym j) (entries_of authority new events core is_new runs);
+  lawful = subst (λ (x : Journal). IsLawful authority x.entries ledger) (sym j) (subst (λ (x : Ledger). IsLawful authority core.journal.entries x) (sym l) (lawful authority new core events is_new runs));
+}
+
+-- two texts are written, one behind the other
+pub wrote_both : (a b c : Option (List ℕ)) (x y : List ℕ) → Appends a b x → Appends b c y → Appends a c (x ++ y)
+wrote_both a b c x y first second = Appends-append a b c x y (x ++ y) first second refl
+
+-- the first whole, and a front of the second
+pub wrote_first : (a b c : Option (List ℕ)) (x y : List ℕ) → Appends a b x → AppendsFront b c y → AppendsFront a c (x ++ y)
+wrote_first a b c x y first second = AppendsFront-behind a b c x [] [] y (Passes-all a b x first) second
+
+-- a front of the first
+pub wrote_some : (a b : Option (List ℕ)) (x y : List ℕ) → AppendsFront a b x → AppendsFront a b (x ++ y)
+wrote_some a b x y front = AppendsFront-more a b x y front
+
+-- the report is written, or a front of it
+written_same : (Is : List ℕ → Type 0) (target : List ℕ) (journal j : Journal) (ledger l : Ledger) → j ≡ journal → l ≡ ledger → Is (report_of target j l) → Is (report_of target journal ledger)
+written_same Is target journal j ledger l js ls is =
+    subst (λ (x : Journal). Is (report_of target x ledger)) js (subst (λ (x : Ledger). Is (report_of target j x)) ls is)
+
+pub report_front : (r : Ran) (a b : Option (List ℕ)) (target : List ℕ) (journal j : Journal) (ledger l : Ledger) → j ≡ journal → l ≡ ledger → AppendsFront a b (report_of target j l) → AppendsFront a b (run_text r target journal ledger)
+report_front ran.Whole a b target journal j ledger l js ls front = written_same (λ t. AppendsFront a b t) target journal j ledger l js ls front
+report_front ran.Full a b target journal j ledger l js ls front =
+    wrote_some a b (report_of target journal ledger) session_full_text (written_same (λ t. AppendsFront a b t) target journal j ledger l js ls front)
+
+-- and the line behind it
+pub full_written : (r : Ran) (a b c : Option (List ℕ)) (target : List ℕ) (journal j : Journal) (ledger l : Ledger) → r ≡ ran.Full → j ≡ journal → l ≡ ledger → Appends a b (report_of target j l) → Appends b c session_full_text → Appends a c (run_text r target journal ledger)
+full_written r a b c target journal j ledger l is js ls first second =
+    subst (λ (x : Ran). Appends a c (run_text x target journal ledger)) (sym is)
+    (wrote_both a b c (report_of target journal ledger) session_full_text (written_same (λ t. Appends a b t) target journal j ledger l js ls first) second)
+
+pub full_front : (r : Ran) (a b c : Option (List ℕ)) (target : List ℕ) (journal j : Journal) (ledger l : Ledger) → r ≡ ran.Full → j ≡ journal → l ≡ ledger → Appends a b (report_of target j l) → AppendsFront b c session_full_text → AppendsFront a c (run_text r target journal ledger)
+full_front r a b c target journal j ledger l is js ls first second =
+    subst (λ (x : Ran). AppendsFront a c (run_text x target journal ledger)) (sym is)
+    (wrote_first a b c (report_of target journal ledger) session_full_text (written_same (λ t. Appends a b t) target journal j ledger l js ls first) second)
