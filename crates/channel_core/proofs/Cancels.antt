@@ -74,7 +74,7 @@ acted_index f calls k ledger tokens slot i (Some x) is e there =
     let put : slice_set calls i v ≡ changed_at g calls k = set_changed calls i v ∙ sym (changed_there g calls k i e) in
     ap (λ (l : List CallSlot). numbered l k) put ∙ number_changed g calls k ∙ ap (λ (o : Option CallSlot). option_map g o) there ∙ ap (λ (z : CallSlot). Some (with_call (f (lent z.call ledger tokens [])).call z)) same
 
-acted_number : (f : Stepped → Stepped) (calls : List CallSlot) (k : ℕ) (ledger : Ledger) (tokens : Option Bucket) (slot : CallSlot) (o : Option ℕ) → index_at k (length calls) ≡ o → numbered calls k ≡ Some slot → numbered (acted_on f calls ledger tokens o).calls k ≡ Some (with_call (f (lent slot.call ledger tokens [])).call slot)
+pub acted_number : (f : Stepped → Stepped) (calls : List CallSlot) (k : ℕ) (ledger : Ledger) (tokens : Option Bucket) (slot : CallSlot) (o : Option ℕ) → index_at k (length calls) ≡ o → numbered calls k ≡ Some slot → numbered (acted_on f calls ledger tokens o).calls k ≡ Some (with_call (f (lent slot.call ledger tokens [])).call slot)
 acted_number f calls k ledger tokens slot None e there = absurd (let both : None ≡ Some slot = sym (number_none calls k e) ∙ there in (let no : ⊥ = (cc) in no))
 acted_number f calls k ledger tokens slot (Some i) e there = acted_index f calls k ledger tokens slot i (slice_get calls i) refl e there
 

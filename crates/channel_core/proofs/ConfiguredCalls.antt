@@ -74,12 +74,12 @@ pub held_more : (held : Option Settings) (es : List Entry) (x : Entry) → held_
 held_more held [] x = refl
 held_more held (e ∷ es) x = held_more (option_or (brought_by e.event e.reply) held) es x
 
-take_more : (es : List Entry) (x : Entry) (n : ℕ) → n ≤ length es → take n (es ++ x ∷ []) ≡ take n es
+pub take_more : (es : List Entry) (x : Entry) (n : ℕ) → n ≤ length es → take n (es ++ x ∷ []) ≡ take n es
 take_more es x zero le = refl
 take_more [] x (suc n) le = absurd (omega (arith, le))
 take_more (e ∷ es) x (suc n) le = ap (λ l. e ∷ l) (take_more es x n (omega (arith, le)))
 
-take_all : (es : List Entry) (n : ℕ) → n ≡ length es → take n es ≡ es
+pub take_all : (es : List Entry) (n : ℕ) → n ≡ length es → take n es ≡ es
 take_all [] zero e = refl
 take_all [] (suc n) e = refl
 take_all (x ∷ es) zero e = absurd (omega (arith, e))
@@ -90,7 +90,7 @@ got_more [] x y i e = absurd (let no : ⊥ = (cc) in no)
 got_more (z ∷ es) x y zero e = e
 got_more (z ∷ es) x y (suc i) e = got_more es x y i e
 
-number_more : (es : List Entry) (x y : Entry) (n : ℕ) → numbered es n ≡ Some y → numbered (es ++ x ∷ []) n ≡ Some y
+pub number_more : (es : List Entry) (x y : Entry) (n : ℕ) → numbered es n ≡ Some y → numbered (es ++ x ∷ []) n ≡ Some y
 number_more es x y zero e = absurd (let no : ⊥ = (cc) in no)
 number_more es x y (suc i) e = got_more es x y i e
 
@@ -112,7 +112,7 @@ begins_more : (es : List Entry) (x : Entry) (begun : ℕ) (request : RequestSeen
 begins_more es x begun request None e h = absurd (let no : ⊥ = (cc) in no)
 begins_more es x begun request (Some y) e h = ap request_in (number_more es x y begun e) ∙ h
 
-chosen_more : (es : List Entry) (x : Entry) (configured : Option ℕ) (request : RequestSeen) → IfSome configured (λ e. e ≤ length es) → chosen_at es configured request ≡ chosen_at (es ++ x ∷ []) configured request
+pub chosen_more : (es : List Entry) (x : Entry) (configured : Option ℕ) (request : RequestSeen) → IfSome configured (λ e. e ≤ length es) → chosen_at es configured request ≡ chosen_at (es ++ x ∷ []) configured request
 chosen_more es x None request le = refl
 chosen_more es x (Some e) request le = ap (λ (l : List Entry). option_map (chosen_by request) (held_after l)) (sym (take_more es x e le))
 

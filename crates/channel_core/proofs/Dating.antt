@@ -248,7 +248,7 @@ lawful_runs old [] new h lawful = subst Lawful (sym h) lawful
 lawful_runs old (s ∷ events) new h lawful = lawful_runs h.0 events new h.3 (lawful_step old h.0 s h.1 h.2 lawful)
 
 -- a new channel
-lawful_new : (authority : List ℕ) (core : CoreSeen) → IsNew authority core → Lawful core
+pub lawful_new : (authority : List ℕ) (core : CoreSeen) → IsNew authority core → Lawful core
 lawful_new authority core is =
     let none : AreDated [] no_ledger = record { rising = tt; dated = record { rows = tt; calls = tt; asks = tt; generations = tt; links = tt }; calls = refl; links = λ few. refl } in
     let ledger : core.state.book.ledger ≡ no_ledger = ap (λ (s : StateSeen). s.book.ledger) is.2.state in

@@ -98,7 +98,7 @@ some_cause (Some end) cause e = (end, (refl, (cc)))
 abbrev pub EndsBy : ℕ → List CallSeen → Type 0
 EndsBy n calls = (k : ℕ) (seen : CallSeen) (end : CallEnd) → numbered calls k ≡ Some seen → seen.end ≡ Some end → end.entry ≤ n
 
-ends_by : (n len : ℕ) (a b : Ledger) → n ≡ len + 1 → Later n a b → EndsBy len a.calls → EndsBy n b.calls
+pub ends_by : (n len : ℕ) (a b : Ledger) → n ≡ len + 1 → Later n a b → EndsBy len a.calls → EndsBy n b.calls
 ends_by n len a b next l h k seen end there is =
     elim (was_end n k a b seen end l there is) [
       | inl was ↦ (let le : end.entry ≤ len = h k was.seen end was.there was.is in omega (arith, next, le))

@@ -1,11 +1,15 @@
--- What news tell of the ends of attempts: no end is a cut, and one that a transparent retry may follow asks for nothing.
-use Rattle.std.proofs.Common.{◌≡◌, ℕ, Bool, true, false, if◌then◌else◌, Option, Some, None, IfSome, List, [], ◌∷◌, ◌++◌, map, refl, subst}
+-- What news tell of the ends of attempts: no end is a cut, one that a transparent retry may follow asks for nothing, and each has the shape of its
+-- cause.
+use Rattle.std.proofs.Common.{◌≡◌, ℕ, ◌==◌, Bool, true, false, ◌&&◌, if◌then◌else◌, Option, Some, None, IfSome, List, [], ◌∷◌, ◌++◌, map, refl, ap, subst}
+use Rattle.std.proofs.lemmas.Bool.{eqb-true}
 use Rattle.std.specs.BTreeMap.{insert_entry}
 use Rattle.std.specs.List.{AllByRecursion, remove}
+use Rattle.std.specs.Option.{option_map_or}
 use Rattle.std.specs.Ordering.{match_ordering, nat_cmp}
 use Rattle.std.specs.declared.cmp.Ordering.{Ordering}
 use Rattle.std.specs.declared.cmp.Ordering.TheVariants as ordering
 use Rattle.grpc_base.specs.declared.code.Code.{Code}
+use Rattle.grpc_base.specs.declared.code.Code.TheVariants as code
 use Rattle.grpc_base.specs.declared.fields.Field.{Field}
 use Rattle.grpc_base.specs.declared.plan.Pushback.{Pushback}
 use Rattle.std.specs.Prelude.{codes}
@@ -16,16 +20,16 @@ use Rattle.attempt_ledger.specs.Ends.{is_cut, is_stop}
 use Rattle.attempt_ledger.specs.declared.news.EndNews.{EndNews}
 use Rattle.attempt_ledger.specs.declared.news.News.{News}
 use Rattle.attempt_ledger.specs.declared.news.News.TheVariants as news
-use Rattle.attempt_ledger.specs.declared.row.RowCause.{RowCause}
 use Rattle.attempt_ledger.specs.declared.row.RowCause.TheVariants as cause
 use Rattle.grpc_meta.specs.ResponseFields.{shown_of, values_of}
+use Rattle.grpc_status.specs.StatusMaps.{http_codes, looked_up, reset_codes}
 use Rattle.h2_link.specs.Status.{http_status, is_interim}
-use Rattle.grpc_base.specs.ErrorCodes.{cancel}
+use Rattle.grpc_base.specs.ErrorCodes.{cancel, refused_stream}
 use Rattle.h2_link.specs.Heard.{heard}
 use Rattle.h2_link.specs.Steps.{cut}
 use Rattle.h2_link.specs.declared.news.LinkNews.{LinkNews}
 use Rattle.h2_link.specs.declared.news.LinkNews.TheVariants as link
-use Rattle.grpc_link.specs.Ends.{bare_end, end_with, framing_end, http_end, is_head, status_end, status_end_by, unseen_end}
+use Rattle.grpc_link.specs.Ends.{end_with, framing_end, http_code, is_head, is_ok, reset_end, status_end, status_end_by, unseen_end, http_end}
 use Rattle.grpc_link.specs.Links as links
 use Rattle.grpc_link.specs.Links.{GrpcSeen, Told, found, told_all, told_by, told_of, with_reader}
 use Rattle.grpc_link.specs.Readers.{ReaderSeen, Stepped, data_by, headers_by, read_on, stepped}
@@ -33,12 +37,15 @@ use Rattle.grpc_link.specs.Response.{comes_head, data_end, data_large, end_befor
 use Rattle.call_core.specs.Parts.{is_followed}
 use Rattle.call_core.specs.declared.attempts.Attempts.{Attempts}
 use Rattle.channel_core.specs.declared.state.links.LinkSlot.{LinkSlot}
+use Rattle.channel_core.specs.EndShapes.{IsShaped}
 use Rattle.channel_core.specs.Steps.{end_kept, ends_kept, loss}
 use Rattle.channel_core.specs.Tables.{heard_at, heard_by, hears_at}
+use Rattle.channel_core.proofs.ToldEnds.{IsToldSo}
 
 pub record IsFairEnd (end : EndNews) : Type 0 where
   pub own : is_cut end.cause ≡ false
   pub asks : (a : Attempts) → is_followed a end.cause end.unseen ≡ true → is_stop end.pushback ≡ false
+  pub shaped : IsToldSo IsShaped end
 
 abbrev pub IsFair : News → Type 0
 IsFair (news.Ended tag end) = IsFairEnd end
@@ -47,31 +54,59 @@ IsFair _ = Unit {0}
 abbrev pub AreFair : List News → Type 0
 AreFair ns = AllByRecursion IsFair ns
 
--- ends
-fair_bare : (c : Code) (why : RowCause) (unseen : Bool) (seen : ℕ) → is_cut why ≡ false → IsFairEnd (bare_end c why unseen seen)
-fair_bare c why unseen seen own = record { own = own; asks = λ a e. refl }
+-- no table names OK, and a stream that is refused is UNAVAILABLE
+pick_ok : (b : Bool) (x y : Code) → is_ok x ≡ false → is_ok y ≡ false → is_ok (if b then x else y) ≡ false
+pick_ok true x y first second = first
+pick_ok false x y first second = second
 
-fair_http : (c : Code) (asks : Pushback) (fields : List Field) (seen : ℕ) → IsFairEnd (end_with c cause.Http asks fields seen)
-fair_http c asks fields seen = record { own = refl; asks = λ a e. absurd (let no : ⊥ = (cc) in no) }
+never_ok : (rows : List (ℕ × Code)) (number : ℕ) → AllByRecursion (λ row. is_ok row.1 ≡ false) rows → is_ok (looked_up rows number) ≡ false
+never_ok [] number all = refl
+never_ok (row ∷ rows) number all = pick_ok (row.0 == number) row.1 (looked_up rows number) all.0 (never_ok rows number all.1)
+
+http_fails : (status : Option ℕ) → is_ok (option_map_or (λ s. looked_up http_codes s) status code.Unknown) ≡ false
+http_fails None = refl
+http_fails (Some status) = never_ok http_codes status (refl, (refl, (refl, (refl, (refl, (refl, (refl, (refl, tt))))))))
+
+reset_fails : (number : ℕ) → is_ok (looked_up reset_codes number) ≡ false
+reset_fails number = never_ok reset_codes number (refl, (refl, (refl, (refl, (refl, (refl, (refl, (refl, (refl, (refl, (refl, (refl, tt))))))))))))
+
+refused_by : (b other : Bool) (number : ℕ) → (number == refused_stream) ≡ b → b && other ≡ true → looked_up reset_codes number ≡ code.Unavailable
+refused_by true other number same e = ap (λ (n : ℕ). looked_up reset_codes n) (eqb-true number refused_stream same)
+refused_by false other number same e = absurd (let no : ⊥ = (cc) in no)
+
+fair_reset : (has_head : Bool) (number seen : ℕ) → IsFairEnd (reset_end has_head number seen)
+fair_reset has_head number seen = record {
+  own = refl;
+  asks = λ a e. refl;
+  shaped = λ entry moment tokens word. record {
+    bare = record { text = refl; meta = refl; pushback = refl };
+    fails = reset_fails number;
+    refused = λ e. refused_by (number == refused_stream) (if has_head then false else true) number refl e;
+  };
+}
+
+-- ends
+fair_http : (asks : Pushback) (fields : List Field) (seen : ℕ) → IsFairEnd (end_with (http_code fields) cause.Http asks fields seen)
+fair_http asks fields seen = record { own = refl; asks = λ a e. absurd (let no : ⊥ = (cc) in no); shaped = λ entry moment tokens word. (http_fails (http_status fields), refl) }
 
 fair_status : (c : Code) (asks : Pushback) (fields : List Field) (seen : ℕ) → IsFairEnd (end_with c cause.Status asks fields seen)
-fair_status c asks fields seen = record { own = refl; asks = λ a e. absurd (let no : ⊥ = (cc) in no) }
+fair_status c asks fields seen = record { own = refl; asks = λ a e. absurd (let no : ⊥ = (cc) in no); shaped = λ entry moment tokens word. refl }
 
 fair_framing : (ends : Bool) (fields : List Field) (seen : ℕ) → IsFairEnd (framing_end ends fields seen)
-fair_framing ends fields seen = record { own = refl; asks = λ a e. absurd (let no : ⊥ = (cc) in no) }
+fair_framing ends fields seen = record { own = refl; asks = λ a e. absurd (let no : ⊥ = (cc) in no); shaped = λ entry moment tokens word. (refl, refl) }
 
 fair_values : (values : List (List ℕ)) (fields : List Field) (seen : ℕ) → IsFairEnd (status_end_by values fields seen)
-fair_values [] fields seen = fair_http _ _ fields seen
+fair_values [] fields seen = fair_http _ fields seen
 fair_values (v ∷ []) fields seen = fair_status _ _ fields seen
 fair_values (v ∷ w ∷ values) fields seen = fair_status _ _ fields seen
 
 fair_unseen : (opened : Bool) (seen : ℕ) → IsFairEnd (unseen_end opened seen)
-fair_unseen true seen = record { own = refl; asks = λ a e. refl }
-fair_unseen false seen = record { own = refl; asks = λ a e. refl }
+fair_unseen true seen = record { own = refl; asks = λ a e. refl; shaped = λ entry moment tokens word. record { bare = record { text = refl; meta = refl; pushback = refl }; code_is = refl; unseen_is = refl } }
+fair_unseen false seen = record { own = refl; asks = λ a e. refl; shaped = λ entry moment tokens word. record { bare = record { text = refl; meta = refl; pushback = refl }; code_is = refl; unseen_is = refl } }
 
 pub fair_loss : (was_sent : Bool) (seen : ℕ) → IsFairEnd (loss was_sent seen)
-fair_loss true seen = record { own = refl; asks = λ a e. refl }
-fair_loss false seen = record { own = refl; asks = λ a e. refl }
+fair_loss true seen = record { own = refl; asks = λ a e. refl; shaped = λ entry moment tokens word. record { bare = record { text = refl; meta = refl; pushback = refl }; code_is = refl; unseen_is = refl } }
+fair_loss false seen = record { own = refl; asks = λ a e. refl; shaped = λ entry moment tokens word. record { bare = record { text = refl; meta = refl; pushback = refl }; code_is = refl; unseen_is = refl } }
 
 if_end : (b : Bool) (x y : EndNews) → IsFairEnd x → IsFairEnd y → IsFairEnd (if b then x else y)
 if_end true x y first second = first
@@ -94,16 +129,16 @@ fair_before : (fields : List Field) (ends : Bool) (seen : ℕ) → IfSome (end_b
 fair_before fields ends seen =
     if_option (is_interim (http_status fields)) _ _ (if_option ends (Some (framing_end ends fields seen)) None (fair_framing ends fields seen) tt)
     (if_option ends (Some (status_end fields seen)) _ (fair_status_end fields seen)
-    (if_option (is_head fields) None _ tt (if_option _ (Some (framing_end ends fields seen)) (Some (http_end fields seen)) (fair_framing ends fields seen) (fair_http _ _ fields seen))))
+    (if_option (is_head fields) None _ tt (if_option _ (Some (framing_end ends fields seen)) (Some (http_end fields seen)) (fair_framing ends fields seen) (fair_http _ fields seen))))
 
 fair_headers : (has_head whole : Bool) (fields : List Field) (ends : Bool) (seen : ℕ) → IfSome (headers_end has_head whole fields ends seen) IsFairEnd
 fair_headers true whole fields ends seen = fair_behind whole fields ends seen
 fair_headers false whole fields ends seen = fair_before fields ends seen
 
 fair_data : (f : Option MessageFault) (ends : Bool) (seen : ℕ) → IfSome (data_end f ends seen) IsFairEnd
-fair_data (Some fault.BadFlag) ends seen = record { own = refl; asks = λ a e. refl }
+fair_data (Some fault.BadFlag) ends seen = record { own = refl; asks = λ a e. refl; shaped = λ entry moment tokens word. (refl, refl) }
 fair_data (Some (fault.TooLarge len)) ends seen = tt
-fair_data None true seen = record { own = refl; asks = λ a e. refl }
+fair_data None true seen = record { own = refl; asks = λ a e. refl; shaped = λ entry moment tokens word. (refl, refl) }
 fair_data None false seen = tt
 
 -- lists of news
@@ -141,8 +176,8 @@ fair_given r tag g ends seen =
 fair_read : (r : ReaderSeen) (tag : ℕ) (n : LinkNews) → AreFair (read_on r tag n).news
 fair_read r tag (link.Fields t fields ends seen) = fair_by r tag fields seen (headers_end r.head (frame.is_whole r.messages) fields ends seen) (fair_headers r.head (frame.is_whole r.messages) fields ends seen)
 fair_read r tag (link.Data t bytes ends seen) = fair_given r tag (frame.given r.messages bytes) ends seen
-fair_read r tag (link.Reset t number seen) = (record { own = refl; asks = λ a e. refl }, tt)
-fair_read r tag (link.Fault t number seen) = (record { own = refl; asks = λ a e. refl }, tt)
+fair_read r tag (link.Reset t number seen) = (fair_reset r.head number seen, tt)
+fair_read r tag (link.Fault t number seen) = (record { own = refl; asks = λ a e. refl; shaped = λ entry moment tokens word. (refl, refl) }, tt)
 fair_read r tag (link.Unseen t seen) = (fair_unseen r.opened seen, tt)
 fair_read r tag link.Ready = tt
 fair_read r tag link.Retiring = tt

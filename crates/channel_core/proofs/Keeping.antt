@@ -302,10 +302,10 @@ found_place p place [] x is = absurd (let bad : ⊥ = (cc) in bad)
 found_place p place (s ∷ live) x is = found_if p (p s) place s live x (λ y e. found_place p (place + 1) live y e) is
 
 -- a look-up that finds what it says
-abbrev Finds : List LiveStream → Option (ℕ × LiveStream) → Type 0
+abbrev pub Finds : List LiveStream → Option (ℕ × LiveStream) → Type 0
 Finds live o = (x : ℕ × LiveStream) → o ≡ Some x → slice_get live x.0 ≡ Some x.1
 
-finds : (p : LiveStream → Bool) (live : List LiveStream) → Finds live (found_from p 0 live)
+pub finds : (p : LiveStream → Bool) (live : List LiveStream) → Finds live (found_from p 0 live)
 finds p live x is =
     let there = found_place p 0 live x is in
     let none : x.0 - 0 ≡ x.0 = omega arith in

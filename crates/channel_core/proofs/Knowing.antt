@@ -53,10 +53,10 @@ allowed config kinds None e path = (let same : empty_config ≡ config = (cc) in
 allowed config kinds (Some text) e path = within_plan config path (chosen_plan config path (read_plans kinds text config e))
 
 -- the config that is held
-abbrev SameHeld : StateSeen → StateSeen → Type 0
+abbrev pub SameHeld : StateSeen → StateSeen → Type 0
 SameHeld s t = t.held ≡ s.held
 
-same_held : Carries SameHeld
+pub same_held : Carries SameHeld
 same_held = record {
   joined = λ s t u first second. second ∙ first;
   beside = λ s t book held links shut. held;
@@ -81,7 +81,7 @@ same_held = record {
   retired = λ number s. refl;
 }
 
-held_configured : Configures SameHeld
+pub held_configured : Configures SameHeld
 held_configured chosen number s is = refl
 
 -- what an event makes of it

@@ -27,10 +27,10 @@ use Rattle.channel_core.proofs.Walking.{Walked, Walks, hear, overdue}
 use Rattle.channel_core.proofs.WalkingSteps.{settle, walked}
 
 -- a dead link stays dead
-abbrev DeadStays : ℕ → StateSeen → StateSeen → Type 0
+abbrev pub DeadStays : ℕ → StateSeen → StateSeen → Type 0
 DeadStays k s t = dead_on k s ≡ true → dead_on k t ≡ true
 
-dead_stays : (k : ℕ) → Walks (DeadStays k)
+pub dead_stays : (k : ℕ) → Walks (DeadStays k)
 dead_stays k = record {
   joined = λ s t u first second d. second (first d);
   beside = λ s t book held links. ((stays k).beside s t book held links).dead;
@@ -88,7 +88,7 @@ up_dead : (k : ℕ) (links : List LinkSlot) (o : Option LinkSlot) → numbered l
 up_dead k links None is d = absurd (let bad : ⊥ = (cc) in bad)
 up_dead k links (Some x) is d = ap is_dead_slot (numbered_more links (new_slot fresh_link) x k is) ∙ d
 
-walked_dead : (k : ℕ) (e : Event) → Walked (DeadStays k) e
+pub walked_dead : (k : ℕ) (e : Event) → Walked (DeadStays k) e
 walked_dead k (event.Begin request) = λ s d. d
 walked_dead k (event.LinkUp sub) = λ s d. up_dead k s.links (numbered s.links k) refl d
 walked_dead k (event.Arrived link piece) = λ s. frames_dead k link piece 0 s
@@ -133,7 +133,7 @@ answer_refused : (o : Option Refusal) (e : Event) (s t : StateSeen) (r : Reply) 
 answer_refused (Some x) e s t r why is g = ap is_refused g.1
 answer_refused None e s t r why is g = absurd (let bad : ⊥ = (cc) in bad)
 
-over_now : (k n m w : ℕ) (e : Event) (old new : StateSeen) (r : Reply) → link_of e ≡ Some k → applying.Stepped n m w e old new r → dead_on k old ≡ true → is_refused r ≡ true
+pub over_now : (k n m w : ℕ) (e : Event) (old new : StateSeen) (r : Reply) → link_of e ≡ Some k → applying.Stepped n m w e old new r → dead_on k old ≡ true → is_refused r ≡ true
 over_now k n m w e old new r is h d =
     let first : StateSeen = applying.begun_at n m w old in
     let s : StateSeen = overdue_ended first in

@@ -33,16 +33,16 @@ length_both : {X : Type 0} (xs ys : List X) → length (xs ++ ys) ≡ length xs 
 length_both [] ys = (let e : length ys ≡ 0 + length ys = omega arith in e)
 length_both (x ∷ xs) ys = (let e = length_both xs ys in omega (arith, e))
 
-map_as_many : {X Y : Type 0} (f : X → Y) (xs : List X) → length (map f xs) ≡ length xs
+pub map_as_many : {X Y : Type 0} (f : X → Y) (xs : List X) → length (map f xs) ≡ length xs
 map_as_many f [] = refl
 map_as_many f (x ∷ xs) = ap suc (map_as_many f xs)
 
-map_drop : {X Y : Type 0} (f : X → Y) (n : ℕ) (xs : List X) → map f (drop n xs) ≡ drop n (map f xs)
+pub map_drop : {X Y : Type 0} (f : X → Y) (n : ℕ) (xs : List X) → map f (drop n xs) ≡ drop n (map f xs)
 map_drop f zero xs = refl
 map_drop f (suc n) [] = refl
 map_drop f (suc n) (x ∷ xs) = map_drop f n xs
 
-drop_front : {X : Type 0} (xs ys : List X) → drop (length xs) (xs ++ ys) ≡ ys
+pub drop_front : {X : Type 0} (xs ys : List X) → drop (length xs) (xs ++ ys) ≡ ys
 drop_front [] ys = refl
 drop_front (x ∷ xs) ys = drop_front xs ys
 
@@ -56,7 +56,7 @@ odd_both first (suc a) b =
     let more : first + 2 + 2 * a ≡ first + 2 * suc a = omega arith in
     ap (λ (n : ℕ). odd_from first n) one ∙ ap (λ (l : List ℕ). first ∷ l) (odd_both (first + 2) a b ∙ ap (λ (n : ℕ). odd_from (first + 2) a ++ odd_from n b) more)
 
-named_set : (live : List LiveStream) (i : ℕ) (x y : LiveStream) → slice_get live i ≡ Some x → named y ≡ named x → map named (slice_set live i y) ≡ map named live
+pub named_set : (live : List LiveStream) (i : ℕ) (x y : LiveStream) → slice_get live i ≡ Some x → named y ≡ named x → map named (slice_set live i y) ≡ map named live
 named_set [] i x y e same = refl
 named_set (s ∷ live) zero x y e same = (let is : s ≡ x = (cc) in ap (λ (n : ℕ × ℕ). n ∷ map named live) (same ∙ ap named (sym is)))
 named_set (s ∷ live) (suc i) x y e same = ap (λ (l : List (ℕ × ℕ)). named s ∷ l) (named_set live i x y e same)
@@ -111,7 +111,7 @@ head_opens w g s (Some tag) is e =
     } in
     subst (λ (t : Sent). Opens w t.wire) same one
 
-control_opens : (w : Wire) (g : ℕ → Line) (s : Sent) (o : Option Control) → next_control w g o ≡ Some s → Opens w s.wire
+pub control_opens : (w : Wire) (g : ℕ → Line) (s : Sent) (o : Option Control) → next_control w g o ≡ Some s → Opens w s.wire
 control_opens w g s None e = head_opens w g s (opens w) refl e
 control_opens w g s (Some c) e =
     let same : sent_control w g c ≡ s = (cc) in
@@ -120,6 +120,11 @@ control_opens w g s (Some c) e =
 pub sends_open : (w : Wire) (g : ℕ → Line) (fs : List Outgoing) (w2 : Wire) (g2 : ℕ → Line) → Sends w g fs w2 g2 → Opens w w2
 sends_open w g [] w2 g2 h = subst (λ (v : Wire). Opens w v) (sym h.0) (opens_none w w refl refl refl)
 sends_open w g (f ∷ fs) w2 g2 h = opens_then w h.0.wire w2 (control_opens w g h.0 (slice_get w.queue.items 0) h.1) (sends_open h.0.wire h.0.lines fs w2 g2 h.3)
+
+-- those of the first frame stand in front
+pub opens_split : (w : Wire) (g : ℕ → Line) (f : Outgoing) (fs : List Outgoing) (w2 : Wire) (g2 : ℕ → Line) (h : Sends w g (f ∷ fs) w2 g2) → (sends_open w g (f ∷ fs) w2 g2 h).new ≡ (control_opens w g h.0 (slice_get w.queue.items 0) h.1).new ++ (sends_open h.0.wire h.0.lines fs w2 g2 h.3).new
+unfolding sends_open opens_then
+opens_split w g f fs w2 g2 h = refl
 
 -- these are the streams that were opened between the two states
 pub opened_is : (w w2 : Wire) (h : Opens w w2) → opened_between w w2 ≡ h.new

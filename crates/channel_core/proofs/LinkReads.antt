@@ -88,7 +88,7 @@ told_one g (link_news.Reset tag code seen) = told_of g tag (link_news.Reset tag 
 told_one g (link_news.Fault tag code seen) = told_of g tag (link_news.Fault tag code seen) (grpc.found tag g.readers)
 told_one g (link_news.Unseen tag seen) = told_of g tag (link_news.Unseen tag seen) (grpc.found tag g.readers)
 
-told_text : (g : GrpcSeen) (ns : List LinkNews) → text_of (told_all g ns).link.link ≡ text_of g.link
+pub told_text : (g : GrpcSeen) (ns : List LinkNews) → text_of (told_all g ns).link.link ≡ text_of g.link
 told_text g [] = refl
 told_text g (n ∷ ns) = told_text (grpc.told g n).link ns ∙ told_one g n
 
@@ -97,7 +97,7 @@ news_of_break : (g : GrpcSeen) (code : ℕ) → (told_all g (link_news.Broken co
 news_of_break g code = refl
 
 -- what was read of the bytes that arrived on a link, if there is one
-abbrev ReadsOn : List ℕ → ℕ → Bool → Option Text → Type 0
+abbrev pub ReadsOn : List ℕ → ℕ → Bool → Option Text → Type 0
 ReadsOn bytes seen dead None = (bytes ≡ []) × (seen ≡ 0)
 ReadsOn bytes seen dead (Some t) = Reads bytes seen t dead
 
@@ -151,7 +151,7 @@ lost_dead k each s is =
     let now : dead_on k t ≡ true = ap is_dead_slot (numbered_here buried s.links k) ∙ buried_now (numbered s.links k) is in
     (gone_stays k k u).dead ((lose_rows (StaysOn k) (stays k) arrivals.most_rows k each 0 t).dead now)
 
-break_dies : (k code : ℕ) (s : StateSeen) → is_some (text_on k s) ≡ true → dead_on k (arrivals.heard k (news.Broken code ∷ []) s) ≡ true
+pub break_dies : (k code : ℕ) (s : StateSeen) → is_some (text_on k s) ≡ true → dead_on k (arrivals.heard k (news.Broken code ∷ []) s) ≡ true
 break_dies k code s is =
     let t : StateSeen = arrivals.lost k false s in
     let u : StateSeen = step.sealed_one k t in
@@ -164,10 +164,10 @@ hearing slot piece = heard slot.link.link piece
 slot_heard : (slot : LinkSlot) (piece : List ℕ) → text_in (with_link (heard_link piece) slot) ≡ text_of (heard slot.link.link piece).link
 slot_heard slot piece = told_text (record { link = (heard slot.link.link piece).link; readers = slot.link.readers }) (heard slot.link.link piece).news
 
-news_heard : (slot : LinkSlot) (piece : List ℕ) (code : ℕ) → (heard slot.link.link piece).news ≡ link_news.Broken code ∷ [] → (link_heard slot.link piece).news ≡ news.Broken code ∷ []
+pub news_heard : (slot : LinkSlot) (piece : List ℕ) (code : ℕ) → (heard slot.link.link piece).news ≡ link_news.Broken code ∷ [] → (link_heard slot.link piece).news ≡ news.Broken code ∷ []
 news_heard slot piece code is = ap (λ (ns : List LinkNews). (told_all (record { link = (heard slot.link.link piece).link; readers = slot.link.readers }) ns).news) is
 
-seen_now : (read : ℕ) (o : Option LinkSeen) → is_some o ≡ true → step.read_of (option_map (read_link read) o) ≡ read
+pub seen_now : (read : ℕ) (o : Option LinkSeen) → is_some o ≡ true → step.read_of (option_map (read_link read) o) ≡ read
 seen_now read None is = absurd (let no : ⊥ = (cc) in no)
 seen_now read (Some link) is = refl
 
@@ -179,10 +179,10 @@ known_read : (read : ℕ) (o : Option LinkSeen) → is_some (option_map (read_li
 known_read read None = refl
 known_read read (Some link) = refl
 
-abbrev took : ℕ → Heard → StateSeen → StateSeen
+abbrev pub took : ℕ → Heard → StateSeen → StateSeen
 took k h s = arrivals.read_to k h.read (record s { links = h.links })
 
-frame_sound : (k : ℕ) (bytes piece : List ℕ) (s : StateSeen) (slot : LinkSlot) → numbered s.links k ≡ Some slot → slot.dead ≡ false → slot.link.link.wire.broken ≡ None → 1 ≤ length piece → SoundOn k bytes s
+pub frame_sound : (k : ℕ) (bytes piece : List ℕ) (s : StateSeen) (slot : LinkSlot) → numbered s.links k ≡ Some slot → slot.dead ≡ false → slot.link.link.wire.broken ≡ None → 1 ≤ length piece → SoundOn k bytes s
     → SoundOn k (bytes ++ take (heard slot.link.link piece).taken piece) (arrivals.frame_heard k (heard_by slot k piece s.links) s)
 frame_sound k bytes piece s slot is alive sound_wire some sound =
     let h : Heard = heard_by slot k piece s.links in
@@ -221,11 +221,11 @@ frame_sound k bytes piece s slot is alive sound_wire some sound =
     }
 
 -- a link that hears nothing passes the bytes over
-or_true : (a b : Bool) → (a || b) ≡ false → (a ≡ false) × (b ≡ false)
+pub or_true : (a b : Bool) → (a || b) ≡ false → (a ≡ false) × (b ≡ false)
 or_true true b is = absurd (let no : ⊥ = (cc) in no)
 or_true false b is = (refl, is)
 
-not_true : (b : Bool) → not b ≡ true → b ≡ false
+pub not_true : (b : Bool) → not b ≡ true → b ≡ false
 not_true true is = absurd (let no : ⊥ = (cc) in no)
 not_true false is = refl
 
@@ -233,7 +233,7 @@ not_false : (b : Bool) → not b ≡ false → b ≡ true
 not_false true is = refl
 not_false false is = absurd (let no : ⊥ = (cc) in no)
 
-none_there : (o : Option ℕ) → is_some o ≡ false → o ≡ None
+pub none_there : (o : Option ℕ) → is_some o ≡ false → o ≡ None
 none_there None is = refl
 none_there (Some n) is = absurd (let no : ⊥ = (cc) in no)
 
@@ -245,7 +245,7 @@ either_true : (a b : Bool) → (a || b) ≡ true → (a ≡ true) ⊎ (b ≡ tru
 either_true true b is = inl refl
 either_true false b is = inr is
 
-deaf_dead : (k : ℕ) (bytes : List ℕ) (s : StateSeen) (slot : LinkSlot) → numbered s.links k ≡ Some slot → hears_at (Some slot) ≡ false → SoundOn k bytes s → dead_on k s ≡ true
+pub deaf_dead : (k : ℕ) (bytes : List ℕ) (s : StateSeen) (slot : LinkSlot) → numbered s.links k ≡ Some slot → hears_at (Some slot) ≡ false → SoundOn k bytes s → dead_on k s ≡ true
 deaf_dead k bytes s slot is deaf sound =
     let text : text_on k s ≡ Some (text_in slot) = ap (λ o. option_map text_in o) is in
     elim (either_true slot.dead (is_some slot.link.link.wire.broken) (not_false (slot.dead || is_some slot.link.link.wire.broken) deaf)) [
@@ -253,7 +253,7 @@ deaf_dead k bytes s slot is deaf sound =
       | inr broken ↦ (let code = some_there slot.link.link.wire.broken broken in sound.broken_dead (text_in slot) code.0 text code.1)
     ]
 
-passed_sound : (k : ℕ) (bytes more : List ℕ) (s : StateSeen) (slot : LinkSlot) → numbered s.links k ≡ Some slot → dead_on k s ≡ true → SoundOn k bytes s → SoundOn k (bytes ++ more) s
+pub passed_sound : (k : ℕ) (bytes more : List ℕ) (s : StateSeen) (slot : LinkSlot) → numbered s.links k ≡ Some slot → dead_on k s ≡ true → SoundOn k bytes s → SoundOn k (bytes ++ more) s
 passed_sound k bytes more s slot is dead sound =
     let text : text_on k s ≡ Some (text_in slot) = ap (λ o. option_map text_in o) is in
     let old : Reads bytes (seen_on k s) (text_in slot) (dead_on k s) = subst (λ (o : Option Text). ReadsOn bytes (seen_on k s) (dead_on k s) o) text sound.reads in
@@ -266,14 +266,14 @@ passed_sound k bytes more s slot is dead sound =
     }
 
 -- the frames of a piece, one by one
-one_more : (bytes : List ℕ) (b : ℕ) (piece : List ℕ) → (bytes ++ b ∷ []) ++ piece ≡ bytes ++ b ∷ piece
+pub one_more : (bytes : List ℕ) (b : ℕ) (piece : List ℕ) → (bytes ++ b ∷ []) ++ piece ≡ bytes ++ b ∷ piece
 one_more bytes b piece = append_assoc bytes (b ∷ []) piece
 
-has_text : (k : ℕ) (s : StateSeen) (o : Option LinkSlot) → numbered s.links k ≡ o → is_some (text_on k s) ≡ true → is_some o ≡ true
+pub has_text : (k : ℕ) (s : StateSeen) (o : Option LinkSlot) → numbered s.links k ≡ o → is_some (text_on k s) ≡ true → is_some o ≡ true
 has_text k s None is there = absurd (let e : is_some (text_on k s) ≡ false = ap (λ o. is_some (option_map text_in o)) is in let no : ⊥ = (cc) in no)
 has_text k s (Some slot) is there = refl
 
-frame_text : (k : ℕ) (piece : List ℕ) (s : StateSeen) (slot : LinkSlot) → numbered s.links k ≡ Some slot → is_some (text_on k (arrivals.frame_heard k (heard_by slot k piece s.links) s)) ≡ true
+pub frame_text : (k : ℕ) (piece : List ℕ) (s : StateSeen) (slot : LinkSlot) → numbered s.links k ≡ Some slot → is_some (text_on k (arrivals.frame_heard k (heard_by slot k piece s.links) s)) ≡ true
 frame_text k piece s slot is =
     let h : Heard = heard_by slot k piece s.links in
     let s1 : StateSeen = took k h s in
@@ -281,7 +281,7 @@ frame_text k piece s slot is =
     let stay : StaysOn k s1 (arrivals.heard k h.news s1) = hear (StaysOn k) (stays k) k h.news s1 in
     ap (λ (o : Option Text). is_some o) stay.text ∙ ap (λ o. is_some (option_map text_in o)) after
 
-take_front : (b : ℕ) (piece : List ℕ) (n : ℕ) → 1 ≤ n → take n (b ∷ piece) ≡ b ∷ take (n - 1) piece
+pub take_front : (b : ℕ) (piece : List ℕ) (n : ℕ) → 1 ≤ n → take n (b ∷ piece) ≡ b ∷ take (n - 1) piece
 take_front b piece zero some = absurd (let no : ⊥ = omega arith in no)
 take_front b piece (suc n) some = (let e : suc n - 1 ≡ n = omega arith in ap (λ (m : ℕ). b ∷ take m piece) (sym e))
 
@@ -344,7 +344,7 @@ other_at : (k link : ℕ) (piece : List ℕ) (o : Option LinkSlot) (further : �
 other_at k link piece None further s ne more = stays_same k s s refl refl
 other_at k link piece (Some slot) further s ne more = other_if k link piece slot (hears_at (Some slot)) further s ne more
 
-other_frames : (k link : ℕ) (piece : List ℕ) (skip : ℕ) (s : StateSeen) → (link ≡ k → ⊥) → StaysOn k s (frames_after link piece skip s)
+pub other_frames : (k link : ℕ) (piece : List ℕ) (skip : ℕ) (s : StateSeen) → (link ≡ k → ⊥) → StaysOn k s (frames_after link piece skip s)
 other_frames k link [] skip s ne = stays_same k s s refl refl
 other_frames k link (b ∷ piece) zero s ne = other_at k link (b ∷ piece) (numbered s.links link) (frames_after link piece) s ne (λ skip t. other_frames k link piece skip t ne)
 other_frames k link (b ∷ piece) (suc skip) s ne = other_frames k link piece skip s ne
@@ -402,7 +402,7 @@ numbered_both : {X Y : Type 0} (xs : List X) (ys : List Y) (x : X) (y : Y) (k : 
 numbered_both xs ys x y zero e = refl
 numbered_both xs ys x y (suc k) e = get_both xs ys x y k e
 
-seen_up : (links : List LinkSeen) (sub entry k : ℕ) (o p : Option LinkSeen) → numbered links k ≡ o → numbered (links ++ new_link sub entry ∷ []) k ≡ p → step.read_of p ≡ step.read_of o
+pub seen_up : (links : List LinkSeen) (sub entry k : ℕ) (o p : Option LinkSeen) → numbered links k ≡ o → numbered (links ++ new_link sub entry ∷ []) k ≡ p → step.read_of p ≡ step.read_of o
 seen_up links sub entry k None None is now = refl
 seen_up links sub entry k None (Some y) is now = (let new : y ≡ new_link sub entry = numbered_last links (new_link sub entry) y k is now in ap (λ (l : LinkSeen). l.read) new)
 seen_up links sub entry k (Some x) p is now = (let same : Some x ≡ p = sym (numbered_more links (new_link sub entry) x k is) ∙ now in sym (ap step.read_of same))
@@ -517,7 +517,7 @@ none_came k (event.Arrived link piece) r o = absurd o
 none_came k e r o = refl
 
 -- a whole step
-sound_begun : (k n m w : ℕ) (bytes : List ℕ) (old : StateSeen) → SoundOn k bytes old → SoundOn k bytes (applying.begun_at n m w old)
+pub sound_begun : (k n m w : ℕ) (bytes : List ℕ) (old : StateSeen) → SoundOn k bytes old → SoundOn k bytes (applying.begun_at n m w old)
 sound_begun k n m w bytes old sound = record { reads = sound.reads; known = sound.known; dead_gone = sound.dead_gone; broken_dead = sound.broken_dead }
 
 by_other : (k n m w : ℕ) (bytes : List ℕ) (e : Event) (old new : StateSeen) (r : Reply) → others e → applying.Stepped n m w e old new r → SoundOn k bytes old → SoundOn k (bytes ++ arrived_by k e r) new
@@ -526,7 +526,7 @@ by_other k n m w bytes e old new r o h sound =
     let here : SoundOn k bytes new = sound_stays k bytes _ new stay (sound_begun k n m w bytes old sound) in
     subst (λ (l : List ℕ). SoundOn k (bytes ++ l) new) (sym (none_came k e r o)) (subst (λ (l : List ℕ). SoundOn k l new) (sym (append-nil bytes)) here)
 
-lengths_later : (s : StateSeen) → length s.links ≡ length s.book.ledger.links → length (overdue_ended s).links ≡ length (overdue_ended s).book.ledger.links
+pub lengths_later : (s : StateSeen) → length s.links ≡ length s.book.ledger.links → length (overdue_ended s).links ≡ length (overdue_ended s).book.ledger.links
 lengths_later s is =
     let t : StateSeen = overdue_ended s in
     let kept : Keeps s t = all_overdue Keeps keeps s in
@@ -612,7 +612,7 @@ pub record ReadsAll (core : CoreSeen) : Type 0 where
   pub lengths : length core.state.links ≡ length core.state.book.ledger.links
   pub reads : (number : ℕ) → SoundOn number (received number core.journal.entries) core.state
 
-reads_step : (old new : CoreSeen) (s : Stamped) (r : Reply) → Steps old new s r → ReadsAll old → ReadsAll new
+pub reads_step : (old new : CoreSeen) (s : Stamped) (r : Reply) → Steps old new s r → ReadsAll old → ReadsAll new
 reads_step old new s r h all =
     let es : List Entry = old.journal.entries in
     let m : ℕ = moment_of es s in
@@ -632,7 +632,7 @@ reads_runs : (old : CoreSeen) (events : List Stamped) (new : CoreSeen) → Runs 
 reads_runs old [] new h all = subst ReadsAll (sym h) all
 reads_runs old (s ∷ events) new h all = reads_runs h.0 events new h.3 (reads_step old h.0 s h.1 h.2 all)
 
-reads_new : (authority : List ℕ) (core : CoreSeen) → IsNew authority core → ReadsAll core
+pub reads_new : (authority : List ℕ) (core : CoreSeen) → IsNew authority core → ReadsAll core
 reads_new authority core is =
     let links : core.state.links ≡ [] = ap (λ (s : StateSeen). s.links) is.2.state in
     let seen : core.state.book.ledger.links ≡ [] = ap (λ (s : StateSeen). s.book.ledger.links) is.2.state in

@@ -87,7 +87,7 @@ on_fresh = inl (record {
 })
 
 -- one frame more is sent
-text_more : (fs : List FrameSeen) (f : FrameSeen) → preface_bytes ++ flat_map written (settings_frame client_settings ∷ (fs ++ f ∷ [])) ≡ (preface_bytes ++ flat_map written (settings_frame client_settings ∷ fs)) ++ written f
+pub text_more : (fs : List FrameSeen) (f : FrameSeen) → preface_bytes ++ flat_map written (settings_frame client_settings ∷ (fs ++ f ∷ [])) ≡ (preface_bytes ++ flat_map written (settings_frame client_settings ∷ fs)) ++ written f
 text_more fs f =
     let head : FrameSeen = settings_frame client_settings in
     let all : flat_map written ((head ∷ fs) ++ f ∷ []) ≡ flat_map written (head ∷ fs) ++ flat_map written (f ∷ []) = flat_map-append written (head ∷ fs) (f ∷ []) in
@@ -110,9 +110,10 @@ alone : (b : Bool) → (b || false) ≡ false → b ≡ false
 alone true is = is
 alone false is = refl
 
-record Queued (c : Control) : Type 0 where
-  frame : FrameSeen
-  is : outgoing c ≡ AFrame frame
+pub record Queued (c : Control) : Type 0 where
+  pub frame : FrameSeen
+  pub is : outgoing c ≡ AFrame frame
+  pub plain : frame.kind ≡ data_type → ⊥
   none : streams_opened (frame ∷ []) ≡ []
   may : (frames : List FrameSeen) → MayWait frames [] c → MaySend frames frame
   more : (frames : List FrameSeen) (bound : ℕ) (live : List LiveStream) (q : List Control) → Streams frames bound live (c ∷ q) → Streams (frames ++ frame ∷ []) bound live q
@@ -137,11 +138,12 @@ of_link frames f zero_stream plain kind = record { kind = kind; is_open = λ ne.
 of_stream : (frames : List FrameSeen) (f : FrameSeen) → (f.kind ≡ data_type → ⊥) → is_client_frame f ≡ true → Ready frames [] f.stream → MaySend frames f
 of_stream frames f plain kind r = record { kind = kind; is_open = λ ne nh. record { opened = r.opened; reset = r.reset }; goes_on = λ e. absurd (plain e); size = λ e. absurd (plain e) }
 
-queued_frame : (c : Control) → is_preface c ≡ false → Queued c
+pub queued_frame : (c : Control) → is_preface c ≡ false → Queued c
 queued_frame control.Preface is = absurd (let bad : ⊥ = (cc) in bad)
 queued_frame (control.SettingsAck resizes) is = record {
   frame = settings_ack;
   is = refl;
+  plain = λ e. omega (arith, e);
   none = refl;
   may = λ frames w. of_link frames settings_ack refl (λ e. omega (arith, e)) refl;
   more = plainly (control.SettingsAck resizes) settings_ack (λ n. refl) (λ n. refl) (λ n. refl);
@@ -150,6 +152,7 @@ queued_frame (control.SettingsAck resizes) is = record {
 queued_frame (control.Ping word) is = record {
   frame = ping_frame word;
   is = refl;
+  plain = λ e. omega (arith, e);
   none = refl;
   may = λ frames w. of_link frames (ping_frame word) refl (λ e. omega (arith, e)) refl;
   more = plainly (control.Ping word) (ping_frame word) (λ n. refl) (λ n. refl) (λ n. refl);
@@ -158,6 +161,7 @@ queued_frame (control.Ping word) is = record {
 queued_frame (control.PingAck word) is = record {
   frame = ping_ack word;
   is = refl;
+  plain = λ e. omega (arith, e);
   none = refl;
   may = λ frames w. of_link frames (ping_ack word) refl (λ e. omega (arith, e)) refl;
   more = plainly (control.PingAck word) (ping_ack word) (λ n. refl) (λ n. refl) (λ n. refl);
@@ -166,6 +170,7 @@ queued_frame (control.PingAck word) is = record {
 queued_frame (control.LinkUpdate by) is = record {
   frame = window_update_frame 0 by;
   is = refl;
+  plain = λ e. omega (arith, e);
   none = refl;
   may = λ frames w. of_link frames (window_update_frame 0 by) refl (λ e. omega (arith, e)) refl;
   more = plainly (control.LinkUpdate by) (window_update_frame 0 by) (λ n. refl) (λ n. refl) (λ n. refl);
@@ -174,6 +179,7 @@ queued_frame (control.LinkUpdate by) is = record {
 queued_frame (control.StreamUpdate stream by) is = record {
   frame = window_update_frame stream by;
   is = refl;
+  plain = λ e. omega (arith, e);
   none = refl;
   may = λ frames w. of_stream frames (window_update_frame stream by) (λ e. omega (arith, e)) refl w;
   more = plainly (control.StreamUpdate stream by) (window_update_frame stream by) (λ n. refl) (λ n. refl) (λ n. refl);
@@ -182,17 +188,18 @@ queued_frame (control.StreamUpdate stream by) is = record {
 queued_frame (control.Reset stream code) is = record {
   frame = rst_stream_frame stream code;
   is = refl;
+  plain = λ e. omega (arith, e);
   none = refl;
   may = λ frames w. of_stream frames (rst_stream_frame stream code) (λ e. omega (arith, e)) refl w;
   more = λ frames bound live q h. reset_more frames bound live q (rst_stream_frame stream code) stream code (λ n. refl) (λ n. refl) h;
   turns = turns_by (control.Reset stream code) (rst_stream_frame stream code) (λ n e. e);
 }
 
-first_begun : (cs : List Control) (c : Control) → AllByRecursion (λ c. is_preface c ≡ false) cs → slice_get cs 0 ≡ Some c → is_preface c ≡ false
+pub first_begun : (cs : List Control) (c : Control) → AllByRecursion (λ c. is_preface c ≡ false) cs → slice_get cs 0 ≡ Some c → is_preface c ≡ false
 first_begun [] c all is = absurd (let bad : ⊥ = (cc) in bad)
 first_begun (x ∷ cs) c all is = (let same : x ≡ c = (cc) in ap is_preface (sym same) ∙ all.0)
 
-rest_begun : (cs : List Control) → AllByRecursion (λ c. is_preface c ≡ false) cs → AllByRecursion (λ c. is_preface c ≡ false) (drop 1 cs)
+pub rest_begun : (cs : List Control) → AllByRecursion (λ c. is_preface c ≡ false) cs → AllByRecursion (λ c. is_preface c ≡ false) (drop 1 cs)
 rest_begun [] all = tt
 rest_begun (x ∷ cs) all = all.1
 
@@ -234,7 +241,7 @@ control_sent octets w g c is (inr h) =
     subst (λ (o : Outgoing). OnWire (octets ++ octets_of o) v) (sym made.is) more
 
 -- HEADERS, with an empty queue
-no_queue : (w : Wire) → slice_get w.queue.items 0 ≡ None → IsUnsent w.queue → ⊥
+pub no_queue : (w : Wire) → slice_get w.queue.items 0 ≡ None → IsUnsent w.queue → ⊥
 no_queue w is h = (let first : Some control.Preface ≡ None = sym (ap (λ (l : List Control). slice_get l 0) h.items) ∙ is in (cc))
 
 head_sent : (octets : List ℕ) (w : Wire) (g : ℕ → Line) (tag : ℕ) → slice_get w.queue.items 0 ≡ None → OnWire octets w → OnWire (octets ++ octets_of (sent_head w g tag).frame) (sent_head w g tag).wire
@@ -285,7 +292,7 @@ sender_all : (w : Wire) (g : ℕ → Line) (o : TypeOf _ (sender w.window w.init
 sender_all w g None is h = tt
 sender_all w g (Some x) is h = (h.0, h.1, h.2, (sender_keeps w.window w.initial g 0 w.live x is).size)
 
-taken_length : (n : ℕ) (xs : List ℕ) → length (take n xs) ≤ n
+pub taken_length : (n : ℕ) (xs : List ℕ) → length (take n xs) ≤ n
 taken_length zero xs = omega arith
 taken_length (suc n) [] = omega arith
 taken_length (suc n) (x ∷ xs) = (let e = taken_length n xs in omega (arith, e))
@@ -328,7 +335,7 @@ head_by : (octets : List ℕ) (w : Wire) (g : ℕ → Line) (s : Sent) (o : Opti
 head_by octets w g s None is n h = data_by octets w g s (sender w.window w.initial g 0 w.live) (sender_all w g (sender w.window w.initial g 0 w.live) refl (sender_is w.window w.initial g 0 w.live)) is n h
 head_by octets w g s (Some tag) is n h = (let same : sent_head w g tag ≡ s = (cc) in subst (λ (t : Sent). OnWire (octets ++ octets_of t.frame) t.wire) same (head_sent octets w g tag is h))
 
-control_by : (octets : List ℕ) (w : Wire) (g : ℕ → Line) (s : Sent) (o : Option Control) → slice_get w.queue.items 0 ≡ o → next_control w g o ≡ Some s → OnWire octets w → OnWire (octets ++ octets_of s.frame) s.wire
+pub control_by : (octets : List ℕ) (w : Wire) (g : ℕ → Line) (s : Sent) (o : Option Control) → slice_get w.queue.items 0 ≡ o → next_control w g o ≡ Some s → OnWire octets w → OnWire (octets ++ octets_of s.frame) s.wire
 control_by octets w g s None is n h = head_by octets w g s (opens w) is n h
 control_by octets w g s (Some c) is n h = (let same : sent_control w g c ≡ s = (cc) in subst (λ (t : Sent). OnWire (octets ++ octets_of t.frame) t.wire) same (control_sent octets w g c is h))
 

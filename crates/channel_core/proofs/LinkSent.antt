@@ -150,7 +150,7 @@ gone_links : (b : Bool) (s t : StateSeen) → t.links ≡ s.links → (if b then
 gone_links true s t e = e
 gone_links false s t e = refl
 
-stamped_links : (link : ℕ) (s : StateSeen) → (stamped_gone link s).links ≡ s.links
+pub stamped_links : (link : ℕ) (s : StateSeen) → (stamped_gone link s).links ≡ s.links
 stamped_links link s = gone_links (is_gone link s) s _ refl
 
 pub leaves : (k : ℕ) → Walks (Leaves k)
@@ -277,9 +277,9 @@ drain_refused k octets count why link room s t r g out =
     subst (λ (l : List ℕ). OutOn (octets ++ l) count (numbered t.links k)) (sym none) (subst (λ (l : List ℕ). OutOn l count (numbered t.links k)) (sym (append-nil octets)) here)
 
 -- with so many streams
-record IsOut (octets : List ℕ) (o : Option LinkSlot) : Type 0 where
-  streams : ℕ
-  out : OutOn octets streams o
+pub record IsOut (octets : List ℕ) (o : Option LinkSlot) : Type 0 where
+  pub streams : ℕ
+  pub out : OutOn octets streams o
 
 drain_answered : (k : ℕ) (octets : List ℕ) (o : Option Refusal) (link room : ℕ) (s t : StateSeen) (r : Reply) → AnswersBy o (event.Drain link room) s t r → IsOut octets (numbered s.links k) → IsOut (octets ++ drained_by k (event.Drain link room) r) (numbered t.links k)
 drain_answered k octets (Some why) link room s t r g h = record { streams = h.streams; out = drain_refused k octets h.streams why link room s t r g h.out }
@@ -324,10 +324,10 @@ sent_step k n m w octets e old new r h out = record { streams = out.streams; out
 pub sent_more : (k : ℕ) (es : List Entry) (x : Entry) → sent k (es ++ x ∷ []) ≡ sent k es ++ drained_by k x.event x.reply
 sent_more k es x = flat_map-append (λ (e : Entry). drained_by k e.event e.reply) es (x ∷ []) ∙ ap (λ (l : List ℕ). sent k es ++ l) (append-nil (drained_by k x.event x.reply))
 
-abbrev SentAll : CoreSeen → Type 0
+abbrev pub SentAll : CoreSeen → Type 0
 SentAll core = (number : ℕ) → IsOut (sent number core.journal.entries) (numbered core.state.links number)
 
-sent_all_step : (old new : CoreSeen) (s : Stamped) (r : Reply) → Steps old new s r → SentAll old → SentAll new
+pub sent_all_step : (old new : CoreSeen) (s : Stamped) (r : Reply) → Steps old new s r → SentAll old → SentAll new
 sent_all_step old new s r h all number =
     let es : List Entry = old.journal.entries in
     let m : ℕ = moment_of es s in
@@ -343,7 +343,7 @@ none_at : (k : ℕ) → numbered {X = LinkSlot} [] k ≡ None
 none_at zero = refl
 none_at (suc k) = refl
 
-sent_new : (authority : List ℕ) (core : CoreSeen) → IsNew authority core → SentAll core
+pub sent_new : (authority : List ℕ) (core : CoreSeen) → IsNew authority core → SentAll core
 sent_new authority core is number =
     let none : numbered core.state.links number ≡ None = ap (λ (s : StateSeen). numbered s.links number) is.2.state ∙ none_at number in
     subst (λ (o : Option LinkSlot). IsOut (sent number core.journal.entries) o) (sym none) (record { streams = 0; out = (ap (λ (entries : List Entry). sent number entries) is.2.journal, refl) })

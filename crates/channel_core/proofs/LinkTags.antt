@@ -99,19 +99,28 @@ pub record OfWire (Q : List ℕ → Type 0) (L : ℕ → Type 0) (w : Wire) : Ty
   pub waiting : Q w.waiting
   pub live : AllByRecursion (λ (s : LiveStream). L s.tag) w.live
 
-module _ (Q : List ℕ → Type 0) (P : ℕ → Type 0) (k : KeepsTags Q P) where
+-- the same where nothing is opened, of each stream by its tag and its number
+pub record KeepsWaiting (Q : List ℕ → Type 0) : Type 0 where
+  pub none : Q []
+  pub removed : (tag : ℕ) (tags : List ℕ) → Q tags → Q (remove_key (is_at (nat_cmp tag)) tags)
+
+pub record OfNamed (Q : List ℕ → Type 0) (L : ℕ → ℕ → Type 0) (w : Wire) : Type 0 where
+  pub waiting : Q w.waiting
+  pub live : AllByRecursion (λ (s : LiveStream). L s.tag s.number) w.live
+
+module _ (Q : List ℕ → Type 0) (P : ℕ → ℕ → Type 0) (k : KeepsWaiting Q) where
   abbrev OfStream : LiveStream → Type 0
-  OfStream s = P s.tag
+  OfStream s = P s.tag s.number
 
   abbrev OfStreams : List LiveStream → Type 0
   OfStreams live = AllByRecursion OfStream live
 
   -- a look-up that finds a stream
   abbrev Found : Option (ℕ × LiveStream) → Type 0
-  Found o = (x : ℕ × LiveStream) → o ≡ Some x → P x.1.tag
+  Found o = (x : ℕ × LiveStream) → o ≡ Some x → P x.1.tag x.1.number
 
-  found_if : (p : LiveStream → Bool) (b : Bool) (place : ℕ) (s : LiveStream) (o : Option (ℕ × LiveStream)) → P s.tag → Found o → Found (if b then Some (place, s) else o)
-  found_if p true place s o first further x e = (let same : s ≡ x.1 = (cc) in subst (λ (z : LiveStream). P z.tag) same first)
+  found_if : (p : LiveStream → Bool) (b : Bool) (place : ℕ) (s : LiveStream) (o : Option (ℕ × LiveStream)) → P s.tag s.number → Found o → Found (if b then Some (place, s) else o)
+  found_if p true place s o first further x e = (let same : s ≡ x.1 = (cc) in subst (λ (z : LiveStream). P z.tag z.number) same first)
   found_if p false place s o first further x e = further x e
 
   finds : (p : LiveStream → Bool) (place : ℕ) (live : List LiveStream) → OfStreams live → Found (found_from p place live)
@@ -123,69 +132,69 @@ module _ (Q : List ℕ → Type 0) (P : ℕ → Type 0) (k : KeepsTags Q P) wher
   live_unless live p None e h after = after
   live_unless live p (Some code) e h after = all_removed OfStream live p h
 
-  live_headers : (live : List LiveStream) (p : ℕ) (x : LiveStream) (status : Option ℕ) (end : Bool) → P x.tag → OfStreams live → OfStreams (live_after p (headers_effect x status end) live)
+  live_headers : (live : List LiveStream) (p : ℕ) (x : LiveStream) (status : Option ℕ) (end : Bool) → P x.tag x.number → OfStreams live → OfStreams (live_after p (headers_effect x status end) live)
   live_headers live p x status true is h = live_unless live p (headers_error x status true) _ h (all_removed OfStream live p h)
   live_headers live p x status false is h = live_unless live p (headers_error x status false) _ h (all_set OfStream live p (record x { head = x.head || not (is_interim status) }) is h)
 
-  live_data : (live : List LiveStream) (p : ℕ) (x : LiveStream) (end : Bool) → P x.tag → OfStreams live → OfStreams (live_after p (data_effect x end) live)
+  live_data : (live : List LiveStream) (p : ℕ) (x : LiveStream) (end : Bool) → P x.tag x.number → OfStreams live → OfStreams (live_after p (data_effect x end) live)
   live_data live p x true is h = live_unless live p (data_error x) _ h (all_removed OfStream live p h)
   live_data live p x false is h = live_unless live p (data_error x) _ h (all_set OfStream live p x is h)
 
-  live_window : (live : List LiveStream) (p initial : ℕ) (x : LiveStream) (by : ℕ) → P x.tag → OfStreams live → OfStreams (live_after p (window_effect initial x by) live)
+  live_window : (live : List LiveStream) (p initial : ℕ) (x : LiveStream) (by : ℕ) → P x.tag x.number → OfStreams live → OfStreams (live_after p (window_effect initial x by) live)
   live_window live p initial x by is h = live_unless live p (window_error initial x by) _ h (all_set OfStream live p (record x { credit = x.credit +ℤ pos by }) is h)
 
   -- a frame
   abbrev OfResult : Result Told ℕ → Type 0
-  OfResult r = IfOk r (λ t. OfWire Q P t.wire)
+  OfResult r = IfOk r (λ t. OfNamed Q P t.wire)
 
   result_if : (b : Bool) (x y : Result Told ℕ) → OfResult x → OfResult y → OfResult (if b then x else y)
   result_if true x y p q = p
   result_if false x y p q = q
 
-  told_if : (b : Bool) (x y : Told) → OfWire Q P x.wire → OfWire Q P y.wire → OfWire Q P (if b then x else y).wire
+  told_if : (b : Bool) (x y : Told) → OfNamed Q P x.wire → OfNamed Q P y.wire → OfNamed Q P (if b then x else y).wire
   told_if true x y p q = p
   told_if false x y p q = q
 
-  of_listed : (w : Wire) (fields : List Field) (end : Bool) (seen : ℕ) (o : Option (ℕ × LiveStream)) → Found o → OfWire Q P w → OfWire Q P (listed w fields end seen o).wire
+  of_listed : (w : Wire) (fields : List Field) (end : Bool) (seen : ℕ) (o : Option (ℕ × LiveStream)) → Found o → OfNamed Q P w → OfNamed Q P (listed w fields end seen o).wire
   of_listed w fields end seen None at h = h
   of_listed w fields end seen (Some x) at h = record { waiting = h.waiting; live = live_headers w.live x.0 x.1 (http_status fields) end (at x refl) h.live }
 
-  of_read : (w : Wire) (block : Block) (seen : ℕ) (table : hpack.State) (r : Result (List Field) HpackFault) → OfWire Q P w → OfResult (list_read w block seen table r)
+  of_read : (w : Wire) (block : Block) (seen : ℕ) (table : hpack.State) (r : Result (List Field) HpackFault) → OfNamed Q P w → OfResult (list_read w block seen table r)
   of_read w block seen table (Err e) h = tt
   of_read w block seen table (Ok fields) h =
       let v : Wire = record w { table = table } in
       result_if (is_long block.bytes) _ _ tt (of_listed v fields block.ends seen (found_from (is_numbered block.number) 0 w.live) (finds (is_numbered block.number) 0 w.live h.live) (record { waiting = h.waiting; live = h.live }))
 
-  of_block : (w : Wire) (block : Block) (seen : ℕ) → OfWire Q P w → OfResult (block_read w block seen)
+  of_block : (w : Wire) (block : Block) (seen : ℕ) → OfNamed Q P w → OfResult (block_read w block seen)
   of_block w block seen h = of_read w block seen (table_in (decoded w.table block.bytes)) (fields_in (decoded w.table block.bytes)) h
 
-  of_held : (w : Wire) (block : Block) → OfWire Q P w → OfResult (block_held w block)
+  of_held : (w : Wire) (block : Block) → OfNamed Q P w → OfResult (block_held w block)
   of_held w block h = result_if (is_long block.bytes) _ _ tt (record { waiting = h.waiting; live = h.live })
 
-  of_headers : (w : Wire) (f : FrameSeen) (seen : ℕ) → OfWire Q P w → OfResult (headers_told w f seen)
+  of_headers : (w : Wire) (f : FrameSeen) (seen : ℕ) → OfNamed Q P w → OfResult (headers_told w f seen)
   of_headers w f seen h = result_if (has_flag f.flags end_headers_flag) _ _ (of_block w (opened_by f) seen h) (of_held w (opened_by f) h)
 
-  of_continuation : (w : Wire) (f : FrameSeen) (seen : ℕ) (o : Option Block) → OfWire Q P w → OfResult (continuation_told w f seen o)
+  of_continuation : (w : Wire) (f : FrameSeen) (seen : ℕ) (o : Option Block) → OfNamed Q P w → OfResult (continuation_told w f seen o)
   of_continuation w f seen None h = h
   of_continuation w f seen (Some b) h =
       let block : Block = record b { bytes = b.bytes ++ f.payload } in
       let v : Wire = record w { block = None } in
-      let g : OfWire Q P v = record { waiting = h.waiting; live = h.live } in
+      let g : OfNamed Q P v = record { waiting = h.waiting; live = h.live } in
       result_if (has_flag f.flags end_headers_flag) _ _ (of_block v block seen g) (of_held v block g)
 
-  of_data : (w : Wire) (f : FrameSeen) (seen : ℕ) (o : Option (ℕ × LiveStream)) → Found o → OfWire Q P w → OfWire Q P (data_told w f seen o).wire
+  of_data : (w : Wire) (f : FrameSeen) (seen : ℕ) (o : Option (ℕ × LiveStream)) → Found o → OfNamed Q P w → OfNamed Q P (data_told w f seen o).wire
   of_data w f seen None at h = record { waiting = h.waiting; live = h.live }
   of_data w f seen (Some x) at h = record { waiting = h.waiting; live = live_data w.live x.0 x.1 (has_flag f.flags end_stream_flag) (at x refl) h.live }
 
-  of_reset : (w : Wire) (code seen : ℕ) (o : Option (ℕ × LiveStream)) → OfWire Q P w → OfWire Q P (reset_told w code seen o).wire
+  of_reset : (w : Wire) (code seen : ℕ) (o : Option (ℕ × LiveStream)) → OfNamed Q P w → OfNamed Q P (reset_told w code seen o).wire
   of_reset w code seen None h = h
   of_reset w code seen (Some x) h = record { waiting = h.waiting; live = all_removed OfStream w.live x.0 h.live }
 
-  of_window : (w : Wire) (by seen : ℕ) (o : Option (ℕ × LiveStream)) → Found o → OfWire Q P w → OfWire Q P (window_told w by seen o).wire
+  of_window : (w : Wire) (by seen : ℕ) (o : Option (ℕ × LiveStream)) → Found o → OfNamed Q P w → OfNamed Q P (window_told w by seen o).wire
   of_window w by seen None at h = h
   of_window w by seen (Some x) at h = record { waiting = h.waiting; live = live_window w.live x.0 w.initial x.1 by (at x refl) h.live }
 
-  of_plain : (w : Wire) (f : FrameSeen) (seen : ℕ) → OfWire Q P w → OfWire Q P (plain_told w f seen).wire
+  of_plain : (w : Wire) (f : FrameSeen) (seen : ℕ) → OfNamed Q P w → OfNamed Q P (plain_told w f seen).wire
   of_plain w f seen h =
       let at = found_from (is_numbered f.stream) 0 w.live in
       let all : Found at = finds (is_numbered f.stream) 0 w.live h.live in
@@ -197,36 +206,53 @@ module _ (Q : List ℕ → Type 0) (P : ℕ → Type 0) (k : KeepsTags Q P) wher
       (told_if (f.kind == window_update_type) _ _ (told_if (f.stream == 0) _ _ (record { waiting = h.waiting; live = h.live }) (of_window w (increment f.payload) seen at all h))
       h)))))
 
-  of_applied : (w : Wire) (f : FrameSeen) (seen : ℕ) → OfWire Q P w → OfResult (applied w f seen)
+  of_applied : (w : Wire) (f : FrameSeen) (seen : ℕ) → OfNamed Q P w → OfResult (applied w f seen)
   of_applied w f seen h =
       result_if (f.kind == headers_type) _ _ (of_headers w f seen h) (result_if (f.kind == continuation_type) _ _ (of_continuation w f seen w.block h) (of_plain w f seen h))
 
-  of_outcome : (w : Wire) (seen : ℕ) (r : Result Told ℕ) → OfResult r → OfWire Q P (outcome w seen r).wire
+  of_outcome : (w : Wire) (seen : ℕ) (r : Result Told ℕ) → OfResult r → OfNamed Q P (outcome w seen r).wire
   of_outcome w seen (Ok t) h = record { waiting = h.waiting; live = h.live }
   of_outcome w seen (Err code) h = record { waiting = k.none; live = tt }
 
-  of_judged : (w : Wire) (f : FrameSeen) (o : Option ℕ) → OfWire Q P w → OfWire Q P (judged w f o).wire
+  of_judged : (w : Wire) (f : FrameSeen) (o : Option ℕ) → OfNamed Q P w → OfNamed Q P (judged w f o).wire
   of_judged w f (Some code) h = record { waiting = k.none; live = tt }
   of_judged w f None h = of_outcome w _ _ (of_applied _ f _ (record { waiting = h.waiting; live = h.live }))
 
-  of_told : (w : Wire) (f : FrameSeen) → OfWire Q P w → OfWire Q P (told w f).wire
+  of_told : (w : Wire) (f : FrameSeen) → OfNamed Q P w → OfNamed Q P (told w f).wire
   of_told w f h = of_judged w f (link_error w f) h
 
-  of_front : (l : Seen) (piece : List ℕ) (r : Reading) → OfWire Q P l.wire → OfWire Q P (heard_with l piece (front_as l.wire (l.rest ++ piece) r)).link.wire
+  of_front : (l : Seen) (piece : List ℕ) (r : Reading) → OfNamed Q P l.wire → OfNamed Q P (heard_with l piece (front_as l.wire (l.rest ++ piece) r)).link.wire
   of_front l piece Partial h = h
   of_front l piece (Whole f len) h = of_told l.wire f h
   of_front l piece (Fault code) h = record { waiting = k.none; live = tt }
 
-  pub of_heard : (l : Seen) (piece : List ℕ) → OfWire Q P l.wire → OfWire Q P (heard l piece).link.wire
-  of_heard l piece h = of_front l piece (reading_of (l.rest ++ piece)) h
+  pub named_heard : (l : Seen) (piece : List ℕ) → OfNamed Q P l.wire → OfNamed Q P (heard l piece).link.wire
+  named_heard l piece h = of_front l piece (reading_of (l.rest ++ piece)) h
 
   -- a tag is given up, or placed
-  of_cut_at : (w : Wire) (tag code : ℕ) (o : Option (ℕ × LiveStream)) → OfWire Q P w → OfWire Q P (cut_at w tag code o)
+  of_cut_at : (w : Wire) (tag code : ℕ) (o : Option (ℕ × LiveStream)) → OfNamed Q P w → OfNamed Q P (cut_at w tag code o)
   of_cut_at w tag code None h = record { waiting = k.removed tag w.waiting h.waiting; live = h.live }
   of_cut_at w tag code (Some x) h = record { waiting = h.waiting; live = all_removed OfStream w.live x.0 h.live }
 
+  pub named_cut : (w : Wire) (tag code : ℕ) → OfNamed Q P w → OfNamed Q P (cut w tag code)
+  named_cut w tag code h = of_cut_at w tag code (found_from (is_tagged tag) 0 w.live) h
+
+module _ (Q : List ℕ → Type 0) (P : ℕ → Type 0) (k : KeepsTags Q P) where
+  abbrev HasTag : LiveStream → Type 0
+  HasTag s = P s.tag
+
+  keeps : KeepsWaiting Q
+  keeps = record { none = k.none; removed = k.removed }
+
+  abbrev Tagged : ℕ → ℕ → Type 0
+  Tagged tag number = P tag
+
+  -- without the numbers of the streams
+  pub of_heard : (l : Seen) (piece : List ℕ) → OfWire Q P l.wire → OfWire Q P (heard l piece).link.wire
+  of_heard l piece h = (let n = named_heard Q Tagged keeps l piece (record { waiting = h.waiting; live = h.live }) in record { waiting = n.waiting; live = n.live })
+
   pub of_cut : (w : Wire) (tag code : ℕ) → OfWire Q P w → OfWire Q P (cut w tag code)
-  of_cut w tag code h = of_cut_at w tag code (found_from (is_tagged tag) 0 w.live) h
+  of_cut w tag code h = (let n = named_cut Q Tagged keeps w tag code (record { waiting = h.waiting; live = h.live }) in record { waiting = n.waiting; live = n.live })
 
   pub of_placed : (w : Wire) (tag : ℕ) → Q (insert_key nat_cmp w.waiting tag) → OfWire Q P w → OfWire Q P (placed w tag)
   of_placed w tag new h = record { waiting = new; live = h.live }
@@ -236,7 +262,7 @@ module _ (Q : List ℕ → Type 0) (P : ℕ → Type 0) (k : KeepsTags Q P) wher
   share_tag place s None other first further = further
   share_tag place s (Some x) other first further = first
 
-  sender_tag : (window initial : ℕ) (g : ℕ → Line) (place : ℕ) (live : List LiveStream) → OfStreams live → IfSome (sender window initial g place live) (λ x. P x.stream.tag)
+  sender_tag : (window initial : ℕ) (g : ℕ → Line) (place : ℕ) (live : List LiveStream) → AllByRecursion HasTag live → IfSome (sender window initial g place live) (λ x. P x.stream.tag)
   sender_tag window initial g place [] h = tt
   sender_tag window initial g place (s ∷ live) h = share_tag place s (share_of window initial s (length (g s.tag).left) (g s.tag).finished) (sender window initial g (place + 1) live) h.0 (sender_tag window initial g (place + 1) live h.1)
 
@@ -244,7 +270,7 @@ module _ (Q : List ℕ → Type 0) (P : ℕ → Type 0) (k : KeepsTags Q P) wher
   of_next_data w g s None is e h = absurd (let never : ⊥ = (cc) in never)
   of_next_data w g s (Some x) is e h =
       let same : sent_data w g x ≡ s = (cc) in
-      subst (λ (t : Sent). OfWire Q P t.wire) same (record { waiting = h.waiting; live = all_set OfStream w.live x.place _ is h.live })
+      subst (λ (t : Sent). OfWire Q P t.wire) same (record { waiting = h.waiting; live = all_set HasTag w.live x.place _ is h.live })
 
   opens_tag : (b : Bool) (waiting : List ℕ) (tag : ℕ) → (if b then slice_get waiting 0 else None) ≡ Some tag → Q waiting → P tag
   opens_tag true waiting tag e h = k.opens waiting tag e h
@@ -255,7 +281,7 @@ module _ (Q : List ℕ → Type 0) (P : ℕ → Type 0) (k : KeepsTags Q P) wher
   of_next_head w g s (Some tag) is e h =
       let same : sent_head w g tag ≡ s = (cc) in
       let mine : P tag = opens_tag _ w.waiting tag is h.waiting in
-      subst (λ (t : Sent). OfWire Q P t.wire) same (record { waiting = k.dropped w.waiting h.waiting; live = all_behind OfStream w.live (stream_opened w tag) h.live mine })
+      subst (λ (t : Sent). OfWire Q P t.wire) same (record { waiting = k.dropped w.waiting h.waiting; live = all_behind HasTag w.live (stream_opened w tag) h.live mine })
 
   of_next : (w : Wire) (g : ℕ → Line) (s : Sent) (o : Option Control) → next_control w g o ≡ Some s → OfWire Q P w → OfWire Q P s.wire
   of_next w g s None e h = of_next_head w g s (opens w) refl e h
@@ -267,9 +293,9 @@ module _ (Q : List ℕ → Type 0) (P : ℕ → Type 0) (k : KeepsTags Q P) wher
   of_sends w g [] w2 g2 h of = subst (λ (v : Wire). OfWire Q P v) (sym h.0) of
   of_sends w g (f ∷ fs) w2 g2 h of = of_sends h.0.wire h.0.lines fs w2 g2 h.3 (of_next w g h.0 (slice_get w.queue.items 0) h.1 of)
 
-  named_all : (live : List LiveStream) → OfStreams live → AllByRecursion (λ (o : ℕ × ℕ). P o.0) (map named live)
+  named_all : (live : List LiveStream) → AllByRecursion HasTag live → AllByRecursion (λ (o : ℕ × ℕ). P o.0) (map named live)
   named_all [] h = tt
   named_all (s ∷ live) h = (h.0, named_all live h.1)
 
   pub of_opened : (w w2 : Wire) → OfWire Q P w2 → AllByRecursion (λ (o : ℕ × ℕ). P o.0) (opened_between w w2)
-  of_opened w w2 h = named_all (drop (length w.live) w2.live) (all_dropped OfStream (length w.live) w2.live h.live)
+  of_opened w w2 h = named_all (drop (length w.live) w2.live) (all_dropped HasTag (length w.live) w2.live h.live)

@@ -116,10 +116,10 @@ heard_part bytes piece l applied seen reading count read sound some e =
     }
 
 -- the bytes of a piece that end a frame
-abbrev end_of : Seen → List ℕ → ℕ → List ℕ
+abbrev pub end_of : Seen → List ℕ → ℕ → List ℕ
 end_of l piece len = take (len - length l.rest) piece
 
-frame_read : (l : Seen) (piece : List ℕ) (f : FrameSeen) (len : ℕ) → length l.rest < len → len ≤ length (l.rest ++ piece) → IsFrame (take len (l.rest ++ piece)) f → IsReading (l.rest ++ end_of l piece len) (f ∷ []) [] None
+pub frame_read : (l : Seen) (piece : List ℕ) (f : FrameSeen) (len : ℕ) → length l.rest < len → len ≤ length (l.rest ++ piece) → IsFrame (take len (l.rest ++ piece)) f → IsReading (l.rest ++ end_of l piece len) (f ∷ []) [] None
 frame_read l piece f len low high frame =
     let n : ℕ = len - length l.rest in
     let sum : length l.rest + n ≡ len = omega (arith, low) in

@@ -328,7 +328,7 @@ module _ (laws : MoreLaws) (timed : TimedLaws) (N : ℕ) where
   }
 
   -- a link comes up
-  tags_up : (rows : List Row) (links : List LinkSlot) (link : ℕ) (slot : LinkSlot) (o : Option LinkSlot) → numbered links link ≡ o → numbered (links ++ new_slot fresh_link ∷ []) link ≡ Some slot → AreTags rows links → HasTags rows link slot.link
+  pub tags_up : (rows : List Row) (links : List LinkSlot) (link : ℕ) (slot : LinkSlot) (o : Option LinkSlot) → numbered links link ≡ o → numbered (links ++ new_slot fresh_link ∷ []) link ≡ Some slot → AreTags rows links → HasTags rows link slot.link
   tags_up rows links link slot None was e h =
       let new : slot ≡ new_slot fresh_link = numbered_last links (new_slot fresh_link) slot link was e in
       subst (λ (z : LinkSlot). HasTags rows link z.link) (sym new) (record { readers = tt; wire = record { waiting = record { placed = tt; fresh = tt; rising = tt }; live = tt } })
@@ -366,7 +366,7 @@ module _ (laws : MoreLaws) (timed : TimedLaws) (N : ℕ) where
       }
 
   -- a row is placed
-  placed_there : (number row : ℕ) (at : Placed) (s : StateSeen) → KnownIn s → IsQueued s.book.calls number row → IsPlacedOn (acted (call.placed_at row at) s.book.calls number s.book.ledger None).ledger.rows at.link row
+  pub placed_there : (number row : ℕ) (at : Placed) (s : StateSeen) → KnownIn s → IsQueued s.book.calls number row → IsPlacedOn (acted (call.placed_at row at) s.book.calls number s.book.ledger None).ledger.rows at.link row
   placed_there number row at s known queued =
       acted_is (λ calls l acts. IsPlacedOn l.rows at.link row) (call.placed_at row at) s.book.calls number s.book.ledger None
       (λ none. absurd (let no : None ≡ Some queued.slot = sym none ∙ queued.there in (let never : ⊥ = (cc) in never)))
@@ -375,7 +375,7 @@ module _ (laws : MoreLaws) (timed : TimedLaws) (N : ℕ) where
       let same : queued.slot ≡ slot = (cc) in
       placed_now row at (lent slot.call s.book.ledger None []) (apart_at laws timed N s number slot None is known) (subst (λ (z : CallSlot). WaitsIn row z.call.live) same queued.waits))
 
-  unstreamed : (number row : ℕ) (s : StateSeen) → KnownIn s → Served (desk_of s) → IsQueued s.book.calls number row → stream_at s.book.ledger.rows row ≡ None
+  pub unstreamed : (number row : ℕ) (s : StateSeen) → KnownIn s → Served (desk_of s) → IsQueued s.book.calls number row → stream_at s.book.ledger.rows row ≡ None
   unstreamed number row s known served queued =
       let rows : List Row = s.book.ledger.rows in
       let st = waits_standing queued.slot.call.number rows row queued.slot.call.live (apart_at laws timed N s number queued.slot None queued.there known).tied queued.waits in

@@ -176,7 +176,7 @@ module _ (laws : MoreLaws) (timed : TimedLaws) (N : ℕ) where
   applied event.Tick s t r g = subst (λ (x : StateSeen). Step laws timed N s x) (sym g.0) (same laws timed N s)
   applied event.Shutdown s t r g = subst (λ (x : StateSeen). Step laws timed N s x) (sym g.0) (shut_down s)
 
-  answered : (refused : Option Refusal) (e : Event) (s t : StateSeen) (r : Reply) → AnswersBy refused e s t r → Step laws timed N s t
+  pub answered : (refused : Option Refusal) (e : Event) (s t : StateSeen) (r : Reply) → AnswersBy refused e s t r → Step laws timed N s t
   answered (Some why) e s t r g = subst (λ (x : StateSeen). Step laws timed N s x) (sym g.0) (same laws timed N s)
   answered None e s t r g = applied e s t r g
 
@@ -187,14 +187,14 @@ module _ (laws : MoreLaws) (timed : TimedLaws) (N : ℕ) where
       let u : StateSeen = step.limit_passed link s in
       joined laws timed N s u _ (die laws timed N link s) (limit_all links u)
 
-  clock : (s : StateSeen) → Step laws timed N s (clocked s)
+  pub clock : (s : StateSeen) → Step laws timed N s (clocked s)
   unfolding clocked
   clock s =
       let l : NetLeft = net.net_clocked s.book.moment s.net in
       let t : StateSeen = record s { net = l.net } in
       joined laws timed N s t _ (beside laws timed N s t refl refl refl (λ h. h) refl) (limit_all l.gone t)
 
-  settle_net : (s : StateSeen) → Step laws timed N s (net_settled s)
+  pub settle_net : (s : StateSeen) → Step laws timed N s (net_settled s)
   unfolding net_settled
   settle_net s =
       let l : NetLeft = net.net_settled s.net in
@@ -219,7 +219,7 @@ module _ (laws : MoreLaws) (timed : TimedLaws) (N : ℕ) where
       let t : StateSeen = step.closed ends.NoConfig (number_of key) s in
       joined laws timed N s t _ (close laws timed N ends.NoConfig (number_of key) s refl) (unconfigure_all calls t)
 
-  serve_bare : (s : StateSeen) → Step laws timed N s (bare_served s)
+  pub serve_bare : (s : StateSeen) → Step laws timed N s (bare_served s)
   unfolding bare_served
   serve_bare s =
       let t : StateSeen = record s { bare = later 0 s.bare; impatient = [] } in
@@ -241,7 +241,7 @@ module _ (laws : MoreLaws) (timed : TimedLaws) (N : ℕ) where
       let t : StateSeen = step.due_gone (number_of key) s in
       joined laws timed N s t _ (forget laws timed N (number_of key) s) (forget_all calls t)
 
-  make_round : (s : StateSeen) → Step laws timed N s (step.round_made s).state
+  pub make_round : (s : StateSeen) → Step laws timed N s (step.round_made s).state
   make_round s =
       let keys : List ℕ = due_keys s.book.moment s.dues in
       let t : StateSeen = record s { dues = later s.book.moment s.dues } in
@@ -272,7 +272,7 @@ module _ (laws : MoreLaws) (timed : TimedLaws) (N : ℕ) where
       (weak laws timed N P s t (quiet laws timed N s t ((base laws timed N).asked (record { entry = s.book.ledger.entry; generation = a.generation; row = row; answer = a.pick }) s refl) refl))
       (pick_for number row a.generation a.pick t) (λ p stays. p)
 
-  serve : (number row : ℕ) (s : StateSeen) → R N (IsQueued s.book.calls number row) s (settling.served number row s).state
+  pub serve : (number row : ℕ) (s : StateSeen) → R N (IsQueued s.book.calls number row) s (settling.served number row s).state
   serve number row s =
       let P : Type 0 = IsQueued s.book.calls number row in
       let t : StateSeen = settling.asked s in
@@ -291,7 +291,7 @@ module _ (laws : MoreLaws) (timed : TimedLaws) (N : ℕ) where
   pass (suc k) last m = pass_on (passed k) last (step.next_served last m.state) m refl (pass k)
 
   -- rounds until nothing moves
-  one_round : (s : StateSeen) → Step laws timed N s (settling.round s).state
+  pub one_round : (s : StateSeen) → Step laws timed N s (settling.round s).state
   one_round s =
       let t : StateSeen = (step.round_made s).state in
       joined laws timed N s t _ (make_round s) (pass settling.most (0, 0) (settling.stays t))

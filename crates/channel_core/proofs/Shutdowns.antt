@@ -1,5 +1,5 @@
 -- A channel that was shut stays so, whatever events it is given.
-use Rattle.std.proofs.Common.{◌≡◌, ◌≤◌, ◌<◌, ℕ, zero, suc, ◌+◌, Bool, true, false, if◌then◌else◌, ◌⊎◌, inl, inr, Option, Some, None, List, [], ◌∷◌, ◌++◌, length, refl, sym, ap, subst, ◌∙◌, arith, slice_get}
+use Rattle.std.proofs.Common.{◌≡◌, ◌≤◌, ◌<◌, ℕ, zero, suc, ◌+◌, Bool, true, false, if◌then◌else◌, ◌⊎◌, inl, inr, Option, Some, List, [], ◌∷◌, ◌++◌, length, refl, sym, ap, subst, ◌∙◌, arith, slice_get}
 use Rattle.std.proofs.lemmas.Option.{slice_get_within}
 use Rattle.grpc_base.specs.declared.event.Conn.TheVariants as conn
 use Rattle.grpc_base.specs.declared.event.Entry.{Entry}
@@ -135,7 +135,7 @@ pub record IsShut (core : CoreSeen) : Type 0 where
   pub state : AreShutDown core.journal.entries
   pub shut : HasShut core.journal.entries core.state.shut
 
-shut_step : (old new : CoreSeen) (s : Stamped) (r : Reply) → Steps old new s r → IsShut old → IsShut new
+pub shut_step : (old new : CoreSeen) (s : Stamped) (r : Reply) → Steps old new s r → IsShut old → IsShut new
 shut_step old new s r h k =
     let es : List Entry = old.journal.entries in
     let m : ℕ = moment_of es s in
@@ -163,15 +163,18 @@ no_entry : (k : ℕ) (e : Entry) → numbered [] k ≡ Some e → ⊥
 no_entry zero e is = (cc)
 no_entry (suc i) e is = (cc)
 
-pub shut_always : (authority : List ℕ) (new core : CoreSeen) (events : List Stamped) → IsNew authority new → Runs new events core → AreShut core.journal.entries
-shut_always authority new core events is runs =
+pub shut_new : (authority : List ℕ) (new : CoreSeen) → IsNew authority new → IsShut new
+shut_new authority new is =
     let refused : AreRefused [] = λ entry later e f there of less at none. absurd (no_entry entry e there) in
     let state : AreShutDown [] = λ entry later e f there of le at. absurd (no_entry entry e there) in
     let shut : HasShut [] new.state.shut = λ entry e there of. absurd (no_entry entry e there) in
-    let first : IsShut new = record {
+    record {
       refused = subst (λ (y : List Entry). AreRefused y) (sym is.2.journal) refused;
       state = subst (λ (y : List Entry). AreShutDown y) (sym is.2.journal) state;
       shut = subst (λ (y : List Entry). HasShut y new.state.shut) (sym is.2.journal) shut;
-    } in
-    let last : IsShut core = shut_runs new events core runs first in
+    }
+
+pub shut_always : (authority : List ℕ) (new core : CoreSeen) (events : List Stamped) → IsNew authority new → Runs new events core → AreShut core.journal.entries
+shut_always authority new core events is runs =
+    let last : IsShut core = shut_runs new events core runs (shut_new authority new is) in
     record { refused = last.refused; state = last.state }

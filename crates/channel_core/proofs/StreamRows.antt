@@ -31,7 +31,7 @@ ArePlaced rows = (place : ℕ) (row : Row) → row_in rows place ≡ Some row �
 placed_of : (rows : List Row) (link place number : ℕ) → IsSentAs rows link place number → IsPlacedOn rows link place
 placed_of rows link place number h = record { row = h.row; there = at_number rows place ∙ h.there; at = h.at; placed = h.placed; on = h.on }
 
-sent_by : (rows : List Row) (link place number : ℕ) → IsPlacedOn rows link place → stream_at rows place ≡ Some number → IsSentAs rows link place number
+pub sent_by : (rows : List Row) (link place number : ℕ) → IsPlacedOn rows link place → stream_at rows place ≡ Some number → IsSentAs rows link place number
 sent_by rows link place number h e =
     let there : numbered rows place ≡ Some h.row = sym (at_number rows place) ∙ h.there in
     record { row = h.row; there = there; at = h.at; placed = h.placed; on = h.on; stream = ap stream_of (sym there) ∙ e }
@@ -88,7 +88,7 @@ one_some rows p number place x e = elim (cases_eq p place) [
   | inr off ↦ ap stream_of (numbered_there (streamed_row number) rows p place off) ∙ e
 ]
 
-given_some : (opened : List (ℕ × ℕ)) (rows : List Row) (place x : ℕ) → stream_at rows place ≡ Some x → stream_at (streams_given opened rows) place ≡ Some x
+pub given_some : (opened : List (ℕ × ℕ)) (rows : List Row) (place x : ℕ) → stream_at rows place ≡ Some x → stream_at (streams_given opened rows) place ≡ Some x
 given_some [] rows place x e = e
 given_some (o ∷ opened) rows place x e = given_some opened (changed_at (streamed_row o.1) rows o.0) place x (one_some rows o.0 o.1 place x e)
 
@@ -129,7 +129,7 @@ none_streamed : (number : ℕ) (o : Option Row) → is_some o ≡ true → strea
 none_streamed number None some e = absurd (let never : ⊥ = (cc) in never)
 none_streamed number (Some row) some e = ap (λ (o : Option ℕ). stamped number o) e
 
-given_there : (link : ℕ) (opened : List (ℕ × ℕ)) (rows : List Row) (index place x : ℕ) → AreRising (tags_of opened) → AllByRecursion (λ (o : ℕ × ℕ). IsPlacedOn rows link o.0) opened → slice_get opened index ≡ Some (place, x) → stream_at rows place ≡ None → stream_at (streams_given opened rows) place ≡ Some x
+pub given_there : (link : ℕ) (opened : List (ℕ × ℕ)) (rows : List Row) (index place x : ℕ) → AreRising (tags_of opened) → AllByRecursion (λ (o : ℕ × ℕ). IsPlacedOn rows link o.0) opened → slice_get opened index ≡ Some (place, x) → stream_at rows place ≡ None → stream_at (streams_given opened rows) place ≡ Some x
 given_there link [] rows index place x rising placed e none = absurd (let never : ⊥ = (cc) in never)
 given_there link (o ∷ opened) rows zero place x rising placed e none =
     let same : o ≡ (place, x) = (cc) in

@@ -50,10 +50,10 @@ pub record Agreed (octets : List ℕ) (k : ℕ) (s : StateSeen) : Type 0 where
   pub out : OutOn octets (length places) (numbered s.links k)
   pub rows : RowsOf s.book.ledger.rows k places
 
-are_placed : (s : StateSeen) → Served (desk_of s) → ArePlaced s.book.ledger.rows
+pub are_placed : (s : StateSeen) → Served (desk_of s) → ArePlaced s.book.ledger.rows
 are_placed s served place row e = (served.rest.timed place row e).order.stream
 
-agreed_kept : (k : ℕ) (octets : List ℕ) (s t : StateSeen) → Leaves k s t → Stays s.book.ledger.rows t.book.ledger.rows → Still s t → Served (desk_of s) → Agreed octets k s → Agreed octets k t
+pub agreed_kept : (k : ℕ) (octets : List ℕ) (s t : StateSeen) → Leaves k s t → Stays s.book.ledger.rows t.book.ledger.rows → Still s t → Served (desk_of s) → Agreed octets k s → Agreed octets k t
 agreed_kept k octets s t leave stays alike served h = record {
   places = h.places;
   out = leave octets (length h.places) h.out;
@@ -65,16 +65,16 @@ all_front : (P : ℕ → Type 0) (xs ys : List ℕ) → AllByRecursion P (xs ++ 
 all_front P [] ys h = tt
 all_front P (x ∷ xs) ys h = (h.0, all_front P xs ys h.1)
 
-record IsNewOn (rows : List Row) (count : ℕ) (opened : List (ℕ × ℕ)) : Type 0 where
-  rising : AreRising (tags_of opened)
-  fresh : AllByRecursion (λ (t : ℕ). stream_at rows t ≡ None) (tags_of opened)
-  numbers : numbers_of opened ≡ odd_from (2 * count + 1) (length opened)
+pub record IsNewOn (rows : List Row) (count : ℕ) (opened : List (ℕ × ℕ)) : Type 0 where
+  pub rising : AreRising (tags_of opened)
+  pub fresh : AllByRecursion (λ (t : ℕ). stream_at rows t ≡ None) (tags_of opened)
+  pub numbers : numbers_of opened ≡ odd_from (2 * count + 1) (length opened)
 
-deaf : (broken enough : Bool) → broken ≡ true → (not broken && enough) ≡ true → ⊥
+pub deaf : (broken enough : Bool) → broken ≡ true → (not broken && enough) ≡ true → ⊥
 deaf true enough is may = (cc)
 deaf false enough is may = (cc)
 
-is_new : (room link : ℕ) (octets : List ℕ) (count : ℕ) (rows : List Row) (links after : List LinkSlot) (lines lines_after : ℕ → Line) (d : Option Drained) → DrainGives room links link lines d after lines_after → AreTags rows links → OutOn octets count (numbered links link) → IsNewOn rows count (opened_by d)
+pub is_new : (room link : ℕ) (octets : List ℕ) (count : ℕ) (rows : List Row) (links after : List LinkSlot) (lines lines_after : ℕ → Line) (d : Option Drained) → DrainGives room links link lines d after lines_after → AreTags rows links → OutOn octets count (numbered links link) → IsNewOn rows count (opened_by d)
 is_new room link octets count rows links after lines lines_after None g tags out = record { rising = tt; fresh = tt; numbers = refl }
 is_new room link octets count rows links after lines lines_after (Some d) g tags out =
     let w : Wire = g.before.link.link.wire in
@@ -102,7 +102,7 @@ tags_many [] = refl
 tags_many (o ∷ opened) = ap suc (tags_many opened)
 
 -- the drain itself
-drain_agreed : (k link room : ℕ) (octets : List ℕ) (s t : StateSeen) (r : Reply) (g : DrainLeaves link (min room drained_limit) s r t) → Stays s.book.ledger.rows t.book.ledger.rows → Served (desk_of s) → Agreed octets k s → Agreed (octets ++ drained_by k (event.Drain link room) r) k t
+pub drain_agreed : (k link room : ℕ) (octets : List ℕ) (s t : StateSeen) (r : Reply) (g : DrainLeaves link (min room drained_limit) s r t) → Stays s.book.ledger.rows t.book.ledger.rows → Served (desk_of s) → Agreed octets k s → Agreed (octets ++ drained_by k (event.Drain link room) r) k t
 drain_agreed k link room octets s t r g stays served h =
     let rows : List Row = s.book.ledger.rows in
     let opened : List (ℕ × ℕ) = opened_by g.drained in
@@ -203,10 +203,10 @@ module _ (laws : MoreLaws) (timed : TimedLaws) where
   by_event (event.Drain link room) old new s r is h known served k a = by_drain link room old new s r is h known served k a
   by_event e old new s r is h known served k a = by_others old new s r (subst (λ (x : Event). others x) (sym is) tt) h known served k a
 
-  abbrev AllAgreed : CoreSeen → Type 0
+  abbrev pub AllAgreed : CoreSeen → Type 0
   AllAgreed core = (k : ℕ) → Agreed (sent k core.journal.entries) k core.state
 
-  agreed_step : (old new : CoreSeen) (s : Stamped) (r : Reply) → Steps old new s r → Knows old → Served (desk_of old.state) → AllAgreed old → AllAgreed new
+  pub agreed_step : (old new : CoreSeen) (s : Stamped) (r : Reply) → Steps old new s r → Knows old → Served (desk_of old.state) → AllAgreed old → AllAgreed new
   agreed_step old new s r h known served all k =
       let es : List Entry = old.journal.entries in
       let x : Entry = record { moment = moment_of es s; word = s.word; event = s.event; reply = r; state = conn_of new.state } in
@@ -231,7 +231,7 @@ no_row : (link place number : ℕ) → IsSentAs [] link place number → ⊥
 no_row link zero number h = (let no : None ≡ Some h.row = h.there in (cc))
 no_row link (suc i) number h = (let no : None ≡ Some h.row = h.there in (cc))
 
-agreed_new : (authority : List ℕ) (core : CoreSeen) → IsNew authority core → (k : ℕ) → Agreed (sent k core.journal.entries) k core.state
+pub agreed_new : (authority : List ℕ) (core : CoreSeen) → IsNew authority core → (k : ℕ) → Agreed (sent k core.journal.entries) k core.state
 agreed_new authority core is k =
     let none : numbered core.state.links k ≡ None = ap (λ (s : StateSeen). numbered s.links k) is.2.state ∙ none_at k in
     let rows : core.state.book.ledger.rows ≡ [] = ap (λ (s : StateSeen). s.book.ledger.rows) is.2.state in

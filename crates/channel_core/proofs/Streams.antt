@@ -42,7 +42,7 @@ rising_less : (a b bound : ℕ) (live : List LiveStream) → b ≤ a → Rising 
 rising_less a b bound [] le h = omega (arith, le, h)
 rising_less a b bound (s ∷ live) le h = (let first : a ≤ s.number = h.0 in omega (arith, le, first), h.1)
 
-rising_remove : (a bound : ℕ) (live : List LiveStream) (p : ℕ) → Rising a bound live → Rising a bound (remove live p)
+pub rising_remove : (a bound : ℕ) (live : List LiveStream) (p : ℕ) → Rising a bound live → Rising a bound (remove live p)
 rising_remove a bound [] zero h = h
 rising_remove a bound [] (suc p) h = h
 rising_remove a bound (s ∷ live) zero h = (let first : a ≤ s.number = h.0 in let low : a ≤ s.number + 1 = omega (arith, first) in rising_less (s.number + 1) a bound live low h.1)
@@ -52,18 +52,18 @@ rising_filter_if : (b : Bool) (a bound : ℕ) (s : LiveStream) (live : List Live
 rising_filter_if true a bound s live first h = (first, h)
 rising_filter_if false a bound s live first h = (let low : a ≤ s.number + 1 = omega (arith, first) in rising_less (s.number + 1) a bound live low h)
 
-rising_filter : (p : LiveStream → Bool) (a bound : ℕ) (live : List LiveStream) → Rising a bound live → Rising a bound (filter p live)
+pub rising_filter : (p : LiveStream → Bool) (a bound : ℕ) (live : List LiveStream) → Rising a bound live → Rising a bound (filter p live)
 rising_filter p a bound [] h = h
 rising_filter p a bound (s ∷ live) h = rising_filter_if (p s) a bound s (filter p live) h.0 (rising_filter p (s.number + 1) bound live h.1)
 
-rising_set : (a bound : ℕ) (live : List LiveStream) (p : ℕ) (x y : LiveStream) → slice_get live p ≡ Some x → y.number ≡ x.number → Rising a bound live → Rising a bound (slice_set live p y)
+pub rising_set : (a bound : ℕ) (live : List LiveStream) (p : ℕ) (x y : LiveStream) → slice_get live p ≡ Some x → y.number ≡ x.number → Rising a bound live → Rising a bound (slice_set live p y)
 rising_set a bound [] p x y is same h = absurd (let bad : ⊥ = (cc) in bad)
 rising_set a bound (s ∷ live) zero x y is same h =
     let number : y.number ≡ s.number = same ∙ (let e : s ≡ x = (cc) in ap (λ (z : LiveStream). z.number) (sym e)) in
     (subst (λ (n : ℕ). a ≤ n) (sym number) h.0, subst (λ (n : ℕ). Rising (n + 1) bound live) (sym number) h.1)
 rising_set a bound (s ∷ live) (suc p) x y is same h = (h.0, rising_set (s.number + 1) bound live p x y is same h.1)
 
-rising_more : (a bound : ℕ) (live : List LiveStream) (s : LiveStream) → s.number ≡ bound → Rising a bound live → Rising a (bound + 2) (live ++ s ∷ [])
+pub rising_more : (a bound : ℕ) (live : List LiveStream) (s : LiveStream) → s.number ≡ bound → Rising a bound live → Rising a (bound + 2) (live ++ s ∷ [])
 rising_more a bound [] s is h = (subst (λ (n : ℕ). a ≤ n) (sym is) h, omega (arith, is))
 rising_more a bound (x ∷ live) s is h = (h.0, rising_more (x.number + 1) bound live s is h.1)
 

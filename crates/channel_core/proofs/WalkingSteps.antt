@@ -173,7 +173,7 @@ module _ (R : StateSeen → StateSeen → Type 0) (c : Walks R) where
   applied event.Tick s t r k g = subst (λ (x : StateSeen). R s x) (sym g.0) (same R c s)
   applied event.Shutdown s t r k g = subst (λ (x : StateSeen). R s x) (sym g.0) (shut_down s)
 
-  answered : (refused : Option Refusal) (e : Event) (s t : StateSeen) (r : Reply) → Walked R e → AnswersBy refused e s t r → R s t
+  pub answered : (refused : Option Refusal) (e : Event) (s t : StateSeen) (r : Reply) → Walked R e → AnswersBy refused e s t r → R s t
   answered (Some why) e s t r k g = subst (λ (x : StateSeen). R s x) (sym g.0) (same R c s)
   answered None e s t r k g = applied e s t r k g
 

@@ -11,21 +11,36 @@ use Rattle.attempt_ledger.specs.declared.ledger.Generation.{Generation}
 use Rattle.attempt_ledger.specs.declared.ledger.Ledger.{Ledger}
 use Rattle.attempt_ledger.specs.declared.ledger.LinkSeen.{LinkSeen}
 use Rattle.attempt_ledger.specs.declared.row.Row.{Row}
+use Rattle.channel_core.specs.Acknowledgements.{IsNextAnswer}
 use Rattle.channel_core.specs.Attempts.{AreAttempts}
 use Rattle.channel_core.specs.CallAnswers.{AreAnswered}
+use Rattle.channel_core.specs.Breaks.{IsAppliedOn}
 use Rattle.channel_core.specs.Cancels.{AreCancelled}
 use Rattle.channel_core.specs.CallEnds.{AreEnded}
 use Rattle.channel_core.specs.Commitments.{AreCommittedOnce}
+use Rattle.channel_core.specs.Deadlines.{AreTimely}
 use Rattle.attempt_ledger.specs.Journals.{received, sent}
+use Rattle.channel_core.specs.Delivered.{AreDelivered}
+use Rattle.channel_core.specs.Deliveries.{AreOfCommitted}
 use Rattle.channel_core.specs.Finishes.{AreFinished}
+use Rattle.channel_core.specs.FrameRules.{KeepsRules}
+use Rattle.channel_core.specs.Given.{EachGives}
+use Rattle.channel_core.specs.Heads.{AreHeads}
+use Rattle.channel_core.specs.EndCauses.{AreCaused}
+use Rattle.channel_core.specs.EndShapes.{AreShaped}
+use Rattle.channel_core.specs.LongMessages.{AreTooLong}
 use Rattle.channel_core.specs.Losses.{AreOver}
+use Rattle.channel_core.specs.NoConfigs.{AreBare}
 use Rattle.channel_core.specs.Reads.{IsReadOf}
+use Rattle.channel_core.specs.RequestData.{AreGivenBy}
 use Rattle.channel_core.specs.Rooms.{AreWithinRoom}
 use Rattle.channel_core.specs.RowLaws.{KeepRowLaw}
 use Rattle.channel_core.specs.Shutdowns.{AreShut}
 use Rattle.channel_core.specs.StreamRows.{AreStreamsOf}
+use Rattle.channel_core.specs.TableSizes.{IsBlockOwed}
 use Rattle.channel_core.specs.Tables.{numbered}
 use Rattle.channel_core.specs.Takes.{AreTaken, AreTakenOnce}
+use Rattle.channel_core.specs.Windows.{IsWithinWindows}
 use Rattle.channel_core.specs.Wires.{IsSentOn}
 
 -- moments never fall, from one on
@@ -91,8 +106,8 @@ abbrev pub counted_from : ℕ → List ℕ → List (ℕ × ℕ)
 counted_from number [] = []
 counted_from number (entry ∷ entries) = (number, entry) ∷ counted_from (number + 1) entries
 
--- the laws of a journal and the ledger of the same channel
-pub record IsLawful (entries : List Entry) (ledger : Ledger) : Type 0 where
+-- the laws of a journal and the ledger of the same channel, whose requests have this authority
+pub record IsLawful (authority : List ℕ) (entries : List Entry) (ledger : Ledger) : Type 0 where
   -- time: moments never fall
   pub rising : AreRising 0 entries
   -- stamps: each stamp of the ledger names an entry of the journal, and has its moment
@@ -121,6 +136,11 @@ pub record IsLawful (entries : List Entry) (ledger : Ledger) : Type 0 where
   pub takes : AreTaken entries ledger
   -- and the end of a call is taken once
   pub once : AreTakenOnce entries
+  -- delivery: a head and messages are told only of a call that was committed to an attempt by then
+  pub delivered : AreOfCommitted entries ledger
+  -- responses: what a call's application took before an end is a head and then messages, in order, which are a front of those that the
+  -- DATA brought on the stream of one attempt, to which the call is committed; or it is nothing
+  pub responses : AreDelivered entries ledger
   -- applications: no Send, Finish or Cancel behind the end of its call is taken, and one is refused for it only from the end on
   pub answers : AreAnswered entries ledger
   -- finishing: behind a Finish that is done each Send and each further Finish of its call is refused
@@ -129,13 +149,40 @@ pub record IsLawful (entries : List Entry) (ledger : Ledger) : Type 0 where
   pub shutdowns : AreShut entries
   -- cancelling: a Cancel that is done ends its call in this entry, with the cause of a Cancel
   pub cancels : AreCancelled entries ledger
+  -- deadlines: a call that ended by its deadline has one, which had come by the entry of the end; and no call whose number 32 bits can count
+  -- outlives it
+  pub deadlines : AreTimely entries ledger
+  -- causes: a call ends by a Cancel in one of it that was done, by a Shutdown in one, which ends each call whose number 32 bits can count, by
+  -- a too long response in an Arrived, and by a row in the entry in which the committed row ended or was committed
+  pub causes : AreCaused entries ledger
+  -- long requests: a call ends by a too long one in the entry of a Send that was done and whose message is above its limit, or in that in which
+  -- it got the limit
+  pub long_requests : AreTooLong entries ledger
+  -- no configuration: a call ends for want of one only where no valid config had come
+  pub unconfigured : AreBare entries ledger
+  -- ends of attempts: what each tells is of its cause; one that the client gave up has CANCELLED and nothing else, and one whose pick failed
+  -- or that lost its link UNAVAILABLE and nothing else
+  pub shapes : AreShaped ledger
   -- reading: of what arrived on a link the ledger counts whole frames, and all of them while the link is not gone
   pub reads : (number : ℕ) (link : LinkSeen) → numbered ledger.links number ≡ Some link → length (received number entries) ≤ 18446744073709551615 → IsReadOf (received number entries) link
   -- sending: what was drained on a link is the client's preface and SETTINGS, and then frames that keep the order of streams
   pub sends : (number : ℕ) → IsSentOn (sent number entries)
   -- streams: what was sent on a link opens one stream for each row that was placed on it and has one, in this order
   pub streams : (number : ℕ) → AreStreamsOf (sent number entries) ledger.rows number
+  -- bodies: DATA is sent on the streams of rows alone, and END_STREAM on one only once the application has finished the call of its row
+  pub bodies : (number : ℕ) → AreGivenBy ledger.rows number [] entries
+  -- heads: each HEADERS that a Drain gave is the request of the row whose stream it opens, with the time left at the Drain's moment
+  pub heads : AreHeads authority entries ledger
   -- losses: on a link that was lost nothing happens any more
   pub losses : AreOver [] entries
   -- room: a drain gives no more bytes than it has room, and at most 1,048,576
   pub rooms : AreWithinRoom entries
+  -- flow control: no drain gives DATA beyond what the peer allowed by then, on the whole connection and on its stream
+  pub windows : EachGives IsWithinWindows [] entries
+  -- acknowledgements: each that a drain gives is the answer to the next SETTINGS or PING that came
+  pub acknowledgements : EachGives IsNextAnswer [] entries
+  -- table sizes: each header block that a drain gives begins with a dynamic table size update exactly where one is owed
+  pub sizes : EachGives IsBlockOwed [] entries
+  -- breaks: the frames that came on a link are applied, and keep the rules for a peer's frames, all of them or up to one, or to a byte, at which
+  -- the link breaks: this and what came behind is left, the link is gone by the entry that brought it, and each entry of it behind is refused
+  pub breaks : (number : ℕ) (link : LinkSeen) → numbered ledger.links number ≡ Some link → length (received number entries) ≤ 18446744073709551615 → IsAppliedOn KeepsRules entries number link

@@ -1,23 +1,26 @@
 // What holds of a channel whatever events it was given.
-ghost use Rattle.std.specs.Prelude.{ℕ, List};
+ghost use Rattle.std.specs.Prelude.{◌≡◌, ℕ, List};
 ghost use Rattle.grpc_base.specs.declared.event.Reply.{Reply};
 ghost use Rattle.grpc_base.specs.declared.event.Stamped.{Stamped};
 ghost use Rattle.ledger_stamps.specs.Later.{Later};
+ghost use Rattle.h2_frame.specs.Frames.{FrameSeen};
 ghost use Rattle.channel_core.specs.Core.{CoreSeen, IsNew, Runs, Steps, ledger_in, next_entry};
 ghost use Rattle.channel_core.specs.Laws.{IsLawful};
+ghost use Rattle.channel_core.specs.StreamRows.{IsTextOf};
 
 use call_core::{
-    attempts_are_numbered, calls_are_committed_once, calls_are_kept, calls_go_on, ended_calls_stay,
-    live_rows_stand, outstanding_rows_are_live, rows_are_chained, rows_are_in_order,
-    rows_have_reasons, rows_keep_hedging, rows_keep_numbering, rows_keep_retries,
-    rows_keep_throttling, takes_leave_rows, tokens_count_ends,
+    attempts_are_numbered, calls_are_committed_once, calls_are_kept, calls_go_on,
+    committed_calls_make_no_attempt, ended_calls_stay, live_rows_stand, messages_come_in_order,
+    outstanding_rows_are_live, rows_are_chained, rows_are_in_order, rows_have_reasons,
+    rows_keep_hedging, rows_keep_numbering, rows_keep_retries, rows_keep_throttling,
+    takes_leave_rows, tokens_count_ends,
 };
 
 /// A law for proofs: a step changes the ledger only as one entry can, and journal and ledger of a channel are lawful whatever events
 /// it was given. The call does nothing.
 pub fn channels_are_lawful()
     ensures stamped { (old new : CoreSeen) (s : Stamped) (reply : Reply) → Steps old new s reply → Later (next_entry old.journal.entries) (ledger_in old) (ledger_in new) }
-    ensures lawful { (authority : List ℕ) (new core : CoreSeen) (events : List Stamped) → IsNew authority new → Runs new events core → IsLawful core.journal.entries (ledger_in core) }
+    ensures lawful { (authority : List ℕ) (new core : CoreSeen) (events : List Stamped) → IsNew authority new → Runs new events core → IsLawful authority core.journal.entries (ledger_in core) }
 {
     calls_are_kept();
     ended_calls_stay();
@@ -29,6 +32,8 @@ pub fn channels_are_lawful()
     calls_go_on();
     rows_have_reasons();
     rows_are_in_order();
+    messages_come_in_order();
+    committed_calls_make_no_attempt();
     rows_keep_hedging();
     rows_keep_numbering();
     takes_leave_rows();
@@ -36,3 +41,9 @@ pub fn channels_are_lawful()
     rows_keep_throttling();
     rows_keep_retries();
 }
+
+/// A law for proofs: what was sent on a link is frames in one way only, so that laws which speak of these frames all speak of the same.
+/// The call does nothing.
+pub fn texts_have_one_reading()
+    ensures { (octets : List ℕ) (frames others : List FrameSeen) → IsTextOf octets frames → IsTextOf octets others → frames ≡ others }
+{}

@@ -1,5 +1,5 @@
 -- What was played is a run of the channel, and where it stopped the journal lacks room.
-use Rattle.std.proofs.Common.{◌≡◌, ◌∙◌, ◌<◌, ◌≤◌, ℕ, Bool, true, false, List, [], ◌∷◌, ◌++◌, length, length-append, refl, sym, subst, inl, inr, arith, ap, ◌+◌}
+use Rattle.std.proofs.Common.{◌≡◌, ◌∙◌, ◌<◌, ◌≤◌, ℕ, Bool, true, false, List, [], ◌∷◌, ◌++◌, length, length-append, refl, subst, inl, inr, arith, ap, ◌+◌}
 use Rattle.std.specs.Prelude.{◌⊎◌, MatchBool, Option, Some, None, IfOk, IsErrAnd, OnOk, Result, Ok, Err}
 use Rattle.std.proofs.lemmas.Bool.{cases_lt}
 use Rattle.grpc_base.specs.declared.event.Event.{Event}

@@ -25,7 +25,7 @@ begins load policies alloc core server is_new by = record { alloc = alloc; chann
 
 -- what is known of each channel that was given events
 abbrev pub AreLawful : Type 0
-AreLawful = (authority : List ℕ) (new core : CoreSeen) (events : List Stamped) → IsNew authority new → Runs new events core → IsLawful core.journal.entries (ledger_in core)
+AreLawful = (authority : List ℕ) (new core : CoreSeen) (events : List Stamped) → IsNew authority new → Runs new events core → IsLawful authority core.journal.entries (ledger_in core)
 
 pub session : AreLawful → (load : Load) (policies : List PolicySeen) (start end : Sides) → Begins load policies start → Plays (actions_of load.seed load.calls) start end → IsSession load policies end.channel.journal (ledger_in end.channel)
 session are_lawful load policies start end begins plays =

@@ -31,7 +31,7 @@ pub record IsSession (load : Load) (policies : List PolicySeen) (journal : Journ
   pub plays : Plays (actions_of load.seed load.calls) start end
   pub journal_is : journal ≡ end.channel.journal
   pub ledger_is : ledger ≡ ledger_in end.channel
-  pub lawful : IsLawful journal.entries ledger
+  pub lawful : IsLawful authority journal.entries ledger
 
 -- a summary is that of a session of the load
 pub record SumsUp (load : Load) (policies : List PolicySeen) (summary : LoadSummary) : Type 0 where

@@ -1,5 +1,5 @@
 -- The bytes of the header block that begins a response.
-use Rattle.std.proofs.Common.{◌≡◌, ◌∷◌, ◌++◌, refl}
+use Rattle.std.proofs.Common.{◌≡◌, ◌∷◌, refl}
 use Rattle.std.specs.Prelude.{codes}
 use Rattle.h2_hpack.specs.Encoding.{block_bytes}
 use Rattle.h2_hpack.specs.StaticTable.{static_table}

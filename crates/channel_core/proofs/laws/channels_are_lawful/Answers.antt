@@ -168,5 +168,25 @@ returns c = record {
     heard = c.rows_are_in_order.ensures.heard;
     made = c.rows_are_in_order.ensures.made;
     numbering = c.rows_keep_numbering.ensures;
+  }) (record {
+    configured = c.messages_come_in_order.ensures.configured;
+    sent = c.messages_come_in_order.ensures.sent;
+    closed = c.messages_come_in_order.ensures.closed;
+    timed_out = c.messages_come_in_order.ensures.timed_out;
+    placed = c.messages_come_in_order.ensures.placed;
+    ended = c.messages_come_in_order.ensures.ended;
+    too_large = c.messages_come_in_order.ensures.too_large;
+    made = c.messages_come_in_order.ensures.made;
+  }) (record {
+    begun = c.calls_are_kept.ensures.begun;
+    configured = c.calls_are_kept.ensures.configured;
+    sent = c.calls_are_kept.ensures.sent;
+    closed = c.calls_are_kept.ensures.closed;
+    timed_out = c.calls_are_kept.ensures.timed_out;
+    placed = c.calls_are_kept.ensures.placed;
+    failed = c.calls_are_kept.ensures.failed;
+    heard = c.calls_are_kept.ensures.heard;
+    made = c.calls_are_kept.ensures.made;
+    idle = c.committed_calls_make_no_attempt.ensures;
   });
 }
