@@ -32,6 +32,12 @@ serve --links=1024 --port=0\x01answer /a.B/C 2 h\n\x013fault line 1 cause 4\n\x0
 serve --port 1 --links 1\x01answer /a.B/C 1 h,s0\x013fault line 1 cause 3\n\x02\
 serve --port 1 --links 1\x01\x018\x02\
 serve --version\x01\x010grpcc serve 0.1.0\n\x02\
+live --nets 5\x01\x012fault words\n\x02\
+live --seed x\x01\x012fault words\n\x02\
+live --keepalive 0\x01\x012fault words\n\x02\
+live --keepalive-timeout 5\x01\x012fault words\n\x02\
+live --keepalive 86400000 --keepalive-timeout 1 --nets 4 --seed 18446744073709551615\x01\x013fault line 1 cause 1\n\x02\
+live --version\x01\x010grpcc live 0.1.0\n\x02\
 replay config\x01{}\x012fault words\n\x02\
 config -- more\x01{}\x012fault words\n\x02\
 --version\x01{}\x010grpcc 0.1.0\n\x02\

@@ -1,4 +1,4 @@
-// Tests of the public calls of the channel: its core, the slow programs of its definitions, and the top call.
+// Tests of the public calls of the channel: its core, the slow programs of its definitions and laws, and the top call.
 #![tactic(auto)]
 
 #[cfg(test)]
@@ -10,6 +10,8 @@ mod channel_top_script_tests;
 #[cfg(test)]
 mod channel_top_tests;
 #[cfg(test)]
+mod live_tests;
+#[cfg(test)]
 mod load_tests;
 #[cfg(test)]
 mod program;
@@ -17,3 +19,5 @@ mod program;
 mod serve_tests;
 #[cfg(test)]
 mod slow_channel_tests;
+#[cfg(test)]
+mod slow_laws_tests;
