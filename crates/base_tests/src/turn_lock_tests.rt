@@ -23,6 +23,8 @@ impl Chronicle for Log {
 
     ghost mark_of = { λ entries. length entries % 8 };
 
+    ghost origin = { λ log. [] };
+
     fn count(&self) -> u64 {
         self.entries.len() as u64
     }

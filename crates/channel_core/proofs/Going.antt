@@ -1,44 +1,27 @@
 -- What holds of each single thing that is done to a channel, but for what its applications send and finish and what its links take, holds of
 -- a whole step without these. `R` joins what was before and what is after. Here: what is done to calls and what comes on links.
-use Rattle.std.proofs.Common.{min, length, ◌≡◌, ℕ, zero, suc, ◌-◌, if◌then◌else◌, Bool, true, false, Option, Some, None, List, [], ◌∷◌, ◌++◌, Ok, refl, IfSome, ap}
-use Rattle.grpc_base.specs.Requests.{RequestSeen}
-use Rattle.grpc_base.specs.Kinds.{KindsSeen}
+use Rattle.std.proofs.Common.{min, length, ◌≡◌, ℕ, true, false, Option, List, [], ◌∷◌, ◌++◌}
 use Rattle.grpc_base.specs.declared.event.EndCause.{EndCause}
 use Rattle.grpc_base.specs.declared.event.Event.{Event}
 use Rattle.grpc_base.specs.declared.event.Event.TheVariants as event
 use Rattle.grpc_base.specs.declared.kind.Kind.{Kind}
-use Rattle.grpc_base.specs.declared.plan.Chosen.{Chosen}
 use Rattle.attempt_ledger.specs.declared.ledger.Ask.{Ask}
-use Rattle.attempt_ledger.specs.declared.news.EndNews.{EndNews}
 use Rattle.attempt_ledger.specs.declared.news.News.{News}
-use Rattle.attempt_ledger.specs.declared.news.News.TheVariants as news
 use Rattle.attempt_ledger.specs.declared.row.Placed.{Placed}
-use Rattle.ledger_stamps.specs.Steps.{activated_generation, changed_at, gone_link, new_generation, read_link, retired_generation, changed, index_at}
-use Rattle.service_config.specs.declared.config.Config.{Config}
+use Rattle.ledger_stamps.specs.Steps.{activated_generation, changed_at, gone_link, new_generation, read_link, retired_generation}
 use Rattle.call_core.specs.declared.act.CallAct.{CallAct}
-use Rattle.call_core.specs.declared.act.CallAct.TheVariants as act
 use Rattle.call_core.specs.Parts.{is_by_row}
 use Rattle.call_core.specs.Steps as call
-use Rattle.channel_core.specs.declared.state.book.Book.{Book}
-use Rattle.channel_core.specs.declared.state.slots.CallSlot.{CallSlot}
-use Rattle.channel_core.specs.Applying.{config_read}
-use Rattle.channel_core.specs.Arrivals as arrivals
-use Rattle.channel_core.specs.Books.{BookActs, book_acted, book_asked, book_begun, book_configured, book_finished, book_placed, book_taken, call_of, deadline_of, due_at, due_forgotten, has_drawn, has_ended, has_stream, link_at, link_of, row_at, slot_at, timers_set}
+use Rattle.channel_core.specs.Books.{BookActs, book_acted, book_asked, book_finished, book_placed, book_taken, due_forgotten, timers_set}
 use Rattle.channel_core.specs.Draining.{DrainLeaves, drained_limit}
 use Rattle.channel_core.specs.States.{StateSeen}
 use Rattle.channel_core.specs.Steps as step
 use Rattle.channel_core.specs.Steps.{chosen_in, configured_by, is_gone, next_word, overdue_ended, with_ask, with_generations, with_ledger_links}
-use Rattle.channel_core.specs.Tables.{Heard, heard_in, retired_in, buried, heard_at, heard_by, heard_link, hears_at, numbered, reset_link, retired, sealed_link, with_link}
-use Rattle.channel_core.specs.Timing.{due_keys, later, number_of}
-use Rattle.std.specs.Option.{option_map_or}
-use Rattle.channel_core.specs.declared.state.links.LinkSlot.{LinkSlot}
-use Rattle.channel_core.specs.Arrivals.{linked_as, next_link}
-use Rattle.channel_core.proofs.FairNews.{AreFair, AreFairEnds, IsFair, IsFairEnd, fair_ends, fair_heard, fair_loss}
 use Rattle.grpc_base.specs.declared.event.Reply.{Reply}
-
--- the book alone changes
-abbrev pub with_book : Book → StateSeen → StateSeen
-with_book book s = record s { book = book }
+use Rattle.channel_core.proofs.FairNews.{IsFair}
+use Rattle.channel_core.proofs.Resting as resting
+use Rattle.channel_core.proofs.Resting.{Comes, Rests}
+pub use Rattle.channel_core.proofs.Resting.{Begins, ComesUp, Configures, Holds, changed_length, with_book}
 
 pub record Goes (R : StateSeen → StateSeen → Type 0) : Type 0 where
   pub joined : (s t u : StateSeen) → R s t → R t u → R s u
@@ -62,41 +45,6 @@ pub record Goes (R : StateSeen → StateSeen → Type 0) : Type 0 where
   pub activated : (number : ℕ) (s : StateSeen) → R s (with_generations (changed_at (activated_generation s.book.ledger.entry) s.book.ledger.generations number) s)
   pub retired : (number : ℕ) (s : StateSeen) → R s (with_generations (changed_at (retired_generation s.book.ledger.entry) s.book.ledger.generations number) s)
 
--- as many links as before
-changed_lengths : {X : Type 0} (f : X → X) (xs : List X) (index : ℕ) → length (changed f xs index) ≡ length xs
-changed_lengths f [] index = refl
-changed_lengths f (x ∷ xs) zero = refl
-changed_lengths f (x ∷ xs) (suc index) = ap suc (changed_lengths f xs index)
-
-index_length : {X : Type 0} (f : X → X) (xs : List X) (index : Option ℕ) → length (option_map_or (λ i. changed f xs i) index xs) ≡ length xs
-index_length f xs None = refl
-index_length f xs (Some index) = changed_lengths f xs index
-
-pub changed_length : {X : Type 0} (f : X → X) (xs : List X) (place : ℕ) → length (changed_at f xs place) ≡ length xs
-changed_length f xs place = index_length f xs (index_at place (length xs))
-
-heard_if : (hears : Bool) (slot : LinkSlot) (link : ℕ) (piece : List ℕ) (links : List LinkSlot) → IfSome (if hears then Some (heard_by slot link piece links) else None) (λ x. length x.links ≡ length links)
-heard_if true slot link piece links = changed_length (with_link (heard_link piece)) links link
-heard_if false slot link piece links = tt
-
-heard_length : (link : ℕ) (piece : List ℕ) (links : List LinkSlot) (o : Option LinkSlot) → IfSome (heard_at o link piece links) (λ x. length x.links ≡ length links)
-heard_length link piece links None = tt
-heard_length link piece links (Some slot) = heard_if (hears_at (Some slot)) slot link piece links
-
--- a call begins, and a link comes up: what the events of these alone do
-abbrev pub Begins : (StateSeen → StateSeen → Type 0) → RequestSeen → Type 0
-Begins R request = (s : StateSeen) → R s (with_book (book_begun request s.book) s)
-
-abbrev pub ComesUp : (StateSeen → StateSeen → Type 0) → ℕ → Type 0
-ComesUp R sub = (s : StateSeen) → R s (linked_as (next_link s) sub s)
-
--- a result of the resolver brings a config; and a call gets its configuration, which happens in the settling alone
-abbrev pub Holds : (StateSeen → StateSeen → Type 0) → Option (List ℕ) → Type 0
-Holds R text = (config : Config) (kinds : KindsSeen) (s : StateSeen) → config_read kinds text ≡ Ok config → R s (configured_by config s)
-
-abbrev pub Configures : (StateSeen → StateSeen → Type 0) → Type 0
-Configures R = (chosen : Chosen) (number : ℕ) (s : StateSeen) → chosen_in s.held (slot_at s.book number) ≡ Some chosen → R s (with_book (book_configured chosen number s.book).book s)
-
 -- what the events that begin a call, bring a link up, bring a config, send, finish or take bytes do
 abbrev pub Gone : (StateSeen → StateSeen → Type 0) → Event → Type 0
 Gone R (event.Begin request) = Begins R request
@@ -107,184 +55,56 @@ Gone R (event.LinkUp sub) = ComesUp R sub
 Gone R (event.Drain link room) = (s t : StateSeen) (r : Reply) → DrainLeaves link (min room drained_limit) s r t → R s t
 Gone R e = Unit {0}
 
+-- without what comes on links, and that
+pub rests : (R : StateSeen → StateSeen → Type 0) → Goes R → Rests R
+rests R c = record {
+  joined = c.joined;
+  beside = c.beside;
+  timed_out = c.timed_out;
+  closed = c.closed;
+  made = c.made;
+  failed = c.failed;
+  placed = c.placed;
+  taken = c.taken;
+  timers = c.timers;
+  forgotten = c.forgotten;
+  asked = c.asked;
+  gone = c.gone;
+  added = c.added;
+  activated = c.activated;
+  retired = c.retired;
+}
+
+pub comes : (R : StateSeen → StateSeen → Type 0) → Goes R → Comes R
+comes R c = record { heard = c.heard; read = c.read }
+
+-- the events of both
+pub gone_with : (R : StateSeen → StateSeen → Type 0) → Goes R → (e : Event) → Gone R e → resting.Gone R e
+gone_with R c (event.Begin request) k = k
+gone_with R c (event.Send number message) k = k
+gone_with R c (event.Finish number) k = k
+gone_with R c (event.Resolved addresses text) k = k
+gone_with R c (event.LinkUp sub) k = k
+gone_with R c (event.Drain link room) k = k
+gone_with R c (event.Arrived link piece) k = λ s. resting.frames R (rests R c) (comes R c) link piece 0 s
+gone_with R c (event.LinkLost link) k = λ s. resting.lose R (rests R c) (comes R c) link true s
+gone_with R c e k = tt
+
 module _ (R : StateSeen → StateSeen → Type 0) (c : Goes R) where
   pub same : (s : StateSeen) → R s s
-  same s = c.beside s s refl refl refl (λ e. e)
-
-  pub either : (b : Bool) (s t u : StateSeen) → R s t → R s u → R s (if b then t else u)
-  either true s t u first second = first
-  either false s t u first second = second
-
-  -- links that are gone
-  pub gone_one : (link : ℕ) (s : StateSeen) → R s (step.stamped_gone link s)
-  gone_one link s = either (is_gone link s) s _ s (c.gone link s) (same s)
-
-  pub gone_all : (links : List ℕ) (s : StateSeen) → R s (step.all_stamped_gone links s)
-  gone_all [] s = same s
-  gone_all (link ∷ links) s = c.joined s (step.stamped_gone link s) _ (gone_one link s) (gone_all links (step.stamped_gone link s))
-
-  -- the acts of a call
-  left_one : (link row : ℕ) (s : StateSeen) → R s (step.left_on link row s)
-  left_one link row s =
-      let t : StateSeen = step.left_behind link row s in
-      c.joined s t _ (c.beside s t refl refl refl (λ e. e)) (gone_one link t)
-
-  cut_one : (row : ℕ) (s : StateSeen) → R s (step.cut row s)
-  cut_one row s =
-      let link : ℕ = link_of (row_at s.book row) in
-      let t : StateSeen = step.reset_on link row s in
-      c.joined s t _ (c.beside s t refl refl (changed_length (with_link (reset_link row)) s.links link) (λ e. e)) (left_one link row t)
-
-  act_one : (number : ℕ) (a : CallAct) (s : StateSeen) → R s (step.act_done number a s)
-  act_one number (act.Cut row) s = cut_one row s
-  act_one number (act.Drop row) s = c.beside s _ refl refl refl (λ e. e)
-  act_one number (act.Queue row) s = c.beside s _ refl refl refl (λ e. e)
-  act_one number (act.End why) s = c.beside s _ refl refl refl (λ e. e)
-
-  act_all : (number : ℕ) (acts : List CallAct) (s : StateSeen) → R s (step.acts_done number acts s)
-  act_all number [] s = same s
-  act_all number (a ∷ acts) s = c.joined s (step.act_done number a s) _ (act_one number a s) (act_all number acts (step.act_done number a s))
+  same s = resting.same R (rests R c) s
 
   pub timers_of : (number : ℕ) (s : StateSeen) → R s (step.timers_moved number s)
-  timers_of number s =
-      let slot : Option CallSlot = slot_at s.book number in
-      let t : StateSeen = with_book (timers_set (due_at slot) (deadline_of slot) number s.book) s in
-      c.joined s t _ (c.timers (due_at slot) (deadline_of slot) number s) (c.beside t _ refl refl refl (λ e. e))
+  timers_of number s = resting.timers_of R (rests R c) number s
 
-  follow : (number : ℕ) (acts : List CallAct) (s : StateSeen) → R s (step.followed number acts s)
-  follow number acts s =
-      let t : StateSeen = step.acts_done number acts s in
-      c.joined s t _ (act_all number acts s) (timers_of number t)
+  pub follow : (number : ℕ) (acts : List CallAct) (s : StateSeen) → R s (step.followed number acts s)
+  follow number acts s = resting.follow R (rests R c) number acts s
 
-  -- what a call did is followed, with what else changed beside the book
   pub after_book : (b : BookActs) (number : ℕ) (s t : StateSeen) → t.held ≡ s.held → length t.links ≡ length s.links → (s.shut ≡ true → t.shut ≡ true) → R s (with_book b.book s) → R s (step.with_book b number t)
-  after_book b number s t e l shut h =
-      let u : StateSeen = with_book b.book t in
-      c.joined s u _ (c.joined s (with_book b.book s) u h (c.beside (with_book b.book s) u refl e l shut)) (follow number b.acts u)
-
-  -- resets are sealed
-  seal_all : (links : List ℕ) (s : StateSeen) → R s (step.links_sealed links s)
-  seal_all [] s = same s
-  seal_all (link ∷ links) s =
-      let t : StateSeen = step.sealed_one link s in
-      c.joined s t _ (c.beside s t refl refl (changed_length (with_link sealed_link) s.links link) (λ e. e)) (seal_all links t)
-
-  seal : (s : StateSeen) → R s (step.sealed s)
-  seal s =
-      let t : StateSeen = step.resets_taken s in
-      c.joined s t _ (c.beside s t refl refl refl (λ e. e)) (seal_all s.resets t)
+  after_book b number s t e l shut h = resting.after_book R (rests R c) b number s t e l shut h
 
   pub then_seal : (s t : StateSeen) → R s t → R s (step.sealed t)
-  then_seal s t h = c.joined s t _ h (seal t)
-
-  -- the ends by the channel
-  time_out : (number : ℕ) (s : StateSeen) → R s (step.timed_out number s)
-  time_out number s = then_seal s _ (after_book (book_asked (call.timed_out s.book.moment) number s.book) number s s refl refl (λ e. e) (c.timed_out number s))
-
-  pub close : (why : EndCause) (number : ℕ) (s : StateSeen) → is_by_row why ≡ false → R s (step.closed why number s)
-  close why number s by = then_seal s _ (after_book (book_asked (call.closed_by why s.book.moment) number s.book) number s s refl refl (λ e. e) (c.closed why number s by))
-
-  time_out_all : (calls : List ℕ) (s : StateSeen) → R s (step.all_timed_out calls s)
-  time_out_all [] s = same s
-  time_out_all (key ∷ calls) s =
-      let t : StateSeen = step.timed_out (number_of key) s in
-      c.joined s t _ (time_out (number_of key) s) (time_out_all calls t)
+  then_seal s t h = resting.then_seal R (rests R c) s t h
 
   pub overdue : (s : StateSeen) → R s (overdue_ended s)
-  unfolding overdue_ended
-  overdue s =
-      let t : StateSeen = record s { deadlines = later s.book.moment s.deadlines } in
-      c.joined s t _ (c.beside s t refl refl refl (λ e. e)) (time_out_all (due_keys s.book.moment s.deadlines) t)
-
-  -- what a call is told, and what it draws
-  told_after : (b : BookActs) (number row : ℕ) (s t : StateSeen) → t.held ≡ s.held → length t.links ≡ length s.links → (s.shut ≡ true → t.shut ≡ true) → R s (with_book b.book s) → R s (step.told_acts b number row t)
-  told_after b number row s t e l shut h = after_book b number s (step.drawn_if (has_drawn (row_at b.book row)) t) e l shut h
-
-  tell_to : (number row : ℕ) (n : News) (s : StateSeen) → IsFair n → R s (step.told_to number row n s)
-  tell_to number row n s fair =
-      told_after (book_acted (call.heard_news row n s.book.moment (next_word s)) number s.book) number row s s refl refl (λ e. e) (c.heard row n number s fair)
-
-  tell : (row : ℕ) (n : News) (s : StateSeen) → IsFair n → R s (step.told row n s)
-  tell row n s fair = tell_to (call_of (row_at s.book row)) row n s fair
-
-  pub fail : (number row : ℕ) (s : StateSeen) → R s (step.pick_failed number row s)
-  fail number row s =
-      then_seal s _ (told_after (book_acted (call.pick_failed row s.book.moment (next_word s)) number s.book) number row s (step.unqueued number row s) refl refl (λ e. e) (c.failed row number s))
-
-  -- the ends of attempts
-  end_one : (link row : ℕ) (end : EndNews) (s : StateSeen) → IsFairEnd end → R s (arrivals.ended_on link row end s)
-  end_one link row end s fair =
-      let t : StateSeen = step.left_behind link row s in
-      let u : StateSeen = step.told row (news.Ended row end) t in
-      either (has_ended (row_at s.book row)) s s _ (same s) (c.joined s t _ (c.beside s t refl refl refl (λ e. e)) (c.joined t u _ (tell row (news.Ended row end) t fair) (gone_one link u)))
-
-  end_all : (link : ℕ) (ends : List (ℕ × EndNews)) (s : StateSeen) → AreFairEnds ends → R s (arrivals.all_ended_on link ends s)
-  end_all link [] s fair = same s
-  end_all link (e ∷ ends) s fair =
-      let t : StateSeen = arrivals.ended_on link e.0 e.1 s in
-      c.joined s t _ (end_one link e.0 e.1 s fair.0) (end_all link ends t fair.1)
-
-  lose_row : (link : ℕ) (each : Bool) (row : ℕ) (s : StateSeen) → R s (arrivals.lost_row link each row s)
-  lose_row link true row s = then_seal s _ (end_one link row (step.loss_of link row s) s (fair_loss (has_stream (row_at s.book row)) (step.read_of (link_at s.book link))))
-  lose_row link false row s = end_one link row (step.loss_of link row s) s (fair_loss (has_stream (row_at s.book row)) (step.read_of (link_at s.book link)))
-
-  lose_on : (further : ℕ → StateSeen → StateSeen) (link : ℕ) (each : Bool) (row : Option ℕ) (s : StateSeen) → ((row : ℕ) (s : StateSeen) → R s (further row s)) → R s (arrivals.rows_lost_on further link each row s)
-  lose_on further link each None s h = same s
-  lose_on further link each (Some row) s h =
-      let t : StateSeen = arrivals.lost_row link each row s in
-      c.joined s t _ (lose_row link each row s) (h row t)
-
-  lose_rows : (most link : ℕ) (each : Bool) (row : ℕ) (s : StateSeen) → R s (arrivals.rows_lost most link each row s)
-  lose_rows zero link each row s = same s
-  lose_rows (suc most) link each row s = lose_on (arrivals.rows_lost most link each) link each (step.next_on link row s) s (lose_rows most link each)
-
-  pub lose : (link : ℕ) (each : Bool) (s : StateSeen) → R s (arrivals.lost link each s)
-  lose link each s =
-      let t : StateSeen = step.buried link s in
-      let u : StateSeen = arrivals.rows_lost arrivals.most_rows link each 0 t in
-      c.joined s t _ (c.beside s t refl refl (changed_length buried s.links link) (λ e. e)) (c.joined t u _ (lose_rows arrivals.most_rows link each 0 t) (gone_one link u))
-
-  retire : (link : ℕ) (s : StateSeen) → R s (step.retired link s)
-  retire link s =
-      let t : StateSeen = record (step.downed link s) { links = retired_in link s.links } in
-      c.joined s t _ (c.beside s t refl refl (changed_length retired s.links link) (λ e. e)) (gone_one link t)
-
-  -- the news of a frame, and the frames of a piece
-  hear_one : (link : ℕ) (n : News) (s : StateSeen) → R s (arrivals.heard_one link n s)
-  hear_one link news.Ready s = c.beside s _ refl refl refl (λ e. e)
-  hear_one link news.Retiring s = retire link s
-  hear_one link (news.Broken why) s = lose link false s
-  hear_one link (news.Ended tag end) s = same s
-  hear_one link (news.Head tag meta seen) s = tell tag (news.Head tag meta seen) s tt
-  hear_one link (news.Message tag octets seen) s = tell tag (news.Message tag octets seen) s tt
-  hear_one link (news.TooLarge tag seen) s = tell tag (news.TooLarge tag seen) s tt
-
-  hear_all : (link : ℕ) (ns : List News) (s : StateSeen) → R s (arrivals.heard_all link ns s)
-  hear_all link [] s = same s
-  hear_all link (n ∷ ns) s =
-      let t : StateSeen = arrivals.heard_one link n s in
-      c.joined s t _ (hear_one link n s) (hear_all link ns t)
-
-  hear : (link : ℕ) (ns : List News) (s : StateSeen) → AreFair ns → R s (arrivals.heard link ns s)
-  hear link ns s fair =
-      let t : StateSeen = arrivals.heard_all link ns s in
-      let u : StateSeen = arrivals.all_ended_on link (step.ends_kept ns []) t in
-      let v : StateSeen = step.sealed_one link u in
-      then_seal s v (c.joined s t v (hear_all link ns s) (c.joined t u v (end_all link (step.ends_kept ns []) t (fair_ends ns [] fair tt)) (c.beside u v refl refl (changed_length (with_link sealed_link) u.links link) (λ e. e))))
-
-  hear_frame : (link : ℕ) (h : Heard) (s : StateSeen) → length h.links ≡ length s.links → AreFair h.news → R s (arrivals.frame_heard link h s)
-  hear_frame link h s l fair =
-      let t : StateSeen = record s { links = h.links } in
-      let u : StateSeen = arrivals.read_to link h.read t in
-      c.joined s t _ (c.beside s t refl refl l (λ e. e)) (c.joined t u _ (c.read link h.read t) (hear link h.news u fair))
-
-  frames_on : (further : ℕ → StateSeen → StateSeen) (link : ℕ) (h : Option Heard) (s : StateSeen) → IfSome h (λ x. length x.links ≡ length s.links) → IfSome h (λ x. AreFair x.news) → ((skip : ℕ) (s : StateSeen) → R s (further skip s)) → R s (arrivals.frames_from further link h s)
-  frames_on further link None s l fair more = same s
-  frames_on further link (Some h) s l fair more =
-      let t : StateSeen = arrivals.frame_heard link h s in
-      c.joined s t _ (hear_frame link h s l fair) (more (h.taken - 1) t)
-
-  pub frames : (link : ℕ) (piece : List ℕ) (skip : ℕ) (s : StateSeen) → R s (arrivals.frames_after link piece skip s)
-  frames link [] skip s = same s
-  frames link (b ∷ piece) zero s = frames_on (arrivals.frames_after link piece) link (heard_in link (b ∷ piece) s.links) s (heard_length link (b ∷ piece) s.links (numbered s.links link)) (fair_heard link (b ∷ piece) s.links (numbered s.links link)) (frames link piece)
-  frames link (b ∷ piece) (suc skip) s = frames link piece skip s
+  overdue s = resting.overdue R (rests R c) s

@@ -63,7 +63,7 @@ place_more rows x (suc p) r e = read_more rows x p r e
 pub place_last : (rows : List Row) (x : Row) → row_in (rows ++ x ∷ []) (length rows + 1) ≡ Some x
 place_last rows x = let up : suc (length rows) ≡ length rows + 1 = omega arith in subst (λ (k : ℕ). row_in (rows ++ x ∷ []) k ≡ Some x) up (read_last rows x)
 
-place_back : (rows : List Row) (x : Row) (p : ℕ) (r : Row) → row_in (rows ++ x ∷ []) p ≡ Some r → (r ≡ x) ⊎ (row_in rows p ≡ Some r)
+pub place_back : (rows : List Row) (x : Row) (p : ℕ) (r : Row) → row_in (rows ++ x ∷ []) p ≡ Some r → (r ≡ x) ⊎ (row_in rows p ≡ Some r)
 place_back rows x zero r e = absurd (cc)
 place_back rows x (suc p) r e = read_back rows x p r e
 

@@ -4,9 +4,7 @@
 mod bytes_of;
 mod channel;
 mod kept;
-mod laws;
 mod state;
 
 pub use attempt_ledger::{Journal, Ledger};
 pub use channel::{ChannelCore, CoreError};
-pub use laws::{channels_are_lawful, texts_have_one_reading};

@@ -1,6 +1,9 @@
 pub mod AgainLaws
 pub mod ChoiceLaws
 pub mod ConfigLaws
+pub mod Lawful
+pub mod LiveLaws
+pub mod LoadLaws
 pub mod OptionLaws
 pub mod ReportLaws
 pub mod RunLaws

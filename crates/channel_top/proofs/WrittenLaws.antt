@@ -6,7 +6,7 @@ use Rattle.gate_io.specs.Outside.{AppendsFront}
 use Rattle.script_text.proofs.Passing.{AppendsFront-none}
 use Rattle.channel_top.specs.Load.{FillsLoad, IsLoadDone, IsLoadText, RefusesLoad}
 use Rattle.channel_top.specs.Modes.{FillsIn, IsDoneIn, IsOutput, IsOutputIn, RefusesIn}
-use Rattle.live_mode.specs.Live.{IsLiveText}
+use Rattle.channel_top.specs.Live.{IsLawfulLiveText}
 use Rattle.live_mode.specs.declared.settings.LiveSettings.{LiveSettings}
 use Rattle.channel_top.specs.Top.{IsReplayText}
 use Rattle.channel_top.specs.Words.{Runs}
@@ -53,5 +53,5 @@ pub load_full : (m : Mode) (load : Load) (left left' : Option (List ℕ)) → m 
 load_full m load left left' is same text full = subst (λ (x : Mode). FillsIn x left left' text) (sym is) (same, full)
 
 -- the output of the mode `live` is that of its mode
-pub live_output : (kinds : KindsSeen) (m : Mode) (settings : LiveSettings) (left left' : Option (List ℕ)) → m ≡ mode.Live settings → (text : List ℕ) → IsLiveText left left' text → IsOutputIn kinds m left left' text
+pub live_output : (kinds : KindsSeen) (m : Mode) (settings : LiveSettings) (left left' : Option (List ℕ)) → m ≡ mode.Live settings → (text : List ℕ) → IsLawfulLiveText left left' text → IsOutputIn kinds m left left' text
 live_output kinds m settings left left' is text told = subst (λ (x : Mode). IsOutputIn kinds x left left' text) (sym is) told

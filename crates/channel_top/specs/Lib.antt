@@ -1,6 +1,7 @@
 pub mod ConfigMode
 pub mod Ending
 pub mod Links
+pub mod Live
 pub mod Load
 pub mod Migrate
 pub mod Modes

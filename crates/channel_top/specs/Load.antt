@@ -3,7 +3,9 @@ use Rattle.std.specs.Prelude.{◌≡◌, ◌⊎◌, true, false, ℕ, List, [], 
 use Rattle.grpc_base.specs.Kinds.{KindsSeen, has_kind}
 use Rattle.grpc_base.specs.declared.kind.Kind.TheVariants as kind
 use Rattle.lb_policy.specs.Table.{PolicySeen}
+use Rattle.channel_laws.specs.Laws.{IsLawful}
 use Rattle.load_plan.specs.Lines.{summary_line}
+use Rattle.load_plan.specs.Plan.{authority}
 use Rattle.load_plan.specs.declared.load.Load.{Load}
 use Rattle.load_plan.specs.declared.summary.LoadSummary.{LoadSummary}
 use Rattle.load_session.specs.Session.{GetsFull, SumsUp}
@@ -15,13 +17,14 @@ use Rattle.channel_top.specs.Words.{words_fault_text}
 abbrev pub LacksKind : KindsSeen → Type 0
 LacksKind kinds = has_kind kinds kind.RoundRobin ≡ false
 
--- status 0: the session of the load was played, with policies of these kinds, and the text is its line
+-- status 0: the session of the load was played, with policies of these kinds, journal and ledger of it are lawful, and the text is its line
 pub record IsLoadDone (kinds : KindsSeen) (load : Load) (text : List ℕ) : Type 0 where
   pub policies : List PolicySeen
   pub kinds_are : kinds ≡ kinds_of policies
   pub wanted : has_kind kinds kind.RoundRobin ≡ true
   pub summary : LoadSummary
   pub sums : SumsUp load policies summary
+  pub lawful : IsLawful authority sums.journal.entries sums.ledger
   pub text_is : text ≡ summary_line summary ++ 10 ∷ []
 
 -- status 2: `round_robin` is not among the policies, and the text is that of wrong words

@@ -3,7 +3,8 @@ use Rattle.std.specs.Prelude.{◌≡◌, ◌⊎◌, ℕ, Option, List}
 use Rattle.grpc_base.specs.Kinds.{KindsSeen}
 use Rattle.channel_top.specs.Top.{EndsFull, IsDone, IsReplayText, StopsAtRead, TellsBadLine}
 use Rattle.channel_top.specs.ConfigMode.{IsConfigDone, IsConfigText, StopsInConfig, TellsConfigFault}
-use Rattle.live_mode.specs.Live.{EndsLiveFull, IsLiveText, IsLived, StopsInCalls, TellsBadCall}
+use Rattle.live_mode.specs.Live.{StopsInCalls, TellsBadCall}
+use Rattle.channel_top.specs.Live.{EndsFullLawfully, IsLawfulLiveText, IsLivedLawfully}
 use Rattle.channel_top.specs.Migrate.{IsMigrateText, IsMigrated, StopsInReport, TellsBadReport}
 use Rattle.channel_top.specs.Serve.{EndsUnheard, IsServeText, IsServed, StopsInServer, TellsBadAnswer}
 use Rattle.channel_top.specs.Load.{FillsLoad, IsLoadDone, IsLoadText, RefusesLoad}
@@ -18,7 +19,7 @@ IsDoneIn kinds mode.Config left left' text = IsConfigDone kinds left left' text
 IsDoneIn kinds mode.Migrate left left' text = IsMigrated left left' text
 IsDoneIn kinds (mode.Serve port links) left left' text = IsServed links left left' text
 IsDoneIn kinds (mode.Load load) left left' text = (left' ≡ left) × IsLoadDone kinds load text
-IsDoneIn kinds (mode.Live settings) left left' text = IsLived left left' text
+IsDoneIn kinds (mode.Live settings) left left' text = IsLivedLawfully left left' text
 
 -- this text of a mode tells the fault of its input
 abbrev pub TellsFaultIn : KindsSeen → Mode → Option (List ℕ) → Option (List ℕ) → List ℕ → Type 0
@@ -45,7 +46,7 @@ IsOutputIn kinds mode.Config left left' text = IsConfigText kinds left left' tex
 IsOutputIn kinds mode.Migrate left left' text = IsMigrateText left left' text
 IsOutputIn kinds (mode.Serve port links) left left' text = IsServeText links left left' text
 IsOutputIn kinds (mode.Load load) left left' text = (left' ≡ left) × IsLoadText kinds load text
-IsOutputIn kinds (mode.Live settings) left left' text = IsLiveText left left' text
+IsOutputIn kinds (mode.Live settings) left left' text = IsLawfulLiveText left left' text
 
 -- status 0: the mode that the words run is done, and this is its text; or the words ask for the text of help or of the version, and
 -- nothing is read
@@ -71,7 +72,7 @@ TellsFault kinds words left left' text = (m : Mode) × Runs m words × TellsFaul
 abbrev pub FillsIn : Mode → Option (List ℕ) → Option (List ℕ) → List ℕ → Type 0
 FillsIn mode.Replay left left' text = EndsFull left left' text
 FillsIn (mode.Load load) left left' text = (left' ≡ left) × FillsLoad load text
-FillsIn (mode.Live settings) left left' text = EndsLiveFull left left' text
+FillsIn (mode.Live settings) left left' text = EndsFullLawfully left left' text
 FillsIn m left left' text = ⊥
 
 -- status 7: the words run a mode whose journal got full

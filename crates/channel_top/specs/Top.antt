@@ -9,6 +9,7 @@ use Rattle.attempt_ledger.specs.declared.ledger.Ledger.{Ledger}
 use Rattle.gate_io.specs.Outside.{IsAtEnd, Takes}
 use Rattle.channel_core.specs.Sizes.{journal_bytes}
 use Rattle.channel_core.specs.Core.{CoreSeen, IsNew}
+use Rattle.channel_laws.specs.Laws.{IsLawful}
 use Rattle.session_text.specs.declared.ran.Ran.{Ran}
 use Rattle.session_text.specs.declared.ran.Ran.TheVariants as ran
 use Rattle.session_text.specs.Sessions.{IsSession, line_fault_text, session_full_text}
@@ -26,14 +27,16 @@ abbrev pub IsScriptAgain : List ℕ → Target → List Stamped → Type 0
 IsScriptAgain target value events =
     All (λ s. length (stamped_text s) ≤ line_limit) events → IsScript form.Script (script_of target events) target value events
 
--- the text is the report of a session, whose requests have the authority of the target
+-- the text is the report of a session, whose requests have the authority of the target, and whose journal and ledger are lawful
 pub record IsReport (target : List ℕ) (value : Target) (events : List Stamped) (text : List ℕ) : Type 0 where
   pub journal : Journal
   pub ledger : Ledger
   pub session : IsSession (authority_of value) events journal ledger
+  pub lawful : IsLawful (authority_of value) journal.entries ledger
   pub text_is : text ≡ report_of target journal ledger
 
--- the text is the report of a session of the first of these events, and the line that says that the journal has no room for the next
+-- the text is the report of a session of the first of these events, which is lawful too, and the line that says that the journal has no
+-- room for the next
 pub record IsFullReport (target : List ℕ) (value : Target) (events : List Stamped) (text : List ℕ) : Type 0 where
   pub front : List Stamped
   pub next : Stamped
@@ -42,6 +45,7 @@ pub record IsFullReport (target : List ℕ) (value : Target) (events : List Stam
   pub journal : Journal
   pub ledger : Ledger
   pub session : IsSession (authority_of value) front journal ledger
+  pub lawful : IsLawful (authority_of value) journal.entries ledger
   pub full : HasNoRoom (length journal.entries) (journal_bytes journal.entries) next.event
   pub text_is : text ≡ report_of target journal ledger ++ session_full_text
 

@@ -6,6 +6,7 @@ mod config_mode;
 mod help;
 mod input;
 mod links;
+mod live;
 mod live_words;
 mod load;
 mod migrate;

@@ -7,6 +7,7 @@ ghost use Rattle.load_plan.specs.Lines.{summary_line};
 ghost use Rattle.policy_rack.specs.Kinds.{are_ready, kinds_of};
 
 use crate::tell::WORDS_FAULT;
+use channel_laws::channels_are_lawful;
 use gate_io::{Sink, write_whole};
 use grpc_base::{Kind, NoMemory, Text};
 use lb_policy::Balancer;
@@ -45,6 +46,7 @@ pub fn run_load<P: Balancer, K: Sink>(
     if !kinds.has(Kind::RoundRobin) {
         return tell_line(report, WORDS_FAULT, 2);
     }
+    channels_are_lawful();
     match summarize(alloc, load, policies) {
         Ok(summary) => tell_summary(alloc, &summary, report),
         Err(fault) => match fault {

@@ -8,7 +8,8 @@ ghost use Rattle.policy_rack.specs.Kinds.{are_ready};
 ghost use Rattle.resolver_core.specs.AnyTargets.{IsTarget, authority_of};
 
 use crate::run::run_events;
-use channel_core::{ChannelCore, channels_are_lawful};
+use channel_core::ChannelCore;
+use channel_laws::channels_are_lawful;
 use gate_io::Sink;
 use grpc_base::{NoMemory, Stamped, Text};
 use lb_policy::Balancer;

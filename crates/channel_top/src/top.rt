@@ -7,6 +7,7 @@ ghost use Rattle.policy_rack.specs.Kinds.{are_ready, kinds_of};
 
 use crate::config_mode::run_config;
 use crate::links::Place;
+use crate::live::run_lawfully;
 use crate::load::run_load;
 use crate::migrate::run_migrate;
 use crate::replay::run_replay;
@@ -16,7 +17,6 @@ use crate::words::{Asked, Mode, WordsFault, read_words};
 use dns_watch::NamedWorld;
 use gate_io::{Listener, Sink, Source, SteadySink, SteadySource, write_whole};
 use lb_policy::{Balancer, Policy};
-use live_mode::run_live;
 use policy_rack::set_of;
 use std::alloc::Global;
 use std::sync::Wait;
@@ -161,7 +161,9 @@ fn run_mode<
             run_serve(rt, alloc, Place { port, links }, script, report, listener)
         }
         Mode::Load(load) => run_load(alloc, load, policies, report),
-        Mode::Live { settings } => run_live(rt, alloc, settings, policies, world, script, report),
+        Mode::Live { settings } => {
+            run_lawfully(rt, alloc, settings, policies, world, script, report)
+        }
     }
 }
 

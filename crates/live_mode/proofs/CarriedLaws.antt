@@ -4,7 +4,6 @@ use Rattle.std.specs.List.{AllByRecursion, AllZip}
 use Rattle.std.specs.Option.{option_to_list}
 use Rattle.std.proofs.lemmas.Bool.Decides.{nat_tests}
 use Rattle.std.proofs.lemmas.Option.{slice_get_within}
-use Rattle.atomic_table.specs.Seated.{TableId}
 use Rattle.grpc_base.specs.declared.event.Entry.{Entry}
 use Rattle.grpc_base.specs.declared.event.Event.{Event}
 use Rattle.grpc_base.specs.declared.event.Event.TheVariants as event
@@ -18,7 +17,7 @@ use Rattle.session_text.specs.declared.ran.Ran.{Ran}
 use Rattle.session_text.specs.declared.ran.Ran.TheVariants as ran
 use Rattle.shared_channel.specs.Histories.{is_shutdown}
 use Rattle.shared_channel.specs.Turns.{entries_of}
-use Rattle.turn_lock.specs.History.{Owns, SeatSeen, Stands, StartsWith, once_below, places, times}
+use Rattle.turn_lock.specs.History.{LockId, Owns, SeatSeen, Stands, StartsWith, once_below, places, times}
 use Rattle.turn_lock.proofs.Places.{stands-later, stands-places, starts_longer, times-append}
 use Rattle.live_mode.specs.Made.{CarriesCalls, IsShutFirst, IsWorkOf, MakesOwn, is_of_call, times_in, worker_lines}
 use Rattle.live_mode.specs.Handles.{AreBeside, Closes, IsBeside, IsClosing, IsKept, IsLeft, IsWorked, Leaves, MakesUpTo, Shuts, StandInOrder, TakesIn, busy, owns_of}
@@ -51,14 +50,14 @@ closing_worse a o None worse is = λ whole. is (worse whole)
 
 -- ---- the Shutdown behind the calls
 
-makes_all : (lock : TableId) (a o : Outcome) (groups : List (List CallLine)) (seats : List (SeatSeen Entry)) → (o ≡ outcome.Whole → a ≡ outcome.Whole) → AllZip (IsWorked lock a) groups seats
+makes_all : (lock : LockId) (a o : Outcome) (groups : List (List CallLine)) (seats : List (SeatSeen Entry)) → (o ≡ outcome.Whole → a ≡ outcome.Whole) → AllZip (IsWorked lock a) groups seats
     → AllZip (λ lines made. MakesUpTo o lines (entries_of made)) groups (owns_of seats)
 makes_all lock a o [] [] worse all = tt
 makes_all lock a o [] (s ∷ seats) worse all = absurd all
 makes_all lock a o (lines ∷ groups) [] worse all = absurd all
 makes_all lock a o (lines ∷ groups) (s ∷ seats) worse all = (up_to_worse a o worse lines (entries_of s.own) all.0.makes, makes_all lock a o groups seats worse all.1)
 
-pub closes_made : (lock : TableId) (made shut o : Outcome) (groups : List (List CallLine)) (seats : List (SeatSeen Entry)) (before mid after : SeatSeen Entry) → o ≡ graver made shut
+pub closes_made : (lock : LockId) (made shut o : Outcome) (groups : List (List CallLine)) (seats : List (SeatSeen Entry)) (before mid after : SeatSeen Entry) → o ≡ graver made shut
     → AllZip (IsWorked lock made) groups seats → TakesIn before (owns_of seats) mid → Shuts shut mid after → Closes o groups before.seen before.own after
 closes_made lock made shut o groups seats before mid after is all takes shuts = record {
   front = shuts.front;
@@ -77,11 +76,11 @@ closes_made lock made shut o groups seats before mid after is all takes shuts = 
 
 -- ---- the handles of the others
 
-pub beside_all : (lock : TableId) (seats : List (SeatSeen Entry)) → AllByRecursion (IsKept lock) seats → AllByRecursion AreBeside (owns_of seats)
+pub beside_all : (lock : LockId) (seats : List (SeatSeen Entry)) → AllByRecursion (IsKept lock) seats → AllByRecursion AreBeside (owns_of seats)
 beside_all lock [] all = tt
 beside_all lock (s ∷ seats) all = (all.0.beside, beside_all lock seats all.1)
 
-pub leaves_by : (lock : TableId) (made kept o : Outcome) (groups : List (List CallLine)) (seen : List Entry) (own : List (ℕ × Entry)) (shut after seat : SeatSeen Entry) (seats : List (SeatSeen Entry)) → o ≡ graver made kept → seat ≡ after
+pub leaves_by : (lock : LockId) (made kept o : Outcome) (groups : List (List CallLine)) (seen : List Entry) (own : List (ℕ × Entry)) (shut after seat : SeatSeen Entry) (seats : List (SeatSeen Entry)) → o ≡ graver made kept → seat ≡ after
     → Closes made groups seen own shut → AllByRecursion (IsKept lock) seats → TakesIn shut (owns_of seats) after → Leaves o groups seen own seat
 leaves_by lock made kept o groups seen own shut after seat seats is same closes all takes = record {
   made = made;
@@ -207,7 +206,7 @@ shut_first o (Some e) more whole is = (e, more, is, refl)
 shut_first o None more whole is = absurd (is whole)
 
 -- all parts are together, so the entries of the handle are all that there are
-shared_out : (lock : TableId) (o : Outcome) (groups : List (List CallLine)) (seat : SeatSeen Entry) (entries : List Entry) → (left : IsLeft lock o groups seat) → Owns seat.parts seat.own entries → StartsWith entries seat.seen
+shared_out : (lock : LockId) (o : Outcome) (groups : List (List CallLine)) (seat : SeatSeen Entry) (entries : List Entry) → (left : IsLeft lock o groups seat) → Owns seat.parts seat.own entries → StartsWith entries seat.seen
     → IsShared entries left.leaves.closes.front left.leaves.closes.closing left.own left.leaves.closes.owns left.leaves.others
 shared_out lock o groups seat entries left all sees =
     let leaves = left.leaves in
@@ -229,7 +228,7 @@ shared_out lock o groups seat entries left all sees =
           let made = closes.count x in omega (arith, whole, taken, made);
     }
 
-pub carries : (r : Ran) (lock : TableId) (o : Outcome) (calls : List WorkerLine) (groups : List (List CallLine)) (seat : SeatSeen Entry) (entries : List Entry) → (r ≡ ran.Whole → o ≡ outcome.Whole) → groups ≡ worker_lines calls
+pub carries : (r : Ran) (lock : LockId) (o : Outcome) (calls : List WorkerLine) (groups : List (List CallLine)) (seat : SeatSeen Entry) (entries : List Entry) → (r ≡ ran.Whole → o ≡ outcome.Whole) → groups ≡ worker_lines calls
     → IsLeft lock o groups seat → Owns seat.parts seat.own entries → StartsWith entries seat.seen → CarriesCalls r calls entries
 carries r lock o calls groups seat entries whole same left all sees =
     let leaves = left.leaves in

@@ -6,13 +6,13 @@ use Rattle.grpc_base.specs.declared.event.Event.{Event}
 use Rattle.grpc_base.specs.declared.event.Reply.{Reply}
 use Rattle.grpc_base.specs.declared.post.PostError.{PostError}
 use Rattle.gate_io.specs.Outside.{Appends, AppendsFront, Rises}
-use Rattle.resolver_core.specs.AnyTargets.{IsTarget}
+use Rattle.resolver_core.specs.AnyTargets.{IsTarget, authority_of}
 use Rattle.resolver_core.proofs.KeptLaws.{target_kept}
 use Rattle.script_input.specs.Lives.{AreLiveLines, ReadsLive, live_reads}
 use Rattle.script_input.specs.declared.live_script.LiveScript.{LiveScript}
 use Rattle.script_text.specs.declared.report.ReportFault.{ReportFault}
 use Rattle.script_text.specs.declared.report.ReportFault.TheVariants as unwritten
-use Rattle.turn_lock.specs.History.{Owns, SeatSeen, StartsWith}
+use Rattle.turn_lock.specs.History.{LockId, Owns, SeatSeen, StartsWith}
 use Rattle.turn_lock.specs.Turn.{Sees}
 use Rattle.turn_lock.proofs.Places.{starts_longer}
 use Rattle.std.specs.Global.{Global}
@@ -22,76 +22,75 @@ use Rattle.shared_channel.specs.Running.{HasRun, IsRunning}
 use Rattle.session_text.specs.declared.ran.Ran.{Ran}
 use Rattle.session_text.specs.declared.ran.Ran.TheVariants as ran
 use Rattle.grpc_base.specs.declared.script.CallLine.{CallLine}
-use Rattle.atomic_table.specs.Seated.{TableId}
 use Rattle.live_run.specs.declared.outcome.Outcome.{Outcome}
 use Rattle.live_run.specs.declared.outcome.Outcome.TheVariants as outcome
-use Rattle.live_mode.specs.Handles.{IsLeft, ReportsAt, ReportsOn, Tells}
+use Rattle.live_mode.specs.Handles.{IsLeft, IsReportable, ReportsAt, ReportsOn, Tells}
 use Rattle.live_mode.specs.Live.{EndsLiveFull, IsAnyLiveReport, IsLiveReport, IsLiveText, IsLived, TellsTarget}
 use Rattle.live_mode.specs.Made.{worker_lines}
 use Rattle.live_mode.proofs.CarriedLaws.{carries}
 use Rattle.live_mode.proofs.SeatLaws.{owns_between, told_stays}
 use Rattle.session_text.specs.Sessions.{run_text}
 use Rattle.session_text.specs.Writing.{WritesAll, WritesFront, WritesSome}
-use Rattle.session_text.proofs.SessionLaws.{AreLawful, session_of}
+use Rattle.session_text.proofs.SessionLaws.{session_of}
 
 -- ---- a new channel
 
-pub new_run : (alloc : Global) (authority : List ℕ) (policies : List PolicySeen) (core : CoreSeen) → IsNewBy alloc authority policies core → HasRun core
-new_run alloc authority policies core new = (authority, core, [], (alloc, policies, new), refl)
+pub new_run : (alloc : Global) (authority named : List ℕ) (policies : List PolicySeen) (core : CoreSeen) → authority ≡ named → IsNewBy alloc authority policies core → HasRun named core
+new_run alloc authority named policies core same new = subst (λ (a : List ℕ). HasRun a core) same (core, [], (alloc, policies, new), refl)
 
 pub new_fits : (alloc : Global) (authority : List ℕ) (policies : List PolicySeen) (core : CoreSeen) → IsNewBy alloc authority policies core → length core.journal.entries ≤ 1048576
 new_fits alloc authority policies core new = omega (arith, ap length new.journal)
 
 -- ---- the report
 
-pub live_report : AreLawful → (r : Ran) (lock : TableId) (o : Outcome) (script : LiveScript) (groups : List (List CallLine)) (seat : SeatSeen Entry) (text : List ℕ) → TellsTarget script.value script.config seat.seen → (r ≡ ran.Whole → o ≡ outcome.Whole)
+pub live_report : (r : Ran) (lock : LockId) (o : Outcome) (script : LiveScript) (groups : List (List CallLine)) (seat : SeatSeen Entry) (text : List ℕ) → lock.origin ≡ authority_of script.value → TellsTarget script.value script.config seat.seen → (r ≡ ran.Whole → o ≡ outcome.Whole)
     → groups ≡ worker_lines script.calls.items → IsLeft lock o groups seat → ReportsOn r script.target seat text → IsLiveReport r script text
-live_report lawful r lock o script groups seat text told whole same left is =
+live_report r lock o script groups seat text root told whole same left is =
     let core : CoreSeen = is.0 in
-    let run : HasRun core = is.1 in
+    let run : HasRun (authority_of script.value) core = subst (λ (a : List ℕ). HasRun a core) (ap (λ (l : LockId). l.origin) left.lock_is ∙ root) is.1 in
     record {
-      authority = run.0;
-      events = run.2;
+      events = run.1;
       journal = core.journal;
       ledger = ledger_in core;
-      session = session_of lawful run.0 run.1 core run.2 core.journal (ledger_in core) run.3 run.4 refl refl;
+      session = session_of (authority_of script.value) run.0 core run.1 core.journal (ledger_in core) run.2 run.3 refl refl;
       told = told_stays script.value script.config core.journal.entries seat.seen is.2 told;
       calls = carries r lock o script.calls.items groups seat core.journal.entries whole same left is.3 is.2;
-      text_is = is.4;
+      full = is.4;
+      text_is = is.5;
     }
 
-run_of : (core : CoreSeen) → IsRunning core → core.spent ≡ false → HasRun core
-run_of core (inl run) unspent = run
-run_of core (inr spent) unspent = absurd (cc)
+run_of : (lock authority : List ℕ) (core : CoreSeen) → lock ≡ authority → IsRunning authority core → core.spent ≡ false → HasRun lock core
+run_of lock authority core same (inl run) unspent = subst (λ (a : List ℕ). HasRun a core) (sym same) run
+run_of lock authority core same (inr spent) unspent = absurd (cc)
 
 -- what was told of the channel under the lock
-pub told_ok : (r : Ran) (t : List ℕ) (result : Result Unit ReportFault) (before after : SeatSeen Entry) (taken taken' : Option (List ℕ)) (faults faults' : ℕ) (core : CoreSeen) → IsRunning core → StartsWith core.journal.entries before.seen → after.seen ≡ core.journal.entries → after.own ≡ before.own → after.parts ≡ before.parts
+pub told_ok : (r : Ran) (t : List ℕ) (result : Result Unit ReportFault) (before after : SeatSeen Entry) (taken taken' : Option (List ℕ)) (faults faults' : ℕ) (core : CoreSeen) (lock : LockId) → before.lock ≡ lock → IsRunning lock.origin core → StartsWith core.journal.entries before.seen → after.seen ≡ core.journal.entries → after.own ≡ before.own → after.parts ≡ before.parts
     → Tells r t core result taken taken' faults faults' → OnOk result (WritesAll (ReportsAt r t before after) taken taken')
-told_ok r t (Err fault) before after taken taken' faults faults' core running sees seen own parts tells = tt
-told_ok r t (Ok done) before after taken taken' faults faults' core running sees seen own parts tells =
-    (run_text r t core.journal (ledger_in core), (core, run_of core running tells.0, sees, seen, own, parts, refl), tells.1)
+told_ok r t (Err fault) before after taken taken' faults faults' core lock at running sees seen own parts tells = tt
+told_ok r t (Ok done) before after taken taken' faults faults' core lock at running sees seen own parts tells =
+    (run_text r t core.journal (ledger_in core), (core, run_of before.lock.origin lock.origin core (ap (λ (l : LockId). l.origin) at) running tells.0.unspent, sees, seen, own, parts, tells.0.full, refl), tells.1)
 
-told_some : (r : Ran) (t : List ℕ) (core : CoreSeen) (fault : ReportFault) (before after : SeatSeen Entry) (taken taken' : Option (List ℕ)) (faults faults' : ℕ) → IsRunning core → StartsWith core.journal.entries before.seen → after.seen ≡ core.journal.entries → after.own ≡ before.own → after.parts ≡ before.parts
+told_some : (r : Ran) (t : List ℕ) (core : CoreSeen) (fault : ReportFault) (before after : SeatSeen Entry) (taken taken' : Option (List ℕ)) (faults faults' : ℕ) (lock : LockId) → before.lock ≡ lock → IsRunning lock.origin core → StartsWith core.journal.entries before.seen → after.seen ≡ core.journal.entries → after.own ≡ before.own → after.parts ≡ before.parts
     → Tells r t core (Err fault) taken taken' faults faults' → WritesSome (ReportsAt r t before after) taken taken'
-told_some r t core fault before after taken taken' faults faults' running sees seen own parts (inl none) = inl none.1
-told_some r t core fault before after taken taken' faults faults' running sees seen own parts (inr front) =
-    inr (run_text r t core.journal (ledger_in core), (core, run_of core running front.0, sees, seen, own, parts, refl), front.1)
+told_some r t core fault before after taken taken' faults faults' lock at running sees seen own parts (inl none) = inl none.1
+told_some r t core fault before after taken taken' faults faults' lock at running sees seen own parts (inr front) =
+    inr (run_text r t core.journal (ledger_in core), (core, run_of before.lock.origin lock.origin core (ap (λ (l : LockId). l.origin) at) running front.0.unspent, sees, seen, own, parts, front.0.full, refl), front.1)
 
-pub told_err : (r : Ran) (t : List ℕ) (result : Result Unit ReportFault) (before after : SeatSeen Entry) (taken taken' : Option (List ℕ)) (faults faults' : ℕ) (core : CoreSeen) → IsRunning core → StartsWith core.journal.entries before.seen → after.seen ≡ core.journal.entries → after.own ≡ before.own → after.parts ≡ before.parts
+pub told_err : (r : Ran) (t : List ℕ) (result : Result Unit ReportFault) (before after : SeatSeen Entry) (taken taken' : Option (List ℕ)) (faults faults' : ℕ) (core : CoreSeen) (lock : LockId) → before.lock ≡ lock → IsRunning lock.origin core → StartsWith core.journal.entries before.seen → after.seen ≡ core.journal.entries → after.own ≡ before.own → after.parts ≡ before.parts
     → Tells r t core result taken taken' faults faults' → OnErr result (WritesSome (ReportsAt r t before after) taken taken')
-told_err r t (Ok done) before after taken taken' faults faults' core running sees seen own parts tells = tt
-told_err r t (Err fault) before after taken taken' faults faults' core running sees seen own parts tells = told_some r t core fault before after taken taken' faults faults' running sees seen own parts tells
+told_err r t (Ok done) before after taken taken' faults faults' core lock at running sees seen own parts tells = tt
+told_err r t (Err fault) before after taken taken' faults faults' core lock at running sees seen own parts tells = told_some r t core fault before after taken taken' faults faults' lock at running sees seen own parts tells
 
-told_failed : (r : Ran) (t : List ℕ) (core : CoreSeen) (before after : SeatSeen Entry) (taken taken' : Option (List ℕ)) (faults faults' : ℕ) → IsRunning core → StartsWith core.journal.entries before.seen → after.seen ≡ core.journal.entries → after.own ≡ before.own → after.parts ≡ before.parts
+told_failed : (r : Ran) (t : List ℕ) (core : CoreSeen) (before after : SeatSeen Entry) (taken taken' : Option (List ℕ)) (faults faults' : ℕ) (lock : LockId) → before.lock ≡ lock → IsRunning lock.origin core → StartsWith core.journal.entries before.seen → after.seen ≡ core.journal.entries → after.own ≡ before.own → after.parts ≡ before.parts
     → Tells r t core (Err unwritten.Write) taken taken' faults faults' → Rises faults faults' × WritesFront (ReportsAt r t before after) taken taken'
-told_failed r t core before after taken taken' faults faults' running sees seen own parts (inl none) = absurd (let bad : unwritten.Write ≡ unwritten.NoMemory = none.0 in (cc))
-told_failed r t core before after taken taken' faults faults' running sees seen own parts (inr front) =
-    (front.2 refl, (run_text r t core.journal (ledger_in core), (core, run_of core running front.0, sees, seen, own, parts, refl), front.1))
+told_failed r t core before after taken taken' faults faults' lock at running sees seen own parts (inl none) = absurd (let bad : unwritten.Write ≡ unwritten.NoMemory = none.0 in (cc))
+told_failed r t core before after taken taken' faults faults' lock at running sees seen own parts (inr front) =
+    (front.2 refl, (run_text r t core.journal (ledger_in core), (core, run_of before.lock.origin lock.origin core (ap (λ (l : LockId). l.origin) at) running front.0.unspent, sees, seen, own, parts, front.0.full, refl), front.1))
 
-pub told_write : (r : Ran) (t : List ℕ) (result : Result Unit ReportFault) (before after : SeatSeen Entry) (taken taken' : Option (List ℕ)) (faults faults' : ℕ) (core : CoreSeen) → IsRunning core → StartsWith core.journal.entries before.seen → after.seen ≡ core.journal.entries → after.own ≡ before.own → after.parts ≡ before.parts
+pub told_write : (r : Ran) (t : List ℕ) (result : Result Unit ReportFault) (before after : SeatSeen Entry) (taken taken' : Option (List ℕ)) (faults faults' : ℕ) (core : CoreSeen) (lock : LockId) → before.lock ≡ lock → IsRunning lock.origin core → StartsWith core.journal.entries before.seen → after.seen ≡ core.journal.entries → after.own ≡ before.own → after.parts ≡ before.parts
     → Tells r t core result taken taken' faults faults' → result ≡ Err unwritten.Write → Rises faults faults' × WritesFront (ReportsAt r t before after) taken taken'
-told_write r t result before after taken taken' faults faults' core running sees seen own parts tells is =
-    told_failed r t core before after taken taken' faults faults' running sees seen own parts
+told_write r t result before after taken taken' faults faults' core lock at running sees seen own parts tells is =
+    told_failed r t core before after taken taken' faults faults' lock at running sees seen own parts
     (subst (λ (x : Result Unit ReportFault). Tells r t core x taken taken' faults faults') is tells)
 
 -- the handle looked before and behind
@@ -105,15 +104,16 @@ reports_on r t first before after last text early same late same' is =
     let owns : Owns first.parts first.own before.seen = subst (λ (n : ℕ). Owns n first.own before.seen) parts (subst (λ (l : List (ℕ × Entry)). Owns before.parts l before.seen) own early.owns) in
     let owns' : Owns first.parts first.own last.seen = subst (λ (n : ℕ). Owns n first.own last.seen) parts' (subst (λ (l : List (ℕ × Entry)). Owns last.parts l last.seen) own' late.owns) in
     let behind : StartsWith last.seen core.journal.entries = subst (λ (l : List Entry). StartsWith last.seen l) is.3 late.later in
-    (core, is.1, starts_longer first.seen before.seen core.journal.entries early.later is.2, owns_between first.own first.parts before.seen core.journal.entries last.seen is.2 behind owns owns', is.6)
+    let run : HasRun first.lock.origin core = subst (λ (l : LockId). HasRun l.origin core) (ap (λ (s : SeatSeen Entry). s.lock) same) is.1 in
+    (core, run, starts_longer first.seen before.seen core.journal.entries early.later is.2, owns_between first.own first.parts before.seen core.journal.entries last.seen is.2 behind owns owns', is.6, is.7)
 
 -- ---- what is told under the lock
 
 pub tells_spent : (r : Ran) (t : List ℕ) (core : CoreSeen) (taken : Option (List ℕ)) (faults : ℕ) → Tells r t core (Err unwritten.NoMemory) taken taken faults faults
 tells_spent r t core taken faults = inl (refl, refl)
 
-pub tells_front : (r : Ran) (t : List ℕ) (core : CoreSeen) (fault : ReportFault) (taken taken' : Option (List ℕ)) (faults faults' : ℕ) → core.spent ≡ false → AppendsFront taken taken' (run_text r t core.journal (ledger_in core)) → ((fault ≡ unwritten.Write) → Rises faults faults') → Tells r t core (Err fault) taken taken' faults faults'
-tells_front r t core fault taken taken' faults faults' unspent front write = inr (unspent, front, write)
+pub tells_front : (r : Ran) (t : List ℕ) (core : CoreSeen) (fault : ReportFault) (taken taken' : Option (List ℕ)) (faults faults' : ℕ) → IsReportable r core → AppendsFront taken taken' (run_text r t core.journal (ledger_in core)) → ((fault ≡ unwritten.Write) → Rises faults faults') → Tells r t core (Err fault) taken taken' faults faults'
+tells_front r t core fault taken taken' faults faults' reportable front write = inr (reportable, front, write)
 
 -- ---- the script
 

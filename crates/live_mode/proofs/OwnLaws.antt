@@ -5,9 +5,8 @@ use Rattle.std.specs.Option.{option_to_list}
 use Rattle.std.proofs.lemmas.Bool.Decides.{nat_tests}
 use Rattle.std.proofs.lemmas.List.{length-append, map-append}
 use Rattle.std.proofs.lemmas.Option.{same_Some}
-use Rattle.atomic_table.specs.Seated.{TableId}
 use Rattle.grpc_base.specs.declared.event.Entry.{Entry}
-use Rattle.turn_lock.specs.History.{Ascends, SeatSeen, Stands, StartsWith, merged, places, times}
+use Rattle.turn_lock.specs.History.{Ascends, LockId, SeatSeen, Stands, StartsWith, merged, places, times}
 use Rattle.turn_lock.specs.Turn.{Sees}
 use Rattle.turn_lock.proofs.Places.{stands-later, starts_longer, starts_self, times-merged}
 use Rattle.live_mode.specs.Made.{times_in}
@@ -88,7 +87,7 @@ popped_all {X} P seat_of jobs left last job split is all =
     let whole : jobs ≡ left ++ job ∷ [] = split ∙ ap (λ (o : Option X). left ++ option_to_list o) is in
     each_front P (map seat_of left) (seat_of job) (subst (λ (l : List (SeatSeen Entry)). AllByRecursion P l) (ap (map seat_of) whole ∙ map-append seat_of left (job ∷ [])) all)
 
-pub popped_lock : {H X : Type 0} (seat_of : H → SeatSeen Entry) (handle : X → H) (lock : TableId) (jobs left : List X) (last : Option X) (job : X) (post : H) (seat : SeatSeen Entry) → jobs ≡ left ++ option_to_list last → last ≡ Some job → post ≡ handle job → seat ≡ seat_of post
+pub popped_lock : {H X : Type 0} (seat_of : H → SeatSeen Entry) (handle : X → H) (lock : LockId) (jobs left : List X) (last : Option X) (job : X) (post : H) (seat : SeatSeen Entry) → jobs ≡ left ++ option_to_list last → last ≡ Some job → post ≡ handle job → seat ≡ seat_of post
     → AllByRecursion (IsOne lock) (map (λ j. seat_of (handle j)) jobs) → seat.lock ≡ lock
 popped_lock seat_of handle lock jobs left last job post seat split is same given ones =
     ap (λ (s : SeatSeen Entry). s.lock) (given ∙ ap seat_of same) ∙ (popped_all (IsOne lock) (λ j. seat_of (handle j)) jobs left last job split is ones).1.lock_is
@@ -103,7 +102,7 @@ popped_taken {H} {X} seat_of handle start closer mid all jobs left last job post
     let seats : seat ≡ seat_of (handle job) = given ∙ ap seat_of same in
     let both = popped_all (IsOne closer.lock) (λ j. seat_of (handle j)) jobs left last job split is ones in
     let lock : mid.lock ≡ closer.lock = ap (λ (s : SeatSeen Entry). s.lock) joined in (
-      subst (λ (l : TableId). AllByRecursion (IsOne l) (map (λ j. seat_of (handle j)) left)) (sym lock) both.0,
+      subst (λ (l : LockId). AllByRecursion (IsOne l) (map (λ j. seat_of (handle j)) left)) (sym lock) both.0,
       takes_popped (λ j. seat_of (handle j)) start closer mid all jobs left job whole both.1.parts
           (subst (λ (s : SeatSeen Entry). mid ≡ record closer { seen = mid.seen; own = merged closer.own s.own; parts = closer.parts + s.parts }) seats joined) sees.later
           (subst (λ (s : SeatSeen Entry). StandInOrder mid.seen s.own) seats (record { stands = stand.0; ascends = stand.1 })) so_far,

@@ -5,7 +5,6 @@ use Rattle.std.specs.Option.{option_to_list}
 use Rattle.std.proofs.lemmas.Bool.Decides.{nat_tests}
 use Rattle.std.proofs.lemmas.List.{append_cancel_left, map-append}
 use Rattle.std.specs.Prelude.{Result, Ok, Err, IfOk}
-use Rattle.atomic_table.specs.Seated.{TableId}
 use Rattle.channel_core.specs.Applying.{conn_of}
 use Rattle.channel_core.specs.Core.{CoreSeen, moment_of}
 use Rattle.grpc_base.specs.declared.address.Address.{Address}
@@ -18,7 +17,7 @@ use Rattle.grpc_base.specs.declared.post.PostError.TheVariants as failed
 use Rattle.grpc_base.specs.declared.script.CallLine.{CallLine}
 use Rattle.resolver_core.specs.declared.any_target.Target.{Target}
 use Rattle.resolver_core.specs.declared.any_target.Target.TheVariants as target
-use Rattle.turn_lock.specs.History.{Owns, SeatSeen, Stands, StartsWith, once_below, places, times}
+use Rattle.turn_lock.specs.History.{LockId, Owns, SeatSeen, Stands, StartsWith, once_below, places, times}
 use Rattle.turn_lock.specs.Turn.{Sees}
 use Rattle.turn_lock.proofs.Places.{stands-later}
 use Rattle.shared_channel.specs.Turns.{Fails, TakesPlace}
@@ -132,7 +131,7 @@ record IsFirstTold (e : Event) (seat : SeatSeen Entry) : Type 0 where
   own : AllByRecursion (λ p. p.1.event ≡ e) seat.own
 
 -- a handle that has every part posted an event to a channel without entries, and looked
-first_told : (may_give : ℕ → Type 0) (word : ℕ) (e : Event) (result : Result Reply PostError) (reply : Reply) (lock : TableId) (before mid after : SeatSeen Entry) → result ≡ Ok reply → IsFirstSeat lock before → TakesPlace may_give word e result before mid → Sees mid after → after ≡ record mid { seen = after.seen } → IsFirstTold e after
+first_told : (may_give : ℕ → Type 0) (word : ℕ) (e : Event) (result : Result Reply PostError) (reply : Reply) (lock : LockId) (before mid after : SeatSeen Entry) → result ≡ Ok reply → IsFirstSeat lock before → TakesPlace may_give word e result before mid → Sees mid after → after ≡ record mid { seen = after.seen } → IsFirstTold e after
 first_told may_give word e result reply lock before mid after is first place sees same =
     let here : TakesPlace may_give word e (Ok reply) before mid = subst (λ (r : Result Reply PostError). TakesPlace may_give word e r before mid) is place in
     let old : List Entry = here.start.journal.entries in
@@ -160,7 +159,7 @@ first_told may_give word e result reply lock before mid after is first place see
     }
 
 -- the same, as the handle is given back
-told_ok : {E : Type 0} (may_give : ℕ → Type 0) (word : ℕ) (e : Event) (came : Result Reply PostError) (lock : TableId) (before before' mid mid' after : SeatSeen Entry) (result : Result (SeatSeen Entry) E) → before' ≡ before → mid ≡ mid' → IfOk result (λ s. (s ≡ after) × ((r : Reply) × (came ≡ Ok r))) → IsFirstSeat lock before → TakesPlace may_give word e came before' mid' → Sees mid after → after ≡ record mid { seen = after.seen } → IfOk result (IsFirstTold e)
+told_ok : {E : Type 0} (may_give : ℕ → Type 0) (word : ℕ) (e : Event) (came : Result Reply PostError) (lock : LockId) (before before' mid mid' after : SeatSeen Entry) (result : Result (SeatSeen Entry) E) → before' ≡ before → mid ≡ mid' → IfOk result (λ s. (s ≡ after) × ((r : Reply) × (came ≡ Ok r))) → IsFirstSeat lock before → TakesPlace may_give word e came before' mid' → Sees mid after → after ≡ record mid { seen = after.seen } → IfOk result (IsFirstTold e)
 told_ok may_give word e came lock before before' mid mid' after (Err fault) old new given first place sees same = tt
 told_ok may_give word e came lock before before' mid mid' after (Ok s) old new (is, (reply, ok)) first place sees same =
     let here : TakesPlace may_give word e came before mid = subst (λ (x : SeatSeen Entry). TakesPlace may_give word e came x mid) old (subst (λ (x : SeatSeen Entry). TakesPlace may_give word e came before' x) (sym new) place) in
@@ -170,11 +169,11 @@ if_ok_weaker : {X E : Type 0} (P Q : X → Type 0) (result : Result X E) → ((x
 if_ok_weaker P Q (Ok x) leads is = leads x is
 if_ok_weaker P Q (Err e) leads is = tt
 
-pub told_first : {E : Type 0} (may_give : ℕ → Type 0) (word : ℕ) (e : Event) (came : Result Reply PostError) (lock : TableId) (before before' mid mid' after : SeatSeen Entry) (result : Result (SeatSeen Entry) E) → before' ≡ before → mid ≡ mid' → IfOk result (λ s. (s ≡ after) × ((r : Reply) × (came ≡ Ok r))) → IsFirstSeat lock before → TakesPlace may_give word e came before' mid' → Sees mid after → after ≡ record mid { seen = after.seen } → IfOk result (λ s. IsToldFirst e s.seen)
+pub told_first : {E : Type 0} (may_give : ℕ → Type 0) (word : ℕ) (e : Event) (came : Result Reply PostError) (lock : LockId) (before before' mid mid' after : SeatSeen Entry) (result : Result (SeatSeen Entry) E) → before' ≡ before → mid ≡ mid' → IfOk result (λ s. (s ≡ after) × ((r : Reply) × (came ≡ Ok r))) → IsFirstSeat lock before → TakesPlace may_give word e came before' mid' → Sees mid after → after ≡ record mid { seen = after.seen } → IfOk result (λ s. IsToldFirst e s.seen)
 told_first may_give word e came lock before before' mid mid' after result old new given first place sees same =
     if_ok_weaker (IsFirstTold e) (λ (s : SeatSeen Entry). IsToldFirst e s.seen) result (λ s is. is.told) (told_ok may_give word e came lock before before' mid mid' after result old new given first place sees same)
 
-pub told_own : {E : Type 0} (may_give : ℕ → Type 0) (word : ℕ) (e : Event) (came : Result Reply PostError) (lock : TableId) (before before' mid mid' after : SeatSeen Entry) (result : Result (SeatSeen Entry) E) → before' ≡ before → mid ≡ mid' → IfOk result (λ s. (s ≡ after) × ((r : Reply) × (came ≡ Ok r))) → IsFirstSeat lock before → TakesPlace may_give word e came before' mid' → Sees mid after → after ≡ record mid { seen = after.seen } → IfOk result (λ s. Stands s.seen s.own × AllByRecursion (λ p. p.1.event ≡ e) s.own)
+pub told_own : {E : Type 0} (may_give : ℕ → Type 0) (word : ℕ) (e : Event) (came : Result Reply PostError) (lock : LockId) (before before' mid mid' after : SeatSeen Entry) (result : Result (SeatSeen Entry) E) → before' ≡ before → mid ≡ mid' → IfOk result (λ s. (s ≡ after) × ((r : Reply) × (came ≡ Ok r))) → IsFirstSeat lock before → TakesPlace may_give word e came before' mid' → Sees mid after → after ≡ record mid { seen = after.seen } → IfOk result (λ s. Stands s.seen s.own × AllByRecursion (λ p. p.1.event ≡ e) s.own)
 told_own may_give word e came lock before before' mid mid' after result old new given first place sees same =
     if_ok_weaker (IsFirstTold e) (λ (s : SeatSeen Entry). Stands s.seen s.own × AllByRecursion (λ p. p.1.event ≡ e) s.own) result (λ s is. (is.stands, is.own)) (told_ok may_give word e came lock before before' mid mid' after result old new given first place sees same)
 
@@ -186,11 +185,11 @@ splits_none seat = record { lock = refl; seen = refl; own = refl; parts = omega 
 pub splits_empty : {X : Type 0} (seat_of : X → SeatSeen Entry) (none : List X) (seat : SeatSeen Entry) → none ≡ [] → Splits seat (map seat_of none) seat
 splits_empty {X} seat_of none seat is = subst (λ (l : List X). Splits seat (map seat_of l) seat) (sym is) (splits_none seat)
 
-pub fresh_at : (lock other : TableId) (seats : List (SeatSeen Entry)) → lock ≡ other → AllByRecursion (IsFresh other) seats → AllByRecursion (IsFresh lock) seats
-fresh_at lock other seats same all = subst (λ (l : TableId). AllByRecursion (IsFresh l) seats) (sym same) all
+pub fresh_at : (lock other : LockId) (seats : List (SeatSeen Entry)) → lock ≡ other → AllByRecursion (IsFresh other) seats → AllByRecursion (IsFresh lock) seats
+fresh_at lock other seats same all = subst (λ (l : LockId). AllByRecursion (IsFresh l) seats) (sym same) all
 
-pub kept_at : (lock other : TableId) (seats : List (SeatSeen Entry)) → lock ≡ other → AllByRecursion (IsKept other) seats → AllByRecursion (IsKept lock) seats
-kept_at lock other seats same all = subst (λ (l : TableId). AllByRecursion (IsKept l) seats) (sym same) all
+pub kept_at : (lock other : LockId) (seats : List (SeatSeen Entry)) → lock ≡ other → AllByRecursion (IsKept other) seats → AllByRecursion (IsKept lock) seats
+kept_at lock other seats same all = subst (λ (l : LockId). AllByRecursion (IsKept l) seats) (sym same) all
 
 -- one more
 pub splits_more : {X : Type 0} (seat_of : X → SeatSeen Entry) (start before after : SeatSeen Entry) (olds news : List X) (x : X) → news ≡ olds ++ x ∷ [] → 2 ≤ before.parts → after ≡ record before { parts = before.parts - 1 } → IsFresh before.lock (seat_of x)
@@ -205,7 +204,7 @@ splits_more {X} seat_of start before after olds news x is some same fresh splits
       seen = ap (λ (s : SeatSeen Entry). s.seen) same ∙ splits.seen;
       own = ap (λ (s : SeatSeen Entry). s.own) same ∙ splits.own;
       parts = omega (arith, parts, long, before_parts, some);
-      fresh = each_snoc (IsFresh start.lock) (map seat_of olds) (seat_of x) splits.fresh (subst (λ (l : TableId). IsFresh l (seat_of x)) splits.lock fresh);
+      fresh = each_snoc (IsFresh start.lock) (map seat_of olds) (seat_of x) splits.fresh (subst (λ (l : LockId). IsFresh l (seat_of x)) splits.lock fresh);
     })
 
 -- what a run left of a handle of which others were split off before
@@ -226,7 +225,7 @@ parts_left seat_of seat mid closer jobs parts links same splits is =
     let before = splits.parts in omega (arith, is, here, long, before)
 
 -- and of the first handle, which told the channel its first event or nothing
-pub left_of : {E H X : Type 0} (seat_of : H → SeatSeen Entry) (handle : X → H) (lock : TableId) (groups : List (List CallLine)) (seat mid : SeatSeen Entry) (links : List X) (result : Result (SeatSeen Entry × Outcome) E) → seat.parts ≡ 4294967296 → Stands seat.seen seat.own → AreBeside seat.own
+pub left_of : {E H X : Type 0} (seat_of : H → SeatSeen Entry) (handle : X → H) (lock : LockId) (groups : List (List CallLine)) (seat mid : SeatSeen Entry) (links : List X) (result : Result (SeatSeen Entry × Outcome) E) → seat.parts ≡ 4294967296 → Stands seat.seen seat.own → AreBeside seat.own
     → Splits seat (map (λ j. seat_of (handle j)) links) mid → IfOk result (λ r. r.0.lock ≡ lock) → IfOk result (λ r. r.0.parts ≡ mid.parts + length links) → IfOk result (λ r. Leaves r.1 (busy groups) mid.seen mid.own r.0)
     → IfOk result (λ r. IsLeft lock r.1 groups r.0)
 left_of seat_of handle lock groups seat mid links (Err e) full stands beside splits here parts leaves = tt
@@ -257,7 +256,7 @@ told_beside e addresses config own is each =
     each_weaker (λ (p : ℕ × Entry). p.1.event ≡ e) (λ (p : ℕ × Entry). IsBeside p.1.event) (λ p same. subst IsBeside (sym (same ∙ is)) (resolved_beside addresses config)) own each
 
 -- a handle that told nothing
-pub first_clear : (lock : TableId) (seat : SeatSeen Entry) → IsFirstSeat lock seat → Stands seat.seen seat.own × AreBeside seat.own
+pub first_clear : (lock : LockId) (seat : SeatSeen Entry) → IsFirstSeat lock seat → Stands seat.seen seat.own × AreBeside seat.own
 first_clear lock seat first =
     let none : [] ≡ seat.own = sym first.own in
     (subst (λ (l : List (ℕ × Entry)). Stands seat.seen l) none tt, subst AreBeside none tt)

@@ -1,5 +1,7 @@
 -- What the workers of each side did, by their handles.
-use Rattle.std.proofs.Common.{◌≡◌, ◌∙◌, ◌<◌, ◌+◌, ℕ, zero, suc, Option, Some, List, [], ◌∷◌, ◌++◌, ap, arith, inr, length, length-append, map, refl, slice_index_or, sym, subst}
+use Rattle.std.proofs.Common.{◌≡◌, ◌∙◌, ◌<◌, ◌+◌, ℕ, zero, suc, Option, Some, List, [], ◌∷◌, ◌++◌, ap, arith, drop, inr, length, length-append, map, refl, slice_index_or, sym, subst, take}
+use Rattle.std.proofs.Math.Seq.{take-append_seam}
+use Rattle.std.proofs.lemmas.List.{drop_at}
 use Rattle.std.specs.List.{AllByRecursion, AllZip}
 use Rattle.std.specs.Option.{option_to_list}
 use Rattle.atomic_table.specs.Seated.{TableId}
@@ -17,7 +19,7 @@ use Rattle.live_run.specs.declared.link_job.LinkJob.TheVariants as job
 use Rattle.live_run.specs.declared.outcome.Outcome.{Outcome}
 use Rattle.live_run.specs.declared.outcome.Outcome.TheVariants as outcome
 use Rattle.shared_channel.specs.Turns.{entries_of, share_of}
-use Rattle.turn_lock.specs.History.{SeatSeen}
+use Rattle.turn_lock.specs.History.{LockId, SeatSeen}
 use Rattle.live_mode.specs.Handles.{Closes, IsFresh, IsKept, IsOne, IsWorked, Leaves, MakesUpTo, handle_in, seats_in}
 use Rattle.live_mode.specs.Sides.{IsReady, KeepsDone, MakesDone, RunDone, SideDone}
 use Rattle.live_mode.specs.declared.sides.Callers.{Callers}
@@ -29,18 +31,31 @@ use Rattle.live_mode.proofs.EventLaws.{links_own, names_own}
 
 -- ---- the share of a handle names its lock, and tells its parts
 
-abbrev lock_in : List ℕ → TableId
-lock_in (parts ∷ (words ∷ (slots ∷ (views_name ∷ (atom ∷ (block ∷ (offset ∷ slot_names))))))) =
-    record { words = words; slots = slots; views_name = views_name; atom = atom; block = block; offset = offset; slot_names = slot_names }
-lock_in _ = record { words = 0; slots = 0; views_name = 0; atom = 0; block = 0; offset = 0; slot_names = [] }
+abbrev lock_in : List ℕ → LockId
+lock_in (parts ∷ (words ∷ (slots ∷ (views_name ∷ (atom ∷ (block ∷ (offset ∷ (count ∷ numbers)))))))) =
+    let table : TableId = record { words = words; slots = slots; views_name = views_name; atom = atom; block = block; offset = offset; slot_names = take count numbers } in
+    record { table = table; origin = drop count numbers }
+lock_in _ =
+    let table : TableId = record { words = 0; slots = 0; views_name = 0; atom = 0; block = 0; offset = 0; slot_names = [] } in
+    record { table = table; origin = [] }
+
+lock_back : (s : SeatSeen Entry) → lock_in (share_of s) ≡ s.lock
+lock_back s =
+    let t : TableId = s.lock.table in
+    let names : take (length t.slot_names) (t.slot_names ++ s.lock.origin) ≡ t.slot_names = take-append_seam t.slot_names s.lock.origin in
+    let origin : drop (length t.slot_names) (t.slot_names ++ s.lock.origin) ≡ s.lock.origin = drop_at t.slot_names s.lock.origin (length t.slot_names) refl in
+    λ i. record {
+      table = record { words = t.words; slots = t.slots; views_name = t.views_name; atom = t.atom; block = t.block; offset = t.offset; slot_names = names i };
+      origin = origin i;
+    }
 
 abbrev parts_in : List ℕ → ℕ
 parts_in [] = 0
 parts_in (parts ∷ more) = parts
 
-one_still : (lock : TableId) (before after : SeatSeen Entry) → share_of after ≡ share_of before → IsOne lock before → IsOne lock after
+one_still : (lock : LockId) (before after : SeatSeen Entry) → share_of after ≡ share_of before → IsOne lock before → IsOne lock after
 one_still lock before after same one = record {
-  lock_is = let locks : after.lock ≡ before.lock = ap lock_in same in locks ∙ one.lock_is;
+  lock_is = let locks : after.lock ≡ before.lock = sym (lock_back after) ∙ ap lock_in same ∙ lock_back before in locks ∙ one.lock_is;
   parts = let parts : after.parts ≡ before.parts = ap parts_in same in parts ∙ one.parts;
 }
 
@@ -51,7 +66,7 @@ made_up_to outcome.Whole lines before after none makes = subst (λ (l : List Ent
 made_up_to outcome.Full lines before after none makes = inr (subst (λ (l : List Entry). LinesFront lines l after.made) none makes.0)
 made_up_to outcome.NoMemory lines before after none makes = inr (subst (λ (l : List Entry). LinesFront lines l after.made) none makes.0)
 
-worked_one : {H : Type 0} (seat_of : H → SeatSeen Entry) (errors : H → ℕ) (last : H → Option PostError) (lock : TableId) (o : Outcome) (before after : CallJob H)
+worked_one : {H : Type 0} (seat_of : H → SeatSeen Entry) (errors : H → ℕ) (last : H → Option PostError) (lock : LockId) (o : Outcome) (before after : CallJob H)
     → CallDone (seen_by (λ h. entries_of (seat_of h).own) errors last) (λ h. share_of (seat_of h)) before after → (o ≡ outcome.Whole → after.outcome ≡ outcome.Whole) → IsFresh lock (seat_of before.post)
     → IsWorked lock o before.lines.items (seat_of after.post)
 worked_one seat_of errors last lock o before after done worse fresh = record {
@@ -61,7 +76,7 @@ worked_one seat_of errors last lock o before after done worse fresh = record {
       (ap entries_of fresh.own) done.makes);
 }
 
-pub worked : {H : Type 0} (seat_of : H → SeatSeen Entry) (errors : H → ℕ) (last : H → Option PostError) (lock : TableId) (o : Outcome) (olds news : List (CallJob H)) → length news ≡ length olds
+pub worked : {H : Type 0} (seat_of : H → SeatSeen Entry) (errors : H → ℕ) (last : H → Option PostError) (lock : LockId) (o : Outcome) (olds news : List (CallJob H)) → length news ≡ length olds
     → ((i : ℕ) (d : CallJob H) → i < length olds → CallDone (seen_by (λ h. entries_of (seat_of h).own) errors last) (λ h. share_of (seat_of h)) (slice_index_or olds i d) (slice_index_or news i d))
     → (o ≡ outcome.Whole → gravest (map (λ j. j.outcome) news) ≡ outcome.Whole) → AllByRecursion (IsFresh lock) (map (λ j. seat_of j.post) olds)
     → AllZip (IsWorked lock o) (map (λ j. j.lines.items) olds) (map (λ j. seat_of j.post) news)
@@ -74,7 +89,7 @@ worked seat_of errors last lock o (old ∷ olds) (new ∷ news) long each worse 
       (λ whole. (graver_whole new.outcome (gravest (map (λ j. j.outcome) news)) (worse whole)).1) fresh.1,
 )
 
-pub worked_ones : (lock : TableId) (o : Outcome) (groups : List (List CallLine)) (seats : List (SeatSeen Entry)) → AllZip (IsWorked lock o) groups seats → AllByRecursion (IsOne lock) seats
+pub worked_ones : (lock : LockId) (o : Outcome) (groups : List (List CallLine)) (seats : List (SeatSeen Entry)) → AllZip (IsWorked lock o) groups seats → AllByRecursion (IsOne lock) seats
 worked_ones lock o [] [] all = tt
 worked_ones lock o [] (s ∷ seats) all = absurd all
 worked_ones lock o (lines ∷ groups) [] all = absurd all
@@ -82,7 +97,7 @@ worked_ones lock o (lines ∷ groups) (s ∷ seats) all = (all.0.one, worked_one
 
 -- ---- those beside the calls
 
-kept_one : {H N L D : Type 0} (seat_of : H → SeatSeen Entry) (errors : H → ℕ) (last : H → Option PostError) (look : H → Option Look) (coming : N → Option (List (List ℕ))) (lock : TableId) (before after : LinkJob H N L D)
+kept_one : {H N L D : Type 0} (seat_of : H → SeatSeen Entry) (errors : H → ℕ) (last : H → Option PostError) (look : H → Option Look) (coming : N → Option (List (List ℕ))) (lock : LockId) (before after : LinkJob H N L D)
     → LinkDone (seen_by (λ h. entries_of (seat_of h).own) errors last) (λ h. share_of (seat_of h)) look coming before after → IsFresh lock (seat_of (handle_in before)) → IsKept lock (seat_of (handle_in after))
 kept_one seat_of errors last look coming lock (job.Net before) (job.Net after) done fresh = record {
   one = one_still lock (seat_of before.post) (seat_of after.post) done.same_share fresh.one;
@@ -95,7 +110,7 @@ kept_one seat_of errors last look coming lock (job.Name before) (job.Name after)
 kept_one seat_of errors last look coming lock (job.Net before) (job.Name after) done fresh = absurd done
 kept_one seat_of errors last look coming lock (job.Name before) (job.Net after) done fresh = absurd done
 
-pub kept : {H N L D : Type 0} (seat_of : H → SeatSeen Entry) (errors : H → ℕ) (last : H → Option PostError) (look : H → Option Look) (coming : N → Option (List (List ℕ))) (lock : TableId) (olds news : List (LinkJob H N L D)) → length news ≡ length olds
+pub kept : {H N L D : Type 0} (seat_of : H → SeatSeen Entry) (errors : H → ℕ) (last : H → Option PostError) (look : H → Option Look) (coming : N → Option (List (List ℕ))) (lock : LockId) (olds news : List (LinkJob H N L D)) → length news ≡ length olds
     → ((i : ℕ) (d : LinkJob H N L D) → i < length olds → LinkDone (seen_by (λ h. entries_of (seat_of h).own) errors last) (λ h. share_of (seat_of h)) look coming (slice_index_or olds i d) (slice_index_or news i d))
     → AllByRecursion (IsFresh lock) (map (λ j. seat_of (handle_in j)) olds) → AllByRecursion (IsKept lock) (map (λ j. seat_of (handle_in j)) news)
 kept seat_of errors last look coming lock [] [] long each fresh = tt
@@ -106,7 +121,7 @@ kept seat_of errors last look coming lock (old ∷ olds) (new ∷ news) long eac
   kept seat_of errors last look coming lock olds news (omega (arith, long)) (λ i d within. each (suc i) d (omega (arith, within))) fresh.1,
 )
 
-pub kept_ones : (lock : TableId) (seats : List (SeatSeen Entry)) → AllByRecursion (IsKept lock) seats → AllByRecursion (IsOne lock) seats
+pub kept_ones : (lock : LockId) (seats : List (SeatSeen Entry)) → AllByRecursion (IsKept lock) seats → AllByRecursion (IsOne lock) seats
 kept_ones lock [] all = tt
 kept_ones lock (s ∷ seats) all = (all.0.one, kept_ones lock seats all.1)
 
@@ -161,7 +176,7 @@ run_done seat_of links l calls c seat o keeps makes lock parts leaves = record {
 
 pub kept_by : {H N L D : Type 0} (seat_of : H → SeatSeen Entry) (links l : Linkers H N L D) (calls c : Callers H) → KeepsDone seat_of links l → MakesDone seat_of calls c → AllByRecursion (IsFresh (seat_of calls.closer).lock) (seats_in seat_of links.jobs.items) → AllByRecursion (IsKept (seat_of c.closer).lock) (seats_in seat_of l.jobs.items)
 kept_by seat_of links l calls c keeps makes fresh =
-    subst (λ (lock : TableId). AllByRecursion (IsKept lock) (seats_in seat_of l.jobs.items)) (sym makes.lock) (keeps.kept (seat_of calls.closer).lock fresh)
+    subst (λ (lock : LockId). AllByRecursion (IsKept lock) (seats_in seat_of l.jobs.items)) (sym makes.lock) (keeps.kept (seat_of calls.closer).lock fresh)
 
 -- two that were popped
 pub two_popped : {X : Type 0} (items mid rest : List X) (first last : Option X) (a b : X) → length items ≡ 2 → items ≡ mid ++ option_to_list last → mid ≡ rest ++ option_to_list first → last ≡ Some b → first ≡ Some a → items ≡ a ∷ b ∷ []

@@ -3,7 +3,6 @@
 use Rattle.std.specs.Prelude.{◌≡◌, ◌⊎◌, ℕ, ◌+◌, false, Option, Some, None, Result, Ok, Err, List, [], ◌∷◌, ◌++◌, length, map}
 use Rattle.std.specs.List.{AllByRecursion, AllZip}
 use Rattle.std.specs.Option.{option_to_list}
-use Rattle.atomic_table.specs.Seated.{TableId}
 use Rattle.grpc_base.specs.declared.event.Entry.{Entry}
 use Rattle.grpc_base.specs.declared.event.Event.{Event}
 use Rattle.grpc_base.specs.declared.event.Event.TheVariants as event
@@ -22,26 +21,27 @@ use Rattle.script_text.specs.declared.report.ReportFault.{ReportFault}
 use Rattle.script_text.specs.declared.report.ReportFault.TheVariants as unwritten
 use Rattle.session_text.specs.Sessions.{run_text}
 use Rattle.session_text.specs.declared.ran.Ran.{Ran}
-use Rattle.shared_channel.specs.Histories.{is_shutdown}
+use Rattle.session_text.specs.declared.ran.Ran.TheVariants as ran
+use Rattle.shared_channel.specs.Histories.{IsNearlyFull, is_shutdown}
 use Rattle.shared_channel.specs.Running.{HasRun}
 use Rattle.shared_channel.specs.Turns.{entries_of}
-use Rattle.turn_lock.specs.History.{Ascends, Owns, SeatSeen, Stands, StartsWith, places, times}
+use Rattle.turn_lock.specs.History.{Ascends, LockId, Owns, SeatSeen, Stands, StartsWith, places, times}
 use Rattle.live_mode.specs.Made.{is_of_call, times_in}
 
 -- the first handle of a new channel, which has every part
-pub record IsFirstSeat (lock : TableId) (seat : SeatSeen Entry) : Type 0 where
+pub record IsFirstSeat (lock : LockId) (seat : SeatSeen Entry) : Type 0 where
   pub lock_is : seat.lock ≡ lock
   pub parts : seat.parts ≡ 4294967296
   pub seen : seat.seen ≡ []
   pub own : seat.own ≡ []
 
 -- a handle of this lock, with one part
-pub record IsOne (lock : TableId) (seat : SeatSeen Entry) : Type 0 where
+pub record IsOne (lock : LockId) (seat : SeatSeen Entry) : Type 0 where
   pub lock_is : seat.lock ≡ lock
   pub parts : seat.parts ≡ 1
 
 -- the same, and it has no entries
-pub record IsFresh (lock : TableId) (seat : SeatSeen Entry) : Type 0 where
+pub record IsFresh (lock : LockId) (seat : SeatSeen Entry) : Type 0 where
   pub one : IsOne lock seat
   pub own : seat.own ≡ []
 
@@ -62,7 +62,7 @@ abbrev pub AreBeside : List (ℕ × Entry) → Type 0
 AreBeside own = AllByRecursion (λ p. IsBeside p.1.event) own
 
 -- the handle of a worker beside the calls
-pub record IsKept (lock : TableId) (seat : SeatSeen Entry) : Type 0 where
+pub record IsKept (lock : LockId) (seat : SeatSeen Entry) : Type 0 where
   pub one : IsOne lock seat
   pub beside : AreBeside seat.own
 
@@ -72,7 +72,7 @@ MakesUpTo outcome.Whole lines made = MakesLines lines [] made
 MakesUpTo o lines made = MakesLines lines [] made ⊎ LinesFront lines [] made
 
 -- the handle of a worker that made calls
-pub record IsWorked (lock : TableId) (o : Outcome) (lines : List CallLine) (seat : SeatSeen Entry) : Type 0 where
+pub record IsWorked (lock : LockId) (o : Outcome) (lines : List CallLine) (seat : SeatSeen Entry) : Type 0 where
   pub one : IsOne lock seat
   pub makes : MakesUpTo o lines (entries_of seat.own)
 
@@ -152,7 +152,7 @@ busy ([] ∷ groups) = busy groups
 busy ((line ∷ lines) ∷ groups) = (line ∷ lines) ∷ busy groups
 
 -- the handle that a run leaves has every part. Before it took the others in, none of its entries was of an application or a Shutdown
-pub record IsLeft (lock : TableId) (o : Outcome) (groups : List (List CallLine)) (seat : SeatSeen Entry) : Type 0 where
+pub record IsLeft (lock : LockId) (o : Outcome) (groups : List (List CallLine)) (seat : SeatSeen Entry) : Type 0 where
   pub lock_is : seat.lock ≡ lock
   pub parts : seat.parts ≡ 4294967296
   pub seen : List Entry
@@ -161,20 +161,27 @@ pub record IsLeft (lock : TableId) (o : Outcome) (groups : List (List CallLine))
   pub beside : AreBeside own
   pub leaves : Leaves o (busy groups) seen own seat
 
--- the report of a channel was written, or a front of it; where the channel is spent, nothing
+-- a channel that is not spent, and whose journal is nearly full where the session is told to be full
+pub record IsReportable (r : Ran) (core : CoreSeen) : Type 0 where
+  pub unspent : core.spent ≡ false
+  pub full : r ≡ ran.Full → IsNearlyFull core.journal.entries
+
+-- the report of a channel was written, or a front of it; where it can't be reported, nothing
 abbrev pub Tells : Ran → List ℕ → CoreSeen → Result Unit ReportFault → Option (List ℕ) → Option (List ℕ) → ℕ → ℕ → Type 0
-Tells r target core (Ok done) taken taken' faults faults' = (core.spent ≡ false) × Appends taken taken' (run_text r target core.journal (ledger_in core))
+Tells r target core (Ok done) taken taken' faults faults' = IsReportable r core × Appends taken taken' (run_text r target core.journal (ledger_in core))
 Tells r target core (Err fault) taken taken' faults faults' =
     ((fault ≡ unwritten.NoMemory) × (taken' ≡ taken))
-    ⊎ ((core.spent ≡ false) × AppendsFront taken taken' (run_text r target core.journal (ledger_in core)) × ((fault ≡ unwritten.Write) → Rises faults faults'))
+    ⊎ (IsReportable r core × AppendsFront taken taken' (run_text r target core.journal (ledger_in core)) × ((fault ≡ unwritten.Write) → Rises faults faults'))
 
--- the text is the report of a channel that was new and was given events, in a turn of a handle, which has then seen all of its history
+-- the text is the report of a channel that was new with the authority of the handle's lock and was given events, in a turn of the
+-- handle, which has then seen all of its history
 abbrev pub ReportsAt : Ran → List ℕ → SeatSeen Entry → SeatSeen Entry → List ℕ → Type 0
 ReportsAt r target before after text =
-    (core : CoreSeen) × HasRun core × StartsWith core.journal.entries before.seen × (after.seen ≡ core.journal.entries) × (after.own ≡ before.own) × (after.parts ≡ before.parts) × (text ≡ run_text r target core.journal (ledger_in core))
+    (core : CoreSeen) × HasRun before.lock.origin core × StartsWith core.journal.entries before.seen × (after.seen ≡ core.journal.entries) × (after.own ≡ before.own) × (after.parts ≡ before.parts)
+    × (r ≡ ran.Full → IsNearlyFull core.journal.entries) × (text ≡ run_text r target core.journal (ledger_in core))
 
--- the text is the report of a channel that was new and was given events. Its history begins with what a handle had seen, and the
--- handle's entries stand in it; where it has every part they are all of it
+-- the text is the report of a channel that was new with the authority of a handle's lock and was given events. Its history begins with
+-- what the handle had seen, and the handle's entries stand in it; where it has every part they are all of it
 abbrev pub ReportsOn : Ran → List ℕ → SeatSeen Entry → List ℕ → Type 0
 ReportsOn r target seat text =
-    (core : CoreSeen) × HasRun core × StartsWith core.journal.entries seat.seen × Owns seat.parts seat.own core.journal.entries × (text ≡ run_text r target core.journal (ledger_in core))
+    (core : CoreSeen) × HasRun seat.lock.origin core × StartsWith core.journal.entries seat.seen × Owns seat.parts seat.own core.journal.entries × (r ≡ ran.Full → IsNearlyFull core.journal.entries) × (text ≡ run_text r target core.journal (ledger_in core))

@@ -6,6 +6,7 @@ use Rattle.grpc_base.specs.declared.event.Event.TheVariants as event
 use Rattle.grpc_base.specs.declared.event.Stamped.{Stamped}
 use Rattle.attempt_ledger.specs.declared.journal.Journal.{Journal}
 use Rattle.attempt_ledger.specs.declared.ledger.Ledger.{Ledger}
+use Rattle.resolver_core.specs.AnyTargets.{authority_of}
 use Rattle.resolver_core.specs.declared.any_target.Target.{Target}
 use Rattle.resolver_core.specs.declared.any_target.Target.TheVariants as target
 use Rattle.script_input.specs.Lives.{FindsBadLive, ReadsLive, StopsInLive}
@@ -13,6 +14,7 @@ use Rattle.script_input.specs.declared.live_script.LiveScript.{LiveScript}
 use Rattle.session_text.specs.declared.ran.Ran.{Ran}
 use Rattle.session_text.specs.declared.ran.Ran.TheVariants as ran
 use Rattle.session_text.specs.Sessions.{IsSession, line_fault_text, run_text}
+use Rattle.shared_channel.specs.Histories.{IsNearlyFull}
 use Rattle.live_mode.specs.Made.{CarriesCalls}
 
 -- the first entry is of this event
@@ -24,17 +26,17 @@ abbrev pub TellsTarget : Target → Option (List ℕ) → List Entry → Type 0
 TellsTarget (target.Ipv4 addresses) config entries = IsToldFirst (event.Resolved addresses config) entries
 TellsTarget (target.Dns name) config entries = Unit {0}
 
--- the text is the report of the one channel of a live run: a new channel was given exactly the events of this journal, one behind
--- another, and the journal and its ledger are lawful. The journal begins with what the channel is told first, and has the calls of the
--- script, as each worker made them, and the Shutdown behind them
+-- the text is the report of the one channel of a live run: a new channel, whose requests have the authority of the script's target, was
+-- given exactly the events of this journal, one behind another. The journal begins with what the channel is told first, and has the calls
+-- of the script, as each worker made them, and the Shutdown behind them. Where the session was stopped it is nearly full
 pub record IsLiveReport (r : Ran) (script : LiveScript) (text : List ℕ) : Type 0 where
-  pub authority : List ℕ
   pub events : List Stamped
   pub journal : Journal
   pub ledger : Ledger
-  pub session : IsSession authority events journal ledger
+  pub session : IsSession (authority_of script.value) events journal ledger
   pub told : TellsTarget script.value script.config journal.entries
   pub calls : CarriesCalls r script.calls.items journal.entries
+  pub full : r ≡ ran.Full → IsNearlyFull journal.entries
   pub text_is : text ≡ run_text r script.target journal ledger
 
 abbrev pub IsAnyLiveReport : LiveScript → List ℕ → Type 0
@@ -46,7 +48,9 @@ pub record IsLived (left left' : Option (List ℕ)) (text : List ℕ) : Type 0 w
   pub read : ReadsLive left left' script
   pub report : IsLiveReport ran.Whole script text
 
--- status 7: the same, but the session had no room for an event, as the text says behind the report
+-- status 7: the same of a run that was stopped, since a worker was told that the session had no room for its event, as the text says
+-- behind the report. Of that no more is said here than that the journal that is reported is nearly full: it has 1,048,576 entries, or its
+-- bytes and 4,194,368, those of the largest event of a live run, pass 268,435,456
 pub record EndsLiveFull (left left' : Option (List ℕ)) (text : List ℕ) : Type 0 where
   pub script : LiveScript
   pub read : ReadsLive left left' script

@@ -2,10 +2,9 @@
 -- name these.
 use Rattle.std.specs.Prelude.{◌≡◌, ◌+◌, List, length, map}
 use Rattle.std.specs.List.{AllByRecursion}
-use Rattle.atomic_table.specs.Seated.{TableId}
 use Rattle.grpc_base.specs.declared.event.Entry.{Entry}
 use Rattle.live_run.specs.declared.outcome.Outcome.{Outcome}
-use Rattle.turn_lock.specs.History.{SeatSeen}
+use Rattle.turn_lock.specs.History.{LockId, SeatSeen}
 use Rattle.live_mode.specs.Handles.{Closes, IsFresh, IsKept, Leaves, seats_in}
 use Rattle.live_mode.specs.declared.sides.Callers.{Callers}
 use Rattle.live_mode.specs.declared.sides.Linkers.{Linkers}
@@ -19,7 +18,7 @@ IsReady seat_of (side.Links links) = Unit {0}
 
 -- those beside the calls did their work
 pub record KeepsDone {H N L D : Type 0} (seat_of : H → SeatSeen Entry) (before after : Linkers H N L D) : Type 0 where
-  pub kept : (lock : TableId) → AllByRecursion (IsFresh lock) (seats_in seat_of before.jobs.items) → AllByRecursion (IsKept lock) (seats_in seat_of after.jobs.items)
+  pub kept : (lock : LockId) → AllByRecursion (IsFresh lock) (seats_in seat_of before.jobs.items) → AllByRecursion (IsKept lock) (seats_in seat_of after.jobs.items)
   pub count : length after.jobs.items ≡ length before.jobs.items
 
 -- those that make calls did theirs, the closer took their handles in, and then the channel was shut down

@@ -1,7 +1,8 @@
 // The report of a channel that threads share.
-ghost use Rattle.std.specs.Prelude.{◌≡◌, OnErr, OnOk, Err};
+ghost use Rattle.std.specs.Prelude.{◌≡◌, OnErr, OnOk, Err, true};
 ghost use Rattle.gate_io.specs.Outside.{Rises};
-ghost use Rattle.live_mode.specs.Handles.{ReportsAt, ReportsOn};
+ghost use Rattle.live_mode.specs.Handles.{IsReportable, ReportsAt, ReportsOn};
+ghost use Rattle.shared_channel.specs.Histories.{IsNearlyFull};
 ghost use Rattle.session_text.specs.Writing.{WritesAll, WritesFront, WritesSome};
 
 use channel_core::ChannelCore;
@@ -13,6 +14,22 @@ use session_text::{Ran, write_session};
 use shared_channel::{Reading, Seat, SharedChannel};
 use std::alloc::Global;
 use std::sync::Wait;
+
+/// Whether the channel can be reported of a session that was run so far. Where a worker was told that there was no room for its event the
+/// journal is nearly full, since such an event has at most 4,194,368 bytes and a journal only grows; but no clause of a worker says so, so
+/// it is tested again.
+fn is_reportable<P: Balancer>(core: &ChannelCore<P>, ran: Ran, nearly_full: bool) -> bool
+    requires { nearly_full ≡ true → IsNearlyFull core.now.journal.entries }
+    ensures { result ≡ true → IsReportable ran core.now }
+{
+    if core.view().spent {
+        return false;
+    }
+    match ran {
+        Ran::Whole => true,
+        Ran::Full => nearly_full,
+    }
+}
 
 /// What writes the report of the channel under the lock.
 #[derive(Drop)]
@@ -32,8 +49,8 @@ impl<P: Balancer, K: Sink> Reading<P> for Reporting<'_, K> {
     ghost reads = { λ before core answer after. (after.report.ghost_name ≡ before.report.ghost_name) × Tells before.ran before.target.now core answer (K.taken before.report.now) (K.taken after.report.now) (K.faults before.report.now) (K.faults after.report.now) };
 
     #[tactic(auto, using(crate::proofs::LiveLaws::tells_spent, crate::proofs::LiveLaws::tells_front))]
-    fn read(&mut self, core: &ChannelCore<P>) -> Result<(), ReportFault> {
-        if core.view().spent {
+    fn read(&mut self, core: &ChannelCore<P>, nearly_full: bool) -> Result<(), ReportFault> {
+        if !is_reportable(core, self.ran, nearly_full) {
             return Err(ReportFault::NoMemory);
         }
         match write_session(self.alloc, core, self.ran, self.target, self.report) {

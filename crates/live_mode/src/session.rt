@@ -5,7 +5,7 @@ ghost use Rattle.live_mode.specs.Live.{IsAnyLiveReport, IsLiveReport, TellsTarge
 ghost use Rattle.live_mode.specs.Handles.{IsFirstSeat, IsLeft};
 ghost use Rattle.live_run.specs.declared.outcome.Outcome.TheVariants as outcome_is;
 ghost use Rattle.policy_rack.specs.Kinds.{are_ready};
-ghost use Rattle.resolver_core.specs.AnyTargets.{IsTarget};
+ghost use Rattle.resolver_core.specs.AnyTargets.{IsTarget, authority_of};
 ghost use Rattle.session_text.specs.Writing.{WritesAll, WritesFront, WritesSome};
 ghost use Rattle.session_text.specs.declared.ran.Ran.TheVariants as ran_is;
 
@@ -13,7 +13,7 @@ use crate::report::report_channel;
 use crate::settings::LiveSettings;
 use crate::start::{run_named, run_resolved};
 use crate::workers::Bench;
-use channel_core::{ChannelCore, channels_are_lawful};
+use channel_core::ChannelCore;
 use dns_watch::{DnsWatch, NamedWorld};
 use gate_io::{Sink, World};
 use grpc_base::{CallLine, NoMemory, Octets};
@@ -51,7 +51,6 @@ pub fn report_live<R: Threads + Wait + Sync, P: Balancer + Send, K: Sink, W: Nam
         config,
         calls,
     } = script;
-    channels_are_lawful();
     let groups = by_worker(alloc, calls)?;
     let (channel, seat) = open_channel(alloc, policies, &value)?;
     let (mut seat, outcome) = run_world(
@@ -73,11 +72,13 @@ fn open_channel<P: Balancer>(
 ) -> Result<(SharedChannel<P>, Seat<P>), NoMemory>
     requires ready { are_ready (map P.seen policies.items) ≡ true }
     requires target { IsTarget target.now }
-    ensures { IfOk result (λ r. IsFirstSeat r.0 r.1) }
+    ensures seat { IfOk result (λ r. IsFirstSeat r.0 r.1) }
+    ensures authority { IfOk result (λ r. r.0.origin ≡ authority_of target.now) }
 {
     let authority = target.authority(alloc)?;
     let core = ChannelCore::new(alloc, authority, policies)?;
-    let (channel, seat) = SharedChannel::new(alloc, core)?;
+    let named = target.authority(alloc)?;
+    let (channel, seat) = SharedChannel::new(alloc, core, named)?;
     Ok((channel, seat))
 }
 

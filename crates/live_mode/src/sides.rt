@@ -1,13 +1,13 @@
 // Both sides of a live run at once: the workers beside the calls, and those that make calls.
 ghost use Rattle.std.specs.Prelude.{◌≡◌, ◌<◌, ◌+◌, ◌∷◌, [], ℕ, IfOk, List, length, map, slice_index_or};
 ghost use Rattle.std.specs.List.{AllByRecursion, AllZip};
-ghost use Rattle.atomic_table.specs.Seated.{TableId};
 ghost use Rattle.grpc_base.specs.declared.event.Entry.{Entry};
 ghost use Rattle.grpc_base.specs.declared.script.CallLine.{CallLine};
 ghost use Rattle.live_run.specs.Outcomes.{gravest};
 ghost use Rattle.live_run.specs.Sides.{CallDone, LinkDone, seen_by};
 ghost use Rattle.live_run.specs.declared.jobs.CallJob.{CallJob};
 ghost use Rattle.live_run.specs.declared.link_job.LinkJob.{LinkJob};
+ghost use Rattle.turn_lock.specs.History.{LockId};
 ghost use Rattle.live_mode.specs.Handles.{Closes, IsFresh, IsKept, IsOne, IsWorked, Leaves, Shuts, TakesIn, handle_in, outcome_of_post, owns_of, seats_in};
 ghost use Rattle.live_mode.specs.Sides.{IsReady, KeepsDone, MakesDone, RunDone, SideDone};
 ghost use Rattle.live_mode.specs.declared.sides.Callers.{Callers};
@@ -57,7 +57,7 @@ fn keep_links<
     N: Dialer,
     L: Lookup,
 >(rt: &R, clock: &C, jobs: &mut Vec<LinkJob<ChannelSeat<'_, P, R, C, D>, N, L, D>>) -> Outcome
-    ensures kept { (lock : TableId) → AllByRecursion (IsFresh lock) (seats_in (λ h. h.seat) jobs.old.items) → AllByRecursion (IsKept lock) (seats_in (λ h. h.seat) jobs.new.items) }
+    ensures kept { (lock : LockId) → AllByRecursion (IsFresh lock) (seats_in (λ h. h.seat) jobs.old.items) → AllByRecursion (IsKept lock) (seats_in (λ h. h.seat) jobs.new.items) }
     ensures count { length jobs.new.items ≡ length jobs.old.items }
 {
     work_links_of(rt, clock, jobs)
@@ -107,7 +107,7 @@ fn make_calls<P: Balancer + Send, R: Threads + Wait + Sync, C: Clock, D: Draws>(
     rt: &R,
     jobs: &mut Vec<CallJob<ChannelSeat<'_, P, R, C, D>>>,
 ) -> Outcome
-    ensures worked { (lock : TableId) → AllByRecursion (IsFresh lock) (map (λ j. j.post.seat) jobs.old.items) → AllZip (IsWorked lock result) (map (λ j. j.lines.items) jobs.old.items) (map (λ j. j.post.seat) jobs.new.items) }
+    ensures worked { (lock : LockId) → AllByRecursion (IsFresh lock) (map (λ j. j.post.seat) jobs.old.items) → AllZip (IsWorked lock result) (map (λ j. j.lines.items) jobs.old.items) (map (λ j. j.post.seat) jobs.new.items) }
     ensures count { length jobs.new.items ≡ length jobs.old.items }
 {
     work_calls_of(rt, jobs)

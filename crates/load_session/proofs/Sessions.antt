@@ -2,12 +2,10 @@
 use Rattle.std.proofs.Common.{◌≡◌, ℕ, List, refl, sym, subst}
 use Rattle.std.specs.Global.{Global}
 use Rattle.std.specs.Prelude.{IfOk, Result, Ok, Err}
-use Rattle.grpc_base.specs.declared.event.Stamped.{Stamped}
 use Rattle.attempt_ledger.specs.declared.journal.Journal.{Journal}
 use Rattle.attempt_ledger.specs.declared.ledger.Ledger.{Ledger}
 use Rattle.lb_policy.specs.Table.{PolicySeen}
-use Rattle.channel_core.specs.Core.{CoreSeen, IsNew, IsNewBy, Runs, ledger_in}
-use Rattle.channel_core.specs.Laws.{IsLawful}
+use Rattle.channel_core.specs.Core.{CoreSeen, IsNewBy, ledger_in}
 use Rattle.loop_server.specs.Script.{all_lines}
 use Rattle.loop_server.specs.Server.{Core, new_core}
 use Rattle.load_plan.specs.Answers.{server_script}
@@ -23,28 +21,25 @@ use Rattle.load_session.proofs.Ran.{Ran, ran_plays}
 pub begins : (load : Load) (policies : List PolicySeen) (alloc : Global) (core : CoreSeen) (server : Core) → IsNewBy alloc authority policies core → server ≡ new_core (all_lines (server_script load.seed load.calls)) → Begins load policies (record { channel = core; server = server })
 begins load policies alloc core server is_new by = record { alloc = alloc; channel = is_new; server = by }
 
--- what is known of each channel that was given events
-abbrev pub AreLawful : Type 0
-AreLawful = (authority : List ℕ) (new core : CoreSeen) (events : List Stamped) → IsNew authority new → Runs new events core → IsLawful authority core.journal.entries (ledger_in core)
-
-pub session : AreLawful → (load : Load) (policies : List PolicySeen) (start end : Sides) → Begins load policies start → Plays (actions_of load.seed load.calls) start end → IsSession load policies end.channel.journal (ledger_in end.channel)
-session are_lawful load policies start end begins plays =
+pub session : (load : Load) (policies : List PolicySeen) (start end : Sides) → Begins load policies start → Plays (actions_of load.seed load.calls) start end → IsSession load policies end.channel.journal (ledger_in end.channel)
+session load policies start end begins plays =
     let ran : Ran start.channel end.channel = ran_plays (actions_of load.seed load.calls) start end plays in
     record {
       start = start;
       end = end;
       begins = begins;
       plays = plays;
+      events = ran.0;
+      runs = ran.1;
       journal_is = refl;
       ledger_is = refl;
-      lawful = are_lawful authority start.channel end.channel ran.0 (begins.alloc, policies, begins.channel) ran.1;
     }
 
-pub sums_up : AreLawful → (load : Load) (policies : List PolicySeen) (alloc : Global) (old : CoreSeen) (summary : LoadSummary) → IsNewBy alloc authority policies old → SumsFrom load old summary → SumsUp load policies summary
-sums_up are_lawful load policies alloc old summary is_new sums =
+pub sums_up : (load : Load) (policies : List PolicySeen) (alloc : Global) (old : CoreSeen) (summary : LoadSummary) → IsNewBy alloc authority policies old → SumsFrom load old summary → SumsUp load policies summary
+sums_up load policies alloc old summary is_new sums =
     let start : Sides = record { channel = old; server = sums.plays.begun } in
     let end : Sides = record { channel = sums.new; server = sums.plays.server } in
-    let whole : IsSession load policies sums.new.journal (ledger_in sums.new) = session are_lawful load policies start end (begins load policies alloc old sums.plays.begun is_new sums.plays.new_server) sums.plays.plays in
+    let whole : IsSession load policies sums.new.journal (ledger_in sums.new) = session load policies start end (begins load policies alloc old sums.plays.begun is_new sums.plays.new_server) sums.plays.plays in
     record {
       journal = sums.journal;
       ledger = sums.ledger;

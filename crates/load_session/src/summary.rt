@@ -15,7 +15,7 @@ use crate::fault::LoadFault;
 use crate::play::play_load;
 use crate::rows::rows_with;
 use attempt_ledger::{Journal, Ledger, RowKind};
-use channel_core::{ChannelCore, channels_are_lawful};
+use channel_core::ChannelCore;
 use grpc_base::NoMemory;
 use lb_policy::Balancer;
 use load_plan::{Load, LoadSummary, authority};
@@ -35,7 +35,6 @@ pub fn summarize<P: Balancer>(
     // The journal has no room for an event.
     ensures full { result ≡ Err LoadFault.SessionFull → GetsFull load (map P.seen policies.items) }
 {
-    channels_are_lawful();
     let mut core = new_channel(alloc, policies)?;
     sum_up(alloc, load, &mut core)
 }

@@ -8,18 +8,13 @@ use Rattle.gate_io.proofs.AppendLaws.{Appends-append}
 use Rattle.script_text.specs.Report.{report_of}
 use Rattle.script_text.proofs.Passing.{AppendsFront-behind, AppendsFront-more, Passes-all}
 use Rattle.channel_core.specs.Core.{CoreSeen, IsNew, Runs, ledger_in}
-use Rattle.channel_core.specs.Laws.{IsLawful}
 use Rattle.session_text.specs.declared.ran.Ran.{Ran}
 use Rattle.session_text.specs.declared.ran.Ran.TheVariants as ran
 use Rattle.session_text.specs.Sessions.{AreEntriesOf, IsSession, run_text, session_full_text}
 use Rattle.session_text.proofs.EntryLaws.{entries_of}
 
--- what is known of each channel that was given events
-abbrev pub AreLawful : Type 0
-AreLawful = (authority : List ℕ) (new core : CoreSeen) (events : List Stamped) → IsNew authority new → Runs new events core → IsLawful authority core.journal.entries (ledger_in core)
-
-pub session_of : AreLawful → (authority : List ℕ) (new core : CoreSeen) (events : List Stamped) (journal : Journal) (ledger : Ledger) → IsNew authority new → Runs new events core → journal ≡ core.journal → ledger ≡ ledger_in core → IsSession authority events journal ledger
-session_of lawful authority new core events journal ledger is_new runs j l = record {
+pub session_of : (authority : List ℕ) (new core : CoreSeen) (events : List Stamped) (journal : Journal) (ledger : Ledger) → IsNew authority new → Runs new events core → journal ≡ core.journal → ledger ≡ ledger_in core → IsSession authority events journal ledger
+session_of authority new core events journal ledger is_new runs j l = record {
   new = new;
   core = core;
   is_new = is_new;
@@ -27,7 +22,6 @@ session_of lawful authority new core events journal ledger is_new runs j l = rec
   journal_is = j;
   ledger_is = l;
   entries = subst (λ (x : Journal). AreEntriesOf events x) (sym j) (entries_of authority new events core is_new runs);
-  lawful = subst (λ (x : Journal). IsLawful authority x.entries ledger) (sym j) (subst (λ (x : Ledger). IsLawful authority core.journal.entries x) (sym l) (lawful authority new core events is_new runs));
 }
 
 -- two texts are written, one behind the other

@@ -4,7 +4,6 @@ use Rattle.grpc_base.specs.declared.event.Stamped.{Stamped}
 use Rattle.attempt_ledger.specs.declared.journal.Journal.{Journal}
 use Rattle.attempt_ledger.specs.declared.ledger.Ledger.{Ledger}
 use Rattle.channel_core.specs.Core.{CoreSeen, IsNew, Runs, ledger_in}
-use Rattle.channel_core.specs.Laws.{IsLawful}
 use Rattle.script_text.specs.Report.{report_of}
 use Rattle.session_text.specs.declared.ran.Ran.{Ran}
 use Rattle.session_text.specs.declared.ran.Ran.TheVariants as ran
@@ -29,8 +28,7 @@ pub record AreEntriesOf (events : List Stamped) (journal : Journal) : Type 0 whe
   pub words_are : map (λ e. e.word) journal.entries ≡ map (λ s. s.word) events
   pub moments_are : map (λ e. e.moment) journal.entries ≡ highest_so_far 0 (map (λ s. s.moment) events)
 
--- a session: a new channel, whose requests have this authority, ran these events and no other, and this is its journal and ledger,
--- which are lawful
+-- a session: a new channel, whose requests have this authority, ran these events and no other, and this is its journal and ledger
 pub record IsSession (authority : List ℕ) (events : List Stamped) (journal : Journal) (ledger : Ledger) : Type 0 where
   pub new : CoreSeen
   pub core : CoreSeen
@@ -39,7 +37,6 @@ pub record IsSession (authority : List ℕ) (events : List Stamped) (journal : J
   pub journal_is : journal ≡ core.journal
   pub ledger_is : ledger ≡ ledger_in core
   pub entries : AreEntriesOf events journal
-  pub lawful : IsLawful authority journal.entries ledger
 
 -- what is written of a channel that was given events
 abbrev pub run_text : Ran → List ℕ → Journal → Ledger → List ℕ

@@ -1,4 +1,5 @@
 pub mod AwaitLaws
+pub mod FullLaws
 pub mod JoinLaws
 pub mod PostLaws
 pub mod RunningLaws

@@ -74,12 +74,12 @@ pub starts_numbers : (a b c : List ℕ) → StartsWith b a → StartsWith c b �
 starts_numbers a b c (x, p) (y, q) = (x ++ y, q ∙ ap (λ (t : List ℕ). t ++ y) p ∙ append_assoc a x y)
 
 -- a turn in which a step was made
-module _ {S J A : Type 0} (core_of : S → CoreSeen) (runs : J → S → A → J → S → Type 0) where
+module _ {S J A : Type 0} {origin : S → List ℕ} (core_of : S → CoreSeen) (runs : J → S → A → J → S → Type 0) where
   pub place_of : (may_give : ℕ → Type 0) (moment word : ℕ) (e : Event) (result : Result Reply PostError) (job job_after : J) (answer : A) (first before turned after : SeatSeen Entry)
       → may_give moment
       → ((a b : S) → runs job a answer job_after b → StepGives (record { moment = moment; word = word; event = e }) (core_of a) result (core_of b))
       → SeesMore first before → (turned ≡ record before { found = after.found }) → StartsWith after.found before.found
-      → TakesTurn (λ s. (core_of s).journal.entries) runs job turned answer job_after after
+      → TakesTurn (λ s. (core_of s).journal.entries) origin runs job turned answer job_after after
       → TakesPlace may_give word e result first after
   place_of may_give moment word e result job job_after answer first before turned after given gives more is found turn =
       let seen : StartsWith (core_of turn.start).journal.entries before.seen = subst (λ (t : SeatSeen Entry). StartsWith (core_of turn.start).journal.entries t.seen) is turn.sees in
@@ -101,13 +101,12 @@ module _ {S J A : Type 0} (core_of : S → CoreSeen) (runs : J → S → A → J
       }
 
   -- a turn that left the channel as it was
-  pub looks_of : (tells : CoreSeen → Type 0) (job job_after : J) (answer : A) (before turned after : SeatSeen Entry)
-      → ((a b : S) → runs job a answer job_after b → (core_of b ≡ core_of a) × tells (core_of a))
+  pub looks_at : (tells : CoreSeen → Type 0) (job job_after : J) (answer : A) (before turned after : SeatSeen Entry)
       → (turned ≡ record before { found = after.found }) → StartsWith after.found before.found
-      → TakesTurn (λ s. (core_of s).journal.entries) runs job turned answer job_after after
+      → (turn : TakesTurn (λ s. (core_of s).journal.entries) origin runs job turned answer job_after after)
+      → (core_of turn.end ≡ core_of turn.start) × tells (core_of turn.start)
       → Looks tells before after
-  looks_of tells job job_after answer before turned after says is found turn =
-      let said = says turn.start turn.end turn.ran in
+  looks_at tells job job_after answer before turned after is found turn said =
       let same : (core_of turn.end).journal.entries ≡ (core_of turn.start).journal.entries = ap (λ (c : CoreSeen). c.journal.entries) said.0 in
       let none : turn.made ≡ [] =
       append_cancel_left (core_of turn.start).journal.entries turn.made [] (sym turn.appends ∙ same ∙ sym (append-nil (core_of turn.start).journal.entries)) in
@@ -122,6 +121,21 @@ module _ {S J A : Type 0} (core_of : S → CoreSeen) (runs : J → S → A → J
         parts = ap (λ (t : SeatSeen Entry). t.parts) turn.seat ∙ ap (λ (t : SeatSeen Entry). t.parts) is;
         found = found;
       }
+
+  pub looks_of : (tells : CoreSeen → Type 0) (job job_after : J) (answer : A) (before turned after : SeatSeen Entry)
+      → ((a b : S) → runs job a answer job_after b → (core_of b ≡ core_of a) × tells (core_of a))
+      → (turned ≡ record before { found = after.found }) → StartsWith after.found before.found
+      → TakesTurn (λ s. (core_of s).journal.entries) origin runs job turned answer job_after after
+      → Looks tells before after
+  looks_of tells job job_after answer before turned after says is found turn =
+      looks_at tells job job_after answer before turned after is found turn (says turn.start turn.end turn.ran)
+
+  -- the authority of the channel in a turn is the origin of the handle's lock
+  pub root_of : (job job_after : J) (answer : A) (before turned after : SeatSeen Entry)
+      → (turned ≡ record before { found = after.found })
+      → (turn : TakesTurn (λ s. (core_of s).journal.entries) origin runs job turned answer job_after after)
+      → origin turn.start ≡ before.lock.origin
+  root_of job job_after answer before turned after is turn = turn.from ∙ ap (λ (t : SeatSeen Entry). t.lock.origin) is
 
 -- what a handle has only seen
 pub more_none : (s : SeatSeen Entry) → SeesMore s s
@@ -149,12 +163,12 @@ some_send moment word call message old new answer result is gives =
     let P : Option (Result Reply PostError) → Type 0 = λ o. SendGives moment word call message old o new in
     subst P is gives
 
-module _ {S J : Type 0} (core_of : S → CoreSeen) (runs : J → S → Option (Result Reply PostError) → J → S → Type 0) where
+module _ {S J : Type 0} {origin : S → List ℕ} (core_of : S → CoreSeen) (runs : J → S → Option (Result Reply PostError) → J → S → Type 0) where
   pub take_place : (may_give : ℕ → Type 0) (moment word call : ℕ) (answer : Option (Result Reply PostError)) (result : Result Reply PostError) (job job_after : J) (first before turned after : SeatSeen Entry)
       → answer ≡ Some result → may_give moment
       → ((a b : S) → runs job a answer job_after b → TakeGives moment word call (core_of a) answer (core_of b))
       → SeesMore first before → (turned ≡ record before { found = after.found }) → StartsWith after.found before.found
-      → TakesTurn (λ s. (core_of s).journal.entries) runs job turned answer job_after after
+      → TakesTurn (λ s. (core_of s).journal.entries) origin runs job turned answer job_after after
       → TakesPlace may_give word (event.Take call) result first after × IfOk result (λ r. is_not_yet r ≡ false)
   take_place may_give moment word call answer result job job_after first before turned after some given gives more is found turn = (
     place_of core_of runs may_give moment word (event.Take call) result job job_after answer first before turned after given
@@ -166,7 +180,7 @@ module _ {S J : Type 0} (core_of : S → CoreSeen) (runs : J → S → Option (R
       → answer ≡ Some result → may_give moment
       → ((a b : S) → runs job a answer job_after b → SendGives moment word call message (core_of a) answer (core_of b))
       → SeesMore first before → (turned ≡ record before { found = after.found }) → StartsWith after.found before.found
-      → TakesTurn (λ s. (core_of s).journal.entries) runs job turned answer job_after after
+      → TakesTurn (λ s. (core_of s).journal.entries) origin runs job turned answer job_after after
       → TakesPlace may_give word (event.Send call message) result first after × IfOk result (λ r. is_full r ≡ false)
   send_place may_give moment word call message answer result job job_after first before turned after some given gives more is found turn = (
     place_of core_of runs may_give moment word (event.Send call message) result job job_after answer first before turned after given
@@ -186,12 +200,12 @@ none_send moment word call message old new answer is gives =
     let P : Option (Result Reply PostError) → Type 0 = λ o. SendGives moment word call message old o new in
     subst P is gives
 
-module _ {S J : Type 0} (core_of : S → CoreSeen) (runs : J → S → Option (Result Reply PostError) → J → S → Type 0) where
+module _ {S J : Type 0} {origin : S → List ℕ} (core_of : S → CoreSeen) (runs : J → S → Option (Result Reply PostError) → J → S → Type 0) where
   -- a turn in which nothing had come, or there was no room
   pub take_looks : (moment word call : ℕ) (answer : Option (Result Reply PostError)) (job job_after : J) (before turned after : SeatSeen Entry)
       → answer ≡ None → ((a b : S) → runs job a answer job_after b → TakeGives moment word call (core_of a) answer (core_of b))
       → (turned ≡ record before { found = after.found }) → StartsWith after.found before.found
-      → TakesTurn (λ s. (core_of s).journal.entries) runs job turned answer job_after after
+      → TakesTurn (λ s. (core_of s).journal.entries) origin runs job turned answer job_after after
       → Looks (λ core. WouldReply core (event.Take call) reply.NotYet) before after
   take_looks moment word call answer job job_after before turned after none gives is found turn =
       looks_of core_of runs (λ core. WouldReply core (event.Take call) reply.NotYet) job job_after answer before turned after
@@ -200,7 +214,7 @@ module _ {S J : Type 0} (core_of : S → CoreSeen) (runs : J → S → Option (R
   pub send_looks : (moment word call : ℕ) (message : List ℕ) (answer : Option (Result Reply PostError)) (job job_after : J) (before turned after : SeatSeen Entry)
       → answer ≡ None → ((a b : S) → runs job a answer job_after b → SendGives moment word call message (core_of a) answer (core_of b))
       → (turned ≡ record before { found = after.found }) → StartsWith after.found before.found
-      → TakesTurn (λ s. (core_of s).journal.entries) runs job turned answer job_after after
+      → TakesTurn (λ s. (core_of s).journal.entries) origin runs job turned answer job_after after
       → Looks (λ core. (held : ℕ) × WouldReply core (event.Send call message) (reply.Full held)) before after
   send_looks moment word call message answer job job_after before turned after none gives is found turn =
       looks_of core_of runs (λ core. (held : ℕ) × WouldReply core (event.Send call message) (reply.Full held)) job job_after answer before turned after
@@ -223,8 +237,8 @@ pub looks_begin : (tells : CoreSeen → Type 0) (before after : SeatSeen Entry) 
 looks_begin tells before after looks = subst (λ (t : List Entry). StartsWith t before.seen) (sym looks.seen) looks.sees
 
 -- a turn that was tried finds no holder
-module _ {S J A : Type 0} (entries : S → List Entry) (runs : J → S → A → J → S → Type 0) where
-  pub found_same : (job job_after : J) (answer : A) (before after : SeatSeen Entry) → TakesTurn entries runs job before answer job_after after → after.found ≡ before.found
+module _ {S J A : Type 0} {origin : S → List ℕ} (entries : S → List Entry) (runs : J → S → A → J → S → Type 0) where
+  pub found_same : (job job_after : J) (answer : A) (before after : SeatSeen Entry) → TakesTurn entries origin runs job before answer job_after after → after.found ≡ before.found
   found_same job job_after answer before after turn = ap (λ (t : SeatSeen Entry). t.found) turn.seat
 
 pub same_but_found : (before after : SeatSeen Entry) → after.found ≡ before.found → before ≡ record before { found = after.found }

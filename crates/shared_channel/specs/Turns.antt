@@ -9,6 +9,7 @@ use Rattle.grpc_base.specs.declared.event.Reply.TheVariants as reply
 use Rattle.grpc_base.specs.declared.event.Stamped.{Stamped}
 use Rattle.grpc_base.specs.declared.post.PostError.{PostError}
 use Rattle.grpc_base.specs.declared.post.PostError.TheVariants as failed
+use Rattle.atomic_table.specs.Seated.{TableId}
 use Rattle.turn_lock.specs.History.{SeatSeen, StartsWith, places}
 use Rattle.turn_lock.specs.Turn.{FoundHolder}
 use Rattle.channel_core.specs.Core.{CoreSeen, IsFull, Steps, WouldReply}
@@ -71,7 +72,8 @@ entries_of own = map (λ p. p.1) own
 -- numbers that name the channel of a handle, and how many parts of it are the handle's
 abbrev pub share_of : SeatSeen Entry → List ℕ
 share_of seat =
-    seat.parts ∷ seat.lock.words ∷ seat.lock.slots ∷ seat.lock.views_name ∷ seat.lock.atom ∷ seat.lock.block ∷ seat.lock.offset ∷ seat.lock.slot_names
+    let table : TableId = seat.lock.table in
+    seat.parts ∷ table.words ∷ table.slots ∷ table.views_name ∷ table.atom ∷ table.block ∷ table.offset ∷ length table.slot_names ∷ (table.slot_names ++ seat.lock.origin)
 
 -- the random words to come: one is drawn ahead of those that are still to be drawn
 abbrev pub words_of : ℕ → (ℕ → ℕ) → ℕ → ℕ

@@ -15,23 +15,24 @@ use crate::tally::Tally;
 use crate::watched::Watched;
 use channel_core::ChannelCore;
 use gate_io::{Clock, Draws};
-use grpc_base::{Conn, NoMemory};
+use grpc_base::{Conn, NoMemory, Text};
 use lb_policy::Balancer;
 use std::alloc::Global;
 use std::marker::Model;
 use std::sync::Wait;
 use turn_lock::TurnLock;
 
-/// A channel that threads share: its core under a lock at which handles take turns.
+/// A channel that threads share: its core under a lock at which handles take turns. The origin of the lock is the authority of the
+/// channel's requests.
 #[derive(Drop)]
 pub struct SharedChannel<P: Balancer> {
     lock: TurnLock<Shared<P>>,
 }
 
 impl<P: Balancer> Model for SharedChannel<P> {
-    ghost use Rattle.atomic_table.specs.Seated.{TableId};
+    ghost use Rattle.turn_lock.specs.History.{LockId};
 
-    ghost Value = { TableId };
+    ghost Value = { LockId };
 
     ghost view = { λ c. c.lock };
 }
@@ -50,14 +51,19 @@ fn state_of(number: u8) -> Conn
 }
 
 impl<P: Balancer> SharedChannel<P> {
-    /// A channel over this core, which was new and was given events and whose journal is within its limit, and the first handle, whose
-    /// own entries are all that the core has.
-    pub fn new(alloc: Global, core: ChannelCore<P>) -> Result<(SharedChannel<P>, Seat<P>), NoMemory>
+    /// A channel over this core, which was new with this authority and was given events and whose journal is within its limit, and the
+    /// first handle, whose own entries are all that the core has.
+    pub fn new(
+        alloc: Global,
+        core: ChannelCore<P>,
+        authority: Text,
+    ) -> Result<(SharedChannel<P>, Seat<P>), NoMemory>
         requires limit { length core.journal.entries ≤ 1048576 }
-        requires run { HasRun core }
-        ensures { IfOk result (λ r. r.1 ≡ record { lock = r.0; seen = core.journal.entries; own = places 0 core.journal.entries; parts = 4294967296; found = [] }) }
+        requires run { HasRun authority core }
+        ensures seat { IfOk result (λ r. r.1 ≡ record { lock = r.0; seen = core.journal.entries; own = places 0 core.journal.entries; parts = 4294967296; found = [] }) }
+        ensures authority { IfOk result (λ r. r.0.origin ≡ authority) }
     {
-        let watched = Watched::new(core);
+        let watched = Watched::new(core, authority);
         let (lock, seat) = TurnLock::new(alloc, Shared { watched })?;
         Ok((SharedChannel { lock }, seat))
     }
@@ -125,7 +131,7 @@ impl<P: Balancer> SharedChannel<P> {
         reading: &mut R,
     ) -> R::Answer
         requires lock { seat.old.lock ≡ self.now }
-        ensures read { Looks (λ core. IsRunning core × R.reads reading.old core result reading.new) seat.old seat.new }
+        ensures read { Looks (λ core. IsRunning self.now.origin core × R.reads reading.old core result reading.new) seat.old seat.new }
     {
         self.lock.turn(rt, seat, &mut Lend { reading })
     }

@@ -28,7 +28,7 @@ impl<P: Balancer> Job<Shared<P>> for Step {
 
     type Answer = Result<Reply, PostError>;
 
-    ghost runs = { λ job state answer job_after after. StepGives job.stamped state.watched answer after.watched };
+    ghost runs = { λ job state answer job_after after. StepGives job.stamped state.watched.core answer after.watched.core };
 
     fn run(&mut self, state: &mut Shared<P>) -> Result<Reply, PostError> {
         let event = mem::replace(&mut self.stamped.event, Event::Tick);
@@ -53,7 +53,7 @@ impl<P: Balancer> Job<Shared<P>> for TakeStep {
 
     type Answer = Option<Result<Reply, PostError>>;
 
-    ghost runs = { λ job state answer job_after after. TakeGives job.moment job.word job.call state.watched answer after.watched };
+    ghost runs = { λ job state answer job_after after. TakeGives job.moment job.word job.call state.watched.core answer after.watched.core };
 
     fn run(&mut self, state: &mut Shared<P>) -> Option<Result<Reply, PostError>> {
         if !state.watched.core().can_take(self.call) {
@@ -84,7 +84,7 @@ impl<P: Balancer> Job<Shared<P>> for SendStep {
 
     type Answer = Option<Result<Reply, PostError>>;
 
-    ghost runs = { λ job state answer job_after after. SendGives job.moment job.word job.call job.message state.watched answer after.watched × MatchOption answer (job_after ≡ job) (λ _. Unit {0}) };
+    ghost runs = { λ job state answer job_after after. SendGives job.moment job.word job.call job.message state.watched.core answer after.watched.core × MatchOption answer (job_after ≡ job) (λ _. Unit {0}) };
 
     fn run(&mut self, state: &mut Shared<P>) -> Option<Result<Reply, PostError>> {
         if let Ok(len) = u32::try_from(self.message.len()) {
@@ -116,7 +116,7 @@ impl<P: Balancer> Job<Shared<P>> for AtView {
 
     type Answer = View;
 
-    ghost runs = { λ job state answer job_after after. (after ≡ state) × (answer ≡ view_of state.watched) };
+    ghost runs = { λ job state answer job_after after. (after ≡ state) × (answer ≡ view_of state.watched.core) };
 
     fn run(&mut self, state: &mut Shared<P>) -> View {
         state.watched.core().view()
@@ -135,7 +135,7 @@ impl<P: Balancer> Job<Shared<P>> for AtDrain {
 
     type Answer = bool;
 
-    ghost runs = { λ job state answer job_after after. (after ≡ state) × (answer ≡ can_drain_in job.link state.watched.state) };
+    ghost runs = { λ job state answer job_after after. (after ≡ state) × (answer ≡ can_drain_in job.link state.watched.core.state) };
 
     fn run(&mut self, state: &mut Shared<P>) -> bool {
         state.watched.core().can_drain(self.link)
@@ -154,7 +154,7 @@ impl<P: Balancer> Job<Shared<P>> for AtTake {
 
     type Answer = bool;
 
-    ghost runs = { λ job state answer job_after after. (after ≡ state) × CanTake job.call answer state.watched };
+    ghost runs = { λ job state answer job_after after. (after ≡ state) × CanTake job.call answer state.watched.core };
 
     fn run(&mut self, state: &mut Shared<P>) -> bool {
         state.watched.core().can_take(self.call)
@@ -174,7 +174,7 @@ impl<P: Balancer> Job<Shared<P>> for AtSend {
 
     type Answer = bool;
 
-    ghost runs = { λ job state answer job_after after. (after ≡ state) × CanSend job.call job.len answer state.watched };
+    ghost runs = { λ job state answer job_after after. (after ≡ state) × CanSend job.call job.len answer state.watched.core };
 
     fn run(&mut self, state: &mut Shared<P>) -> bool {
         state.watched.core().can_send(self.call, self.len)
@@ -193,9 +193,10 @@ impl<P: Balancer, R: Reading<P>> Job<Shared<P>> for Lend<'_, R> {
 
     type Answer = R::Answer;
 
-    ghost runs = { λ job state answer job_after after. (after ≡ state) × IsRunning state.watched × R.reads job.reading.now state.watched answer job_after.reading.now × (job_after.reading.ghost_name ≡ job.reading.ghost_name) };
+    ghost runs = { λ job state answer job_after after. (after ≡ state) × IsRunning state.watched.authority state.watched.core × R.reads job.reading.now state.watched.core answer job_after.reading.now × (job_after.reading.ghost_name ≡ job.reading.ghost_name) };
 
     fn run(&mut self, state: &mut Shared<P>) -> R::Answer {
-        self.reading.read(state.watched.core())
+        self.reading
+            .read(state.watched.core(), state.watched.nearly_full())
     }
 }

@@ -18,9 +18,12 @@ impl<P: Balancer> Chronicle for Shared<P> {
 
     type Entry = Entry;
 
-    ghost entries = { λ s. s.watched.journal.entries };
+    ghost entries = { λ s. s.watched.core.journal.entries };
 
     ghost mark_of = { λ entries. mark_in entries };
+
+    // The authority of its requests.
+    ghost origin = { λ s. s.watched.authority };
 
     fn count(&self) -> u64 {
         self.watched.count()

@@ -12,13 +12,13 @@ use Rattle.h2_hpack.specs.Blocks.{Reading as BlockReading, State, decoded, field
 use Rattle.h2_hpack.specs.declared.fault.HpackFault.{HpackFault}
 use Rattle.grpc_base.specs.declared.fields.Field.{Field}
 use Rattle.std.specs.Prelude.{Result, Ok, Err}
-use Rattle.channel_core.specs.Said.{Block, FrameAt, HeaderList, Headers, Other, Said, block_with, frames_at, said_from}
-use Rattle.channel_core.specs.Messages.{Flaw, BadFlag, TooLarge, Messages, before, messages_within}
+use Rattle.link_laws.specs.Said.{Block, FrameAt, HeaderList, Headers, Other, Said, block_with, frames_at, said_from}
+use Rattle.channel_laws.specs.Messages.{Flaw, BadFlag, TooLarge, Messages, before, messages_within}
 use Rattle.std.specs.Char.{digit_value}
 use Rattle.grpc_base.specs.declared.code.Code.{Code}
 use Rattle.grpc_base.specs.declared.code.Code.TheVariants as code
 use Rattle.grpc_base.specs.Numbers.{number_of}
-use Rattle.channel_core.specs.Response.{is_ok}
+use Rattle.channel_laws.specs.Response.{is_ok}
 use Rattle.slow_channel.specs.Parts.{first_message, flaw_at, flaw_behind, length_at, list_then, message_behind, said_block}
 
 -- no message, and what is wrong with these bytes

@@ -2,8 +2,8 @@
 use Rattle.std.specs.Prelude.{ℕ, ◌+◌, ◌*◌, ◌==◌, Option, Some, None, List, [], ◌∷◌, length, take, drop, Result, Ok, Err, nat_lt, nat_le, if◌then◌else◌}
 use Rattle.h2_hpack.specs.Blocks.{Reading, State}
 use Rattle.h2_hpack.specs.declared.fault.HpackFault.{HpackFault}
-use Rattle.channel_core.specs.Messages.{Flaw, BadFlag, TooLarge}
-use Rattle.channel_core.specs.Said.{Block, HeaderList, Headers, Said}
+use Rattle.channel_laws.specs.Messages.{Flaw, BadFlag, TooLarge}
+use Rattle.link_laws.specs.Said.{Block, HeaderList, Headers, Said}
 
 -- a length in four bytes, the highest first, and what is behind it
 abbrev pub length_at : List ℕ → Option (ℕ × List ℕ)

@@ -2,7 +2,7 @@
 ghost use Rattle.std.specs.Prelude.{◌≡◌, ◌≤◌, ◌+◌, ◌^◌, ◌∷◌, IfOk, drop, length};
 ghost use Rattle.h2_frame.specs.Readings.{frames_of, frames_within};
 ghost use Rattle.h2_frame.specs.Steps.{seen};
-ghost use Rattle.channel_core.specs.Said.{frames_at};
+ghost use Rattle.link_laws.specs.Said.{frames_at};
 
 use grpc_base::{Items, NoMemory, Octets};
 use h2_frame::{Frame, FrameStep, next_frame};
@@ -20,7 +20,7 @@ pub struct FrameEnd {
 }
 
 impl Model for FrameEnd {
-    ghost use Rattle.channel_core.specs.Said.{FrameAt};
+    ghost use Rattle.link_laws.specs.Said.{FrameAt};
 
     ghost Value = { FrameAt };
 

@@ -1,4 +1,4 @@
-// Plain slow programs, each of which computes one definition of `channel_core` over whole texts of bytes: tests compute the
+// Plain slow programs, each of which computes one definition of what bytes say over whole texts of them: tests compute the
 // definitions with them.
 #![tactic(auto)]
 

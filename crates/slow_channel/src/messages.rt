@@ -1,6 +1,6 @@
 // The messages at the front of some bytes, each of them copied.
 ghost use Rattle.std.specs.Prelude.{◌≡◌, [], IfOk, OnOk, ◌∷◌, ◌+◌, ◌*◌, ◌≤◌, length, take, drop, nat_le, option_map};
-ghost use Rattle.channel_core.specs.Messages.{BadFlag, TooLarge, before, messages_of, messages_within};
+ghost use Rattle.channel_laws.specs.Messages.{BadFlag, TooLarge, before, messages_of, messages_within};
 ghost use Rattle.slow_channel.specs.Parts.{first_message, flaw_at, length_at, parted};
 ghost use Rattle.slow_channel.specs.declared.messages.MessageFlaw.TheVariants as flaws;
 
@@ -25,7 +25,7 @@ pub struct FoundMessages {
 
 impl Model for FoundMessages {
     ghost use Rattle.std.specs.Prelude.{option_map};
-    ghost use Rattle.channel_core.specs.Messages.{Messages, BadFlag, TooLarge};
+    ghost use Rattle.channel_laws.specs.Messages.{Messages, BadFlag, TooLarge};
     ghost use Rattle.slow_channel.specs.declared.messages.MessageFlaw.TheVariants as flaws;
 
     ghost Value = { Messages };

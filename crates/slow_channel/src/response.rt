@@ -4,8 +4,8 @@ ghost use Rattle.grpc_base.specs.declared.code.Code.TheVariants as code;
 ghost use Rattle.grpc_base.specs.declared.plan.Pushback.TheVariants as asks;
 ghost use Rattle.attempt_ledger.specs.declared.row.RowCause.TheVariants as cause;
 ghost use Rattle.grpc_meta.specs.ResponseFields.{values_of};
-ghost use Rattle.channel_core.specs.Messages.{BadFlag, TooLarge};
-ghost use Rattle.channel_core.specs.Response.{after_head, bare_end, before_head, end_with, has_bad_flag, http_code, is_cut, is_ok, no_response, response_from, response_on, status_end, trailers_end, with_data, with_frame, with_headers, with_own_frame, with_said};
+ghost use Rattle.channel_laws.specs.Messages.{BadFlag, TooLarge};
+ghost use Rattle.channel_laws.specs.Response.{after_head, bare_end, before_head, end_with, has_bad_flag, http_code, is_cut, is_ok, no_response, response_from, response_on, status_end, trailers_end, with_data, with_frame, with_headers, with_own_frame, with_said};
 ghost use Rattle.slow_channel.specs.declared.messages.MessageFlaw.TheVariants as flaws;
 
 use crate::frames::FrameEnd;
@@ -35,7 +35,7 @@ pub struct StreamResponse {
 }
 
 impl Model for StreamResponse {
-    ghost use Rattle.channel_core.specs.Response.{Response};
+    ghost use Rattle.channel_laws.specs.Response.{Response};
 
     ghost Value = { Response };
 

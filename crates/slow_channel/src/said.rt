@@ -2,7 +2,7 @@
 ghost use Rattle.std.specs.Prelude.{◌≡◌, List, ◌∷◌, [], ◌++◌, ◌-◌, IfOk, Option, Some, None, drop, length, take, option_map};
 ghost use Rattle.h2_frame.specs.Frames.{fields_size, has_flag, is_padded};
 ghost use Rattle.h2_hpack.specs.Blocks.{State, decoded};
-ghost use Rattle.channel_core.specs.Said.{Said, Headers, Other, block_with, content_of, padding_of, said_from, said_of};
+ghost use Rattle.link_laws.specs.Said.{Said, Headers, Other, block_with, content_of, padding_of, said_from, said_of};
 ghost use Rattle.slow_channel.specs.Parts.{list_then, said_block};
 ghost use Rattle.slow_channel.specs.declared.said.SaidPart.TheVariants as parts;
 
@@ -23,7 +23,7 @@ pub struct OpenBlock {
 }
 
 impl Model for OpenBlock {
-    ghost use Rattle.channel_core.specs.Said.{Block};
+    ghost use Rattle.link_laws.specs.Said.{Block};
 
     ghost Value = { Block };
 
@@ -40,7 +40,7 @@ pub struct SaidList {
 }
 
 impl Model for SaidList {
-    ghost use Rattle.channel_core.specs.Said.{HeaderList};
+    ghost use Rattle.link_laws.specs.Said.{HeaderList};
 
     ghost Value = { HeaderList };
 
@@ -87,7 +87,7 @@ pub struct SaidItem {
 }
 
 impl Model for SaidItem {
-    ghost use Rattle.channel_core.specs.Said.{Said, Headers, Other};
+    ghost use Rattle.link_laws.specs.Said.{Said, Headers, Other};
     ghost use Rattle.slow_channel.specs.declared.said.SaidPart.TheVariants as parts;
 
     ghost Value = { Said };

@@ -1,7 +1,7 @@
 // The requests that a client's bytes say: their header lists, the bytes of their messages, and whether they are complete.
 ghost use Rattle.std.specs.Prelude.{◌≡◌, ◌==◌, ◌&&◌, [], ◌∷◌, ◌++◌, IfOk, MatchOption, option_map};
 ghost use Rattle.h2_frame.specs.Numbers.{data_type};
-ghost use Rattle.channel_core.specs.Sent.{client_said, data_in, data_sent, ends_in, is_complete, list_in, opened};
+ghost use Rattle.channel_laws.specs.Sent.{client_said, data_in, data_sent, ends_in, is_complete, list_in, opened};
 
 use crate::frames::FrameEnd;
 use crate::said::{SaidItem, SaidList, SaidPart, content_of, has_flag, said_of};

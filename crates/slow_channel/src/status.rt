@@ -3,7 +3,7 @@ ghost use Rattle.std.specs.Prelude.{◌≡◌, ◌≤◌, [], ◌∷◌, IfOk, M
 ghost use Rattle.std.specs.Option.{option_map_or};
 ghost use Rattle.grpc_meta.specs.ResponseFields.{values_of};
 ghost use Rattle.grpc_status.specs.StatusMaps.{text_of_message};
-ghost use Rattle.channel_core.specs.Response.{asked, bare_end, end_with, framing_end, http_code, http_status, is_grpc, is_head, is_interim, number_at, status_end, three_digits};
+ghost use Rattle.channel_laws.specs.Response.{asked, bare_end, end_with, framing_end, http_code, http_status, is_grpc, is_head, is_interim, number_at, status_end, three_digits};
 
 use crate::said::SaidList;
 use attempt_ledger::{EndNews, RowCause};

@@ -4,7 +4,7 @@ use Rattle.grpc_base.specs.declared.event.EndCause.{EndCause}
 use Rattle.attempt_ledger.specs.declared.ledger.CallEnd.{CallEnd}
 use Rattle.attempt_ledger.specs.declared.ledger.CallSeen.{CallSeen}
 use Rattle.channel_core.specs.Tables.{numbered}
-use Rattle.channel_core.specs.Takes.{HasEnded}
+use Rattle.link_laws.specs.Takes.{HasEnded}
 
 pub same_end : (calls : List CallSeen) (call entry : ℕ) (cause : EndCause) (seen : CallSeen) (end : CallEnd) → numbered calls call ≡ Some seen → seen.end ≡ Some end → HasEnded calls call entry cause → end.entry ≤ entry
 same_end calls call entry cause seen end there is h =

@@ -3,7 +3,7 @@ use Rattle.std.proofs.Common.{ℕ, List, [], ◌∷◌, refl, ap}
 use Rattle.std.specs.List.{AllByRecursion}
 use Rattle.grpc_base.specs.declared.event.Entry.{Entry}
 use Rattle.attempt_ledger.specs.declared.ledger.Ledger.{Ledger}
-use Rattle.channel_core.specs.Laws.{IsLawful}
+use Rattle.channel_laws.specs.Laws.{IsLawful}
 use Rattle.slow_laws.specs.Named.{Holds, IsFirstBroken, each_law}
 use Rattle.slow_laws.specs.declared.journal.Law.{Law}
 use Rattle.slow_laws.specs.declared.journal.Law.TheVariants as law

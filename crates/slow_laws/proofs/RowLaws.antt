@@ -3,7 +3,7 @@ use Rattle.std.proofs.Common.{◌≡◌, ◌↔◌, ℕ, true, zero, suc, Some, 
 use Rattle.attempt_ledger.specs.declared.row.Row.{Row}
 use Rattle.call_core.specs.Commitments.{IsRowOf}
 use Rattle.call_core.specs.Rows.{row_in}
-use Rattle.channel_core.specs.Commitments.{HasOneCommitment, IsOutstandingRow}
+use Rattle.link_laws.specs.Commitments.{HasOneCommitment, IsOutstandingRow}
 use Rattle.channel_core.specs.Tables.{numbered}
 use Rattle.slow_laws.specs.Pairs.{KeepsPair}
 

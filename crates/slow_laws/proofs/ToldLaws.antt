@@ -3,7 +3,7 @@ use Rattle.std.proofs.Common.{◌≡◌, ◌↔◌, ℕ, ◌+◌, List, [], ◌�
 use Rattle.std.specs.Prelude.{map}
 use Rattle.grpc_base.specs.declared.event.Entry.{Entry}
 use Rattle.grpc_base.specs.declared.event.Reply.{Reply}
-use Rattle.channel_core.specs.Laws.{counted_from, told_from}
+use Rattle.link_laws.specs.Stamps.{counted_from, told_from}
 
 -- nothing
 pub told_none : (told : Reply → List ℕ) (entry : ℕ) (e : Entry) (entries : List Entry) (all : List (ℕ × ℕ)) → told e.reply ≡ [] → (told_from told entry (e ∷ entries) ≡ all) ↔ (told_from told (entry + 1) entries ≡ all)

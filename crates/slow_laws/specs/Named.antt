@@ -3,16 +3,16 @@ use Rattle.std.specs.Prelude.{◌≡◌, ◌≤◌, List, [], ◌∷◌, ◌++�
 use Rattle.std.specs.List.{AllByRecursion}
 use Rattle.grpc_base.specs.declared.event.Entry.{Entry}
 use Rattle.attempt_ledger.specs.declared.ledger.Ledger.{Ledger}
-use Rattle.channel_core.specs.CallAnswers.{AreAnswered}
-use Rattle.channel_core.specs.CallEnds.{AreEnded}
-use Rattle.channel_core.specs.Cancels.{AreCancelled}
-use Rattle.channel_core.specs.Commitments.{AreCommittedOnce}
-use Rattle.channel_core.specs.Finishes.{AreFinished}
-use Rattle.channel_core.specs.Laws.{AreRising, IsDated, call_told, counted_from, link_told, moment_at, told_from}
-use Rattle.channel_core.specs.Losses.{AreOver}
-use Rattle.channel_core.specs.Rooms.{AreWithinRoom}
-use Rattle.channel_core.specs.Shutdowns.{AreShut}
-use Rattle.channel_core.specs.Takes.{AreTaken, AreTakenOnce}
+use Rattle.channel_laws.specs.CallAnswers.{AreAnswered}
+use Rattle.channel_laws.specs.CallEnds.{AreEnded}
+use Rattle.channel_laws.specs.Cancels.{AreCancelled}
+use Rattle.link_laws.specs.Commitments.{AreCommittedOnce}
+use Rattle.channel_laws.specs.Finishes.{AreFinished}
+use Rattle.link_laws.specs.Stamps.{AreRising, IsDated, call_told, counted_from, link_told, moment_at, told_from}
+use Rattle.link_laws.specs.Losses.{AreOver}
+use Rattle.link_laws.specs.Rooms.{AreWithinRoom}
+use Rattle.channel_laws.specs.Shutdowns.{AreShut}
+use Rattle.link_laws.specs.Takes.{AreTaken, AreTakenOnce}
 use Rattle.slow_laws.specs.declared.journal.Law.{Law}
 use Rattle.slow_laws.specs.declared.journal.Law.TheVariants as law
 

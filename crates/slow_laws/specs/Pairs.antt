@@ -2,7 +2,7 @@
 use Rattle.std.specs.Prelude.{◌≡◌, ◌≤◌, ◌<◌, ℕ, true, Option, Some, None, IfSome, is_some}
 use Rattle.attempt_ledger.specs.Numbering.{is_transparent}
 use Rattle.attempt_ledger.specs.declared.row.Row.{Row}
-use Rattle.channel_core.specs.Commitments.{EndedBy}
+use Rattle.link_laws.specs.Commitments.{EndedBy}
 
 -- both belong to one attempt if both are committed, and beside a commitment the other one is not outstanding without one
 pub record IsAlone (row next : Row) : Type 0 where

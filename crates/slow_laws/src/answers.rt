@@ -3,9 +3,9 @@ ghost use Rattle.std.specs.Prelude.{◌≡◌, ◌↔◌, ◌≤◌, ℕ, IsTrue
 ghost use Rattle.grpc_base.specs.declared.event.EndCause.{EndCause};
 ghost use Rattle.attempt_ledger.specs.declared.ledger.CallEnd.{CallEnd};
 ghost use Rattle.attempt_ledger.specs.declared.ledger.CallSeen.{CallSeen};
-ghost use Rattle.channel_core.specs.CallAnswers.{AreAnswered, IsAnsweredSo, acts_on};
+ghost use Rattle.channel_laws.specs.CallAnswers.{AreAnswered, IsAnsweredSo, acts_on};
 ghost use Rattle.channel_core.specs.Tables.{numbered};
-ghost use Rattle.channel_core.specs.Takes.{HasEnded};
+ghost use Rattle.link_laws.specs.Takes.{HasEnded};
 
 use crate::each::{Kept, at_number, each_keeps};
 use crate::words::acts_on;

@@ -3,7 +3,7 @@ ghost use Rattle.std.specs.Prelude.{◌≡◌, ◌↔◌, ℕ, IsTrue};
 ghost use Rattle.grpc_base.specs.declared.event.EndCause.TheVariants as ending;
 ghost use Rattle.grpc_base.specs.declared.event.Event.TheVariants as event;
 ghost use Rattle.grpc_base.specs.declared.event.Reply.TheVariants as reply;
-ghost use Rattle.channel_core.specs.Cancels.{AreCancelled, EndsIn};
+ghost use Rattle.channel_laws.specs.Cancels.{AreCancelled, EndsIn};
 
 use crate::each::{Kept, at_number, each_keeps};
 use attempt_ledger::{CallSeen, Ledger};

@@ -1,7 +1,7 @@
 // To which row each call is committed, as the rows of a ledger show it.
 ghost use Rattle.std.specs.Prelude.{◌≡◌, ◌↔◌, ◌≤◌, ℕ, IsTrue, IfSome, Some, length};
 ghost use Rattle.attempt_ledger.specs.declared.row.Row.{Row};
-ghost use Rattle.channel_core.specs.Commitments.{AreCommittedOnce, EndedBy, HasOneCommitment};
+ghost use Rattle.link_laws.specs.Commitments.{AreCommittedOnce, EndedBy, HasOneCommitment};
 ghost use Rattle.channel_core.specs.Tables.{numbered};
 ghost use Rattle.slow_laws.specs.Pairs.{IsAlone, IsChained, IsOverBefore, KeepsPair};
 

@@ -1,7 +1,7 @@
 // Each stamp of the ledger names an entry of the journal, and has its moment.
 ghost use Rattle.std.specs.Prelude.{◌↔◌, IsTrue, IfSome};
 ghost use Rattle.std.specs.List.{AllByRecursion};
-ghost use Rattle.channel_core.specs.Laws.{IsDated, IsDatedAsk, IsDatedAt, IsDatedCall, IsDatedGeneration, IsDatedLink, IsDatedRow, IsMade, moment_at};
+ghost use Rattle.link_laws.specs.Stamps.{IsDated, IsDatedAsk, IsDatedAt, IsDatedCall, IsDatedGeneration, IsDatedLink, IsDatedRow, IsMade, moment_at};
 
 use crate::each::{Kept, at_number, each_keeps};
 use attempt_ledger::{Ask, CallSeen, Generation, Ledger, LinkSeen, Row};

@@ -5,8 +5,8 @@ ghost use Rattle.attempt_ledger.specs.declared.ledger.CallEnd.{CallEnd};
 ghost use Rattle.attempt_ledger.specs.declared.ledger.CallSeen.{CallSeen};
 ghost use Rattle.attempt_ledger.specs.declared.row.Row.{Row};
 ghost use Rattle.attempt_ledger.specs.declared.row.RowEnd.{RowEnd};
-ghost use Rattle.channel_core.specs.CallEnds.{AreEnded, EndsByRow, IsOver};
-ghost use Rattle.channel_core.specs.Commitments.{IsOutstandingRow};
+ghost use Rattle.channel_laws.specs.CallEnds.{AreEnded, EndsByRow, IsOver};
+ghost use Rattle.link_laws.specs.Commitments.{IsOutstandingRow};
 ghost use Rattle.channel_core.specs.Tables.{numbered};
 
 use crate::each::{Kept, each_keeps, some_keeps};

@@ -3,8 +3,8 @@ ghost use Rattle.std.specs.Prelude.{◌≡◌, ◌↔◌, ◌<◌, ℕ, IsTrue, 
 ghost use Rattle.grpc_base.specs.declared.event.Entry.{Entry};
 ghost use Rattle.grpc_base.specs.declared.event.Event.TheVariants as event;
 ghost use Rattle.grpc_base.specs.declared.event.Reply.TheVariants as reply;
-ghost use Rattle.channel_core.specs.Finishes.{AreFinished, writes_to};
-ghost use Rattle.channel_core.specs.Losses.{is_refused};
+ghost use Rattle.channel_laws.specs.Finishes.{AreFinished, writes_to};
+ghost use Rattle.link_laws.specs.Losses.{is_refused};
 ghost use Rattle.channel_core.specs.Tables.{numbered};
 
 use crate::each::{Kept, each_keeps};

@@ -1,7 +1,7 @@
 // The laws one by one, and the first that a journal and a ledger break.
 ghost use Rattle.std.specs.Prelude.{◌≡◌, ◌↔◌, ℕ, IsTrue, IfNone, IfSome, List};
 ghost use Rattle.std.specs.List.{AllByRecursion};
-ghost use Rattle.channel_core.specs.Laws.{IsLawful};
+ghost use Rattle.channel_laws.specs.Laws.{IsLawful};
 ghost use Rattle.slow_laws.specs.Named.{Holds, IsFirstBroken, each_law};
 
 use crate::answers::are_answered;

@@ -1,4 +1,4 @@
-// Plain slow programs, each of which answers whether a journal and a ledger keep one law of `channel_core`: tests compute the laws with
+// Plain slow programs, each of which answers whether a journal and a ledger keep one law of sessions: tests compute the laws with
 // them.
 #![tactic(auto)]
 

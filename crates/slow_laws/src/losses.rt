@@ -1,7 +1,7 @@
 // On a link that was lost nothing happens any more.
 ghost use Rattle.std.specs.Prelude.{◌≡◌, ◌↔◌, ℕ, [], IsTrue, Some, true};
 ghost use Rattle.std.specs.List.{list_any};
-ghost use Rattle.channel_core.specs.Losses.{AreOver, is_refused, link_of, loses};
+ghost use Rattle.link_laws.specs.Losses.{AreOver, is_refused, link_of, loses};
 
 use crate::words::{is_refused, link_of};
 use grpc_base::{Entry, Event, Reply};

@@ -2,17 +2,16 @@
 ghost use Rattle.std.specs.Prelude.{◌≡◌, ◌↔◌, ◌<◌, ℕ, IsTrue, Some, List};
 ghost use Rattle.grpc_base.specs.declared.code.Code.{Code};
 ghost use Rattle.grpc_base.specs.declared.event.EndCause.{EndCause};
-ghost use Rattle.grpc_base.specs.declared.event.EndCause.TheVariants as ending;
 ghost use Rattle.grpc_base.specs.declared.event.Entry.{Entry};
 ghost use Rattle.grpc_base.specs.declared.event.Event.TheVariants as event;
 ghost use Rattle.grpc_base.specs.declared.event.Refusal.TheVariants as refusal;
 ghost use Rattle.grpc_base.specs.declared.event.Reply.TheVariants as reply;
 ghost use Rattle.grpc_base.specs.declared.fields.Field.{Field};
 ghost use Rattle.channel_core.specs.Tables.{numbered};
-ghost use Rattle.channel_core.specs.Takes.{AreTakenOnce};
+ghost use Rattle.link_laws.specs.Takes.{AreTakenOnce};
 
 use crate::each::{Kept, each_keeps};
-use grpc_base::{EndCause, Entry, Event, Refusal, Reply};
+use grpc_base::{Entry, Event, Refusal, Reply};
 
 /// The law of one entry by a Take of a call in an entry.
 #[derive(Drop)]
@@ -54,20 +53,17 @@ struct TakenOnce<'a> {
 }
 
 impl Kept<Entry> for TakenOnce<'_> {
-    ghost holds = { λ s entry e. (call : ℕ) (told : Code) (text : List ℕ) (meta : List Field) (cause : EndCause) → e.event ≡ event.Take call → e.reply ≡ reply.End told text meta cause → (cause ≡ ending.Response → ⊥) → (later : ℕ) (f : Entry) → numbered s.entries.now later ≡ Some f → entry < later → f.event ≡ event.Take call → f.reply ≡ reply.Refused refusal.CallEnded };
+    ghost holds = { λ s entry e. (call : ℕ) (told : Code) (text : List ℕ) (meta : List Field) (cause : EndCause) → e.event ≡ event.Take call → e.reply ≡ reply.End told text meta cause → (later : ℕ) (f : Entry) → numbered s.entries.now later ≡ Some f → entry < later → f.event ≡ event.Take call → f.reply ≡ reply.Refused refusal.CallEnded };
 
     fn is_kept(&self, number: u64, thing: &Entry) -> bool {
         match (&thing.event, &thing.reply) {
-            (Event::Take { call }, Reply::End { cause, .. }) => {
-                *cause == EndCause::Response
-                    || each_keeps(
-                        self.entries,
-                        &ByTake {
-                            entry: number,
-                            call: *call,
-                        },
-                    )
-            }
+            (Event::Take { call }, Reply::End { .. }) => each_keeps(
+                self.entries,
+                &ByTake {
+                    entry: number,
+                    call: *call,
+                },
+            ),
             _ => true,
         }
     }

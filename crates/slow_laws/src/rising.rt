@@ -1,6 +1,6 @@
 // Moments never fall.
 ghost use Rattle.std.specs.Prelude.{◌↔◌, IsTrue};
-ghost use Rattle.channel_core.specs.Laws.{AreRising};
+ghost use Rattle.link_laws.specs.Stamps.{AreRising};
 
 use grpc_base::Entry;
 

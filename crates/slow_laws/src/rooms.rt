@@ -1,6 +1,6 @@
 // A drain gives no more bytes than it has room, and at most 1,048,576.
 ghost use Rattle.std.specs.Prelude.{◌≡◌, ◌↔◌, IsTrue};
-ghost use Rattle.channel_core.specs.Rooms.{AreWithinRoom, FitsBy};
+ghost use Rattle.link_laws.specs.Rooms.{AreWithinRoom, FitsBy};
 
 use crate::each::{Kept, each_keeps};
 use grpc_base::{Entry, Event, Reply};

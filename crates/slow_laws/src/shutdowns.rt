@@ -5,7 +5,7 @@ ghost use Rattle.grpc_base.specs.declared.event.Entry.{Entry};
 ghost use Rattle.grpc_base.specs.declared.event.Event.TheVariants as event;
 ghost use Rattle.grpc_base.specs.declared.event.Refusal.TheVariants as refusal;
 ghost use Rattle.grpc_base.specs.declared.event.Reply.TheVariants as reply;
-ghost use Rattle.channel_core.specs.Shutdowns.{AreShut, may_come};
+ghost use Rattle.channel_laws.specs.Shutdowns.{AreShut, may_come};
 ghost use Rattle.channel_core.specs.Tables.{numbered};
 
 use crate::each::{Kept, each_keeps};

@@ -3,7 +3,7 @@ ghost use Rattle.std.specs.Prelude.{◌≡◌, ◌↔◌, ℕ, IsTrue, Some, is_
 ghost use Rattle.grpc_base.specs.declared.event.Event.TheVariants as event;
 ghost use Rattle.grpc_base.specs.declared.event.Reply.TheVariants as reply;
 ghost use Rattle.attempt_ledger.specs.declared.row.RowEnd.{RowEnd};
-ghost use Rattle.channel_core.specs.Takes.{AreTaken, HasEnded, IsBare, IsOfRow, IsTakenSo, Tells};
+ghost use Rattle.link_laws.specs.Takes.{AreTaken, HasEnded, IsBare, IsOfRow, IsTakenSo, Tells};
 
 use crate::answers::{end_of, is_open_at};
 use crate::each::{Kept, each_keeps, some_keeps};
@@ -115,8 +115,7 @@ fn is_its_end(ledger: &Ledger, entry: u64, call: u32, cause: EndCause, told: &To
     ensures { IsTrue result ↔ IsTakenSo ledger.now entry call (reply.End told.now.code told.now.text.now told.now.meta.now cause) }
 {
     tells(ledger.rows.as_slice(), call, cause, told)
-        && (cause == EndCause::Response
-            || has_ended_for(ledger.calls.as_slice(), call, entry, cause))
+        && has_ended_for(ledger.calls.as_slice(), call, entry, cause)
 }
 
 fn is_taken_so(ledger: &Ledger, entry: u64, call: u32, answer: &Reply) -> bool

@@ -1,7 +1,7 @@
 // Calls and links are told as 1, 2, 3 .., each in the entry in which it began.
 ghost use Rattle.std.specs.Prelude.{◌≡◌, ◌↔◌, ◌≤◌, ◌<◌, ◌+◌, ◌^◌, ℕ, IsTrue, List, MatchOption, [], ◌∷◌, length, map, option_to_list};
 ghost use Rattle.grpc_base.specs.declared.event.Reply.{Reply};
-ghost use Rattle.channel_core.specs.Laws.{call_told, counted_from, link_told, told_from};
+ghost use Rattle.link_laws.specs.Stamps.{call_told, counted_from, link_told, told_from};
 
 use attempt_ledger::{CallSeen, Ledger, LinkSeen};
 use grpc_base::{Entry, Reply};

@@ -1,9 +1,9 @@
 // What an event or a reply says, in the words of the laws.
 ghost use Rattle.std.specs.Prelude.{◌≡◌, ◌↔◌, IsTrue, Some};
-ghost use Rattle.channel_core.specs.CallAnswers.{acts_on};
-ghost use Rattle.channel_core.specs.Finishes.{writes_to};
-ghost use Rattle.channel_core.specs.Losses.{is_refused, link_of};
-ghost use Rattle.channel_core.specs.Shutdowns.{may_come};
+ghost use Rattle.channel_laws.specs.CallAnswers.{acts_on};
+ghost use Rattle.channel_laws.specs.Finishes.{writes_to};
+ghost use Rattle.link_laws.specs.Losses.{is_refused, link_of};
+ghost use Rattle.channel_laws.specs.Shutdowns.{may_come};
 
 use grpc_base::{Event, Reply};
 

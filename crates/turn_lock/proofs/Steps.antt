@@ -41,7 +41,7 @@ not_true : (b : Bool) → b ≢ true → b ≡ false
 not_true true n = absurd (n refl)
 not_true false n = refl
 
-module _ {S E : Type 0} (entries : S → List E) (mark : List E → ℕ) where
+module _ {S E : Type 0} (entries : S → List E) (mark : List E → ℕ) (origin : S → List ℕ) (root : List ℕ) where
   abbrev V : Type 0
   V = View E
 
@@ -52,15 +52,18 @@ module _ {S E : Type 0} (entries : S → List E) (mark : List E → ℕ) where
   M = Hand S E
 
   abbrev Rule : St → Type 0
-  Rule = Holds entries mark
+  Rule = Holds entries mark origin root
+
+  abbrev HasRoot : ℕ → V → Type 0
+  HasRoot _ v = 0 < v.parts → v.origin ≡ root
 
   abbrev Turn : ℕ → List (Place (Option S)) → List V → List E → Type 0
-  Turn word homes vs h = IsFree entries word homes vs h ⊎ IsTaken word vs h
+  Turn word homes vs h = IsFree entries origin root word homes vs h ⊎ IsTaken word vs h
 
   -- a view without the turn changes to one without it
   turn_stays : (word : ℕ) (homes : List (Place (Option S))) (vs : List V) (h : List E) (id : ℕ) (v w : V) → get_elem? vs id ≡ some v → v.turn ≡ false → w.turn ≡ false → Turn word homes vs h → Turn word homes (set vs id w) h
   turn_stays word homes vs h id v w at vt wt = ⊎_elim
-      (λ (f : IsFree entries word homes vs h). inl record { zero = f.zero; none_has = each_set (λ _ (u : V). u.turn ≡ false) vs id w wt (λ j u _ e. f.none_has j u e); state = f.state; home = f.home; whole = f.whole })
+      (λ (f : IsFree entries origin root word homes vs h). inl record { zero = f.zero; none_has = each_set (λ _ (u : V). u.turn ≡ false) vs id w wt (λ j u _ e. f.none_has j u e); state = f.state; home = f.home; whole = f.whole; rooted = f.rooted })
       (λ (t : IsTaken word vs h).
       let other : t.seat ≢ id = λ e. true≢false (sym t.has ∙ (ap (λ (u : V). u.turn) (some-injective t.holder v (sym t.at ∙ (ap (get_elem? vs) e ∙ at))) ∙ vt)) in
       inr record {
@@ -77,7 +80,7 @@ module _ {S E : Type 0} (entries : S → List E) (mark : List E → ℕ) where
   -- a view without the turn is added
   turn_more : (word : ℕ) (homes : List (Place (Option S))) (vs : List V) (h : List E) (w : V) → w.turn ≡ false → Turn word homes vs h → Turn word homes (vs ++ w ∷ []) h
   turn_more word homes vs h w wt = ⊎_elim
-      (λ (f : IsFree entries word homes vs h). inl record { zero = f.zero; none_has = each_snoc (λ _ (u : V). u.turn ≡ false) vs w (λ _. wt) f.none_has; state = f.state; home = f.home; whole = f.whole })
+      (λ (f : IsFree entries origin root word homes vs h). inl record { zero = f.zero; none_has = each_snoc (λ _ (u : V). u.turn ≡ false) vs w (λ _. wt) f.none_has; state = f.state; home = f.home; whole = f.whole; rooted = f.rooted })
       (λ (t : IsTaken word vs h). inr record {
         some_one = t.some_one;
         seat = t.seat;
@@ -89,7 +92,7 @@ module _ {S E : Type 0} (entries : S → List E) (mark : List E → ℕ) where
         only = each_snoc (λ j (u : V). u.turn ≡ true → j ≡ t.seat) vs w (λ j y. absurd (true≢false (sym y ∙ wt))) t.only;
       })
 
-  owns_all : (s : St) (h : List E) → Kept entries mark s h → (id : ℕ) (v : V) → get_elem? s.views id ≡ some v → Owns v.parts v.own h
+  owns_all : (s : St) (h : List E) → Kept entries mark origin root s h → (id : ℕ) (v : V) → get_elem? s.views id ≡ some v → Owns v.parts v.own h
   owns_all s h k id v at = record {
     stands = (k.stand id v at).0;
     ascends = (k.stand id v at).1;
@@ -98,10 +101,10 @@ module _ {S E : Type 0} (entries : S → List E) (mark : List E → ℕ) where
   }
 
   -- a step that changes neither the front nor the holder, and of a view without the turn neither entries nor parts
-  kept_view : (s : St) (h : List E) → Kept entries mark s h → (ws : List ℕ) → length ws ≡ 3 → get_or ws 0 0 ≡ get_or s.words 0 0 → get_or ws 1 0 ≡ get_or s.words 1 0 → (id : ℕ) (v w : V)
-      → get_elem? s.views id ≡ some v → v.turn ≡ false → w.turn ≡ false → StartsWith h w.seen × StartsWith h w.told → w.own ≡ v.own → w.parts ≡ v.parts
-      → Kept entries mark record { words = ws; homes = s.homes; views = set s.views id w } h
-  kept_view s h k ws wide w0 w1 id v w at vt wt sees own parts = record {
+  kept_view : (s : St) (h : List E) → Kept entries mark origin root s h → (ws : List ℕ) → length ws ≡ 3 → get_or ws 0 0 ≡ get_or s.words 0 0 → get_or ws 1 0 ≡ get_or s.words 1 0 → (id : ℕ) (v w : V)
+      → get_elem? s.views id ≡ some v → v.turn ≡ false → w.turn ≡ false → StartsWith h w.seen × StartsWith h w.told → w.own ≡ v.own → w.parts ≡ v.parts → w.origin ≡ v.origin
+      → Kept entries mark origin root record { words = ws; homes = s.homes; views = set s.views id w } h
+  kept_view s h k ws wide w0 w1 id v w at vt wt sees own parts origins = record {
     wide = wide;
     front = w0 ∙ k.front;
     small = k.small;
@@ -110,14 +113,15 @@ module _ {S E : Type 0} (entries : S → List E) (mark : List E → ℕ) where
     stand = each_set (λ _ (u : V). Stands h u.own × Ascends 0 u.own) s.views id w (subst (λ (ps : List (ℕ × E)). Stands h ps × Ascends 0 ps) (sym own) (k.stand id v at)) (λ j u _ e. k.stand j u e);
     parts = same_total (λ (u : V). u.parts) s.views id v w at parts ∙ k.parts;
     idle = each_set (λ _ (u : V). u.parts ≡ 0 → u.own ≡ []) s.views id w (λ z. own ∙ k.idle id v at (sym parts ∙ z)) (λ j u _ e. k.idle j u e);
+    origins = each_set HasRoot s.views id w (λ some_part. origins ∙ k.origins id v at (omega (arith, parts, some_part))) (λ j u _ e. k.origins j u e);
     turn = subst (λ (n : ℕ). Turn n s.homes (set s.views id w) h) (sym w1) (turn_stays (get_or s.words 1 0) s.homes s.views h id v w at vt wt k.turn);
   }
 
   -- the same, where no word changes
-  kept_same : (s : St) (h : List E) → Kept entries mark s h → (i id : ℕ) (v w : V) → get_elem? s.views id ≡ some v → v.turn ≡ false → w.turn ≡ false → StartsWith h w.seen × StartsWith h w.told → w.own ≡ v.own → w.parts ≡ v.parts
-      → Kept entries mark record { words = set s.words i (get_or s.words i 0); homes = s.homes; views = set s.views id w } h
-  kept_same s h k i id v w at vt wt sees own parts = let e = set-get_or s.words i 0 in
-      kept_view s h k (set s.words i (get_or s.words i 0)) (ap length e ∙ k.wide) (ap (λ (ws : List ℕ). get_or ws 0 0) e) (ap (λ (ws : List ℕ). get_or ws 1 0) e) id v w at vt wt sees own parts
+  kept_same : (s : St) (h : List E) → Kept entries mark origin root s h → (i id : ℕ) (v w : V) → get_elem? s.views id ≡ some v → v.turn ≡ false → w.turn ≡ false → StartsWith h w.seen × StartsWith h w.told → w.own ≡ v.own → w.parts ≡ v.parts → w.origin ≡ v.origin
+      → Kept entries mark origin root record { words = set s.words i (get_or s.words i 0); homes = s.homes; views = set s.views id w } h
+  kept_same s h k i id v w at vt wt sees own parts origins = let e = set-get_or s.words i 0 in
+      kept_view s h k (set s.words i (get_or s.words i 0)) (ap length e ∙ k.wide) (ap (λ (ws : List ℕ). get_or ws 0 0) e) (ap (λ (ws : List ℕ). get_or ws 1 0) e) id v w at vt wt sees own parts origins
 
   pub numbers : (slots id : ℕ) (me : M) → me.0.turn ≡ false → Allows Rule slots id me 2 (λ n. (n + 1) % 18446744073709551616) (numbered (step slots 2 1 0 none) me)
   numbers slots id me waits s r _ at _ = let n : ℕ = get_or s.words 2 0 in let next : ℕ = (n + 1) % 18446744073709551616 in let w : V = record me.0 { number = cond (eqb n 0) 1 n } in (
@@ -127,7 +131,7 @@ module _ {S E : Type 0} (entries : S → List E) (mark : List E → ℕ) where
     (
       r.0,
       kept_view s r.0 r.1 (set s.words 2 next) (length-set s.words 2 next ∙ r.1.wide) (get_or-set_other s.words 2 0 next 0 (λ e. omega arith)) (get_or-set_other s.words 2 1 next 0 (λ e. omega arith))
-          id me.0 w at waits waits (r.1.seen id me.0 at) refl refl,
+          id me.0 w at waits waits (r.1.seen id me.0 at) refl refl refl,
     ),
     refl,
   )
@@ -137,19 +141,19 @@ module _ {S E : Type 0} (entries : S → List E) (mark : List E → ℕ) where
     w,
     keeps,
     tt,
-    (r.0, kept_same s r.0 r.1 0 id me.0 w at waits waits (starts_self r.0, starts_empty r.0) refl refl),
+    (r.0, kept_same s r.0 r.1 0 id me.0 w at waits waits (starts_self r.0, starts_empty r.0) refl refl refl),
     (r.0, seen.0, seen.1, r.1.front, r.1.small, owns_all s r.0 r.1 id me.0 at, refl),
   )
 
   -- what a claim is to show, where word 1 becomes n
   abbrev Claims : Step (Option S) → St → ℕ → M → ℕ → Type 0
-  Claims st s id me n = (w : V) × (a : Rattle.atomic_table.specs.Table.Act (Option S)) × Rattle.atomic_table.specs.Table.Valid s.homes me.1 a × Rule (stepped s 1 n id me.1 w a) × claimed entries st me (get_or s.words 1 0) (w, Rattle.atomic_table.specs.Table.carried_after me.1 a)
+  Claims st s id me n = (w : V) × (a : Rattle.atomic_table.specs.Table.Act (Option S)) × Rattle.atomic_table.specs.Table.Valid s.homes me.1 a × Rule (stepped s 1 n id me.1 w a) × claimed entries origin st me (get_or s.words 1 0) (w, Rattle.atomic_table.specs.Table.carried_after me.1 a)
 
-  wins : (st : Step (Option S)) (s : St) (h : List E) → Kept entries mark s h → (id : ℕ) (me : M) (number : ℕ) → get_elem? s.views id ≡ some me.0 → me.0.number ≡ number → number ≢ 0 → get_or s.words 1 0 ≡ 0
-      → IsFree entries (get_or s.words 1 0) s.homes s.views h → Claims st s id me number
-  wins st s h k id me number at mine some_number is f = let w : V = record me.0 { seen = entries f.state; turn = true } in let seen = k.seen id me.0 at in let wide = k.wide in
+  wins : (st : Step (Option S)) (s : St) (h : List E) → Kept entries mark origin root s h → (id : ℕ) (me : M) (number : ℕ) → get_elem? s.views id ≡ some me.0 → me.0.number ≡ number → number ≢ 0 → 0 < me.0.parts → get_or s.words 1 0 ≡ 0
+      → IsFree entries origin root (get_or s.words 1 0) s.homes s.views h → Claims st s id me number
+  wins st s h k id me number at mine some_number some_part is f = let w : V = record me.0 { seen = entries f.state; turn = true } in let seen = k.seen id me.0 at in let wide = k.wide in
       let now : get_or (set s.words 1 number) 1 0 ≡ number = get_or-set_same s.words 1 number 0 (omega arith) in
-      let won : Won entries me (w, (0, Some f.state) ∷ me.1) = (f.state, subst (λ (l : List E). StartsWith l me.0.seen) (sym f.whole) seen.0, subst (λ (l : List E). Owns me.0.parts me.0.own l) (sym f.whole) (owns_all s h k id me.0 at), refl) in (
+      let won : Won entries origin me (w, (0, Some f.state) ∷ me.1) = (f.state, subst (λ (l : List E). StartsWith l me.0.seen) (sym f.whole) seen.0, subst (λ (l : List E). Owns me.0.parts me.0.own l) (sym f.whole) (owns_all s h k id me.0 at), f.rooted ∙ sym (k.origins id me.0 at some_part), refl) in (
         w,
         takes 0 (Some f.state),
         f.home,
@@ -164,6 +168,7 @@ module _ {S E : Type 0} (entries : S → List E) (mark : List E → ℕ) where
             stand = each_set (λ _ (u : V). Stands h u.own × Ascends 0 u.own) s.views id w (k.stand id me.0 at) (λ j u _ e. k.stand j u e);
             parts = same_total (λ (u : V). u.parts) s.views id me.0 w at refl ∙ k.parts;
             idle = each_set (λ _ (u : V). u.parts ≡ 0 → u.own ≡ []) s.views id w (k.idle id me.0 at) (λ j u _ e. k.idle j u e);
+            origins = each_set HasRoot s.views id w (k.origins id me.0 at) (λ j u _ e. k.origins j u e);
             turn = inr record {
               some_one = λ e. some_number (sym now ∙ e);
               seat = id;
@@ -176,28 +181,28 @@ module _ {S E : Type 0} (entries : S → List E) (mark : List E → ℕ) where
             };
           },
         ),
-        subst (λ (b : Bool). MatchBool b (Won entries me (w, (0, Some f.state) ∷ me.1)) (Lost me (get_or s.words 1 0) (w, (0, Some f.state) ∷ me.1))) (sym (eq-eqb (get_or s.words 1 0) 0 is)) won,
+        subst (λ (b : Bool). MatchBool b (Won entries origin me (w, (0, Some f.state) ∷ me.1)) (Lost me (get_or s.words 1 0) (w, (0, Some f.state) ∷ me.1))) (sym (eq-eqb (get_or s.words 1 0) 0 is)) won,
       )
 
-  loses : (st : Step (Option S)) (s : St) (h : List E) → Kept entries mark s h → (id : ℕ) (me : M) → get_elem? s.views id ≡ some me.0 → me.0.turn ≡ false → get_or s.words 1 0 ≢ 0 → Claims st s id me (get_or s.words 1 0)
+  loses : (st : Step (Option S)) (s : St) (h : List E) → Kept entries mark origin root s h → (id : ℕ) (me : M) → get_elem? s.views id ≡ some me.0 → me.0.turn ≡ false → get_or s.words 1 0 ≢ 0 → Claims st s id me (get_or s.words 1 0)
   loses st s h k id me at waits miss = let n : ℕ = get_or s.words 1 0 in let w : V = record me.0 { found = me.0.found ++ n ∷ [] } in let lost : Lost me n (w, me.1) = (miss, refl) in (
     w,
     keeps,
     tt,
-    (h, kept_same s h k 1 id me.0 w at waits waits (k.seen id me.0 at) refl refl),
-    subst (λ (b : Bool). MatchBool b (Won entries me (w, me.1)) (Lost me n (w, me.1))) (sym (ne_eqb n 0 miss)) lost,
+    (h, kept_same s h k 1 id me.0 w at waits waits (k.seen id me.0 at) refl refl refl),
+    subst (λ (b : Bool). MatchBool b (Won entries origin me (w, me.1)) (Lost me n (w, me.1))) (sym (ne_eqb n 0 miss)) lost,
   )
 
-  pub claims : (slots id : ℕ) (me : M) (number : ℕ) → me.0.turn ≡ false → me.0.number ≡ number → 0 < number → Allows Rule slots id me 1 (λ n. either (eqb n 0) number n) (claimed entries (step slots 1 0 number none) me)
-  claims slots id me number waits mine some_number s r _ at _ = let st = step slots 1 0 number none in exchanged (get_or s.words 1 0) 0 number (Claims st s id me)
-      (λ hit. ⊎_elim (λ (f : IsFree entries (get_or s.words 1 0) s.homes s.views r.0). wins st s r.0 r.1 id me number at mine (λ e. omega arith) hit f)
+  pub claims : (slots id : ℕ) (me : M) (number : ℕ) → me.0.turn ≡ false → me.0.number ≡ number → 0 < number → 0 < me.0.parts → Allows Rule slots id me 1 (λ n. either (eqb n 0) number n) (claimed entries origin (step slots 1 0 number none) me)
+  claims slots id me number waits mine some_number some_part s r _ at _ = let st = step slots 1 0 number none in exchanged (get_or s.words 1 0) 0 number (Claims st s id me)
+      (λ hit. ⊎_elim (λ (f : IsFree entries origin root (get_or s.words 1 0) s.homes s.views r.0). wins st s r.0 r.1 id me number at mine (λ e. omega arith) some_part hit f)
       (λ (t : IsTaken (get_or s.words 1 0) s.views r.0). absurd (t.some_one hit)) r.1.turn)
       (λ miss. loses st s r.0 r.1 id me at waits miss)
 
   -- who has the turn is the one that the word names, and has seen the published history
-  holds_turn : (s : St) (h : List E) → Kept entries mark s h → (id : ℕ) (v : V) → get_elem? s.views id ≡ some v → v.turn ≡ true
+  holds_turn : (s : St) (h : List E) → Kept entries mark origin root s h → (id : ℕ) (v : V) → get_elem? s.views id ≡ some v → v.turn ≡ true
       → (get_or s.words 1 0 ≢ 0) × (v.number ≡ get_or s.words 1 0) × (v.seen ≡ h) × ((j : ℕ) (u : V) → get_elem? s.views j ≡ some u → u.turn ≡ true → j ≡ id)
-  holds_turn s h k id v at has = ⊎_elim (λ (f : IsFree entries (get_or s.words 1 0) s.homes s.views h). absurd (true≢false (sym has ∙ f.none_has id v at)))
+  holds_turn s h k id v at has = ⊎_elim (λ (f : IsFree entries origin root (get_or s.words 1 0) s.homes s.views h). absurd (true≢false (sym has ∙ f.none_has id v at)))
       (λ (t : IsTaken (get_or s.words 1 0) s.views h). let here : id ≡ t.seat = t.only id v at has in
       let same : v ≡ t.holder = some-injective v t.holder (sym at ∙ (ap (get_elem? s.views) here ∙ t.at)) in
       (t.some_one, ap (λ (u : V). u.number) same ∙ t.number, ap (λ (u : V). u.seen) same ∙ t.seen, λ j u e y. t.only j u e y ∙ sym here)) k.turn
@@ -237,6 +242,7 @@ module _ {S E : Type 0} (entries : S → List E) (mark : List E → ℕ) where
                 (λ j u _ e. (stands-later h l u.own later (k.stand j u e).0, (k.stand j u e).1));
             parts = same_total (λ (u : V). u.parts) s.views id me.0 w at refl ∙ k.parts;
             idle = each_set (λ _ (u : V). u.parts ≡ 0 → u.own ≡ []) s.views id w (λ z. absurd (omega arith)) (λ j u _ e. k.idle j u e);
+            origins = each_set HasRoot s.views id w (k.origins id me.0 at) (λ j u _ e. k.origins j u e);
             turn = inr record {
               some_one = λ e. t.0 (sym still ∙ e);
               seat = id;
@@ -252,8 +258,8 @@ module _ {S E : Type 0} (entries : S → List E) (mark : List E → ℕ) where
         (state, held, refl),
       )
 
-  gives_back : (st : Step (Option S)) (slots id : ℕ) (v : V) (state : S) → v.turn ≡ true → entries state ≡ v.seen → slots ≡ 1 → Allows Rule slots id (v, (0, Some state) ∷ []) 1 (λ _. 0) (λ _. released st (v, (0, Some state) ∷ []) 0)
-  gives_back st slots id v state has sees one s r long at _ = let h : List E = r.0 in let k = r.1 in let t = holds_turn s h k id v at has in let w : V = record v { turn = false } in let wide = k.wide in (
+  gives_back : (st : Step (Option S)) (slots id : ℕ) (v : V) (state : S) → v.turn ≡ true → entries state ≡ v.seen → origin state ≡ v.origin → 0 < v.parts → slots ≡ 1 → Allows Rule slots id (v, (0, Some state) ∷ []) 1 (λ _. 0) (λ _. released st (v, (0, Some state) ∷ []) 0)
+  gives_back st slots id v state has sees from some_part one s r long at _ = let h : List E = r.0 in let k = r.1 in let t = holds_turn s h k id v at has in let w : V = record v { turn = false } in let wide = k.wide in (
     w,
     gives,
     tt,
@@ -268,20 +274,22 @@ module _ {S E : Type 0} (entries : S → List E) (mark : List E → ℕ) where
         stand = each_set (λ _ (u : V). Stands h u.own × Ascends 0 u.own) s.views id w (k.stand id v at) (λ j u _ e. k.stand j u e);
         parts = same_total (λ (u : V). u.parts) s.views id v w at refl ∙ k.parts;
         idle = each_set (λ _ (u : V). u.parts ≡ 0 → u.own ≡ []) s.views id w (k.idle id v at) (λ j u _ e. k.idle j u e);
+        origins = each_set HasRoot s.views id w (k.origins id v at) (λ j u _ e. k.origins j u e);
         turn = inl record {
           zero = get_or-set_same s.words 1 0 0 (omega arith);
           none_has = each_set (λ _ (u : V). u.turn ≡ false) s.views id w refl (λ j u other e. not_true u.turn (λ y. other (t.3 j u e y)));
           state = state;
           home = set_here s.homes 0 (some (Some state)) (omega arith);
           whole = sees ∙ t.2;
+          rooted = from ∙ k.origins id v at some_part;
         };
       },
     ),
     refl,
   )
 
-  pub releases : (slots id : ℕ) (me : M) (state : S) → me.0.turn ≡ true → me.1 ≡ (0, Some state) ∷ [] → entries state ≡ me.0.seen → slots ≡ 1 → Allows Rule slots id me 1 (λ _. 0) (λ _. released (step slots 1 0 0 none) me 0)
-  releases slots id me state has held sees one = let st = step slots 1 0 0 none in subst (λ (c : List (ℕ × Option S)). Allows Rule slots id (me.0, c) 1 (λ _. 0) (λ _. released st (me.0, c) 0)) (sym held) (gives_back st slots id me.0 state has sees one)
+  pub releases : (slots id : ℕ) (me : M) (state : S) → me.0.turn ≡ true → me.1 ≡ (0, Some state) ∷ [] → entries state ≡ me.0.seen → origin state ≡ me.0.origin → 0 < me.0.parts → slots ≡ 1 → Allows Rule slots id me 1 (λ _. 0) (λ _. released (step slots 1 0 0 none) me 0)
+  releases slots id me state has held sees from some_part one = let st = step slots 1 0 0 none in subst (λ (c : List (ℕ × Option S)). Allows Rule slots id (me.0, c) 1 (λ _. 0) (λ _. released st (me.0, c) 0)) (sym held) (gives_back st slots id me.0 state has sees from some_part one)
 
   pub splits : (id : ℕ) (v : V) → v.turn ≡ false → 2 ≤ v.parts → Splits Rule id v (parted v) (newcomer v)
   splits id v waits two s r at = let h : List E = r.0 in let k = r.1 in let l : V = parted v in let n : V = newcomer v in let vs : List V = set s.views id l in (
@@ -295,12 +303,13 @@ module _ {S E : Type 0} (entries : S → List E) (mark : List E → ℕ) where
       stand = each_snoc (λ _ (u : V). Stands h u.own × Ascends 0 u.own) vs n (λ _. (tt, tt)) (each_set (λ _ (u : V). Stands h u.own × Ascends 0 u.own) s.views id l (k.stand id v at) (λ j u _ e. k.stand j u e));
       parts = let a = total-snoc (λ (u : V). u.parts) vs n in let b = total-set (λ (u : V). u.parts) s.views id v l at in let p = k.parts in omega (arith, a, b, p);
       idle = each_snoc (λ _ (u : V). u.parts ≡ 0 → u.own ≡ []) vs n (λ _ _. refl) (each_set (λ _ (u : V). u.parts ≡ 0 → u.own ≡ []) s.views id l (λ z. absurd (omega arith)) (λ j u _ e. k.idle j u e));
+      origins = let mine : v.origin ≡ root = k.origins id v at (omega (arith, two)) in each_snoc HasRoot vs n (λ _ _. mine) (each_set HasRoot s.views id l (λ _. mine) (λ j u _ e. k.origins j u e));
       turn = turn_more (get_or s.words 1 0) s.homes vs h n refl (turn_stays (get_or s.words 1 0) s.homes s.views h id v l at waits waits k.turn);
     },
   )
 
-  pub joins : (id : ℕ) (v : V) (other : ℕ) (w : V) → v.turn ≡ false → w.turn ≡ false → Joins Rule id v other w (joined v w) spent
-  joins id v other w vt wt s r at apart at' = let h : List E = r.0 in let k = r.1 in let b : V = joined v w in let vs : List V = set s.views id b in
+  pub joins : (id : ℕ) (v : V) (other : ℕ) (w : V) → v.turn ≡ false → w.turn ≡ false → 0 < v.parts → Joins Rule id v other w (joined v w) spent
+  joins id v other w vt wt some_part s r at apart at' = let h : List E = r.0 in let k = r.1 in let b : V = joined v w in let vs : List V = set s.views id b in
       let was : get_elem? s.views other ≡ some w = sym (set_else s.views id other b apart) ∙ at' in
       let every = λ (P : ℕ → V → Type 0) (mine : P id b) (none : P other spent) (rest : (j : ℕ) (u : V) → get_elem? s.views j ≡ some u → P j u). each_set P vs other spent none (λ j u _ e. each_set P s.views id b mine (λ i x _ f. rest i x f) j u e) in (
         h,
@@ -313,13 +322,14 @@ module _ {S E : Type 0} (entries : S → List E) (mark : List E → ℕ) where
           stand = every (λ _ u. Stands h u.own × Ascends 0 u.own) (stands-merged h v.own w.own (k.stand id v at).0 (k.stand other w was).0, ascends-merged v.own w.own (k.stand id v at).1 (k.stand other w was).1) (tt, tt) k.stand;
           parts = let p = total-set (λ (u : V). u.parts) s.views id v b at in let q = total-set (λ (u : V). u.parts) vs other w spent at' in let o = k.parts in omega (arith, p, q, o);
           idle = every (λ _ u. u.parts ≡ 0 → u.own ≡ []) (λ z. merged_none v.own w.own (k.idle id v at (omega arith)) (k.idle other w was (omega arith))) (λ _. refl) k.idle;
+          origins = every HasRoot (λ _. k.origins id v at some_part) (λ none. absurd (omega (arith, none))) k.origins;
           turn = turn_stays (get_or s.words 1 0) s.homes vs h other w spent at' wt refl (turn_stays (get_or s.words 1 0) s.homes s.views h id v b at vt vt k.turn);
         },
       )
 
-  pub begins : (state : S) (front : ℕ) → front ≡ 8 * length (entries state) + mark (entries state) → mark (entries state) < 8
-      → Rule (opening (front ∷ 0 ∷ 1 ∷ []) (Some state ∷ []) (first_view (entries state)))
-  begins state front is small = let l : List E = entries state in let v : V = first_view l in (
+  pub begins : (state : S) (front : ℕ) → origin state ≡ root → front ≡ 8 * length (entries state) + mark (entries state) → mark (entries state) < 8
+      → Rule (opening (front ∷ 0 ∷ 1 ∷ []) (Some state ∷ []) (first_view root (entries state)))
+  begins state front from is small = let l : List E = entries state in let v : V = first_view root l in (
     l,
     record {
       wide = refl;
@@ -330,6 +340,7 @@ module _ {S E : Type 0} (entries : S → List E) (mark : List E → ℕ) where
       stand = only_one (λ (u : V). Stands l u.own × Ascends 0 u.own) v (stands-places [] l l refl, ascends-places 0 0 l (le_refl 0));
       parts = refl;
       idle = only_one (λ (u : V). u.parts ≡ 0 → u.own ≡ []) v (λ z. absurd (omega arith));
-      turn = inl record { zero = refl; none_has = only_one (λ (u : V). u.turn ≡ false) v refl; state = state; home = refl; whole = refl };
+      origins = only_one (λ (u : V). 0 < u.parts → u.origin ≡ root) v (λ _. refl);
+      turn = inl record { zero = refl; none_has = only_one (λ (u : V). u.turn ≡ false) v refl; state = state; home = refl; whole = refl; rooted = from };
     },
   )

@@ -2,10 +2,15 @@
 use Rattle.std.specs.Prelude.{◌≡◌, ℕ, ◌+◌, ◌==◌, ◌≤◌, nat_lt, if◌then◌else◌, List, [], ◌∷◌, ◌++◌, Some, slice_get, length}
 use Rattle.atomic_table.specs.Seated.{TableId}
 
+-- which lock it is: its table, and its origin, what of the state under it no turn changes
+pub record LockId : Type 0 where
+  pub table : TableId
+  pub origin : List ℕ
+
 -- a handle as contracts see it: whose lock it is of, the beginning of the history that it has seen, its own entries,
 -- its parts of the right to know the whole, and the holders that its claims found
 pub record SeatSeen (E : Type 0) : Type 0 where
-  pub lock : TableId
+  pub lock : LockId
   pub seen : List E
   pub own : List (ℕ × E)
   pub parts : ℕ

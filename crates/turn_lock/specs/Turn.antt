@@ -12,14 +12,16 @@ module _ {E : Type 0} where
     pub later : StartsWith after.seen before.seen
     pub owns : Owns after.parts after.own after.seen
 
--- One turn: the job ran on a state whose list begins with all that the handle had seen. It only appended, and what it
--- appended is the end of the history that is then seen, and the handle's own.
-pub record TakesTurn {S E A J : Type 0} (entries : S → List E) (runs : J → S → A → J → S → Type 0) (job : J) (before : SeatSeen E) (answer : A) (job_after : J) (after : SeatSeen E) : Type 0 where
+-- One turn: the job ran on the state of the handle's lock, whose list begins with all that the handle had seen. It only appended, and
+-- what it appended is the end of the history that is then seen, and the handle's own.
+pub record TakesTurn {S E A J : Type 0} (entries : S → List E) (origin : S → List ℕ) (runs : J → S → A → J → S → Type 0) (job : J) (before : SeatSeen E) (answer : A) (job_after : J) (after : SeatSeen E) : Type 0 where
   pub start : S
   pub end : S
   pub sees : StartsWith (entries start) before.seen
   pub owns : Owns before.parts before.own (entries start)
+  pub from : origin start ≡ before.lock.origin
   pub ran : runs job start answer job_after end
+  pub kept : origin end ≡ origin start
   pub made : List E
   pub appends : entries end ≡ entries start ++ made
   pub seat : after ≡ record before { seen = entries end; own = before.own ++ places (length (entries start)) made }

@@ -11,6 +11,9 @@ pub trait Chronicle: Drop {
     /// What a reader of the front learns of the history besides its length.
     ghost mark_of: { List Self.Entry → ℕ };
 
+    /// What of the state no turn changes.
+    ghost origin: { Self → List ℕ };
+
     /// How many entries there are, at most 2^60.
     fn count(&self) -> u64
         ensures count { result ≡ length (entries self.now) }
@@ -28,8 +31,9 @@ pub trait Job<S: Chronicle> {
 
     ghost runs: { Self → S → Self.Answer → Self → S → Type 0 };
 
-    /// Runs on the state, and appends entries at most.
+    /// Runs on the state, and appends entries at most. The state's origin stays.
     fn run(&mut self, state: &mut S) -> Self::Answer
         ensures runs { runs self.old state.old result self.new state.new }
-        ensures appends { StartsWith (S.entries state.new) (S.entries state.old) };
+        ensures appends { StartsWith (S.entries state.new) (S.entries state.old) }
+        ensures kept { S.origin state.new ≡ S.origin state.old };
 }

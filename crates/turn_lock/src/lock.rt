@@ -7,7 +7,7 @@ use std::alloc::Global;
 use std::marker::Model;
 use std::snapshot::Snapshot;
 
-/// A state that handles take turns at. Contracts see only which lock it is.
+/// A state that handles take turns at. Contracts see which lock it is, and what of the state no turn changes.
 #[derive(Drop)]
 pub struct TurnLock<S: Chronicle> {
     pub(crate) table: Table<Option<S>, View<S::Entry>, Snapshot<S>, InTurns<S>, Global>,
@@ -15,11 +15,11 @@ pub struct TurnLock<S: Chronicle> {
 
 impl<S: Chronicle> Model for TurnLock<S> {
     ghost use Rattle.std.specs.Prelude.{◌≡◌};
-    ghost use Rattle.atomic_table.specs.Seated.{TableId};
+    ghost use Rattle.turn_lock.specs.History.{LockId};
 
-    ghost Value = { TableId };
+    ghost Value = { LockId };
 
-    ghost view = { λ l. l.table.shared.table_id };
+    ghost view = { λ l. record { table = l.table.shared.table_id; origin = S.origin l.table.shared.key.value } };
 
     ghost invariant = { λ l. (l.table.shared.table_id.words ≡ 3) × (l.table.shared.table_id.slots ≡ 1) };
 }

@@ -15,6 +15,8 @@ pub struct View<E> {
     pub number: u64,
     pub turn: bool,
     pub found: LinkedList<u64>,
+    // That of the state.
+    pub origin: LinkedList<u64>,
 }
 
 pub struct InTurns<S> {
@@ -24,9 +26,9 @@ pub struct InTurns<S> {
 impl<S: Chronicle> TableRule<Option<S>, View<S::Entry>, Snapshot<S>> for InTurns<S> {
     ghost use Rattle.turn_lock.specs.Rule.{Holds, first_view};
 
-    ghost holds = { λ _. Holds S.entries S.mark_of };
+    ghost holds = { λ key. Holds S.entries S.mark_of S.origin (S.origin key.value) };
 
-    ghost first = { λ key. first_view (S.entries key.value) };
+    ghost first = { λ key. first_view (S.origin key.value) (S.entries key.value) };
 }
 
 pub struct Cut;
@@ -70,7 +72,7 @@ pub struct Claim;
 impl<S: Chronicle> Play<Option<S>, View<S::Entry>> for Claim {
     ghost use Rattle.turn_lock.specs.Rule.{claimed};
 
-    ghost then = { claimed S.entries };
+    ghost then = { claimed S.entries S.origin };
 }
 
 pub struct Publish;

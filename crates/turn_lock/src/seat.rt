@@ -18,7 +18,7 @@ impl<S: Chronicle> Model for Seat<S> {
     ghost Value = { SeatSeen S.Entry };
 
     ghost view = { λ s. record {
-      lock = s.inner.table_id;
+      lock = record { table = s.inner.table_id; origin = s.inner.me.0.origin };
       seen = s.inner.me.0.seen;
       own = s.inner.me.0.own;
       parts = s.inner.me.0.parts;

@@ -50,7 +50,7 @@ fn lay<S: Chronicle>(
     ),
     NoMemory,
 >
-    ensures { IfOk result (λ r. (r.0.shared.table_id.words ≡ 3) × (r.0.shared.table_id.slots ≡ 1) × (r.1.table_id ≡ r.0.shared.table_id) × (r.1.me ≡ (first_view (S.entries state), []))) }
+    ensures { IfOk result (λ r. (r.0.shared.table_id.words ≡ 3) × (r.0.shared.table_id.slots ≡ 1) × (r.1.table_id ≡ r.0.shared.table_id) × (S.origin r.0.shared.key.value ≡ S.origin state) × (r.1.me ≡ (first_view (S.origin state) (S.entries state), []))) }
 {
     let opening = front_of(&state);
     let about = Snapshot::of(&state);
@@ -84,9 +84,9 @@ fn run_turn<S: Chronicle, J: Job<S>>(
 ) -> J::Answer
     requires table { (inner.old.table_id ≡ shared.now.table_id) × (shared.now.table_id.words ≡ 3) × (shared.now.table_id.slots ≡ 1) }
     requires won { (inner.old.me.0.turn ≡ true) × (0 < inner.old.me.0.parts) }
-    requires state { (state : S) × (inner.old.me.1 ≡ (0, Some state) ∷ []) × (S.entries state ≡ inner.old.me.0.seen) }
+    requires state { (state : S) × (inner.old.me.1 ≡ (0, Some state) ∷ []) × (S.entries state ≡ inner.old.me.0.seen) × (S.origin state ≡ inner.old.me.0.origin) }
     ensures table { inner.new.table_id ≡ inner.old.table_id }
-    ensures turn { RunsTurn S.entries J.runs job.old inner.old.me result job.new inner.new.me }
+    ensures turn { RunsTurn S.entries S.origin J.runs job.old inner.old.me result job.new inner.new.me }
 {
     let mut state = shared.exchange(inner, STATE, None).unwrap();
     let answer = job.run(&mut state);
@@ -101,7 +101,8 @@ impl<S: Chronicle> TurnLock<S> {
     /// A lock over a state, and its first handle, whose own entries are all that the state has. Where memory is
     /// wanting, the state is dropped.
     pub fn new(alloc: Global, state: S) -> Result<(TurnLock<S>, Seat<S>), NoMemory>
-        ensures { IfOk result (λ r. r.1 ≡ record { lock = r.0; seen = S.entries state; own = places 0 (S.entries state); parts = 4294967296; found = [] }) }
+        ensures seat { IfOk result (λ r. r.1 ≡ record { lock = r.0; seen = S.entries state; own = places 0 (S.entries state); parts = 4294967296; found = [] }) }
+        ensures origin { IfOk result (λ r. r.0.origin ≡ S.origin state) }
     {
         let (table, mut inner) = lay(alloc, state)?;
         let number = draw_number(&table.shared, &mut inner);
@@ -150,7 +151,7 @@ impl<S: Chronicle> TurnLock<S> {
     /// job is as before.
     pub fn try_turn<J: Job<S>>(&self, seat: &mut Seat<S>, job: &mut J) -> Result<J::Answer, Busy>
         requires lock { seat.old.lock ≡ self.now }
-        ensures done { IfOk result (λ answer. TakesTurn S.entries J.runs job.old seat.old answer job.new seat.new) }
+        ensures done { IfOk result (λ answer. TakesTurn S.entries S.origin J.runs job.old seat.old answer job.new seat.new) }
         ensures busy { IfErr result (λ b. FoundHolder seat.old b.holder seat.new × (job.new ≡ job.old)) }
         ensures lock { seat.new.lock ≡ seat.old.lock }
     {
@@ -166,7 +167,7 @@ impl<S: Chronicle> TurnLock<S> {
     /// Runs the job in one turn. May wait for others.
     pub fn turn<W: Wait, J: Job<S>>(&self, rt: &W, seat: &mut Seat<S>, job: &mut J) -> J::Answer
         requires lock { seat.old.lock ≡ self.now }
-        ensures turn { TakesTurn S.entries J.runs job.old (record seat.old { found = seat.new.found }) result job.new seat.new }
+        ensures turn { TakesTurn S.entries S.origin J.runs job.old (record seat.old { found = seat.new.found }) result job.new seat.new }
         ensures found { StartsWith seat.new.found seat.old.found }
         ensures lock { seat.new.lock ≡ seat.old.lock }
     {
@@ -182,7 +183,7 @@ impl<S: Chronicle> TurnLock<S> {
     /// Makes one claim, and hands out the state that it won. Otherwise lock and handle come back.
     pub fn close(self, seat: Seat<S>) -> Result<S, Held<S>>
         requires lock { seat.lock ≡ self }
-        ensures closed { IfOk result (λ state. StartsWith (S.entries state) seat.seen × Owns seat.parts seat.own (S.entries state)) }
+        ensures closed { IfOk result (λ state. StartsWith (S.entries state) seat.seen × Owns seat.parts seat.own (S.entries state) × (S.origin state ≡ self.origin)) }
         ensures held { IfErr result (λ h. (h.lock ≡ self) × FoundHolder seat h.holder h.seat) }
     {
         let Seat { mut inner, number } = seat;

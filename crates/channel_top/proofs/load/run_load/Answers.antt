@@ -8,6 +8,7 @@ use Rattle.policy_rack.specs.Kinds.{kinds_of}
 use Rattle.channel_top.specs.Load.{FillsLoad, IsLoadDone, RefusesLoad}
 use Rattle.session_text.specs.Sessions.{session_full_text}
 use Rattle.channel_top.specs.Words.{words_fault_text}
+use Rattle.channel_top.proofs.LoadLaws.{load_lawful}
 use Rattle.channel_top.proofs.load.run_load.Goals as goal
 
 pub returns-then-not-has : goal.returns-then-not-has
@@ -32,6 +33,7 @@ returns-in-Ok g c =
       wanted = sym (c.has.ensures ∙ ap (λ (k : KindsSeen). has_kind k kind.RoundRobin) (c.set_of-kinds.ensures ∙ ap (λ ps. kinds_of (map g.P.Balancer.seen ps)) c.as_slice.ensures.value)) ∙ c.if-not-has.false;
       summary = c.in-Ok.summary;
       sums = c.in-Ok.ensures.ok;
+      lawful = load_lawful c.channels_are_lawful.ensures.lawful c.args.load (map g.P.Balancer.seen c.args.policies.items) c.in-Ok.summary c.in-Ok.ensures.ok;
       text_is = refl;
     } in
     record {

@@ -35,10 +35,10 @@ returns-in-Load-clause-full g c = λ seven. all_as _ _ _ _ (load_full c.args.mod
 
 pub returns-in-Live-clause-writing : goal.returns-in-Live-clause-writing
 returns-in-Live-clause-writing g c = λ five. (
-  (c.run_live.ensures.writing five).0,
-  front_as _ _ _ _ (live_output _ c.args.mode c.in-Live.settings _ _ c.in-Live.is) (c.run_live.ensures.writing five).1,
+  (c.run_lawfully.ensures.writing five).0,
+  front_as _ _ _ _ (live_output _ c.args.mode c.in-Live.settings _ _ c.in-Live.is) (c.run_lawfully.ensures.writing five).1,
 )
 
 pub returns-in-Live-clause-memory : goal.returns-in-Live-clause-memory
 returns-in-Live-clause-memory g c = λ six.
-    some_as _ _ _ _ (live_output _ c.args.mode c.in-Live.settings _ _ c.in-Live.is) (c.run_live.ensures.memory six)
+    some_as _ _ _ _ (live_output _ c.args.mode c.in-Live.settings _ _ c.in-Live.is) (c.run_lawfully.ensures.memory six)

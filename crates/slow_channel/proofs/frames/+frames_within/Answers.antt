@@ -1,6 +1,6 @@
 use Rattle.std.proofs.Common.{rules, subst, ◌≡◌, ◌<◌, IfOk, List}
 use Rattle.h2_frame.specs.Steps.{seen}
-use Rattle.channel_core.specs.Said.{FrameAt}
+use Rattle.link_laws.specs.Said.{FrameAt}
 use Rattle.slow_channel.proofs.SlowLaws.{frames_join}
 use Rattle.slow_channel.proofs.frames.+frames_within.Goals as goal
 

@@ -1,7 +1,7 @@
 use Rattle.std.proofs.Common.{rules, subst, ap, sym, ◌∙◌, ◌≡◌, List, ◌∷◌, [], IfOk, Some, None, drop, true}
 use Rattle.h2_frame.specs.Frames.{has_flag}
 use Rattle.h2_hpack.specs.Blocks.{State, decoded}
-use Rattle.channel_core.specs.Said.{Said, Headers, block_with, said_from}
+use Rattle.link_laws.specs.Said.{Said, Headers, block_with, said_from}
 use Rattle.slow_channel.specs.Parts.{said_block}
 use Rattle.slow_channel.proofs.SlowLaws.{behind_one, said_ends, said_list}
 use Rattle.slow_channel.proofs.said.+said_from.Goals as goal

@@ -1,5 +1,5 @@
 use Rattle.std.proofs.Common.{◌≡◌, ◌≤◌, ℕ, IfSome, None, subst, rules}
-use Rattle.channel_core.specs.Commitments.{EndedBy}
+use Rattle.link_laws.specs.Commitments.{EndedBy}
 use Rattle.slow_laws.proofs.commitments.is_over_before.Goals as goal
 
 pub returns-else-is_some : goal.returns-else-is_some

@@ -1,4 +1,4 @@
-use Rattle.channel_core.specs.Laws.{IsDatedCall, moment_at}
+use Rattle.link_laws.specs.Stamps.{IsDatedCall, moment_at}
 use Rattle.slow_laws.proofs.EachLaws.{by_numbers}
 use Rattle.slow_laws.proofs.dated.are_calls_dated.Goals as goal
 

@@ -1,4 +1,4 @@
-use Rattle.channel_core.specs.Laws.{IsDatedGeneration, moment_at}
+use Rattle.link_laws.specs.Stamps.{IsDatedGeneration, moment_at}
 use Rattle.slow_laws.proofs.EachLaws.{by_numbers}
 use Rattle.slow_laws.proofs.dated.are_generations_dated.Goals as goal
 

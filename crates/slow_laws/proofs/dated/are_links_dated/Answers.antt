@@ -1,4 +1,4 @@
-use Rattle.channel_core.specs.Laws.{IsDatedLink, moment_at}
+use Rattle.link_laws.specs.Stamps.{IsDatedLink, moment_at}
 use Rattle.slow_laws.proofs.EachLaws.{by_numbers}
 use Rattle.slow_laws.proofs.dated.are_links_dated.Goals as goal
 

@@ -1,4 +1,4 @@
-use Rattle.channel_core.specs.Laws.{IsDatedRow, moment_at}
+use Rattle.link_laws.specs.Stamps.{IsDatedRow, moment_at}
 use Rattle.slow_laws.proofs.EachLaws.{by_numbers}
 use Rattle.slow_laws.proofs.dated.are_rows_dated.Goals as goal
 

@@ -1,5 +1,5 @@
 use Rattle.std.proofs.Common.{◌↔◌, []}
-use Rattle.channel_core.specs.Losses.{AreOver}
+use Rattle.link_laws.specs.Losses.{AreOver}
 use Rattle.slow_laws.proofs.OverLaws.{OverFrom}
 use Rattle.slow_laws.proofs.losses.are_over.Given as goal
 

@@ -1,5 +1,5 @@
 use Rattle.std.proofs.Common.{◌↔◌, drop}
-use Rattle.channel_core.specs.Laws.{AreRising}
+use Rattle.link_laws.specs.Stamps.{AreRising}
 use Rattle.slow_laws.proofs.rising.are_rising.Given as goal
 
 -- the law holds of all just where it holds from here on

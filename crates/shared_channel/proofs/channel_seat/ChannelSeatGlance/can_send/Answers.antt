@@ -3,4 +3,4 @@ use Rattle.shared_channel.proofs.PostLaws.{looks_of}
 use Rattle.shared_channel.proofs.channel_seat.ChannelSeatGlance.can_send.Goals as goal
 
 pub returns-clause-told : goal.returns-clause-told
-returns-clause-told g c = looks_of (λ s. s.watched) _ _ _ _ _ _ _ _ (λ a b ran. (ap (λ s. s.watched) ran.0, ran.1)) refl c.turn-answer.ensures.found c.turn-answer.ensures.turn
+returns-clause-told g c = looks_of (λ s. s.watched.core) _ _ _ _ _ _ _ _ (λ a b ran. (ap (λ s. s.watched.core) ran.0, ran.1)) refl c.turn-answer.ensures.found c.turn-answer.ensures.turn

@@ -4,7 +4,7 @@ use Rattle.shared_channel.proofs.channel_seat.ChannelSeatPost.post.Goals as goal
 
 pub returns-clause-place : goal.returns-clause-place
 returns-clause-place g c =
-    place_of (λ s. s.watched) _ _ _ _ _ _ _ _ _ _ _ _ _ (subst (g.C.Clock.may_give _) (sym c.moment_of.ensures) c.now.ensures.given)
+    place_of (λ s. s.watched.core) _ _ _ _ _ _ _ _ _ _ _ _ _ (subst (g.C.Clock.may_give _) (sym c.moment_of.ensures) c.now.ensures.given)
     (λ a b ran. ran) (more_none _) refl c.turn-result.ensures.found c.turn-result.ensures.turn
 
 pub returns-clause-made : goal.returns-clause-made

@@ -8,7 +8,7 @@ use Rattle.shared_channel.proofs.jobs.SendStepJobShared.run.Goals.{in-Ok+else-no
 
 pub returns-clause-runs : goal.returns-clause-runs
 returns-clause-runs g c =
-    let G : List ℕ → Type 0 = λ m. StepGives (record { moment = c.args.self.now.moment; word = c.args.self.now.word; event = event.Send c.args.self.now.call m }) c.args.state.now.watched c.step.result c.step.new.self in
+    let G : List ℕ → Type 0 = λ m. StepGives (record { moment = c.args.self.now.moment; word = c.args.self.now.word; event = event.Send c.args.self.now.call m }) c.args.state.now.watched.core c.step.result c.step.new.self.core in
     let gives = subst G c.replace-message.ensures.value c.step.ensures.gives in (
       (
         gives,

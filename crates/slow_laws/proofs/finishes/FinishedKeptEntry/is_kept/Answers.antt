@@ -1,5 +1,5 @@
 use Rattle.std.proofs.Common.{◌≡◌, Some}
-use Rattle.channel_core.specs.Finishes.{writes_to}
+use Rattle.channel_laws.specs.Finishes.{writes_to}
 use Rattle.slow_laws.proofs.finishes.FinishedKeptEntry.is_kept.Goals as goal
 
 pub returns-in-Finish-Done : goal.returns-in-Finish-Done
