@@ -76,11 +76,11 @@ has_entry None known gone = absurd (let bad : ⊥ = (cc) in bad)
 has_entry (Some link) known gone = some_of link.gone gone
 
 -- a stamp names an entry that was made
-made_within : (es : List Entry) (i : ℕ) (o : Option Entry) → slice_get es i ≡ o → is_some (option_map (λ (e : Entry). e.moment) o) ≡ true → suc i ≤ length es
+pub made_within : (es : List Entry) (i : ℕ) (o : Option Entry) → slice_get es i ≡ o → is_some (option_map (λ (e : Entry). e.moment) o) ≡ true → suc i ≤ length es
 made_within es i None is made = absurd (let bad : ⊥ = (cc) in bad)
 made_within es i (Some e) is made = (let inside : i < length es = slice_get_within es i e is in omega (arith, inside))
 
-entry_within : (es : List Entry) (entry : ℕ) → is_some (moment_at es entry) ≡ true → entry ≤ length es
+pub entry_within : (es : List Entry) (entry : ℕ) → is_some (moment_at es entry) ≡ true → entry ≤ length es
 entry_within es zero made = omega arith
 entry_within es (suc i) made = made_within es i (slice_get es i) refl made
 
@@ -128,12 +128,6 @@ breaks_more May Broken k es x applied left old new refused stays_gone h = record
   gone_by = h.gone_by;
   over = all_behind (λ (e : Entry). link_of e.event ≡ Some k → is_refused e.reply ≡ true) h.behind x h.over refused;
 }
-
--- something is left, or a byte is at fault
-left_or : (left : List FrameSeen) (o : Option ℕ) → ((left ≡ []) × (o ≡ None)) ⊎ (left ≡ [] → o ≡ None → ⊥)
-left_or [] None = inl (refl, refl)
-left_or [] (Some code) = inr (λ none sound. (cc))
-left_or (f ∷ left) o = inr (λ none sound. (cc))
 
 -- a dead link is there
 dead_slot_there : (o : Option LinkSlot) → is_dead_slot o ≡ true → (t : Text) × (option_map text_in o ≡ Some t)
@@ -233,8 +227,8 @@ module _ (P : List FrameSeen → List FrameSeen → Wire → Type 0) (May : List
       }
 
   broke_with : (k n m w : ℕ) (es : List Entry) (x : Entry) (s t new : StateSeen) (h : Arrives k x.event x.reply s t) → new ≡ settling.settled t → GoesOn Sound es k [] → Lawful (record { journal = record { entries = es ++ x ∷ [] }; state = new; spent = false }) → SoundOn k (received k (es ++ x ∷ [])) new
-      → (shut : Shut P May kept Sound Broken judges k (sent k es) (received k es) (received k es ++ h.piece) t) → (shut.left ≡ [] → fault_of (rest_of (received k es ++ h.piece)) ≡ None → ⊥) → Broke k (es ++ x ∷ []) new
-  broke_with k n m w es x s t new h settles goes dated reads shut something =
+      → (shut : Shut P May kept Sound Broken judges k (sent k es) (received k es) (received k es ++ h.piece) t) → Broke k (es ++ x ∷ []) new
+  broke_with k n m w es x s t new h settles goes dated reads shut =
       let piece : List ℕ = h.piece in
       let brought : arrived_by k x.event x.reply ≡ piece = arrived_is k x.event x.reply s t h in
       let all : received k (es ++ x ∷ []) ≡ received k es ++ piece = received_more k es x ∙ ap (λ (l : List ℕ). received k es ++ l) brought in
@@ -262,7 +256,7 @@ module _ (P : List FrameSeen → List FrameSeen → Wire → Type 0) (May : List
           frames = shut.behind;
           each = shut.each;
           first = shut.first;
-          breaks = something;
+          breaks = shut.breaks;
           entry = gone.0;
           gone_in = gone.1;
           gone_by = omega (arith, within, size);
@@ -270,19 +264,11 @@ module _ (P : List FrameSeen → List FrameSeen → Wire → Type 0) (May : List
         };
       }
 
-  shut_now : (k n m w : ℕ) (es : List Entry) (x : Entry) (s t new : StateSeen) (h : Arrives k x.event x.reply s t) → new ≡ settling.settled t → GoesOn Sound es k [] → Lawful (record { journal = record { entries = es ++ x ∷ [] }; state = new; spent = false }) → SoundOn k (received k (es ++ x ∷ [])) new
-      → (shut : Shut P May kept Sound Broken judges k (sent k es) (received k es) (received k es ++ h.piece) t) → ((shut.left ≡ []) × (fault_of (rest_of (received k es ++ h.piece)) ≡ None)) ⊎ (shut.left ≡ [] → fault_of (rest_of (received k es ++ h.piece)) ≡ None → ⊥) → Of k (es ++ x ∷ []) new
-  shut_now k n m w es x s t new h settles goes dated reads shut (inl all) =
-      let front : List FrameSeen = frames_of (received k es) ++ shut.now in
-      inl (whole_with k es x t new h.piece shut.now settles (arrived_is k x.event x.reply s t h) (shut.behind ∙ ap (λ (l : List FrameSeen). front ++ l) all.0 ∙ append-nil front) shut.each all.1 shut.count goes.each)
-  shut_now k n m w es x s t new h settles goes dated reads shut (inr something) = inr (broke_with k n m w es x s t new h settles goes dated reads shut something)
-
   comes_now : (k n m w : ℕ) (es : List Entry) (x : Entry) (s t new : StateSeen) (h : Arrives k x.event x.reply s t) → new ≡ settling.settled t → GoesOn Sound es k [] → Lawful (record { journal = record { entries = es ++ x ∷ [] }; state = new; spent = false }) → SoundOn k (received k (es ++ x ∷ [])) new
       → Comes P May kept Sound Broken judges k (sent k es) (received k es) (received k es ++ h.piece) t → Of k (es ++ x ∷ []) new
   comes_now k n m w es x s t new h settles goes dated reads (inl more) =
       inl (whole_with k es x t new h.piece more.now settles (arrived_is k x.event x.reply s t h) more.behind more.each more.whole (λ few. more.count few ∙ ap bytes_in more.behind) goes.each)
-  comes_now k n m w es x s t new h settles goes dated reads (inr shut) =
-      shut_now k n m w es x s t new h settles goes dated reads shut (left_or shut.left (fault_of (rest_of (received k es ++ h.piece))))
+  comes_now k n m w es x s t new h settles goes dated reads (inr shut) = inr (broke_with k n m w es x s t new h settles goes dated reads shut)
 
   whole_arrives : (k n m w : ℕ) (es : List Entry) (x : Entry) (old new : StateSeen) → Comings k n m w x.event old new x.reply → SoundOn k (received k es) old → given.InOn P May kept (received k es) (sent k es) (numbered old.links k) → Lawful (record { journal = record { entries = es ++ x ∷ [] }; state = new; spent = false }) → SoundOn k (received k (es ++ x ∷ [])) new
       → Whole k es old → Of k (es ++ x ∷ []) new

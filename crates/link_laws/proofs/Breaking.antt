@@ -7,7 +7,7 @@ use Rattle.attempt_ledger.specs.declared.news.News.{News}
 use Rattle.attempt_ledger.specs.declared.news.News.TheVariants as news
 use Rattle.ledger_stamps.specs.Steps.{read_link}
 use Rattle.h2_frame.specs.Frames.{FrameSeen, IsFrame}
-use Rattle.h2_frame.specs.Readings.{Fault, IsReading, Partial, Reading, Whole, fault_of, frames_after, frames_of, frames_within, reading_of, rest_of}
+use Rattle.h2_frame.specs.Readings.{Fault, IsReading, Partial, Reading, Whole, fault_of, fault_told, frames_after, frames_of, frames_within, reading_of, rest_after, rest_of, rest_within}
 use Rattle.h2_frame.proofs.PlaceLaws.{prefix_is_partial}
 use Rattle.h2_frame.proofs.PrefixLaws.{partial_is_prefix}
 use Rattle.h2_frame.proofs.TextLaws.{has_reading, no_two_readings, pieces_join, whole_is}
@@ -90,6 +90,20 @@ first_of (suc n) bytes (Whole g len) f is first =
 first_of (suc n) bytes Partial f is first = absurd (let front : slice_get (frames_within (suc n) bytes) 0 ≡ None = ap (λ (x : Reading). slice_get (frames_after x (λ m. frames_within n (drop m bytes))) 0) is in let bad : ⊥ = (cc) in bad)
 first_of (suc n) bytes (Fault why) f is first = absurd (let front : slice_get (frames_within (suc n) bytes) 0 ≡ None = ap (λ (x : Reading). slice_get (frames_after x (λ m. frames_within n (drop m bytes))) 0) is in let bad : ⊥ = (cc) in bad)
 
+-- bytes that begin with no frame, and are not at fault, are a part of one
+part_only : (n : ℕ) (bytes : List ℕ) (r : Reading) → length bytes ≤ n → reading_of bytes ≡ r → frames_within n bytes ≡ [] → fault_of (rest_within n bytes) ≡ None → reading_of bytes ≡ Partial
+part_only zero [] r few is none sound = refl
+part_only zero (b ∷ bytes) r few is none sound = absurd (let bad : ⊥ = omega (arith, few) in bad)
+part_only (suc n) bytes Partial few is none sound = is
+part_only (suc n) bytes (Whole f len) few is none sound = absurd (
+    let front : frames_within (suc n) bytes ≡ f ∷ frames_within n (drop len bytes) = ap (λ (x : Reading). frames_after x (λ m. frames_within n (drop m bytes))) is in
+    let clash : f ∷ frames_within n (drop len bytes) ≡ [] = sym front ∙ none in
+    let bad : ⊥ = (cc) in bad)
+part_only (suc n) bytes (Fault why) few is none sound = absurd (
+    let rest : rest_within (suc n) bytes ≡ bytes = ap (λ (x : Reading). rest_after x bytes (λ m. rest_within n (drop m bytes))) is in
+    let clash : Some why ≡ None = sym (ap fault_told is) ∙ sym (ap fault_of rest) ∙ sound in
+    let bad : ⊥ = (cc) in bad)
+
 module _ (P : List FrameSeen → List FrameSeen → Wire → Type 0) (May : List FrameSeen → List FrameSeen → FrameSeen → Type 0) (kept : Kept P May) (Sound Broken : List FrameSeen → List FrameSeen → FrameSeen → Type 0) (judges : Judges P Sound Broken) where
   abbrev On : List ℕ → List ℕ → Option LinkSlot → Type 0
   On bytes octets o = given.InOn P May kept bytes octets o
@@ -156,6 +170,7 @@ module _ (P : List FrameSeen → List FrameSeen → Wire → Type 0) (May : List
     pub behind : frames_of bytes ≡ (frames_of start ++ now) ++ left
     pub each : (out : List FrameSeen) → IsTextOf octets out → EachMay (Sound out) (frames_of start) now
     pub first : (out : List FrameSeen) → IsTextOf octets out → (f : FrameSeen) → slice_get left 0 ≡ Some f → Broken out (frames_of start ++ now) f
+    pub breaks : left ≡ [] → fault_of (rest_of bytes) ≡ None → ⊥
     pub count : length bytes ≤ most → seen_on k s ≡ bytes_in (frames_of start ++ now)
 
   abbrev pub Comes : ℕ → List ℕ → List ℕ → List ℕ → StateSeen → Type 0
@@ -168,6 +183,7 @@ module _ (P : List FrameSeen → List FrameSeen → Wire → Type 0) (May : List
     pub left : List FrameSeen
     pub frames : frames_of (bytes ++ more) ≡ frames_of bytes ++ left
     pub first : (out : List FrameSeen) → IsTextOf octets out → (f : FrameSeen) → slice_get left 0 ≡ Some f → Broken out (frames_of bytes) f
+    pub breaks : left ≡ [] → fault_of (rest_of (bytes ++ more)) ≡ None → ⊥
 
   shut_by : (k : ℕ) (octets start bytes more : List ℕ) (s t : StateSeen) → Open k octets start bytes s → Ends k octets bytes more s t → Shut k octets start (bytes ++ more) t
   shut_by k octets start bytes more s t h ends = record {
@@ -177,6 +193,7 @@ module _ (P : List FrameSeen → List FrameSeen → Wire → Type 0) (May : List
     behind = ends.frames ∙ ap (λ (fs : List FrameSeen). fs ++ ends.left) h.behind;
     each = h.each;
     first = λ out text f is. subst (λ (past : List FrameSeen). Broken out past f) h.behind (ends.first out text f is);
+    breaks = ends.breaks;
     count = λ few. ends.seen ∙ h.count (omega (arith, few, length-append bytes more)) ∙ ap bytes_in h.behind;
   }
 
@@ -193,12 +210,27 @@ module _ (P : List FrameSeen → List FrameSeen → Wire → Type 0) (May : List
       let mine : Broken h.went h.came f = judges.broken h.came h.went l.wire f code unbroken (broken_as l piece f whole.0 code whole.1 broken) h.keeps in
       subst (λ (went : List FrameSeen). Broken went (frames_of bytes) f) same (subst (λ (came : List FrameSeen). Broken h.went came f) had mine)
 
+  read_both : (bytes octets piece : List ℕ) (l : Seen) (h : Holds P bytes octets l) → IsReading (bytes ++ piece) (h.came ++ frames_of (l.rest ++ piece)) (rest_of (l.rest ++ piece)) (fault_of (rest_of (l.rest ++ piece)))
+  read_both bytes octets piece l h =
+      let all : List ℕ = l.rest ++ piece in
+      pieces_join bytes piece h.came (frames_of all) l.rest (rest_of all) (fault_of (rest_of all)) h.read (has_reading all)
+
   pub frames_both : (bytes octets piece : List ℕ) (l : Seen) → Holds P bytes octets l → frames_of (bytes ++ piece) ≡ frames_of bytes ++ frames_of (l.rest ++ piece)
   frames_both bytes octets piece l h =
-      let all : List ℕ = l.rest ++ piece in
-      let joined : IsReading (bytes ++ piece) (h.came ++ frames_of all) (rest_of all) (fault_of (rest_of all)) = pieces_join bytes piece h.came (frames_of all) l.rest (rest_of all) (fault_of (rest_of all)) h.read (has_reading all) in
       let had : h.came ≡ frames_of bytes = (no_two_readings bytes _ _ _ _ _ _ h.read (has_reading bytes)).0 in
-      (no_two_readings (bytes ++ piece) _ _ _ _ _ _ (has_reading (bytes ++ piece)) joined).0 ∙ ap (λ (fs : List FrameSeen). fs ++ frames_of all) had
+      (no_two_readings (bytes ++ piece) _ _ _ _ _ _ (has_reading (bytes ++ piece)) (read_both bytes octets piece l h)).0 ∙ ap (λ (fs : List FrameSeen). fs ++ frames_of (l.rest ++ piece)) had
+
+  fault_both : (bytes octets piece : List ℕ) (l : Seen) → Holds P bytes octets l → fault_of (rest_of (bytes ++ piece)) ≡ fault_of (rest_of (l.rest ++ piece))
+  fault_both bytes octets piece l h = (no_two_readings (bytes ++ piece) _ _ _ _ _ _ (has_reading (bytes ++ piece)) (read_both bytes octets piece l h)).2
+
+  -- of a piece that breaks a link a frame is left, or a byte is at fault
+  some_breaks : (bytes octets piece : List ℕ) (l : Seen) (code : ℕ) → l.wire.broken ≡ None → (heard l piece).link.wire.broken ≡ Some code → Holds P bytes octets l → frames_of (l.rest ++ piece) ≡ [] → fault_of (rest_of (bytes ++ piece)) ≡ None → ⊥
+  some_breaks bytes octets piece l code unbroken broken h none sound =
+      let all : List ℕ = l.rest ++ piece in
+      let part : reading_of all ≡ Partial = part_only (length all) all (reading_of all) (omega arith) refl none (sym (fault_both bytes octets piece l h) ∙ sound) in
+      let same : (heard l piece).link.wire.broken ≡ l.wire.broken = ap (λ (r : Reading). (heard_with l piece (front_as l.wire all r)).link.wire.broken) part in
+      let clash : Some code ≡ None = sym broken ∙ same ∙ unbroken in
+      (cc)
 
   -- a frame, or a part of one, is heard
   pub reads_slot : (k : ℕ) (bytes : List ℕ) (s : StateSeen) (slot : LinkSlot) → numbered s.links k ≡ Some slot → slot.dead ≡ false → SoundOn k bytes s → Reads bytes (seen_on k s) (text_in slot) false
@@ -228,6 +260,7 @@ module _ (P : List FrameSeen → List FrameSeen → Wire → Type 0) (May : List
         left = frames_of (slot.link.link.rest ++ piece);
         frames = frames_both bytes octets piece slot.link.link holds;
         first = first_breaks bytes octets piece slot.link.link code unbroken broken holds;
+        breaks = some_breaks bytes octets piece slot.link.link code unbroken broken holds;
       }
 
   pub frame_comes : (k : ℕ) (octets start bytes piece : List ℕ) (s : StateSeen) (slot : LinkSlot) → numbered s.links k ≡ Some slot → slot.dead ≡ false → slot.link.link.wire.broken ≡ None → 1 ≤ length piece → Open k octets start bytes s → (o : Option ℕ) → (heard slot.link.link piece).link.wire.broken ≡ o

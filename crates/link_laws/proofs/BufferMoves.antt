@@ -5,6 +5,7 @@ use Rattle.std.specs.List.{filter}
 use Rattle.std.specs.Option.{option_map, option_map_or}
 use Rattle.std.proofs.lemmas.Bool.{and_parts, cases_eq, eq-eqb, eqb-true, leb-true, ne_eqb}
 use Rattle.attempt_buffer.specs.Buffers.{Buffered, Committed, Cursor, after_taking, appended, can_open, closed, committed_at, committed_to, is_committed_row, is_open, left_of, moved, opened, shut, taken_by, taken_from, taken_to, taken_uncommitted, text_of}
+use Rattle.attempt_buffer.proofs.BufferLaws.{left_is}
 use Rattle.attempt_buffer.proofs.LeftLaws.{IsAlone, left_taken}
 use Rattle.call_core.specs.Parts.{can_feed, fed_buffer, opened_row}
 use Rattle.link_laws.proofs.BufferTexts.{GoesOn, IsCommitted, IsWithin, Opens, behind_other, behind_own, commit, commit_goes, dropped_length, from_none, from_open, from_own, from_same, no_open, none_filtered, none_of, open_moved, opened_goes, other_filtered, some_of, uncommitted}
@@ -121,12 +122,64 @@ begun_by row b true can is sound = record {
 pub begun_opened : (row : ℕ) (b : Buffered) → can_open row b ≡ true → IsWithin b → IsBegun row b (opened_row row b)
 begun_opened row b can sound = begun_by row b (can_open row b) refl can sound
 
+-- a buffer that is committed is so to this row, which is open; or nothing was taken of the row to which it is
+abbrev pub IsOfRow : ℕ → Option Committed → Type 0
+IsOfRow row o = IfSome o (λ c. (c.is_open ≡ true) × (c.row ≡ row))
+
+abbrev pub IsNotTaken : Option Committed → Type 0
+IsNotTaken o = IfSome o (λ c. c.taken ≡ 0)
+
+not_taken_shut : (o : Option Committed) → IsNotTaken o → IsNotTaken (option_map shut o)
+not_taken_shut None h = tt
+not_taken_shut (Some c) h = h
+
+not_taken_by : (row : ℕ) (b : Buffered) (x : Bool) → IsNotTaken b.committed → IsNotTaken (if x then record b { committed = option_map shut b.committed } else record b { cursors = filter (λ c. not (c.row == row)) b.cursors }).committed
+not_taken_by row b true h = not_taken_shut b.committed h
+not_taken_by row b false h = h
+
+pub not_taken_closed : (row : ℕ) (b : Buffered) → IsNotTaken b.committed → IsNotTaken (closed row b).committed
+not_taken_closed row b h = not_taken_by row b (is_committed_row row b.committed) h
+
+named_row : (row other : ℕ) (o : Option Committed) → IsOfRow other o → is_committed_row row o ≡ true → row ≡ other
+named_row row other None h e = absurd (let no : ⊥ = (cc) in no)
+named_row row other (Some c) h e = sym (eqb-true c.row row (and_parts c.is_open (c.row == row) e).1) ∙ h.1
+
+of_row_by : (row other : ℕ) (b : Buffered) (x : Bool) → is_committed_row row b.committed ≡ x → (row ≡ other → ⊥) → IsOfRow other b.committed → IsOfRow other (if x then record b { committed = option_map shut b.committed } else record b { cursors = filter (λ c. not (c.row == row)) b.cursors }).committed
+of_row_by row other b true e far h = absurd (far (named_row row other b.committed h e))
+of_row_by row other b false e far h = h
+
+pub of_row_closed : (row other : ℕ) (b : Buffered) → (row ≡ other → ⊥) → IsOfRow other b.committed → IsOfRow other (closed row b).committed
+of_row_closed row other b far h = of_row_by row other b (is_committed_row row b.committed) refl far h
+
+fed_to : (row n other : ℕ) (b : Buffered) (x : Bool) → is_committed_row row b.committed ≡ x → IsOfRow other b.committed → IsOfRow other (if x then committed_at row n b else record b { cursors = moved row n b.cursors }).committed
+fed_to row n other b true e h = (refl, named_row row other b.committed h e)
+fed_to row n other b false e h = h
+
+fed_at : (row len other : ℕ) (b : Buffered) (o : Option ℕ) → IsOfRow other b.committed → IsOfRow other (option_map_or (λ taken. taken_to row (taken + len) b) o b).committed
+fed_at row len other b None h = h
+fed_at row len other b (Some taken) h = fed_to row (taken + len) other b (is_committed_row row b.committed) refl h
+
+fed_if : (row len other : ℕ) (b : Buffered) (x : Bool) → IsOfRow other b.committed → IsOfRow other (if x then after_taking row len b else b).committed
+fed_if row len other b true h = fed_at row len other b (taken_by row b) h
+fed_if row len other b false h = h
+
+pub of_row_fed : (row len other : ℕ) (b : Buffered) → IsOfRow other b.committed → IsOfRow other (fed_buffer row len b).committed
+of_row_fed row len other b h = fed_if row len other b (can_feed row len b) h
+
+-- what the row of a committed buffer has taken
+pub taken_of_row : (row : ℕ) (b : Buffered) (c : Committed) → b.committed ≡ Some c → c.is_open ≡ true → c.row ≡ row → taken_by row b ≡ Some c.taken
+taken_of_row row b c is on same =
+    ap (λ (o : Option Committed). taken_from row b.cursors o) is
+    ∙ ap (λ (x : Bool). if x && (c.row == row) then Some c.taken else taken_uncommitted row b.cursors) on
+    ∙ ap (λ (x : Bool). if x then Some c.taken else taken_uncommitted row b.cursors) (eq-eqb c.row row same)
+
 -- a commitment to an open row
 pub record IsCommit (row : ℕ) (b v : Buffered) : Type 0 where
   pub goes : GoesOn [] b v
   pub own : is_open row v ≡ true
   pub only : (p : ℕ) → is_open p v ≡ true → p ≡ row
   pub committed : is_some v.committed ≡ true
+  pub of_row : IsOfRow row v.committed
   pub whole : b.is_whole ≡ true → left_of row b ≡ text_of b → v.is_whole ≡ true
 
 short_drop : (n : ℕ) (xs : List ℕ) → length (drop n xs) ≤ length xs
@@ -153,6 +206,7 @@ commit_at row taken b at sound =
       own = own;
       only = c.only;
       committed = refl;
+      of_row = (refl, refl);
       whole = λ w all.
           let same : left_of row v ≡ left_of row b ++ [] = (g.left row own).1 in
           let kept : length (left_of row v) ≡ length (text_of b) = ap length (same ∙ append-nil (left_of row b) ∙ all) in
@@ -209,6 +263,17 @@ fed_on_buffer row len b sound = fed_on_if row len b (can_feed row len b) sound
 pub record IsUntaken (p : ℕ) (b : Buffered) : Type 0 where
   pub whole : b.is_whole ≡ true
   pub left : left_of p b ≡ text_of b
+
+not_taken_at : (row : ℕ) (b : Buffered) (o : Option Committed) → b.committed ≡ o → IsOfRow row o → IsWithin b → IsUntaken row b → IsNotTaken o
+not_taken_at row b None is own sound h = tt
+not_taken_at row b (Some c) is own sound h =
+    let at : taken_by row b ≡ Some c.taken = taken_of_row row b c is own.0 own.1 in
+    let few : c.taken ≤ length (text_of b) = sound.within row c.taken at in
+    let all : length (text_of b) - c.taken ≡ length (text_of b) = sym (dropped_length c.taken (text_of b)) ∙ ap length (sym (left_is row c.taken b at) ∙ h.left) in
+    omega (arith, few, all)
+
+pub not_taken : (row : ℕ) (b : Buffered) → IsOfRow row b.committed → IsWithin b → IsUntaken row b → IsNotTaken b.committed
+not_taken row b own sound h = not_taken_at row b b.committed refl own sound h
 
 -- what was added to the text was added to what a row has left
 pub untaken_goes : (more : List ℕ) (p : ℕ) (a b : Buffered) → GoesOn more a b → b.is_whole ≡ true → is_open p b ≡ true → IsUntaken p a → IsUntaken p b

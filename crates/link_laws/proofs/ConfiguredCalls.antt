@@ -22,7 +22,8 @@ use Rattle.service_config.specs.Reading.{config_at, config_in, config_in_tree, k
 use Rattle.service_config.specs.declared.config.Config.{Config}
 use Rattle.service_config.specs.declared.config.Method.{Method}
 use Rattle.channel_core.specs.Applying.{config_read}
-use Rattle.link_laws.specs.Configurations.{Settings, brought_by, chosen_at, chosen_by, held_after, held_from, request_by, request_in, settings_at, settings_in, settings_of, settings_of_tree, value_of}
+use Rattle.link_laws.specs.Configurations.{Settings, brought_by, chosen_at, chosen_by, held_after, held_from, request_by, request_in, settings_at, settings_in, settings_of_text, settings_of_tree}
+use Rattle.std.specs.Result.{result_ok}
 use Rattle.channel_core.specs.Tables.{numbered}
 
 -- the settings of a config
@@ -62,11 +63,11 @@ told_ok (Ok x) c e = (let same : x ≡ c = (cc) in ap (λ (y : Config). Ok y) sa
 told_ok (Err f) c e = absurd (let no : ⊥ = (cc) in no)
 
 text_by : (kinds : KindsSeen) (r : Result Tree JsonFault) (c : Config) → config_at kinds r ≡ Ok c → settings_at r ≡ Some (settings_by c)
-text_by kinds (Ok tree) c e = ap (λ (r : Result Settings Fault). value_of r) (tree_by kinds tree c (told_ok (config_in_tree kinds tree) c e))
+text_by kinds (Ok tree) c e = ap (λ (r : Result Settings Fault). result_ok r) (tree_by kinds tree c (told_ok (config_in_tree kinds tree) c e))
 text_by kinds (Err f) c e = absurd (let no : ⊥ = (cc) in no)
 
-pub settings_read : (kinds : KindsSeen) (text : Option (List ℕ)) (c : Config) → config_read kinds text ≡ Ok c → settings_of text ≡ Some (settings_by c)
-settings_read kinds None c e = (let P : Result Config ConfigFault → Option Settings = λ r. option_map settings_by (value_of r) in ap P e)
+pub settings_read : (kinds : KindsSeen) (text : Option (List ℕ)) (c : Config) → config_read kinds text ≡ Ok c → settings_of_text text ≡ Some (settings_by c)
+settings_read kinds None c e = (let P : Result Config ConfigFault → Option Settings = λ r. option_map settings_by (result_ok r) in ap P e)
 settings_read kinds (Some text) c e = text_by kinds (reading text) c e
 
 -- one entry more

@@ -98,7 +98,7 @@ control_one w g s (Some c) e =
     subst (λ (t : Sent). SendsOne w g t) same (plain_one w g (sent_control w g c) refl (plain_control c) (λ t. refl))
 
 -- one behind another
-got_front : (xs ys : List (ℕ × ℕ)) (index : ℕ) (x : ℕ × ℕ) → slice_get xs index ≡ Some x → slice_get (xs ++ ys) index ≡ Some x
+pub got_front : (xs ys : List (ℕ × ℕ)) (index : ℕ) (x : ℕ × ℕ) → slice_get xs index ≡ Some x → slice_get (xs ++ ys) index ≡ Some x
 got_front [] ys index x e = absurd (let never : ⊥ = (cc) in never)
 got_front (z ∷ xs) ys zero x e = e
 got_front (z ∷ xs) ys (suc index) x e = got_front xs ys index x e

@@ -24,7 +24,7 @@ use Rattle.h2_stream.specs.Stream.{or_zero}
 use Rattle.link_laws.specs.Decodings.{decoding_of}
 use Rattle.link_laws.specs.FrameRules.{KeepsRules, is_in_place, is_too_large}
 use Rattle.link_laws.specs.Said as said
-use Rattle.link_laws.specs.Windows.{data_in, raise_on, raised, used}
+use Rattle.link_laws.specs.Windows.{data_size, raise_on, raised, used}
 use Rattle.link_laws.specs.Wires.{is_on}
 use Rattle.link_laws.proofs.BlockFrames.{Has, Tested, has_told, left_after, low_by, no_error, tested}
 use Rattle.link_laws.proofs.Decodings.{Decodes, decodes_fresh, decodes_told, fine_told, link_blocks}
@@ -114,7 +114,7 @@ in_place : (o : Option said.Block) (f : FrameSeen) → is_misplaced (link_blocks
 in_place None f is = not_by (f.kind == continuation_type) is
 in_place (Some c) f is = true_by ((f.kind == continuation_type) && (f.stream == c.stream)) is
 
-opened_by_rule : (a b c : Bool) → (a && not b && not c) ≡ false → a ≡ true → b ≡ false → c ≡ true
+pub opened_by_rule : (a b c : Bool) → (a && not b && not c) ≡ false → a ≡ true → b ≡ false → c ≡ true
 opened_by_rule true false true is one two = refl
 opened_by_rule true false false is one two = absurd (let bad : ⊥ = (cc) in bad)
 opened_by_rule true true c is one two = absurd (let bad : ⊥ = (cc) in bad)
@@ -279,12 +279,12 @@ share_fits : (window initial : ℕ) (g : ℕ → Line) (place : ℕ) (s : LiveSt
 share_fits window initial g place s live None one other h = h
 share_fits window initial g place s live (Some y) one other h = one
 
-sender_fits : (window initial : ℕ) (g : ℕ → Line) (place : ℕ) (live : List LiveStream) → IfSome (sender window initial g place live) (λ x. x.len ≤ length (g x.stream.tag).left)
+pub sender_fits : (window initial : ℕ) (g : ℕ → Line) (place : ℕ) (live : List LiveStream) → IfSome (sender window initial g place live) (λ x. x.len ≤ length (g x.stream.tag).left)
 sender_fits window initial g place [] = tt
 sender_fits window initial g place (s ∷ live) =
     share_fits window initial g place s live (share_of window initial s (length (g s.tag).left) (g s.tag).finished) (one_fits window initial s (length (g s.tag).left) (g s.tag).finished) (sender window initial g (place + 1) live) (sender_fits window initial g (place + 1) live)
 
-taken_all : (n : ℕ) (xs : List ℕ) → n ≤ length xs → length (take n xs) ≡ n
+pub taken_all : (n : ℕ) (xs : List ℕ) → n ≤ length xs → length (take n xs) ≡ n
 taken_all zero xs le = refl
 taken_all (suc n) [] le = absurd (let bad : ⊥ = omega arith in bad)
 taken_all (suc n) (x ∷ xs) le = ap suc (taken_all n xs (omega (arith, le)))
@@ -303,7 +303,7 @@ data_goes came went w g s (Some x) is fits e h =
     let content : List ℕ = take x.len (g x.stream.tag).left in
     let f : FrameSeen = data_frame x.stream.number content x.ends in
     let keeps : KeepsWindows w.window w.initial x.stream x.len = sender_keeps w.window w.initial g 0 w.live x is in
-    let all : used (went ++ f ∷ []) ≡ used went + length content = sum_by_push data_in went f ∙ ap (λ (n : ℕ). used went + n) (data_all x.ends x.stream.number content) in
+    let all : used (went ++ f ∷ []) ≡ used went + length content = sum_by_push data_size went f ∙ ap (λ (n : ℕ). used went + n) (data_all x.ends x.stream.number content) in
     let made : Goes came went (sent_data w g x) = (
       record {
         ready = h.ready;

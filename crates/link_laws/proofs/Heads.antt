@@ -179,7 +179,6 @@ module _ (laws : MoreLaws) (timed : TimedLaws) where
       let n : ℕ = length es + 1 in
       let x : Entry = record { moment = m; word = s.word; event = s.event; reply = r; state = conn_of new.state } in
       let late : old.state.book.moment ≤ m = subst (λ (t : ℕ). t ≤ m) (sym k.knows.moment) (subst (λ (t : ℕ). t ≤ m) (last_is es) (le_max s.moment (last_moment es))) in
-      let next : old.state.book.ledger.entry ≤ n = (let e = k.knows.entry in omega (arith, e)) in
       let first : StateSeen = begun_at n m s.word old.state in
       let u : StateSeen = overdue_ended first in
       let t : StateSeen = h.by.answered in
@@ -191,12 +190,10 @@ module _ (laws : MoreLaws) (timed : TimedLaws) where
       let before : Writes first u = overdue Writes writes first in
       let answers : Writes u t = answered Writes writes (refusal_of s.event u) s.event u t r (writes_event s.event) h.by.answers in
       let settles : Writes t new.state = subst (λ (y : StateSeen). Writes t y) (sym h.by.settles) (settle Writes writes t writes_configured) in
-      let told : Later n u.book.ledger t.book.ledger = subst (λ (j : ℕ). Later j u.book.ledger t.book.ledger) before.entry answers.later in
       let rest : Later n t.book.ledger b = subst (λ (j : ℕ). Later j t.book.ledger b) (answers.entry ∙ before.entry) settles.later in
-      let behind : Later n u.book.ledger b = later_then n u.book.ledger t.book.ledger b told rest in
-      let all : Later n old.state.book.ledger b = stamped n m s.word s.event old.state new.state r h.by in
+      let behind : Later n u.book.ledger b = later_then n u.book.ledger t.book.ledger b (subst (λ (j : ℕ). Later j u.book.ledger t.book.ledger) before.entry answers.later) rest in
       let finds : Finds authority es x u = record {
-        known = sound_overdue laws es m s.word old.state late next k.knows.fits k.knows.sound;
+        known = sound_overdue laws es m s.word old.state late (let e = k.knows.entry in omega (arith, e)) k.knows.fits k.knows.sound;
         served = after.served;
         out = λ link. (let o : IsOut (sent link es) (numbered old.state.links link) = k.sent_all link in record { streams = o.streams; out = walking.overdue (Leaves link) (leaves link) first (sent link es) o.streams o.out });
         begun = since.begun (moment_at (es ++ x ∷ [])) (moment_now es x) (begun_first authority old x n m s.word k.begun);
@@ -206,7 +203,7 @@ module _ (laws : MoreLaws) (timed : TimedLaws) where
       let now : IsNow authority es x b = λ link room octets is said.
       drained authority es x n link room octets u t b (refusal_of (event.Drain link room) u) finds (subst (λ (e : Event). AnswersBy (refusal_of e u) e u t r) is h.by.answers)
       (λ g. ((drain laws timed n link room u t r g).after tt before.entry (known_after n first u due.base refl start.known) after.served).stays) behind rest said in
-      let heads : AreHeads authority (es ++ x ∷ []) b = heads_more authority es x n old.state.book.ledger b all (within_of es (HoldsLast es) old.state k.knows.sound) k.heads now in
+      let heads : AreHeads authority (es ++ x ∷ []) b = heads_more authority es x n old.state.book.ledger b (stamped n m s.word s.event old.state new.state r h.by) (within_of es (HoldsLast es) old.state k.knows.sound) k.heads now in
       record {
         knows = knows_step laws old new s r h k.knows;
         served = served_step laws timed old new s r h k.knows k.served;

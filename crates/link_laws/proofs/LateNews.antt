@@ -1,5 +1,5 @@
 -- An end that says of an attempt that its request was never sent is told of a tag that has no stream: a link's readers know which streams were
--- opened.
+-- opened. And no link tells that a pick failed.
 use Rattle.std.proofs.Common.{◌≡◌, ℕ, Bool, true, false, if◌then◌else◌, Option, Some, None, IfSome, List, [], ◌∷◌, ◌++◌, map, refl, sym, ap, subst, ◌∙◌, inl, inr}
 use Rattle.std.proofs.lemmas.Bool.{cases_eq}
 use Rattle.std.proofs.lemmas.Map.Lookups.{exact_unsigned}
@@ -18,6 +18,8 @@ use Rattle.grpc_meta.specs.ResponseFields.{shown_of, values_of}
 use Rattle.attempt_ledger.specs.declared.news.EndNews.{EndNews}
 use Rattle.attempt_ledger.specs.declared.news.News.{News}
 use Rattle.attempt_ledger.specs.declared.news.News.TheVariants as news
+use Rattle.attempt_ledger.specs.declared.row.RowCause.{RowCause}
+use Rattle.attempt_ledger.specs.declared.row.RowCause.TheVariants as cause
 use Rattle.h2_link.specs.Heard.{heard}
 use Rattle.h2_link.specs.Status.{http_status, is_interim}
 use Rattle.h2_link.specs.declared.news.LinkNews.{LinkNews}
@@ -33,9 +35,28 @@ use Rattle.channel_core.specs.Steps.{end_kept, ends_kept, loss}
 use Rattle.link_laws.proofs.LinkTags.{all_append}
 use Rattle.link_laws.proofs.OneReader.{Once, Opened, Taken, Without, behind_other, behind_own, once_behind, opened_of, opened_reader, taken, without_one}
 
--- ends of requests that were sent
+-- ends of requests that were sent: neither as not sent, nor by a pick that failed
+abbrev pub is_of_request : RowCause → Bool
+is_of_request cause.Unsent = false
+is_of_request cause.Pick = false
+is_of_request why = true
+
 abbrev pub IsSent : EndNews → Type 0
-IsSent end = is_unsent end.cause ≡ false
+IsSent end = is_of_request end.cause ≡ true
+
+pub sent_so : (why : RowCause) → is_of_request why ≡ true → is_unsent why ≡ false
+sent_so cause.Status e = refl
+sent_so cause.Http e = refl
+sent_so cause.Framing e = refl
+sent_so cause.Reset e = refl
+sent_so cause.Lost e = refl
+sent_so cause.Goaway e = refl
+sent_so cause.Cut e = refl
+sent_so cause.Unsent e = absurd (let never : ⊥ = (cc) in never)
+sent_so cause.Pick e = absurd (let never : ⊥ = (cc) in never)
+
+never_pick : (why : RowCause) → is_of_request why ≡ true → why ≡ cause.Pick → ⊥
+never_pick why e pick = (let bad : false ≡ true = ap is_of_request (sym pick) ∙ e in (cc))
 
 sent_values : (values : List (List ℕ)) (fields : List Field) (seen : ℕ) → IsSent (status_end_by values fields seen)
 sent_values [] fields seen = refl
@@ -81,8 +102,9 @@ equal_is k x e = exact_unsigned k x e
 
 -- `F` holds of the tags that have no stream
 module _ (F : ℕ → Type 0) where
-  abbrev pub IsLateEnd : ℕ → EndNews → Type 0
-  IsLateEnd tag end = is_unsent end.cause ≡ true → F tag
+  pub record IsLateEnd (tag : ℕ) (end : EndNews) : Type 0 where
+    pub late : is_unsent end.cause ≡ true → F tag
+    pub no_pick : end.cause ≡ cause.Pick → ⊥
 
   abbrev pub IsLate : News → Type 0
   IsLate (news.Ended tag end) = IsLateEnd tag end
@@ -97,7 +119,7 @@ module _ (F : ℕ → Type 0) where
     pub fresh : (tag : ℕ) (r : ReaderSeen) → reader_in tag readers ≡ Some r → r.opened ≡ false → F tag
 
   late_of : (tag : ℕ) (end : EndNews) → IsSent end → IsLateEnd tag end
-  late_of tag end sent e = no (sym sent ∙ e)
+  late_of tag end sent = record { late = λ e. no (sym (sent_so end.cause sent) ∙ e); no_pick = never_pick end.cause sent }
 
   late_messages : (tag seen : ℕ) (messages : List (List ℕ)) → AreLate (map (message_news tag seen) messages)
   late_messages tag seen [] = tt
@@ -136,14 +158,14 @@ module _ (F : ℕ → Type 0) where
   }
 
   unseen_by : (opened : Bool) (tag seen : ℕ) → (opened ≡ false → F tag) → IsLateEnd tag (unseen_end opened seen)
-  unseen_by true tag seen f = λ e. no e
-  unseen_by false tag seen f = λ e. f refl
+  unseen_by true tag seen f = record { late = λ e. no e; no_pick = λ pick. (cc) }
+  unseen_by false tag seen f = record { late = λ e. f refl; no_pick = λ pick. (cc) }
 
   step_read : (r : ReaderSeen) (tag : ℕ) (n : LinkNews) → IsStepped tag r (read_on r tag n)
   step_read r tag (link.Fields t fields ends seen) = step_headers r tag fields seen (headers_end r.head (frame.is_whole r.messages) fields ends seen) (sent_headers r.head (frame.is_whole r.messages) fields ends seen)
   step_read r tag (link.Data t bytes ends seen) = step_data r tag (frame.given r.messages bytes) ends seen
-  step_read r tag (link.Reset t number seen) = record { opened = refl; late = λ f. (λ e. no e, tt) }
-  step_read r tag (link.Fault t number seen) = record { opened = refl; late = λ f. (λ e. no e, tt) }
+  step_read r tag (link.Reset t number seen) = record { opened = refl; late = λ f. (late_of tag _ refl, tt) }
+  step_read r tag (link.Fault t number seen) = record { opened = refl; late = λ f. (late_of tag _ refl, tt) }
   step_read r tag (link.Unseen t seen) = record { opened = refl; late = λ f. (unseen_by r.opened tag seen f, tt) }
   step_read r tag link.Ready = record { opened = refl; late = λ f. tt }
   step_read r tag link.Retiring = record { opened = refl; late = λ f. tt }
@@ -233,7 +255,7 @@ module _ (F : ℕ → Type 0) where
 
   insert_by : (o : Ordering) (e : ℕ × EndNews) (es rest : List (ℕ × EndNews)) (k : ℕ) (v : EndNews) → nat_cmp k e.0 ≡ o → IsLateEnd k v → AreLateEnds (e ∷ es) → AreLateEnds rest → AreLateEnds (match_ordering o ((k, v) ∷ e ∷ es) ((e.0, v) ∷ es) (e ∷ rest))
   insert_by ordering.Less e es rest k v is late all more = (late, all)
-  insert_by ordering.Equal e es rest k v is late all more = (λ unsent. subst F (equal_is k e.0 is) (late unsent), all.1)
+  insert_by ordering.Equal e es rest k v is late all more = (record { late = λ unsent. subst F (equal_is k e.0 is) (late.late unsent); no_pick = late.no_pick }, all.1)
   insert_by ordering.Greater e es rest k v is late all more = (all.0, more)
 
   insert_late : (es : List (ℕ × EndNews)) (k : ℕ) (v : EndNews) → IsLateEnd k v → AreLateEnds es → AreLateEnds (insert_entry nat_cmp es k v)
@@ -274,7 +296,7 @@ late_less F G [] more h = tt
 late_less F G (n ∷ ns) more h = (by n h.0, late_less F G ns more h.1)
   where
     by : (n : News) → IsLate F n → IsLate G n
-    by (news.Ended tag end) late = λ e. more tag (late e)
+    by (news.Ended tag end) late = record { late = λ e. more tag (late.late e); no_pick = late.no_pick }
     by news.Ready late = tt
     by news.Retiring late = tt
     by (news.Broken why) late = tt
@@ -284,9 +306,9 @@ late_less F G (n ∷ ns) more h = (by n h.0, late_less F G ns more h.1)
 
 pub ends_less : (F G : ℕ → Type 0) (ends : List (ℕ × EndNews)) → ((tag : ℕ) → F tag → G tag) → AreLateEnds F ends → AreLateEnds G ends
 ends_less F G [] more h = tt
-ends_less F G (e ∷ ends) more h = (λ unsent. more e.0 (h.0 unsent), ends_less F G ends more h.1)
+ends_less F G (e ∷ ends) more h = (record { late = λ unsent. more e.0 (h.0.late unsent); no_pick = h.0.no_pick }, ends_less F G ends more h.1)
 
 -- a link that is lost
 pub late_loss : (F : ℕ → Type 0) (was_sent : Bool) (tag seen : ℕ) → (was_sent ≡ false → F tag) → IsLateEnd F tag (loss was_sent seen)
-late_loss F true tag seen f = λ e. no e
-late_loss F false tag seen f = λ e. f refl
+late_loss F true tag seen f = record { late = λ e. no e; no_pick = λ pick. (cc) }
+late_loss F false tag seen f = record { late = λ e. f refl; no_pick = λ pick. (cc) }

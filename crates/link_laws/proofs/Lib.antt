@@ -5,6 +5,7 @@ pub mod BlockRules
 pub mod BreakRuns
 pub mod Breaking
 pub mod BufferMoves
+pub mod BufferRows
 pub mod BufferTexts
 pub mod CallCauses
 pub mod CallEndings
@@ -19,6 +20,7 @@ pub mod CutBooks
 pub mod CutRows
 pub mod Dating
 pub mod Decodings
+pub mod Desks
 pub mod DrainedHeads
 pub mod DrainedStreams
 pub mod DueHeads
@@ -61,6 +63,7 @@ pub mod Numbered
 pub mod OneCommitment
 pub mod OneReader
 pub mod OneText
+pub mod OpenBuffers
 pub mod OpenCalls
 pub mod OpenFeeds
 pub mod OpenLines
@@ -74,6 +77,7 @@ pub mod OwnEnds
 pub mod Owning
 pub mod Pairs
 pub mod Plans
+pub mod QueueJoins
 pub mod QueueNotes
 pub mod ReaderTags
 pub mod ReasonedCalls

@@ -120,7 +120,7 @@ Throttled = Both IsSound ThrottledLaw
 abbrev More : ℕ → ℕ → Stepped → Type 0
 More = Both Lent Throttled
 
-stamp_by : (n entry stamp : ℕ) (o : Option ℕ) → entry ≡ n → o ≡ Some stamp → IfSome o (λ e. e ≤ n) → stamp ≤ entry
+pub stamp_by : (n entry stamp : ℕ) (o : Option ℕ) → entry ≡ n → o ≡ Some stamp → IfSome o (λ e. e ≤ n) → stamp ≤ entry
 stamp_by n entry stamp o at e by = subst (λ (k : ℕ). stamp ≤ k) (sym at) (subst (λ (x : Option ℕ). IfSome x (λ y. y ≤ n)) e by)
 
 known : (m n : ℕ) (s : Stepped) → s.ledger.entry ≡ n → More m n s → licenses.IsSound s

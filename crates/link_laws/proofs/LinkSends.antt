@@ -138,44 +138,24 @@ of_link frames f zero_stream plain kind = record { kind = kind; is_open = λ ne.
 of_stream : (frames : List FrameSeen) (f : FrameSeen) → (f.kind ≡ data_type → ⊥) → is_client_frame f ≡ true → Ready frames [] f.stream → MaySend frames f
 of_stream frames f plain kind r = record { kind = kind; is_open = λ ne nh. record { opened = r.opened; reset = r.reset }; goes_on = λ e. absurd (plain e); size = λ e. absurd (plain e) }
 
+queued_of_link : (c : Control) (f : FrameSeen) → outgoing c ≡ AFrame f → (f.kind ≡ data_type → ⊥) → streams_opened (f ∷ []) ≡ [] → f.stream ≡ 0 → is_client_frame f ≡ true
+    → ((n : ℕ) → is_reset_of n c ≡ false) → ((n : ℕ) → ends_on n f ≡ false) → ((n : ℕ) → is_on rst_stream_type n f ≡ false) → Queued c
+queued_of_link c f is plain none zero_stream kind resets ends rests = record {
+  frame = f;
+  is = is;
+  plain = plain;
+  none = none;
+  may = λ frames w. of_link frames f zero_stream plain kind;
+  more = plainly c f resets ends rests;
+  turns = turns_by c f (λ n e. rests n);
+}
+
 pub queued_frame : (c : Control) → is_preface c ≡ false → Queued c
 queued_frame control.Preface is = absurd (let bad : ⊥ = (cc) in bad)
-queued_frame (control.SettingsAck resizes) is = record {
-  frame = settings_ack;
-  is = refl;
-  plain = λ e. omega (arith, e);
-  none = refl;
-  may = λ frames w. of_link frames settings_ack refl (λ e. omega (arith, e)) refl;
-  more = plainly (control.SettingsAck resizes) settings_ack (λ n. refl) (λ n. refl) (λ n. refl);
-  turns = turns_by (control.SettingsAck resizes) settings_ack (λ n e. refl);
-}
-queued_frame (control.Ping word) is = record {
-  frame = ping_frame word;
-  is = refl;
-  plain = λ e. omega (arith, e);
-  none = refl;
-  may = λ frames w. of_link frames (ping_frame word) refl (λ e. omega (arith, e)) refl;
-  more = plainly (control.Ping word) (ping_frame word) (λ n. refl) (λ n. refl) (λ n. refl);
-  turns = turns_by (control.Ping word) (ping_frame word) (λ n e. refl);
-}
-queued_frame (control.PingAck word) is = record {
-  frame = ping_ack word;
-  is = refl;
-  plain = λ e. omega (arith, e);
-  none = refl;
-  may = λ frames w. of_link frames (ping_ack word) refl (λ e. omega (arith, e)) refl;
-  more = plainly (control.PingAck word) (ping_ack word) (λ n. refl) (λ n. refl) (λ n. refl);
-  turns = turns_by (control.PingAck word) (ping_ack word) (λ n e. refl);
-}
-queued_frame (control.LinkUpdate by) is = record {
-  frame = window_update_frame 0 by;
-  is = refl;
-  plain = λ e. omega (arith, e);
-  none = refl;
-  may = λ frames w. of_link frames (window_update_frame 0 by) refl (λ e. omega (arith, e)) refl;
-  more = plainly (control.LinkUpdate by) (window_update_frame 0 by) (λ n. refl) (λ n. refl) (λ n. refl);
-  turns = turns_by (control.LinkUpdate by) (window_update_frame 0 by) (λ n e. refl);
-}
+queued_frame (control.SettingsAck resizes) is = queued_of_link (control.SettingsAck resizes) settings_ack refl (λ e. omega (arith, e)) refl refl refl (λ n. refl) (λ n. refl) (λ n. refl)
+queued_frame (control.Ping word) is = queued_of_link (control.Ping word) (ping_frame word) refl (λ e. omega (arith, e)) refl refl refl (λ n. refl) (λ n. refl) (λ n. refl)
+queued_frame (control.PingAck word) is = queued_of_link (control.PingAck word) (ping_ack word) refl (λ e. omega (arith, e)) refl refl refl (λ n. refl) (λ n. refl) (λ n. refl)
+queued_frame (control.LinkUpdate by) is = queued_of_link (control.LinkUpdate by) (window_update_frame 0 by) refl (λ e. omega (arith, e)) refl refl refl (λ n. refl) (λ n. refl) (λ n. refl)
 queued_frame (control.StreamUpdate stream by) is = record {
   frame = window_update_frame stream by;
   is = refl;

@@ -28,7 +28,7 @@ pub frames_more : (x y : List ℕ) → (others : List FrameSeen) × (frames_of (
 frames_more x y = more_by x y (fault_of (rest_of x)) (has_reading x)
 
 -- how many bytes a frame has, and frames
-frame_size : (text : List ℕ) (f : FrameSeen) → Spells text f → length text ≡ 9 + length f.payload
+pub frame_size : (text : List ℕ) (f : FrameSeen) → Spells text f → length text ≡ 9 + length f.payload
 frame_size (a ∷ b ∷ c ∷ kind ∷ flags ∷ p ∷ q ∷ r ∷ s ∷ payload) f h = (let same : length f.payload ≡ length payload = ap (λ (x : FrameSeen). length x.payload) h.1 in omega (arith, same))
 frame_size (a ∷ b ∷ c ∷ kind ∷ flags ∷ p ∷ q ∷ r ∷ []) f h = absurd h
 frame_size (a ∷ b ∷ c ∷ kind ∷ flags ∷ p ∷ q ∷ []) f h = absurd h
@@ -48,7 +48,7 @@ frames_size bytes (f ∷ fs) rest h =
     let more : length h.1 ≡ bytes_in fs + length rest = frames_size h.1 fs rest h.4 in
     omega (arith, size, one, more)
 
-bytes_more : (fs : List FrameSeen) (f : FrameSeen) → bytes_in (fs ++ f ∷ []) ≡ bytes_in fs + (9 + length f.payload)
+pub bytes_more : (fs : List FrameSeen) (f : FrameSeen) → bytes_in (fs ++ f ∷ []) ≡ bytes_in fs + (9 + length f.payload)
 bytes_more [] f = omega arith
 bytes_more (g ∷ fs) f = (let e = bytes_more fs f in omega (arith, e))
 

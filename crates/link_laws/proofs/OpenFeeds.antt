@@ -17,10 +17,11 @@ use Rattle.channel_core.specs.Books.{call_of, row_at}
 use Rattle.channel_core.specs.Feeding.{all_fed, book_fed}
 use Rattle.channel_core.specs.Tables.{fed_call, numbered}
 use Rattle.channel_core.proofs.BookLaws.{called, number_changed, number_other, put_call}
-use Rattle.link_laws.proofs.BufferMoves.{IsFedOn, IsUntaken, Stage, fed_on_buffer, stage_fed}
+use Rattle.link_laws.proofs.BufferMoves.{IsFedOn, IsNotTaken, IsUntaken, Stage, fed_on_buffer, of_row_fed, stage_fed}
+use Rattle.link_laws.proofs.BufferRows.{IsAligned}
 use Rattle.link_laws.proofs.BufferTexts.{Feeds, IsWithin, feeds_buffer}
 use Rattle.link_laws.proofs.Lifting.{slot_was}
-use Rattle.link_laws.proofs.OpenCalls.{IsOpening, none_open}
+use Rattle.link_laws.proofs.OpenBuffers.{IsOpening, none_open}
 use Rattle.link_laws.proofs.OpenRows.{RunsIn}
 
 -- no committed row is open
@@ -63,6 +64,7 @@ record Feeding (F : ℕ → Type 0) (n : ℕ → ℕ) (live : List LiveRow) (com
   opens : (p : ℕ) → RunsIn p live → is_open p b ≡ true
   whole : (p : ℕ) → WaitsIn p live → (b.is_whole ≡ true) × NoneOpen b
   stage : (p : ℕ) → is_open p b ≡ true → F p → Stage p (n p) b
+  aligned : (row : ℕ) → committed ≡ Some row → IsAligned row live b.committed
 
 abbrev IsFeeding : (ℕ → Type 0) → (ℕ → ℕ) → CallState → Type 0
 IsFeeding F n c = Feeding F n c.live c.attempts.committed c.ended c.buffer
@@ -76,6 +78,7 @@ starts F c apart all h = record {
   opens = h.opens (inr tt);
   whole = λ p w. (h.whole (inr tt) p w, none_open (Unit {0}) F c.live c.attempts.committed c.ended c.buffer p c.buffer.committed refl all apart w h);
   stage = λ p e f. inl (h.fresh tt p e f, refl);
+  aligned = h.aligned tt;
 }
 
 feeds : (F : ℕ → Type 0) (n : ℕ → ℕ) (row len : ℕ) (c : CallState) → IsFeeding F n c → IsFeeding F n (fed_call row len c)
@@ -91,6 +94,10 @@ feeds F n row len c h =
       opens = λ p r. g.opens p (h.opens p r);
       whole = λ p w. let k = h.whole p w in let m : IsMoved c.buffer v = moved_fed row len c.buffer k.1 in (m.whole ∙ k.0, ap (λ (o : Option Committed). not (option_map_or (λ c. c.is_open) o false)) m.committed ∙ k.1);
       stage = λ p e fresh. let was = (f.left p e).0 in stage_fed row len p (n p) c.buffer h.within was (h.stage p was fresh);
+      aligned = λ q e. elim (h.aligned q e) [
+        | inl own ↦ inl (of_row_fed row len q c.buffer own)
+        | inr waits ↦ (let m : IsMoved c.buffer v = moved_fed row len c.buffer (h.whole q waits.0).1 in inr (waits.0, subst (λ (o : Option Committed). IsNotTaken o) (sym m.committed) waits.1))
+      ];
     }
 
 -- where a row that has no stream has as much to send as at first, nothing of it was taken
@@ -107,6 +114,7 @@ ends F G n c less h = record {
   opens = λ k p r. h.opens p r;
   whole = λ k p w. (h.whole p w).0;
   fresh = λ k p e g. let l = less p e g in stage_over p (n p) c.buffer l.1 (h.stage p e l.0);
+  aligned = λ k q e. h.aligned q e;
 }
 
 -- the calls of a channel, as they were at first and are now

@@ -105,11 +105,11 @@ both_all : (P : ℕ × ℕ → Type 0) (xs ys : List (ℕ × ℕ)) → AllByRecu
 both_all P [] ys h g = g
 both_all P (x ∷ xs) ys h g = (h.0, both_all P xs ys h.1 g)
 
-named_by : (P : ℕ → ℕ → Type 0) (live : List LiveStream) → AllByRecursion (λ (s : LiveStream). P s.tag s.number) live → AllByRecursion (λ (o : ℕ × ℕ). P o.0 o.1) (map named live)
+pub named_by : (P : ℕ → ℕ → Type 0) (live : List LiveStream) → AllByRecursion (λ (s : LiveStream). P s.tag s.number) live → AllByRecursion (λ (o : ℕ × ℕ). P o.0 o.1) (map named live)
 named_by P [] h = tt
 named_by P (s ∷ live) h = (h.0, named_by P live h.1)
 
-by_named : (P : ℕ → ℕ → Type 0) (live : List LiveStream) → AllByRecursion (λ (o : ℕ × ℕ). P o.0 o.1) (map named live) → AllByRecursion (λ (s : LiveStream). P s.tag s.number) live
+pub by_named : (P : ℕ → ℕ → Type 0) (live : List LiveStream) → AllByRecursion (λ (o : ℕ × ℕ). P o.0 o.1) (map named live) → AllByRecursion (λ (s : LiveStream). P s.tag s.number) live
 by_named P [] h = tt
 by_named P (s ∷ live) h = (h.0, by_named P live h.1)
 

@@ -127,7 +127,26 @@ pub without_waits : (p off : ℕ) (live : List LiveRow) → WaitsIn p (without o
 without_waits p off [] h = h
 without_waits p off (x ∷ live) h = stayed_by p off x live (is_row off x) h (without_waits p off live)
 
+kept_waits : (p off : ℕ) (x : LiveRow) (live : List LiveRow) (b : Bool) → is_row off x ≡ b → (p ≡ off → ⊥) → WaitsIn p (x ∷ live) → (WaitsIn p live → WaitsIn p (without off live)) → WaitsIn p (if not b then x ∷ without off live else without off live)
+kept_waits p off x live true e far (inl here) more = absurd (far (sym here.0 ∙ eqb-true x.place off e))
+kept_waits p off x live true e far (inr rest) more = more rest
+kept_waits p off x live false e far (inl here) more = inl here
+kept_waits p off x live false e far (inr rest) more = inr (more rest)
+
+pub waits_without : (p off : ℕ) (live : List LiveRow) → (p ≡ off → ⊥) → WaitsIn p live → WaitsIn p (without off live)
+waits_without p off [] far h = h
+waits_without p off (x ∷ live) far h = kept_waits p off x live (is_row off x) refl far h (waits_without p off live far)
+
 -- a row more, which waits
+pub waits_more : (p : ℕ) (live : List LiveRow) (x : LiveRow) → WaitsIn p live → WaitsIn p (live ++ x ∷ [])
+waits_more p [] x h = absurd h
+waits_more p (y ∷ live) x (inl here) = inl here
+waits_more p (y ∷ live) x (inr rest) = inr (waits_more p live x rest)
+
+pub waits_last : (p : ℕ) (live : List LiveRow) (x : LiveRow) → x.place ≡ p → x.link ≡ None → WaitsIn p (live ++ x ∷ [])
+waits_last p [] x at free = inl (at, free)
+waits_last p (y ∷ live) x at free = inr (waits_last p live x at free)
+
 pub runs_more : (p : ℕ) (live : List LiveRow) (x : LiveRow) → RunsIn p live → RunsIn p (live ++ x ∷ [])
 runs_more p [] x h = absurd h
 runs_more p (y ∷ live) x (inl here) = inl here

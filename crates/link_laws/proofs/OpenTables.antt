@@ -8,7 +8,7 @@ use Rattle.channel_core.specs.Tables.{numbered}
 use Rattle.channel_core.proofs.BookLaws.{number_changed, number_other}
 use Rattle.link_laws.proofs.Lifting.{slot_was}
 use Rattle.link_laws.proofs.Numbered.{numbered_last, numbered_more}
-use Rattle.link_laws.proofs.OpenCalls.{IsOpening, opening_less}
+use Rattle.link_laws.proofs.OpenBuffers.{IsOpening, opening_less}
 
 -- what each call keeps of its buffer
 abbrev pub AreOpening : List CallSlot → (ℕ → Type 0) → Type 0

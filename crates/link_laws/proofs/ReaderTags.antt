@@ -106,7 +106,7 @@ module _ (P : ℕ → Type 0) where
   named_read r tag link.Retiring p = tt
   named_read r tag (link.Broken code) p = tt
 
-  named_step : (r : ReaderSeen) (tag : ℕ) (n : LinkNews) → P tag → AreNamed (stepped r tag n).news
+  pub named_step : (r : ReaderSeen) (tag : ℕ) (n : LinkNews) → P tag → AreNamed (stepped r tag n).news
   named_step r tag n p = stepped_if r.over (record { reader = r; news = [] }) (read_on r tag n) tt (named_read r tag n p)
 
   -- the ends among news, by the rows' places

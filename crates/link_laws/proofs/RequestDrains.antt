@@ -40,12 +40,14 @@ use Rattle.link_laws.proofs.LinkSent.{Out, OutOn}
 use Rattle.link_laws.proofs.LinkTags.{all_append}
 use Rattle.link_laws.proofs.Numbered.{numbered_here, numbered_there}
 use Rattle.link_laws.proofs.Served.{Served, Stays, desk_of}
-use Rattle.link_laws.proofs.RequestRows.{AreOn, calls_given, named_later, none_on, of_streams, on_both, on_later, on_of, one_place, one_stream, opened_rows, pairs_of, sent_later}
+use Rattle.link_laws.proofs.RequestRows.{AreOn, named_later, none_on, on_both, on_later, on_of, one_place, one_stream, opened_rows, sent_later}
 use Rattle.link_laws.proofs.ServingParts.{IsDrainedTo, drain_tags, drained_rows, fed_ledger}
 use Rattle.link_laws.proofs.StreamRuns.{Agreed, IsNewOn, deaf, drain_agreed, is_new}
 use Rattle.link_laws.proofs.TextDrains.{CalledOn, OpenAt, SentOn, had, open_at, own_slot, texts_drained}
 use Rattle.link_laws.proofs.TextSteps.{ArePlain, HasText, HaveTexts}
 use Rattle.link_laws.proofs.Unstreamed.{stream_at, stream_of}
+use Rattle.link_laws.proofs.DrainedStreams.{calls_given}
+use Rattle.link_laws.proofs.OpenLinks.{named_by, by_named}
 
 -- lists
 none_left : (len : ℕ) (xs : List ℕ) → len ≤ length xs → (length (drop len xs) == 0) ≡ (len == length xs)
@@ -192,14 +194,14 @@ module _ (link room : ℕ) (es : List Entry) (s t : StateSeen) (r : Reply) (c : 
       let is : d.opened ≡ opens.new = g.drains.opened ∙ opened_is w v opens in
       let added : AllByRecursion (λ (o : ℕ × ℕ). P o.0 o.1) opens.new = subst (λ (l : List (ℕ × ℕ)). AllByRecursion (λ (o : ℕ × ℕ). P o.0 o.1) l) is here in
       let was : NamedOn P (numbered s.links link) = named_later c.entry link Old New (numbered s.links link) c.later (c.streams link) in
-      let live : AllByRecursion (λ (o : ℕ × ℕ). P o.0 o.1) (map named w.live) = pairs_of P w.live (subst (λ (o : Option LinkSlot). NamedOn P o) g.was was) in
+      let live : AllByRecursion (λ (o : ℕ × ℕ). P o.0 o.1) (map named w.live) = named_by P w.live (subst (λ (o : Option LinkSlot). NamedOn P o) g.was was) in
       let there : numbered t.links link ≡ Some g.after = ap (λ (l : List LinkSlot). numbered l link) g.is ∙ numbered_here (λ slot. g.after) s.links link ∙ ap (λ o. option_map (λ (slot : LinkSlot). g.after) o) g.was in
       let names_after : AllByRecursion (λ (o : ℕ × ℕ). P o.0 o.1) (map named v.live) = subst (λ (l : List (ℕ × ℕ)). AllByRecursion (λ (o : ℕ × ℕ). P o.0 o.1) l) (sym opens.live) (all_append (λ (o : ℕ × ℕ). P o.0 o.1) (map named w.live) opens.new live added) in
       record {
         on = on_wire w (subst (λ (o : Option LinkSlot). OutOn octets (length a.places) o) g.was a.out) g.drains.may;
         live = live;
         new = added;
-        streams = subst (λ (o : Option LinkSlot). NamedOn P o) (sym there) (of_streams P v.live names_after);
+        streams = subst (λ (o : Option LinkSlot). NamedOn P o) (sym there) (by_named P v.live names_after);
       }
     where
       on_wire : (w : Wire) → Out (sent link es) (length (c.agreed link).places) w → (not (is_some w.broken) && nat_le 16393 (min room drained_limit)) ≡ true → OnWire (sent link es) w

@@ -1,5 +1,5 @@
 -- What holds of rows that have a stream, and of DATA on their streams, behind later writes.
-use Rattle.std.proofs.Common.{◌≡◌, ℕ, zero, suc, ◌+◌, ◌*◌, ◌==◌, ◌&&◌, Bool, true, if◌then◌else◌, inl, inr, Option, Some, None, List, [], ◌∷◌, ◌++◌, length, map, refl, sym, ap, subst, ◌∙◌, slice_get, append-nil, append_assoc, arith}
+use Rattle.std.proofs.Common.{◌≡◌, ℕ, zero, suc, ◌+◌, ◌*◌, ◌==◌, ◌&&◌, Bool, true, if◌then◌else◌, inl, inr, Option, Some, None, List, [], ◌∷◌, ◌++◌, length, refl, sym, ap, subst, ◌∙◌, slice_get, append-nil, append_assoc, arith}
 use Rattle.std.specs.List.{AllByRecursion}
 use Rattle.std.specs.Option.{option_map}
 use Rattle.std.proofs.lemmas.Bool.{cases_eq, eq-eqb, ne_eqb}
@@ -8,8 +8,7 @@ use Rattle.attempt_ledger.specs.Journals.{accepted, is_finished}
 use Rattle.attempt_ledger.specs.declared.row.Placed.{Placed}
 use Rattle.attempt_ledger.specs.declared.row.Row.{Row}
 use Rattle.ledger_stamps.specs.Later.{LaterRow, LaterRows, NewRow}
-use Rattle.ledger_stamps.specs.Steps.{changed_at, streamed_row}
-use Rattle.h2_link.specs.Drains.{named}
+use Rattle.ledger_stamps.specs.Steps.{streamed_row}
 use Rattle.h2_link.specs.declared.live.LiveStream.{LiveStream}
 use Rattle.channel_core.specs.declared.state.links.LinkSlot.{LinkSlot}
 use Rattle.channel_core.specs.Books.{call_of}
@@ -22,7 +21,6 @@ use Rattle.link_laws.proofs.LinkData.{no_data}
 use Rattle.link_laws.proofs.LinkNames.{NamedOn}
 use Rattle.link_laws.proofs.LinkOpens.{tags_of}
 use Rattle.link_laws.proofs.LinkTags.{all_less}
-use Rattle.link_laws.proofs.Numbered.{numbered_here, numbered_there}
 use Rattle.link_laws.proofs.Served.{IsPlacedOn, Stays}
 use Rattle.link_laws.proofs.StreamRows.{given_there, sent_by}
 use Rattle.h2_frame.specs.Frames.{FrameSeen, has_flag}
@@ -85,17 +83,9 @@ pub named_less : (P Q : ℕ → ℕ → Type 0) (o : Option LinkSlot) → ((t n 
 named_less P Q None less h = tt
 named_less P Q (Some slot) less h = all_less (λ (s : LiveStream). P s.tag s.number) (λ (s : LiveStream). Q s.tag s.number) slot.link.link.wire.live (λ s p. less s.tag s.number p) h
 
-pub pairs_of : (P : ℕ → ℕ → Type 0) (live : List LiveStream) → AllByRecursion (λ (s : LiveStream). P s.tag s.number) live → AllByRecursion (λ (o : ℕ × ℕ). P o.0 o.1) (map named live)
-pairs_of P [] h = tt
-pairs_of P (s ∷ live) h = (h.0, pairs_of P live h.1)
-
 all_of : {X : Type 0} (Q : X → Type 0) (xs : List X) → ((i : ℕ) (x : X) → slice_get xs i ≡ Some x → Q x) → AllByRecursion Q xs
 all_of Q [] h = tt
 all_of Q (x ∷ xs) h = (h 0 x refl, all_of Q xs (λ i y e. h (suc i) y e))
-
-pub of_streams : (P : ℕ → ℕ → Type 0) (live : List LiveStream) → AllByRecursion (λ (o : ℕ × ℕ). P o.0 o.1) (map named live) → AllByRecursion (λ (s : LiveStream). P s.tag s.number) live
-of_streams P [] h = tt
-of_streams P (s ∷ live) h = (h.0, of_streams P live h.1)
 
 pub named_later : (n k : ℕ) (rows after : List Row) (o : Option LinkSlot) → LaterRows n rows after → NamedOn (SentOn rows k) o → NamedOn (SentOn after k) o
 named_later n k rows after o g h = named_less (SentOn rows k) (SentOn after k) o (λ t x p. (sent_later n rows after k t x g p).sent) h
@@ -104,15 +94,6 @@ named_later n k rows after o g h = named_less (SentOn rows k) (SentOn after k) o
 one_call : (number : ℕ) (o : Option Row) → call_of (option_map (streamed_row number) o) ≡ call_of o
 one_call number None = refl
 one_call number (Some row) = refl
-
-pub calls_given : (opened : List (ℕ × ℕ)) (rows : List Row) (place : ℕ) → call_of (numbered (streams_given opened rows) place) ≡ call_of (numbered rows place)
-calls_given [] rows place = refl
-calls_given (o ∷ opened) rows place =
-    calls_given opened (changed_at (streamed_row o.1) rows o.0) place
-    ∙ (elim (cases_eq o.0 place) [
-      | inl here ↦ ap (λ (k : ℕ). call_of (numbered (changed_at (streamed_row o.1) rows k) place)) here ∙ ap call_of (numbered_here (streamed_row o.1) rows place) ∙ one_call o.1 (numbered rows place)
-      | inr off ↦ ap call_of (numbered_there (streamed_row o.1) rows o.0 place off)
-    ])
 
 pub one_place : (places : List ℕ) (t u n : ℕ) → IsAmong places t n → IsAmong places u n → t ≡ u
 one_place places t u n a b =

@@ -20,7 +20,7 @@ use Rattle.call_core.specs.declared.live.LiveRow.{LiveRow}
 use Rattle.call_core.specs.declared.state.CallState.{CallState}
 use Rattle.call_core.specs.Orders.{AreTimed, IsTimed}
 use Rattle.call_core.specs.Rows.{row_in}
-use Rattle.call_core.specs.Steps.{Stepped, lent}
+use Rattle.call_core.specs.Steps.{Stepped, lent, waits}
 use Rattle.call_core.proofs.Queued.{Adds, Follow, WaitsIn, follow_from}
 use Rattle.channel_core.specs.declared.state.links.LinkSlot.{LinkSlot}
 use Rattle.channel_core.specs.declared.state.slots.CallSlot.{CallSlot}
@@ -29,17 +29,21 @@ use Rattle.channel_core.specs.States.{StateSeen}
 use Rattle.channel_core.specs.Steps as step
 use Rattle.channel_core.specs.Tables.{Acted, acted, acted_at, acted_on, changed_slot, numbered, reset_link, with_call, with_link}
 use Rattle.channel_core.proofs.BookLaws.{number_changed, number_other}
+pub use Rattle.link_laws.proofs.Desks.{Desk, IsQueued, desk_gone, desk_if, desk_of}
+use Rattle.link_laws.proofs.Desks.{AreQueuedBut, Joining}
+use Rattle.link_laws.proofs.FailedPicks.{AreBarePicks}
 use Rattle.link_laws.proofs.Lifting.{at_number, put_slot, set_changed}
 use Rattle.link_laws.proofs.LinkStreams.{AreStreams, HasStreams, Streamless, streams_alike, streams_changed, streams_reset}
 use Rattle.link_laws.proofs.LinkTies.{AllTags, AreTied, IsNeat, neat, tags_both, tags_less as tied_less}
 use Rattle.link_laws.proofs.LinkTags.{KeepsTags, all_dropped, all_got, all_less, all_unkeyed, of_cut}
-use Rattle.link_laws.proofs.OpenCalls.{IsOpening}
+use Rattle.link_laws.proofs.OpenBuffers.{IsOpening}
 use Rattle.link_laws.proofs.OpenTables.{AreOpening, opening_changed, rows_opening}
 use Rattle.link_laws.proofs.RowTies.{AreTiedBut, HasTie, None_, ties_cut, ties_slot}
 use Rattle.link_laws.proofs.OpenRows.{RunsIn}
 use Rattle.channel_core.proofs.OwnRows.{OwnBut}
-use Rattle.link_laws.proofs.Pairs.{Each, IsApart as IsOther, Sorted, each_apart, each_both, each_insert, each_less, each_remove, sorted_insert, sorted_remove}
+use Rattle.link_laws.proofs.Pairs.{Each, In, IsApart as IsOther, Sorted, each_apart, each_both, each_insert, each_less, each_remove, sorted_insert, sorted_remove}
 use Rattle.channel_core.proofs.Places.{changed_there, number_none, number_there}
+use Rattle.link_laws.proofs.QueueJoins.{Brings, Joins, joins_from, joins_to}
 use Rattle.link_laws.proofs.ReaderTags.{OfLink, without_tag}
 use Rattle.link_laws.proofs.RowDrops.{Drops, IsCut}
 use Rattle.link_laws.proofs.RisingTags.{AreRising, rising_dropped, rising_removed}
@@ -52,33 +56,6 @@ pub record IsPlacedOn (rows : List Row) (link place : ℕ) : Type 0 where
   pub at : Placed
   pub placed : row.placed ≡ Some at
   pub on : at.link ≡ link
-
--- a row of a call that waits for a placing
-pub record IsQueued (calls : List CallSlot) (number place : ℕ) : Type 0 where
-  pub slot : CallSlot
-  pub there : numbered calls number ≡ Some slot
-  pub waits : WaitsIn place slot.call.live
-
--- the parts of a channel of which this speaks
-pub record Desk : Type 0 where
-  pub moment : ℕ
-  pub calls : List CallSlot
-  pub rows : List Row
-  pub queue : List (ℕ × ℕ)
-  pub patient : List (ℕ × ℕ)
-  pub out : List (ℕ × ℕ)
-  pub links : List LinkSlot
-
-abbrev pub desk_of : StateSeen → Desk
-desk_of s = record {
-  moment = s.book.moment;
-  calls = s.book.calls;
-  rows = s.book.ledger.rows;
-  queue = s.queue;
-  patient = s.patient;
-  out = s.outstanding;
-  links = s.links;
-}
 
 -- the tags of a link that wait for a stream: rows that were placed on it and have none
 pub record AreWaiting (rows : List Row) (link : ℕ) (tags : List ℕ) : Type 0 where
@@ -107,6 +84,8 @@ pub record Rest (C : ℕ → Type 0) (moment : ℕ) (calls : List CallSlot) (row
   pub opening : AreOpening calls (Streamless rows)
   pub streams : AreStreams rows links
   pub ties : AreTiedBut C calls rows links
+  -- no row whose pick failed was placed
+  pub bare : AreBarePicks rows
 
 pub record Served (d : Desk) : Type 0 where
   pub queue : Each (λ q. IsQueued d.calls q.0 q.1) d.queue
@@ -169,13 +148,6 @@ pub record Acting (n : ℕ) (P C : ℕ → Type 0) (d : Desk) : Type 0 where
   pub patient_sorted : Sorted d.patient
   pub rest : Rest C d.moment d.calls d.rows d.out d.links
 
-pub desk_if : (A : Desk → Type 0) (b : Bool) (x y : StateSeen) → A (desk_of x) → A (desk_of y) → A (desk_of (if b then x else y))
-desk_if A true x y first second = first
-desk_if A false x y first second = second
-
-pub desk_gone : (A : Desk → Type 0) (link : ℕ) (s : StateSeen) → A (desk_of s) → A (desk_of (step.stamped_gone link s))
-desk_gone A link s h = desk_if A (step.is_gone link s) (step.with_ledger_links _ s) s h h
-
 pair_less : (n : ℕ) (P Q : ℕ → Type 0) (calls : List CallSlot) (q : ℕ × ℕ) → (P q.1 → Q q.1) → Pair n P calls q → Pair n Q calls q
 pair_less n P Q calls q less h = record { mine = λ e. less (h.mine e); other = h.other }
 
@@ -215,6 +187,7 @@ cut_row n row P C s h =
         opening = h.rest.opening;
         streams = streams_changed s.book.ledger.rows (with_link (reset_link row)) s.links link (λ slot e k. streams_reset s.book.ledger.rows row slot.link k) h.rest.streams;
         ties = ties_cut row C s.book.calls s.book.ledger.rows s.links (λ k slot e. tied_less (IsPlacedOn s.book.ledger.rows k) (λ tag. link_of (numbered s.book.ledger.rows tag) ≡ k) slot.link.link.wire (λ tag p. link_placed s.book.ledger.rows k tag p) (placed_tags s.book.ledger.rows k slot (h.rest.tags k slot e))) (λ k slot e. neat_link s.book.ledger.rows k slot (h.rest.tags k slot e) (h.rest.streams k slot e)) h.rest.ties;
+        bare = h.rest.bare;
       };
     })
 
@@ -292,8 +265,13 @@ served_changed g d n keeps h = record {
     opening = opening_changed (Streamless d.rows) g d.calls n (λ slot is. keeps.opening slot (h.rest.opening n slot is)) h.rest.opening;
     streams = h.rest.streams;
     ties = ties_slot g d.calls d.rows d.links n keeps.live h.rest.ties;
+    bare = h.rest.bare;
   };
 }
+
+-- timers alone change
+pub served_dues : (d : Desk) (dues : List (ℕ × ℕ)) → Served d → Served (record d { dues = dues })
+served_dues d dues h = record { queue = h.queue; patient = h.patient; queue_sorted = h.queue_sorted; patient_sorted = h.patient_sorted; rest = h.rest }
 
 pub served_slot : (g : CallSlot → CallSlot) (d : Desk) (n : ℕ) → KeepsLive (Streamless d.rows) g → Served d → Served (record d { calls = changed_slot g d.calls n })
 served_slot g d n keeps h = subst (λ (l : List CallSlot). Served (record d { calls = l })) (sym (put_slot g d.calls n)) (served_changed g d n keeps h)
@@ -307,6 +285,8 @@ pub record IsKnown (off : ℕ → Type 0) (calls : List CallSlot) (number place 
 pub record Acts (n : ℕ) (off : ℕ → Type 0) (d : Desk) (calls : List CallSlot) (rows : List Row) (acts : List CallAct) : Type 0 where
   pub acting : Acting n (IsKnown off d.calls n) (λ tag. IsCut tag acts) (record d { calls = calls; rows = rows })
   pub follow : Follow (IsKnown off d.calls n) acts (λ place. IsQueued calls n place)
+  pub joining : AreQueuedBut n off d → Joining n (IsKnown off d.calls n) (record d { calls = calls; rows = rows })
+  pub brings : Joins (IsKnown off d.calls n) acts (λ place. IsQueued calls n place)
   pub stays : Stays d.rows rows
   pub still : Alike d.rows rows
 
@@ -314,11 +294,14 @@ pub record Acts (n : ℕ) (off : ℕ → Type 0) (d : Desk) (calls : List CallSl
 pub record Works (m : ℕ) (off drop : ℕ → Type 0) (x t : Stepped) : Type 0 where
   pub number : t.call.number ≡ x.call.number
   pub adds : Adds off x t
+  pub brings : Brings off x t
+  pub list : (place : ℕ) → WaitsIn place x.call.live → waits t.call ≡ waits x.call
   pub own : OwnBut x.call.number x.ledger.rows t.ledger.rows
   pub stays : Stays x.ledger.rows t.ledger.rows
   pub still : Alike x.ledger.rows t.ledger.rows
   pub timed : AreTimed m t
   pub drops : Drops drop x t
+  pub bare : AreBarePicks x.ledger.rows → AreBarePicks t.ledger.rows
   pub opening : IsOpening (Unit {0}) (Streamless x.ledger.rows) x.call → IsOpening (Unit {0}) (Streamless x.ledger.rows) t.call
 
 -- the pairs of the call are of rows of which this is known
@@ -353,8 +336,11 @@ Offs n drop d = AreTied (λ link tag. call_of (numbered d.rows tag) ≡ n → dr
 pair_none : (n : ℕ) (off : ℕ → Type 0) (calls : List CallSlot) (q : ℕ × ℕ) → IsQueued calls q.0 q.1 → (q.0 ≡ n → off q.1) → Pair n (IsKnown off calls n) calls q
 pair_none n off calls q h known = record { mine = λ e. record { queued = subst (λ (k : ℕ). IsQueued calls k q.1) e h; known = known e }; other = λ far. h }
 
-pub acts_none : (n : ℕ) (off : ℕ → Type 0) (d : Desk) → Served d → Known n off d → Acts n off d d.calls d.rows []
-acts_none n off d h k = record {
+no_queued : (calls : List CallSlot) (n place : ℕ) → numbered calls n ≡ None → IsQueued calls n place → ⊥
+no_queued calls n place none p = (let both : None ≡ Some p.slot = sym none ∙ p.there in (cc))
+
+pub acts_none : (n : ℕ) (off : ℕ → Type 0) (d : Desk) → numbered d.calls n ≡ None → Served d → Known n off d → Acts n off d d.calls d.rows []
+acts_none n off d none h k = record {
   acting = record {
     queue = each_both (λ q. IsQueued d.calls q.0 q.1) (λ q. q.0 ≡ n → off q.1) (Pair n (IsKnown off d.calls n) d.calls) d.queue (λ q p known. pair_none n off d.calls q p known) h.queue k.queue;
     patient = each_both (λ q. IsQueued d.calls q.0 q.1) (λ q. q.0 ≡ n → off q.1) (Pair n (IsKnown off d.calls n) d.calls) d.patient (λ q p known. pair_none n off d.calls q p known) h.patient k.patient;
@@ -363,6 +349,12 @@ acts_none n off d h k = record {
     rest = h.rest;
   };
   follow = λ place p. p.queued;
+  joining = λ but. record {
+    mine = λ place p. absurd (no_queued d.calls n place none p.queued);
+    other = but.other;
+    sorted = but.sorted;
+  };
+  brings = λ place p. absurd (no_queued d.calls n place none p);
   stays = λ link place p. p;
   still = λ place. refl;
 }
@@ -453,9 +445,12 @@ module _ (m : ℕ) (off drop : ℕ → Type 0) (n : ℕ) (d : Desk) (slot : Call
         opening = rows_opening after (Streamless d.rows) (Streamless t.ledger.rows) (λ place none. sym (still_kept place) ∙ none) opened;
         streams = streams_alike d.rows t.ledger.rows d.links still_kept h.rest.streams;
         ties = ties_now;
+        bare = w.bare (subst (λ (r : List Row). AreBarePicks r) (sym rows) h.rest.bare);
       };
     };
     follow = subst (λ (acts : List CallAct). Follow (IsKnown off d.calls n) acts (λ place. IsQueued after n place)) (sym (w.adds.is ∙ ap (λ (l : List CallAct). l ++ w.adds.acts) empty)) follows;
+    joining = joins;
+    brings = subst (λ (acts : List CallAct). Joins (IsKnown off d.calls n) acts (λ place. IsQueued after n place)) (sym (w.brings.is ∙ ap (λ (l : List CallAct). l ++ w.brings.acts) empty)) brought;
     stays = kept;
     still = still_kept;
   }
@@ -469,6 +464,30 @@ module _ (m : ℕ) (off drop : ℕ → Type 0) (n : ℕ) (d : Desk) (slot : Call
       to (act.End why ∷ acts) P g = to acts P g
       to (act.Drop row ∷ acts) P g = to acts (λ place. P place × (place ≡ row → ⊥)) g
       to (act.Queue row ∷ acts) P g = to acts (λ place. P place ⊎ (place ≡ row)) g
+
+      joins : AreQueuedBut n off d → Joining n (IsKnown off d.calls n) (record d { calls = after; rows = t.ledger.rows })
+      joins but = record {
+        mine = λ place p.
+            let now = waits_by place p in
+            let both : Some p.queued.slot ≡ Some slot = sym p.queued.there ∙ is in
+            let one : p.queued.slot ≡ slot = (cc) in
+            let before : In (n, place) (if waits p.queued.slot.call then d.patient else d.queue) = but.mine place p.queued.slot p.queued.there p.queued.waits p.known in
+            let list : waits t.call ≡ waits p.queued.slot.call = w.list place now.0 ∙ ap waits same ∙ ap (λ (z : CallSlot). waits z.call) (sym one) in
+            subst (λ (o : Option CallSlot). In (n, place) (if waits_at o then d.patient else d.queue)) (sym there) (subst (λ (b : Bool). In (n, place) (if b then d.patient else d.queue)) (sym list) before);
+        other = λ k place z far at waits. but.other k place z far (sym (number_other (λ (z : CallSlot). with_call t.call slot) d.calls n k far) ∙ at) waits;
+        sorted = but.sorted;
+      }
+
+      waits_now : (place : ℕ) → IsQueued after n place → WaitsIn place t.call.live
+      waits_now place q =
+          let both : Some q.slot ≡ Some (with_call t.call slot) = sym q.there ∙ there in
+          let one : q.slot ≡ with_call t.call slot = (cc) in
+          subst (λ (z : CallSlot). WaitsIn place z.call.live) one q.waits
+
+      brought : Joins (IsKnown off d.calls n) w.brings.acts (λ place. IsQueued after n place)
+      brought = joins_from w.brings.acts (λ place. WaitsIn place x.call.live × off place) (IsKnown off d.calls n) (λ place. IsQueued after n place)
+          (λ place p. record { queued = record { slot = slot; there = is; waits = subst (λ (c : CallState). WaitsIn place c.live) same p.0 }; known = p.1 })
+          (joins_to w.brings.acts (λ place. WaitsIn place x.call.live × off place) (λ place. WaitsIn place t.call.live) (λ place. IsQueued after n place) waits_now w.brings.back)
 
       follows : Follow (IsKnown off d.calls n) w.adds.acts (λ place. IsQueued after n place)
       follows = to w.adds.acts (IsKnown off d.calls n) (follow_from w.adds.acts (IsKnown off d.calls n) (λ place. WaitsIn place x.call.live × off place) (λ place. WaitsIn place t.call.live) waits_by w.adds.follow)

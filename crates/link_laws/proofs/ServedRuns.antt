@@ -14,6 +14,7 @@ use Rattle.link_laws.proofs.LicensedCalls.{IsKnown, MoreLaws, sound_of}
 use Rattle.link_laws.proofs.RowLaws.{sound_less}
 use Rattle.link_laws.proofs.Tokens.{FitsIn}
 use Rattle.link_laws.proofs.ConfiguredCalls.{IsChosen}
+use Rattle.link_laws.proofs.Desks.{AreQueued}
 use Rattle.link_laws.proofs.Dating.{last_is, le_max}
 use Rattle.link_laws.proofs.Knowing.{HoldsLast, Knows, knows_new, knows_step, none_at}
 use Rattle.link_laws.proofs.Lifted.{SoundIn, lifts_later, sound_more}
@@ -39,7 +40,7 @@ served_later d k le h = record {
   patient = h.patient;
   queue_sorted = h.queue_sorted;
   patient_sorted = h.patient_sorted;
-  rest = record { out = h.rest.out; tags = h.rest.tags; timed = λ place row e. timed_later d.moment k row le (h.rest.timed place row e); opening = h.rest.opening; streams = h.rest.streams; ties = h.rest.ties };
+  rest = record { out = h.rest.out; tags = h.rest.tags; timed = λ place row e. timed_later d.moment k row le (h.rest.timed place row e); opening = h.rest.opening; streams = h.rest.streams; ties = h.rest.ties; bare = h.rest.bare };
 }
 
 -- where a step begins
@@ -77,6 +78,17 @@ module _ (laws : MoreLaws) (timed : TimedLaws) where
       let goes : Step laws timed n first new.state = walked laws timed n n m s.word s.event old.state new.state r h.by in
       (goes.after tt refl f.known f.served).served
 
+  -- and each row that waits stays in the queue
+  pub queued_step : (old new : CoreSeen) (s : Stamped) (r : Reply) → Steps old new s r → Knows old → Served (desk_of old.state) → AreQueued (desk_of old.state) → AreQueued (desk_of new.state)
+  queued_step old new s r h k served queued =
+      let es : List Entry = old.journal.entries in
+      let m : ℕ = moment_of es s in
+      let n : ℕ = length es + 1 in
+      let first : StateSeen = begun_at n m s.word old.state in
+      let f : IsFirst n first = first_of old s k served in
+      let goes : Step laws timed n first new.state = walked laws timed n n m s.word s.event old.state new.state r h.by in
+      (goes.after tt refl f.known f.served).queued (record { all = queued.all; sorted = queued.sorted })
+
   pub served_runs : (old : CoreSeen) (events : List Stamped) (new : CoreSeen) → Runs old events new → Knows old → Served (desk_of old.state) → Served (desk_of new.state)
   served_runs old [] new h k served = subst (λ (c : CoreSeen). Served (desk_of c.state)) (sym h) served
   served_runs old (s ∷ events) new h k served = served_runs h.0 events new h.3 (knows_step laws old h.0 s h.1 h.2 k) (served_step old h.0 s h.1 h.2 k served)
@@ -89,9 +101,14 @@ served_new authority core is =
       patient = tt;
       queue_sorted = tt;
       patient_sorted = tt;
-      rest = record { out = tt; tags = λ link slot e. absurd (none_at link slot e); timed = λ place row e. absurd (no_row place row e); opening = λ number slot e. absurd (none_at number slot e); streams = λ link slot e. absurd (none_at link slot e); ties = λ link slot e. absurd (none_at link slot e) };
+      rest = record { out = tt; tags = λ link slot e. absurd (none_at link slot e); timed = λ place row e. absurd (no_row place row e); opening = λ number slot e. absurd (none_at number slot e); streams = λ link slot e. absurd (none_at link slot e); ties = λ link slot e. absurd (none_at link slot e); bare = λ place row e. absurd (no_row place row e) };
     } in
     subst (λ (s : StateSeen). Served (desk_of s)) (sym is.2.state) none
+
+pub queued_new : (authority : List ℕ) (core : CoreSeen) → IsNew authority core → AreQueued (desk_of core.state)
+queued_new authority core is =
+    let none : AreQueued (desk_of (new_state is.0 authority is.1)) = record { all = λ k place slot there waits. absurd (none_at k slot there); sorted = tt } in
+    subst (λ (s : StateSeen). AreQueued (desk_of s)) (sym is.2.state) none
 
 -- every list of events
 pub served_always : MoreLaws → TimedLaws → (authority : List ℕ) (new core : CoreSeen) (events : List Stamped) → IsNew authority new → Runs new events core → Served (desk_of core.state)

@@ -26,7 +26,7 @@ use Rattle.channel_core.specs.Books.{BookActs, book_acted, book_asked, call_of, 
 use Rattle.channel_core.specs.States.{StateSeen}
 use Rattle.channel_core.specs.Steps as step
 use Rattle.channel_core.specs.Steps.{is_gone, next_word, overdue_ended}
-use Rattle.channel_core.specs.Tables.{acted, buried, heard_at, heard_by, heard_link, hears_at, numbered, pinged_link, retired, sealed_link, with_link, with_timers}
+use Rattle.channel_core.specs.Tables.{acted, buried, changed_slot, heard_at, heard_by, heard_link, hears_at, numbered, pinged_link, retired, sealed_link, with_link, with_timers}
 use Rattle.channel_core.specs.Timing.{due_keys, later, number_of}
 use Rattle.link_laws.proofs.CallLaws.{FairNews, IsSound, apart_by, kept_in, owner_in, sound_law}
 use Rattle.link_laws.proofs.Calls.{IsCallLaw, Nothing}
@@ -38,6 +38,7 @@ use Rattle.channel_core.proofs.FairNews.{AreFair, AreFairEnds, IsFair, IsFairEnd
 use Rattle.link_laws.proofs.Lifted.{Lifts, SoundIn, lifts}
 use Rattle.link_laws.proofs.Lifting.{Allows, OfCall}
 use Rattle.link_laws.proofs.LateNews.{AreLate, AreLateEnds, IsLateEnd, ends_less, late_ends, late_less, late_loss}
+use Rattle.link_laws.proofs.Desks.{AreQueued, AreQueuedBut, Joining, joins_done, joins_over, queue_for, queued_but, timers_queued, unqueued_mine, unqueued_other}
 use Rattle.link_laws.proofs.EndedTags.{ended_off, tags_heard}
 use Rattle.link_laws.proofs.LinkOvers.{IsOverIn, OverStays, buried_over, over_stays}
 use Rattle.link_laws.proofs.LinkStreams.{AreStreams, HasStreams, Streamless, late_heard, streams_changed, streams_heard, streams_pinged, streams_sealed}
@@ -46,15 +47,15 @@ use Rattle.link_laws.proofs.LinkTies.{IsTied, NotOn, not_changed, tags_less, tie
 use Rattle.link_laws.proofs.RowDrops.{IsCut, OffEnd}
 use Rattle.link_laws.proofs.OpenCalls.{IsLateOf}
 use Rattle.link_laws.proofs.Owning.{IsOwner}
-use Rattle.link_laws.proofs.Pairs.{Each, each_less, each_remove}
+use Rattle.link_laws.proofs.Pairs.{Each, In, Sorted, each_less, each_remove}
 use Rattle.link_laws.proofs.ReaderTags.{AreNamed, IsNamed, OfEnds, named_ends, named_less, tells_heard}
 use Rattle.link_laws.proofs.RowTies.{AreTiedBut, HasTie, None_}
-use Rattle.link_laws.proofs.ServingOffs.{acts_calls, unqueued_off, unqueued_served, IsOverOn, acts_off, acts_rows, any_off, ends_off, none_of, not_broken, off_heard, off_over, row_on, unsent_by}
-use Rattle.link_laws.proofs.Served.{Acting, Acts, AreTags, Offs, placed_tags, AreWaiting, Desk, HasTags, IsKnown, IsPlacedOn, IsQueued, Known, Served, Stays, Works, acted_is, acts_follow, acts_none, acts_over, acts_some, desk_of, keeps_waiting, served_slot, tags_changed}
+use Rattle.link_laws.proofs.ServingOffs.{acts_calls, unqueued_off, unqueued_served, IsOverOn, acts_off, acts_rows, any_off, ends_off, none_of, not_broken, off_heard, off_over, over_told, row_on, unsent_by}
+use Rattle.link_laws.proofs.Served.{Acting, Acts, AreTags, Offs, placed_tags, AreWaiting, Desk, HasTags, IsKnown, IsPlacedOn, IsQueued, Known, Served, Stays, Works, acted_is, acts_follow, acts_none, acts_over, acts_some, desk_of, keeps_waiting, served_dues, served_slot, tags_changed}
 use Rattle.link_laws.proofs.SoundCalls.{IsAllowed}
 use Rattle.link_laws.proofs.StillRows.{Still, still}
 use Rattle.link_laws.proofs.Walking as walking
-use Rattle.link_laws.proofs.Working.{TimedLaws, never_waits, works_closed, works_failed, works_heard, works_sent, works_timed_out}
+use Rattle.link_laws.proofs.Working.{TimedLaws, never_waits, waits_unplaced, works_closed, works_failed, works_heard, works_sent, works_timed_out}
 
 -- nothing is asked of when a call began and of its configuration, but that a config allows it
 abbrev pub Free : ℕ → Option ℕ → RequestSeen → Option Chosen → Type 0
@@ -81,8 +82,17 @@ Fewer s t = (link p : ℕ) → IsPlacedOn s.book.ledger.rows link p → NotOn s.
 
 pub record After (s t : StateSeen) : Type 0 where
   pub served : Served (desk_of t)
+  pub queued : AreQueued (desk_of s) → AreQueued (desk_of t)
   pub stays : Stays s.book.ledger.rows t.book.ledger.rows
   pub fewer : Fewer s t
+
+-- a row leaves the queue
+pub unqueued_but : (number row : ℕ) (s : StateSeen) → AreQueued (desk_of s) → AreQueuedBut number (Off row) (desk_of (step.unqueued number row s))
+unqueued_but number row s h = record {
+  mine = λ place slot there waits far. unqueued_mine number place row (Some slot) s.queue s.patient far (h.all number place slot there waits);
+  other = λ k place slot far there waits. unqueued_other k number place row (Some slot) s.queue s.patient far (h.all k place slot there waits);
+  sorted = h.sorted;
+}
 
 -- what is done in entry N, where `P` is known besides
 pub record R (N : ℕ) (P : Type 0) (s t : StateSeen) : Type 0 where
@@ -91,14 +101,36 @@ pub record R (N : ℕ) (P : Type 0) (s t : StateSeen) : Type 0 where
 
 -- what is served with other parts
 pub served_links : (d : Desk) (links : List LinkSlot) → AreTags d.rows links → AreStreams d.rows links → AreTiedBut None_ d.calls d.rows links → Served d → Served (record d { links = links })
-served_links d links tags streams ties h = record { queue = h.queue; patient = h.patient; queue_sorted = h.queue_sorted; patient_sorted = h.patient_sorted; rest = record { out = h.rest.out; tags = tags; timed = h.rest.timed; opening = h.rest.opening; streams = streams; ties = ties } }
+served_links d links tags streams ties h = record { queue = h.queue; patient = h.patient; queue_sorted = h.queue_sorted; patient_sorted = h.patient_sorted; rest = record { out = h.rest.out; tags = tags; timed = h.rest.timed; opening = h.rest.opening; streams = streams; ties = ties; bare = h.rest.bare } }
 
 pub served_out : (d : Desk) (out : List (ℕ × ℕ)) → Each (λ q. IsPlacedOn d.rows q.0 q.1) out → Served d → Served (record d { out = out })
-served_out d out each h = record { queue = h.queue; patient = h.patient; queue_sorted = h.queue_sorted; patient_sorted = h.patient_sorted; rest = record { out = each; tags = h.rest.tags; timed = h.rest.timed; opening = h.rest.opening; streams = h.rest.streams; ties = h.rest.ties } }
+served_out d out each h = record { queue = h.queue; patient = h.patient; queue_sorted = h.queue_sorted; patient_sorted = h.patient_sorted; rest = record { out = each; tags = h.rest.tags; timed = h.rest.timed; opening = h.rest.opening; streams = h.rest.streams; ties = h.rest.ties; bare = h.rest.bare } }
 
--- a call's acts and its timers
-pub finish : (number : ℕ) (off : ℕ → Type 0) (acts : List CallAct) (s w : StateSeen) → Acts number off (desk_of s) w.book.calls w.book.ledger.rows acts → ((P C : ℕ → Type 0) → Acting number P C (record (desk_of s) { calls = w.book.calls; rows = w.book.ledger.rows }) → Acting number P C (desk_of w)) → Fewer s w → After s (step.followed number acts w)
-finish number off acts s w a moved fewer =
+-- the timers of a call
+pub timers_served : (number : ℕ) (o : Option CallSlot) (u : StateSeen) → Served (desk_of u) → Served (desk_of (step.timers_moved_to number o u))
+timers_served number o u h =
+    let all : Served (record (desk_of u) { calls = changed_slot (with_timers (due_at o) (deadline_of o)) u.book.calls number }) = served_slot (with_timers (due_at o) (deadline_of o)) (desk_of u) number (record { live = λ z. refl; opening = λ z h. h }) h in
+    served_dues (record (desk_of u) { calls = changed_slot (with_timers (due_at o) (deadline_of o)) u.book.calls number }) _ all
+
+-- a call's acts and its timers: where its own rows stood in the queue, all do
+pub finish_queued : (number : ℕ) (off : ℕ → Type 0) (acts : List CallAct) (s w : StateSeen) → Acts number off (desk_of s) w.book.calls w.book.ledger.rows acts → w.queue ≡ s.queue → w.patient ≡ s.patient → w.dues ≡ s.dues → AreQueuedBut number off (desk_of s) → AreQueued (desk_of (step.followed number acts w))
+finish_queued number off acts s w a queue patient dues but =
+    let known : ℕ → Type 0 = IsKnown off s.book.calls number in
+    let Q : ℕ → Type 0 = λ place. IsQueued w.book.calls number place in
+    let u : StateSeen = step.acts_done number acts w in
+    let first : Joining number known (record (desk_of s) { calls = w.book.calls; rows = w.book.ledger.rows }) = a.joining but in
+    let start : Joining number known (desk_of w) = record {
+      mine = λ place p. subst (λ (l : List (ℕ × ℕ)). In (number, place) (queue_for (numbered w.book.calls number) l w.patient)) (sym queue) (subst (λ (l : List (ℕ × ℕ)). In (number, place) (queue_for (numbered w.book.calls number) s.queue l)) (sym patient) (first.mine place p));
+      other = λ k place slot far there waits. subst (λ (l : List (ℕ × ℕ)). In (k, place) (queue_for (Some slot) l w.patient)) (sym queue) (subst (λ (l : List (ℕ × ℕ)). In (k, place) (queue_for (Some slot) s.queue l)) (sym patient) (first.other k place slot far there waits));
+      sorted = subst Sorted (sym dues) first.sorted;
+    } in
+    let done : Joining number Q (desk_of u) = joins_done number acts known Q w a.brings start in
+    let same : u.book.calls ≡ w.book.calls = acts_calls number acts w in
+    let own : Joining number (λ place. IsQueued u.book.calls number place) (desk_of u) = subst (λ (c : List CallSlot). Joining number (λ place. IsQueued c number place) (desk_of u)) (sym same) done in
+    timers_queued number (slot_at u.book number) u (joins_over number (desk_of u) own)
+
+pub finish : (number : ℕ) (off : ℕ → Type 0) (acts : List CallAct) (s w : StateSeen) → Acts number off (desk_of s) w.book.calls w.book.ledger.rows acts → w.queue ≡ s.queue → w.patient ≡ s.patient → w.dues ≡ s.dues → ((P C : ℕ → Type 0) → Acting number P C (record (desk_of s) { calls = w.book.calls; rows = w.book.ledger.rows }) → Acting number P C (desk_of w)) → Fewer s w → After s (step.followed number acts w)
+finish number off acts s w a queue patient dues moved fewer =
     let known : ℕ → Type 0 = IsKnown off s.book.calls number in
     let acting : Acting number known (λ tag. IsCut tag acts) (desk_of w) = moved known (λ tag. IsCut tag acts) a.acting in
     let Q : ℕ → Type 0 = λ place. IsQueued w.book.calls number place in
@@ -107,9 +139,9 @@ finish number off acts s w a moved fewer =
     let same : u.book.calls ≡ w.book.calls = acts_calls number acts w in
     let own : Acting number (λ place. IsQueued u.book.calls number place) None_ (desk_of u) = subst (λ (c : List CallSlot). Acting number (λ place. IsQueued c number place) None_ (desk_of u)) (sym same) done in
     let over : Served (desk_of u) = acts_over number (desk_of u) own in
-    let slot : Option CallSlot = slot_at u.book number in
     record {
-      served = served_slot (with_timers (due_at slot) (deadline_of slot)) (desk_of u) number (record { live = λ z. refl; opening = λ z h. h }) over;
+      served = timers_served number (slot_at u.book number) u over;
+      queued = λ h. finish_queued number off acts s w a queue patient dues (queued_but number off (desk_of s) h);
       stays = subst (λ (r : List Row). Stays s.book.ledger.rows r) (sym (acts_rows number acts w)) a.stays;
       fewer = λ link p h off. acts_off number acts w link p (fewer link p h off);
     }
@@ -127,7 +159,7 @@ module _ (laws : MoreLaws) (timed : TimedLaws) (N : ℕ) where
     after = λ p at known served.
         let a : After s t = first.after p at known served in
         let b : After t u = second.after (then_on p a) (first.base.writes.entry ∙ at) (known_after N s t first.base at known) a.served in
-        record { served = b.served; stays = λ link place h. b.stays link place (a.stays link place h); fewer = λ link p h off. b.fewer link p (a.stays link p h) (a.fewer link p h off) };
+        record { served = b.served; queued = λ h. b.queued (a.queued h); stays = λ link place h. b.stays link place (a.stays link place h); fewer = λ link p h off. b.fewer link p (a.stays link p h) (a.fewer link p h off) };
   }
 
   pub joined : (s t u : StateSeen) → Step s t → Step t u → Step s u
@@ -151,7 +183,7 @@ module _ (laws : MoreLaws) (timed : TimedLaws) (N : ℕ) where
   pub quiet : (s t : StateSeen) → Base N s t → desk_of t ≡ desk_of s → Step s t
   quiet s t b e = record {
     base = b;
-    after = λ p at known served. record { served = subst Served (sym e) served; stays = λ link place h. subst (λ (d : Desk). IsPlacedOn d.rows link place) (sym e) h; fewer = λ link p h off. subst (λ (d : Desk). NotOn d.links link p) (sym e) off };
+    after = λ p at known served. record { served = subst Served (sym e) served; queued = λ h. subst AreQueued (sym e) h; stays = λ link place h. subst (λ (d : Desk). IsPlacedOn d.rows link place) (sym e) h; fewer = λ link p h off. subst (λ (d : Desk). NotOn d.links link p) (sym e) off };
   }
 
   pub beside : (s t : StateSeen) → t.book ≡ s.book → t.held ≡ s.held → length t.links ≡ length s.links → (s.shut ≡ true → t.shut ≡ true) → desk_of t ≡ desk_of s → Step s t
@@ -181,6 +213,7 @@ module _ (laws : MoreLaws) (timed : TimedLaws) (N : ℕ) where
         let tags : AreTags s.book.ledger.rows links = tags_changed s.book.ledger.rows F s.links link keeps served.rest.tags in
         record {
           served = subst Served (sym e) (served_links (desk_of s) links tags (streams_changed s.book.ledger.rows F s.links link (λ slot there k. knows slot k) served.rest.streams) (tied_changed (λ k tag. HasTie s.book.calls s.book.ledger.rows tag ⊎ ⊥) (λ k tag. HasTie s.book.calls s.book.ledger.rows tag ⊎ ⊥) F s.links link (λ slot there tied. shrinks (λ tag. HasTie s.book.calls s.book.ledger.rows tag ⊎ ⊥) slot there tied) (λ other slot far there tied. tied) served.rest.ties) served);
+          queued = λ h. subst AreQueued (sym e) (record { all = h.all; sorted = h.sorted });
           stays = λ l place h. subst (λ (d : Desk). IsPlacedOn d.rows l place) (sym e) h;
           fewer = λ l q h off. subst (λ (d : Desk). NotOn d.links l q) (sym e) (not_changed F s.links link l q (λ slot there same tied. shrinks (λ t. q ≡ t → ⊥) slot there tied) off);
         };
@@ -192,6 +225,7 @@ module _ (laws : MoreLaws) (timed : TimedLaws) (N : ℕ) where
     base = base.beside s (step.left_behind link row s) refl refl refl (λ h. h);
     after = λ p at known served. record {
       served = served_out (desk_of s) (remove_key (is_same (link, row)) s.outstanding) (each_remove (λ q. IsPlacedOn s.book.ledger.rows q.0 q.1) (is_same (link, row)) s.outstanding served.rest.out) served;
+      queued = λ h. record { all = h.all; sorted = h.sorted };
       stays = λ l place h. h;
       fewer = λ l q h off. off;
     };
@@ -228,7 +262,7 @@ module _ (laws : MoreLaws) (timed : TimedLaws) (N : ℕ) where
       → ((slot : CallSlot) → numbered s.book.calls number ≡ Some slot → Works s.book.moment off drop (lent slot.call s.book.ledger tokens []) (f (lent slot.call s.book.ledger tokens [])))
       → Acts number off (desk_of s) (acted f s.book.calls number s.book.ledger tokens).calls (acted f s.book.calls number s.book.ledger tokens).ledger.rows (acted f s.book.calls number s.book.ledger tokens).acts
   did f number tokens off drop s known served others offs works =
-      acted_is (λ calls l acts. Acts number off (desk_of s) calls l.rows acts) f s.book.calls number s.book.ledger tokens (λ none. acts_none number off (desk_of s) served others)
+      acted_is (λ calls l acts. Acts number off (desk_of s) calls l.rows acts) f s.book.calls number s.book.ledger tokens (λ none. acts_none number off (desk_of s) none served others)
       (λ slot is. acts_some s.book.moment off drop number (desk_of s) slot is (known.sound.each number slot is).number_is (lent slot.call s.book.ledger tokens []) (f (lent slot.call s.book.ledger tokens [])) refl refl refl refl served others offs (works slot is))
 
   pub any : (number : ℕ) (d : Desk) → Known number Any d
@@ -245,7 +279,7 @@ module _ (laws : MoreLaws) (timed : TimedLaws) (N : ℕ) where
     after = λ p at known served.
         let tokens : Option Bucket = _ in
         let a = did f number tokens Any Any s known served (any number (desk_of s)) (any_off number (desk_of s)) (λ slot is. works (lent slot.call s.book.ledger tokens []) (apart_at s number slot tokens is known) (kept_at s number slot tokens is known) (owner_at s number slot tokens is known) (timed_at s slot tokens served)) in
-        finish number Any (book_asked f number s.book).acts s (with_book (book_asked f number s.book).book s) a (λ P C h. h) (λ link p h off. off);
+        finish number Any (book_asked f number s.book).acts s (with_book (book_asked f number s.book).book s) a refl refl refl (λ P C h. h) (λ link p h off. off);
   }
 
   -- resets are sealed
@@ -299,8 +333,8 @@ module _ (laws : MoreLaws) (timed : TimedLaws) (N : ℕ) where
         after = λ p at known served.
             let tokens : Option Bucket = _ in
             let others : Known number (Off row) (desk_of s) = record { queue = off_queue s link row number s.queue known p.0 served.queue; patient = off_queue s link row number s.patient known p.0 served.patient } in
-            let a = did f number tokens (Off row) (OffEnd row n) s known served others (ends_off link row number n s served p.0 p.1.1) (λ slot is. works_heard timed s.book.moment (lent slot.call s.book.ledger tokens []) (apart_at s number slot tokens is known) (kept_at s number slot tokens is known) (owner_at s number slot tokens is known) (timed_at s slot tokens served) row n (next_word s) link p.0 p.1.0) in
-            finish number (Off row) b.acts s (with_book b.book v) a (λ P C h. h) (λ link p h off. off);
+            let a = did f number tokens (Off row) (OffEnd row n) s known served others (ends_off link row number n s served p.0 p.1.1) (λ slot is. works_heard timed s.book.moment (lent slot.call s.book.ledger tokens []) (apart_at s number slot tokens is known) (kept_at s number slot tokens is known) (owner_at s number slot tokens is known) (timed_at s slot tokens served) row n (next_word s) link p.0 p.1.0 (over_told link row n s p.1.1)) in
+            finish number (Off row) b.acts s (with_book b.book v) a refl refl refl (λ P C h. h) (λ link p h off. off);
       }
 
   pub tell : (link row : ℕ) (n : News) (s : StateSeen) → IsFair n → R N (Told link row n s) s (step.told row n s)
@@ -316,7 +350,7 @@ module _ (laws : MoreLaws) (timed : TimedLaws) (N : ℕ) where
       let t : StateSeen = step.left_behind link row s in
       let u : StateSeen = step.told row (news.Ended row end) t in
       either P (has_ended (row_at s.book row)) s s _ (weak P s s (same s))
-      (then_step P s u _ (joined_by P (Told link row (news.Ended row end) t) s t u (weak P s t (left link row s)) (tell link row (news.Ended row end) t fair) (λ p a. (p.0, (λ k unsent. p.1.0 unsent, p.1.1)))) (gone_one link u))
+      (then_step P s u _ (joined_by P (Told link row (news.Ended row end) t) s t u (weak P s t (left link row s)) (tell link row (news.Ended row end) t fair) (λ p a. (p.0, (λ k unsent. p.1.0.late unsent, (p.1.1, p.1.0.no_pick))))) (gone_one link u))
 
   abbrev pub AllEndOn : ℕ → List (ℕ × EndNews) → StateSeen → Type 0
   AllEndOn link ends s = OfEnds (IsPlacedOn s.book.ledger.rows link) ends × (AreLateEnds (Streamless s.book.ledger.rows) ends × OfEnds (NotOn s.links link) ends)
@@ -488,7 +522,7 @@ module _ (laws : MoreLaws) (timed : TimedLaws) (N : ℕ) where
         base = after_book (Base N) base b number s v refl refl (λ h. h) (base.failed row number s);
         after = λ queued at known served.
             let tokens : Option Bucket = _ in
-            let a = did f number tokens (Off row) (Off row) u (record { sound = known.sound; fits = known.fits }) (unqueued_served number row (desk_of s) served) (unqueued_off number row (desk_of s) served) (queued_off number row s known served queued) (λ slot is. works_failed timed s.book.moment (lent slot.call s.book.ledger tokens []) (apart_at s number slot tokens is known) (kept_at s number slot tokens is known) (owner_at s number slot tokens is known) (timed_at s slot tokens served) row (next_word s)) in
-            let over : After u (step.followed number b.acts (with_book b.book v)) = finish number (Off row) b.acts u (with_book b.book v) a (λ P C h. h) (λ link p h off. off) in
-            record { served = over.served; stays = over.stays; fewer = over.fewer };
+            let a = did f number tokens (Off row) (Off row) u (record { sound = known.sound; fits = known.fits }) (unqueued_served number row (desk_of s) served) (unqueued_off number row (desk_of s) served) (queued_off number row s known served queued) (λ slot is. works_failed timed s.book.moment (lent slot.call s.book.ledger tokens []) (apart_at s number slot tokens is known) (kept_at s number slot tokens is known) (owner_at s number slot tokens is known) (timed_at s slot tokens served) row (next_word s) (waits_unplaced s.book.ledger.rows queued.slot.call.number row queued.slot.call.live (apart_at s number queued.slot None queued.there known).tied queued.waits)) in
+            let over : After u (step.followed number b.acts (with_book b.book v)) = finish number (Off row) b.acts u (with_book b.book v) a refl refl refl (λ P C h. h) (λ link p h off. off) in
+            record { served = over.served; queued = λ h. finish_queued number (Off row) b.acts u (with_book b.book v) a refl refl refl (unqueued_but number row s h); stays = over.stays; fewer = over.fewer };
       })

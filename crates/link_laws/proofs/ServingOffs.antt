@@ -7,6 +7,7 @@ use Rattle.std.specs.Option.{option_map}
 use Rattle.grpc_link.specs.Links.{link_heard}
 use Rattle.attempt_ledger.specs.declared.news.News.{News}
 use Rattle.attempt_ledger.specs.declared.news.News.TheVariants as news
+use Rattle.attempt_ledger.specs.declared.row.RowCause.TheVariants as cause
 use Rattle.attempt_ledger.specs.declared.row.Row.{Row}
 use Rattle.picker_gate.specs.Pairs.{is_same, next_behind}
 use Rattle.ledger_stamps.specs.Steps.{changed_at}
@@ -22,6 +23,7 @@ use Rattle.channel_core.specs.Steps.{is_gone}
 use Rattle.channel_core.specs.Tables.{heard_link, numbered, with_link, reset_link}
 use Rattle.channel_core.proofs.BookLaws.{number_changed}
 use Rattle.link_laws.proofs.EndedTags.{EndsBy, OffNews, off_ends}
+use Rattle.link_laws.proofs.FailedPicks.{IsNoPick}
 use Rattle.link_laws.proofs.LinkOvers.{IsOverIn}
 use Rattle.link_laws.proofs.LinkTags.{all_less}
 use Rattle.link_laws.proofs.LinkTies.{AllTags, NotOn, any_tags, not_changed, tags_less, tied_reset}
@@ -65,10 +67,19 @@ acts_off n (act.End why ∷ acts) s link p h = acts_off n acts (step.clothed n s
 pub any_off : (number : ℕ) (d : Desk) → Offs number Any d
 any_off number d link slot there alive whole = any_tags (λ tag. call_of (numbered d.rows tag) ≡ number → Unit {0}) slot.link.link.wire (λ tag e. tt)
 
--- an end is told of a row that is no tag of its link any more
+-- an end is told of a row that is no tag of its link any more, and by no pick that failed
 abbrev pub IsOverOn : ℕ → ℕ → News → StateSeen → Type 0
-IsOverOn link row (news.Ended tag end) s = NotOn s.links link row
+IsOverOn link row (news.Ended tag end) s = NotOn s.links link row × (end.cause ≡ cause.Pick → ⊥)
 IsOverOn link row n s = Unit {0}
+
+pub over_told : (link row : ℕ) (n : News) (s : StateSeen) → IsOverOn link row n s → IsNoPick n
+over_told link row (news.Ended tag end) s over = over.1
+over_told link row (news.Head tag meta seen) s over = tt
+over_told link row (news.Message tag octets seen) s over = tt
+over_told link row (news.TooLarge tag seen) s over = tt
+over_told link row news.Ready s over = tt
+over_told link row news.Retiring s over = tt
+over_told link row (news.Broken code) s over = tt
 
 -- the tags of links are of other rows than one that is no tag of its own link
 pub others_off : (link row number : ℕ) (s : StateSeen) → Served (desk_of s) → IsPlacedOn s.book.ledger.rows link row → NotOn s.links link row → Offs number (Off row) (desk_of s)
@@ -79,7 +90,7 @@ others_off link row number s served p off other slot there alive whole = elim (c
 ]
 
 pub ends_off : (link row number : ℕ) (n : News) (s : StateSeen) → Served (desk_of s) → IsPlacedOn s.book.ledger.rows link row → IsOverOn link row n s → Offs number (OffEnd row n) (desk_of s)
-ends_off link row number (news.Ended tag end) s served p over = others_off link row number s served p over
+ends_off link row number (news.Ended tag end) s served p over = others_off link row number s served p over.0
 ends_off link row number (news.Head tag meta seen) s served p over = any_off number (desk_of s)
 ends_off link row number (news.Message tag octets seen) s served p over = any_off number (desk_of s)
 ends_off link row number (news.TooLarge tag seen) s served p over = any_off number (desk_of s)

@@ -20,6 +20,11 @@ use Rattle.h2_link.specs.Wire.{Wire}
 use Rattle.h2_link.specs.declared.news.Drained.{Drained}
 use Rattle.call_core.specs.declared.state.CallState.{CallState}
 use Rattle.call_core.specs.Orders.{IsTimed}
+use Rattle.call_core.specs.Parts.{first_of}
+use Rattle.grpc_base.specs.declared.event.EndCause.{EndCause}
+use Rattle.grpc_base.specs.declared.event.Refusal.{Refusal}
+use Rattle.grpc_base.specs.declared.fields.Field.{Field}
+use Rattle.link_laws.proofs.Desks.{AllQueued, AreQueued, KeepsWaits, all_slot, begun_queued, queued_changed_slot, queued_slot, timers_queued}
 use Rattle.call_core.specs.Rows.{row_in}
 use Rattle.call_core.specs.Steps as call
 use Rattle.call_core.specs.Steps.{Stepped, lent}
@@ -28,14 +33,14 @@ use Rattle.channel_core.specs.declared.state.book.Book.{Book}
 use Rattle.channel_core.specs.declared.state.links.LinkSlot.{LinkSlot}
 use Rattle.channel_core.specs.declared.state.slots.CallSlot.{CallSlot}
 use Rattle.channel_core.specs.Arrivals as arrivals
-use Rattle.channel_core.specs.Books.{BookActs, book_begun, book_configured, book_finished, book_placed, book_taken, bucket_set, call_of, deadline_of, due_at, due_forgotten, fresh_slot, lines_of, row_at, slot_at, slot_of_tag}
+use Rattle.channel_core.specs.Books.{BookActs, book_begun, book_configured, book_finished, book_placed, book_taken, bucket_set, call_of, due_forgotten, fresh_slot, lines_of, row_at, slot_at, slot_of_tag}
 use Rattle.channel_core.specs.Draining.{DrainLeaves, drained_limit, opened_by, streams_given}
 use Rattle.channel_core.specs.Feeding.{all_fed, book_fed}
 use Rattle.channel_core.specs.Settling as settling
 use Rattle.channel_core.specs.States.{StateSeen}
 use Rattle.channel_core.specs.Steps as step
 use Rattle.channel_core.specs.Steps.{chosen_in}
-use Rattle.channel_core.specs.Tables.{DrainGives, acted, buried, changed_call, changed_slot, fed_call, fresh_link, last_run, new_slot, numbered, placed_link, with_bucket, with_link, with_timers, without_due, left_at, with_call}
+use Rattle.channel_core.specs.Tables.{DrainGives, acted, buried, changed_call, changed_slot, fed_call, fresh_link, last_run, new_slot, numbered, placed_link, with_bucket, with_link, without_due, left_at, with_call}
 use Rattle.channel_core.specs.Timing.{first_pair}
 use Rattle.channel_core.proofs.BookLaws.{called, number_changed, put_call}
 use Rattle.link_laws.proofs.CallLaws.{FairNews, IsSound, kept_in, owner_in}
@@ -54,6 +59,7 @@ use Rattle.link_laws.proofs.LinkOpens.{Opens, opened_is, sends_open, tags_of}
 use Rattle.link_laws.proofs.RisingTags.{Apart, AreRising, rest_apart, rising_insert}
 use Rattle.link_laws.proofs.Unstreamed.{stream_at, stream_of}
 use Rattle.channel_core.proofs.OwnRows.{place_other, place_same}
+use Rattle.channel_core.proofs.ToldEnds.{place_changed}
 use Rattle.link_laws.proofs.Pairs.{Each, each_found, each_insert, each_less}
 use Rattle.link_laws.proofs.ReaderTags.{opened_tags, placed_tag}
 use Rattle.attempt_buffer.specs.Buffers.{left_of}
@@ -62,15 +68,17 @@ use Rattle.grpc_link.specs.Links.{reader_in}
 use Rattle.link_laws.proofs.LinkTies.{NotOn, off_placed, off_up, tied_up}
 use Rattle.link_laws.proofs.DrainedStreams.{drained_streams, off_drained, tie_drained, tied_drained, given_other, lines_stay, none_reader, one_apart}
 use Rattle.link_laws.proofs.LinkStreams.{AreStreams, Streamless, streams_alike, streams_changed, streams_placed, streams_up}
-use Rattle.link_laws.proofs.OpenCalls.{IsOpening, begun_opening, opens_finished, opens_taken}
+use Rattle.link_laws.proofs.OpenBuffers.{IsOpening, begun_opening}
+use Rattle.link_laws.proofs.OpenCalls.{opens_finished, opens_taken}
 use Rattle.link_laws.proofs.OpenFeeds.{IsKeptCall, opening_fed}
 use Rattle.link_laws.proofs.OpenLinks.{streamless_before}
 use Rattle.link_laws.proofs.OpenRows.{RunsIn, row_call}
+use Rattle.link_laws.proofs.FailedPicks.{AreBarePicks, IsBarePick}
 use Rattle.link_laws.proofs.Served.{Acts, AreTags, KeepsLive, AreWaiting, Desk, HasTags, IsPlacedOn, IsQueued, Served, Stays, acted_is, desk_of, keeps_waiting, queued_changed, served_changed, served_slot, tags_changed, tags_stay}
 use Rattle.link_laws.proofs.OpenTables.{opening_begun}
 use Rattle.link_laws.proofs.RowTies.{AreTiedBut, HasTie, None_, or_tie, ties_begun, ties_less, ties_placed}
 use Rattle.link_laws.proofs.ServingOffs.{any_off, unqueued_off, unqueued_served}
-use Rattle.link_laws.proofs.Serving.{After, Base, Free, KnownIn, R, Step, any, apart_at, asked, base, did, finish, gone_one, joined, kept_at, linked, owner_at, served_links, then_seal, timed_at, lent_law}
+use Rattle.link_laws.proofs.Serving.{After, Base, Free, KnownIn, R, Step, any, apart_at, asked, base, did, finish, finish_queued, gone_one, joined, kept_at, linked, owner_at, served_links, then_seal, timed_at, lent_law, timers_served, unqueued_but}
 use Rattle.link_laws.proofs.SoundCalls.{IsAllowed}
 use Rattle.link_laws.proofs.Walking.{with_links}
 use Rattle.link_laws.proofs.Working.{TimedLaws, never_waits, placed_call, placed_now, runs_placed, waits_standing, works_configured, works_made, works_placed}
@@ -97,6 +105,27 @@ queued_next (Some conn.Ready) last s p e h =
     first_queued s.book.calls (next_behind s.queue last) (next_behind s.patient last) p e (λ q f. behind_queued s.book.calls s.queue last q h.queue f) (λ q f. behind_queued s.book.calls s.patient last q h.patient f)
 queued_next (Some conn.Failure) last s p e h = behind_queued s.book.calls s.queue last p h.queue e
 queued_next (Some conn.Shutdown) last s p e h = absurd (let never : ⊥ = (cc) in never)
+
+-- what applications do leaves whether a call waits until the channel is ready
+finished_waits : (o : Option Refusal) (c : CallState) → call.waits (call.finished_if o c) ≡ call.waits c
+finished_waits None c = refl
+finished_waits (Some why) c = refl
+
+end_waits : (o : Option EndCause) (c : CallState) → call.waits (call.taken_end o c) ≡ call.waits c
+end_waits None c = refl
+end_waits (Some why) c = refl
+
+message_waits : (o : Option (List ℕ)) (c : CallState) → call.waits (call.taken_message o c) ≡ call.waits c
+message_waits None c = end_waits c.ended (call.with_rest c)
+message_waits (Some octets) c = refl
+
+item_waits : (o : Option (List Field)) (c : CallState) → call.waits (call.taken_item o c) ≡ call.waits c
+item_waits None c = message_waits (first_of c.inbox.messages) (call.without_head c)
+item_waits (Some meta) c = refl
+
+taken_waits : (b : Bool) (c : CallState) → call.waits (if b then c else call.taken_item c.inbox.head c) ≡ call.waits c
+taken_waits true c = refl
+taken_waits false c = item_waits c.inbox.head c
 
 -- rows get their streams
 on_any : (o : Option ℕ) (P : Type 0) → P → OnSome o P
@@ -145,6 +174,10 @@ all_streamed m link (o ∷ opened) rows h timed =
     let one : Streamed m rows after = one_streamed m link o.0 o.1 rows h.0 timed in
     let rest : Streamed m after (streams_given opened after) = all_streamed m link opened after (all_less (λ (x : ℕ × ℕ). IsPlacedOn rows link x.0) (λ (x : ℕ × ℕ). IsPlacedOn after link x.0) opened (λ x k. one.stays link x.0 k) h.1) one.timed in
     record { stays = λ l place k. rest.stays l place (one.stays l place k); timed = rest.timed }
+
+bare_streamed : (opened : List (ℕ × ℕ)) (rows : List Row) → AreBarePicks rows → AreBarePicks (streams_given opened rows)
+bare_streamed [] rows h = h
+bare_streamed (o ∷ opened) rows h = bare_streamed opened (changed_at (streamed_row o.1) rows o.0) (place_changed IsBarePick (streamed_row o.1) rows o.0 (λ row bare. bare) h)
 
 -- bytes of calls are taken
 fed_moment : (feeds : List (ℕ × ℕ)) (b : Book) → (all_fed feeds b).moment ≡ b.moment
@@ -239,39 +272,47 @@ module _ (laws : MoreLaws) (timed : TimedLaws) (N : ℕ) where
   configures_base = lifts_configured IsAllowed FairNews IsSound (lent_law laws) owner_in laws.calls.leaves laws.calls.ended laws.settles kept_in (λ x row told fair. fair) Free (Allows IsAllowed) N (λ held may. may) (λ begun configured config request may h. tt)
 
   -- a slot alone changes
-  by_slot : (g : CallSlot → CallSlot) → ((F : ℕ → Type 0) → KeepsLive F g) → (number : ℕ) (s t : StateSeen) → Base N s t → desk_of t ≡ record (desk_of s) { calls = changed_slot g s.book.calls number } → Step laws timed N s t
-  by_slot g same number s t b e = record {
+  by_slot : (g : CallSlot → CallSlot) → ((F : ℕ → Type 0) → KeepsLive F g) → KeepsWaits g → (number : ℕ) (s t : StateSeen) → Base N s t → desk_of t ≡ record (desk_of s) { calls = changed_slot g s.book.calls number } → Step laws timed N s t
+  by_slot g same waits number s t b e = record {
     base = b;
     after = λ p at known served. record {
       served = subst Served (sym e) (served_slot g (desk_of s) number (same (Streamless s.book.ledger.rows)) served);
+      queued = λ h. subst AreQueued (sym e) (queued_changed_slot g (desk_of s) number waits h);
       stays = λ link place h. subst (λ (d : Desk). IsPlacedOn d.rows link place) (sym e) h;
       fewer = λ link p h off. subst (λ (d : Desk). NotOn d.links link p) (sym e) off;
     };
   }
 
-  by_call : (f : CallState → CallState) → ((c : CallState) → (f c).live ≡ c.live) → ((F : ℕ → Type 0) (c : CallState) → IsOpening (Unit {0}) F c → IsOpening (Unit {0}) F (f c)) → (number : ℕ) (s t : StateSeen) → Base N s t → desk_of t ≡ record (desk_of s) { calls = changed_call f s.book.calls number } → Step laws timed N s t
-  by_call f same opens number s t b e = record {
+  by_call : (f : CallState → CallState) → ((c : CallState) → (f c).live ≡ c.live) → ((c : CallState) → call.waits (f c) ≡ call.waits c) → ((F : ℕ → Type 0) (c : CallState) → IsOpening (Unit {0}) F c → IsOpening (Unit {0}) F (f c)) → (number : ℕ) (s t : StateSeen) → Base N s t → desk_of t ≡ record (desk_of s) { calls = changed_call f s.book.calls number } → Step laws timed N s t
+  by_call f same waits opens number s t b e = record {
     base = b;
     after = λ p at known served. record {
       served = subst Served (sym (e ∙ ap (λ (c : List CallSlot). record (desk_of s) { calls = c }) (put_call f s.book.calls number))) (served_changed (called f) (desk_of s) number (record { live = λ slot. same slot.call; opening = λ slot h. opens (Streamless s.book.ledger.rows) slot.call h }) served);
+      queued = λ h. subst AreQueued (sym (e ∙ ap (λ (c : List CallSlot). record (desk_of s) { calls = c }) (put_call f s.book.calls number))) (queued_slot (called f) (desk_of s) number (record { live = λ slot. same slot.call; waits = λ slot. waits slot.call }) h);
       stays = λ link place h. subst (λ (d : Desk). IsPlacedOn d.rows link place) (sym e) h;
       fewer = λ link p h off. subst (λ (d : Desk). NotOn d.links link p) (sym e) off;
     };
   }
 
   pub finish_call : (number : ℕ) (s : StateSeen) → Step laws timed N s (with_book (book_finished number s.book) s)
-  finish_call number s = by_call call.finished (λ c. (laws.calls.leaves.finished c).live) (λ F c h. opens_finished (Unit {0}) F c h) number s _ ((base laws timed N).finished number s) refl
+  finish_call number s = by_call call.finished (λ c. (laws.calls.leaves.finished c).live) (λ c. finished_waits (call.send_refusal c) c) (λ F c h. opens_finished (Unit {0}) F c h) number s _ ((base laws timed N).finished number s) refl
 
   pub take_from : (number : ℕ) (s : StateSeen) → Step laws timed N s (with_book (book_taken number s.book) s)
-  take_from number s = by_call call.taken (λ c. (laws.calls.leaves.taken c).live) (λ F c h. opens_taken (Unit {0}) F c h) number s _ ((base laws timed N).taken number s) refl
+  take_from number s = by_call call.taken (λ c. (laws.calls.leaves.taken c).live) (λ c. taken_waits c.inbox.is_end_taken c) (λ F c h. opens_taken (Unit {0}) F c h) number s _ ((base laws timed N).taken number s) refl
 
   pub forget : (number : ℕ) (s : StateSeen) → Step laws timed N s (with_book (due_forgotten number s.book) s)
-  forget number s = by_slot without_due (λ F. record { live = λ slot. refl; opening = λ slot h. h }) number s _ ((base laws timed N).forgotten number s) refl
+  forget number s = by_slot without_due (λ F. record { live = λ slot. refl; opening = λ slot h. h }) (record { live = λ slot. refl; waits = λ slot. refl }) number s _ ((base laws timed N).forgotten number s) refl
 
   pub timers_of : (number : ℕ) (s : StateSeen) → Step laws timed N s (step.timers_moved number s)
-  timers_of number s =
-      let slot : Option CallSlot = slot_at s.book number in
-      by_slot (with_timers (due_at slot) (deadline_of slot)) (λ F. record { live = λ z. refl; opening = λ z h. h }) number s _ (carrying.timers_of (Base N) (base laws timed N) number s) refl
+  timers_of number s = record {
+    base = carrying.timers_of (Base N) (base laws timed N) number s;
+    after = λ p at known served. record {
+      served = timers_served number (slot_at s.book number) s served;
+      queued = λ h. timers_queued number (slot_at s.book number) s h;
+      stays = λ link place h. h;
+      fewer = λ link p h off. off;
+    };
+  }
 
   pub make : (number : ℕ) (s : StateSeen) → Step laws timed N s (step.made_one number s)
   make number s = then_seal laws timed N (Unit {0}) s _ (asked laws timed N (call.made_due s.book.moment) number s ((base laws timed N).made number s) (λ x apart kept owner on. works_made timed s.book.moment x apart kept owner on))
@@ -294,8 +335,9 @@ module _ (laws : MoreLaws) (timed : TimedLaws) (N : ℕ) where
             patient = each_less (λ q. IsQueued s.book.calls q.0 q.1) (λ q. IsQueued calls q.0 q.1) s.patient (λ q w. record { slot = w.slot; there = numbered_more s.book.calls new w.slot q.0 w.there; waits = w.waits }) served.patient;
             queue_sorted = served.queue_sorted;
             patient_sorted = served.patient_sorted;
-            rest = record { out = served.rest.out; tags = served.rest.tags; timed = served.rest.timed; opening = opening_begun (Streamless s.book.ledger.rows) s.book.calls new (begun_opening (Unit {0}) (Streamless s.book.ledger.rows)) served.rest.opening; streams = served.rest.streams; ties = ties_begun s.book.calls s.book.ledger.rows s.links new served.rest.ties };
+            rest = record { out = served.rest.out; tags = served.rest.tags; timed = served.rest.timed; opening = opening_begun (Streamless s.book.ledger.rows) s.book.calls new (begun_opening (Unit {0}) (Streamless s.book.ledger.rows)) served.rest.opening; streams = served.rest.streams; ties = ties_begun s.book.calls s.book.ledger.rows s.links new served.rest.ties; bare = served.rest.bare };
           };
+          queued = λ h. begun_queued (desk_of s) new refl h;
           stays = λ link place h. h;
           fewer = λ link p h off. off;
         };
@@ -316,6 +358,7 @@ module _ (laws : MoreLaws) (timed : TimedLaws) (N : ℕ) where
     base = lifts_up IsAllowed FairNews IsSound (lent_law laws) owner_in laws.calls.leaves laws.calls.ended laws.settles kept_in (λ x row told fair. fair) Free (Allows IsAllowed) N sub s;
     after = λ p at known served. record {
       served = served_links (desk_of s) (s.links ++ new_slot fresh_link ∷ []) (λ link slot e. tags_up s.book.ledger.rows s.links link slot (numbered s.links link) refl e served.rest.tags) (streams_up s.book.ledger.rows s.links served.rest.streams) (tied_up (λ link tag. HasTie s.book.calls s.book.ledger.rows tag ⊎ ⊥) s.links served.rest.ties) served;
+      queued = λ h. record { all = h.all; sorted = h.sorted };
       stays = λ link place h. h;
       fewer = λ link p h off. off_up s.links p link off;
     };
@@ -336,8 +379,8 @@ module _ (laws : MoreLaws) (timed : TimedLaws) (N : ℕ) where
             } in
             let served_now : Served (desk_of u) = served_slot (with_bucket (last_run s.book.buckets)) (desk_of s) number (record { live = λ slot. refl; opening = λ slot h. h }) served in
             let did_it : Acts number Any (desk_of u) b.book.calls b.book.ledger.rows b.acts = did laws timed N f number None Any Any u known_now served_now (any laws timed N number (desk_of u)) (any_off number (desk_of u)) (λ slot there. works_configured timed s.book.moment (lent slot.call s.book.ledger None []) (apart_at laws timed N u number slot None there known_now) (kept_at laws timed N u number slot None there known_now) (owner_at laws timed N u number slot None there known_now) (timed_at laws timed N u slot None served_now) chosen) in
-            let over : After u (step.followed number b.acts (with_book b.book s)) = finish number Any b.acts u (with_book b.book s) did_it (λ P C h. h) (λ link p h off. off) in
-            record { served = over.served; stays = over.stays; fewer = over.fewer };
+            let over : After u (step.followed number b.acts (with_book b.book s)) = finish number Any b.acts u (with_book b.book s) did_it refl refl refl (λ P C h. h) (λ link p h off. off) in
+            record { served = over.served; queued = λ h. over.queued (queued_changed_slot (with_bucket (last_run s.book.buckets)) (desk_of s) number (record { live = λ slot. refl; waits = λ slot. refl }) h); stays = over.stays; fewer = over.fewer };
       }
 
   -- a row is placed
@@ -412,14 +455,14 @@ module _ (laws : MoreLaws) (timed : TimedLaws) (N : ℕ) where
             (tags_stay s.book.ledger.rows rows s.links a.stays a.still served.rest.tags) in
             let streams : AreStreams rows links = streams_changed rows (with_link (placed_link row limit)) s.links at.link
             (λ slot there k. streams_placed rows row limit slot (no_reader number row at.link s slot known served queued there) fresh k) (streams_alike s.book.ledger.rows rows s.links a.still served.rest.streams) in
-            let after_it : After u (step.followed number b.acts (with_book b.book v)) = finish number (Off row) b.acts u (with_book b.book v) a (λ P C h. record {
+            let after_it : After u (step.followed number b.acts (with_book b.book v)) = finish number (Off row) b.acts u (with_book b.book v) a refl refl refl (λ P C h. record {
               queue = h.queue;
               patient = h.patient;
               queue_sorted = h.queue_sorted;
               patient_sorted = h.patient_sorted;
-              rest = record { out = each_insert (λ q. IsPlacedOn b.book.ledger.rows q.0 q.1) s.outstanding (at.link, row) here h.rest.out; tags = tags; timed = h.rest.timed; opening = h.rest.opening; streams = streams; ties = ties_placed C row limit at.link s.links b.book.calls rows (placed_tie number row at s known queued) h.rest.ties };
+              rest = record { out = each_insert (λ q. IsPlacedOn b.book.ledger.rows q.0 q.1) s.outstanding (at.link, row) here h.rest.out; tags = tags; timed = h.rest.timed; opening = h.rest.opening; streams = streams; ties = ties_placed C row limit at.link s.links b.book.calls rows (placed_tie number row at s known queued) h.rest.ties; bare = h.rest.bare };
             }) (λ link p placed off. off_placed row limit at.link s.links link p (λ same. not_placed number row link s known queued (subst (λ (k : ℕ). IsPlacedOn s.book.ledger.rows link k) (sym same) placed)) off) in
-            record { served = after_it.served; stays = after_it.stays; fewer = after_it.fewer };
+            record { served = after_it.served; queued = λ h. finish_queued number (Off row) b.acts u (with_book b.book v) a refl refl refl (unqueued_but number row s h); stays = after_it.stays; fewer = after_it.fewer };
       }
 
   -- a drain
@@ -429,6 +472,13 @@ module _ (laws : MoreLaws) (timed : TimedLaws) (N : ℕ) where
       let number : ℕ = call_of (row_at b f.0) in
       fed_queued feeds (book_fed f.0 f.1 b) k p
       (subst (λ (l : List CallSlot). IsQueued l k p) (sym (put_call (fed_call f.0 f.1) b.calls number)) (queued_changed (called (fed_call f.0 f.1)) (λ slot. (laws.calls.leaves.fed f.0 f.1 slot.call).live) b.calls number k p h))
+
+  fed_all : (feeds : List (ℕ × ℕ)) (b : Book) (queue patient : List (ℕ × ℕ)) → AllQueued b.calls queue patient → AllQueued (all_fed feeds b).calls queue patient
+  fed_all [] b queue patient h = h
+  fed_all (f ∷ feeds) b queue patient h =
+      let number : ℕ = call_of (row_at b f.0) in
+      fed_all feeds (book_fed f.0 f.1 b) queue patient
+      (subst (λ (l : List CallSlot). AllQueued l queue patient) (sym (put_call (fed_call f.0 f.1) b.calls number)) (all_slot (called (fed_call f.0 f.1)) b.calls number queue patient (record { live = λ slot. (laws.calls.leaves.fed f.0 f.1 slot.call).live; waits = λ slot. refl }) h))
 
   -- what each call keeps of its buffer: of the rows that still have no stream nothing was taken
   kept_call : (s : StateSeen) → KnownIn s → Served (desk_of s) → (number : ℕ) (slot : CallSlot) → numbered s.book.calls number ≡ Some slot → IsKeptCall (Streamless s.book.ledger.rows) slot
@@ -456,7 +506,6 @@ module _ (laws : MoreLaws) (timed : TimedLaws) (N : ℕ) where
         let streams : Streamed s.book.moment rows (streams_given opened rows) = all_streamed s.book.moment link opened rows out.opened served.rest.timed in
         let fed_is : g.fed ≡ all_fed feeds s.book = g.feeds.1 in
         let ledger : g.fed.ledger ≡ s.book.ledger = ap (λ (b : Book). b.ledger) fed_is ∙ fed_ledger feeds s.book in
-        let now : g.fed.moment ≡ s.book.moment = ap (λ (b : Book). b.moment) fed_is ∙ fed_moment feeds s.book in
         let known_streams : AreStreams (streams_given opened rows) t.links = drained_streams (min room drained_limit) link rows s.links t.links (lines_of s.book) (lines_of g.fed) g.drained g.gives served.rest.tags out.opened served.rest.streams in
         let unmoved : (p : ℕ) → Streamless (streams_given opened rows) p → lines_of g.fed p ≡ lines_of s.book p = λ p none. lines_stay (min room drained_limit) link (streams_given opened rows) s.links t.links (lines_of s.book) (lines_of g.fed) g.drained g.gives known_streams p none in
         let same_rows : (p : ℕ) → row_at (all_fed feeds s.book) p ≡ row_at s.book p = λ p. ap (λ (l : Ledger). numbered l.rows p) (fed_ledger feeds s.book) in
@@ -465,7 +514,7 @@ module _ (laws : MoreLaws) (timed : TimedLaws) (N : ℕ) where
         (tied_drained (min room drained_limit) link (λ k tag. HasTie s.book.calls rows tag ⊎ ⊥) s.links t.links (lines_of s.book) (lines_of g.fed) g.drained g.gives served.rest.ties) in
         let desk : desk_of t ≡ record (desk_of s) { calls = (all_fed feeds s.book).calls; rows = streams_given opened rows; links = t.links } =
         ap desk_of g.state_is
-        ∙ ap (λ (k : ℕ). record (desk_of s) { moment = k; calls = g.fed.calls; rows = streams_given opened g.fed.ledger.rows; links = t.links }) now
+        ∙ ap (λ (k : ℕ). record (desk_of s) { moment = k; calls = g.fed.calls; rows = streams_given opened g.fed.ledger.rows; links = t.links }) (ap (λ (b : Book). b.moment) fed_is ∙ fed_moment feeds s.book)
         ∙ ap (λ (b : Book). record (desk_of s) { calls = b.calls; rows = streams_given opened g.fed.ledger.rows; links = t.links }) fed_is
         ∙ ap (λ (l : Ledger). record (desk_of s) { calls = (all_fed feeds s.book).calls; rows = streams_given opened l.rows; links = t.links }) ledger in
         let all : Served (record (desk_of s) { calls = (all_fed feeds s.book).calls; rows = streams_given opened rows; links = t.links }) = record {
@@ -481,7 +530,8 @@ module _ (laws : MoreLaws) (timed : TimedLaws) (N : ℕ) where
                 (λ p number slot now there is runs none. own_left s known (all_fed feeds s.book) same_rows p number slot now there is runs (ap (λ (l : Line). l.left) (ap (λ (b : Book). lines_of b p) (sym fed_is) ∙ unmoved p none)));
             streams = known_streams;
             ties = fed_ties;
+            bare = bare_streamed opened rows served.rest.bare;
           };
         } in
-        record { served = subst Served (sym desk) all; stays = λ l place h. subst (λ (d : Desk). IsPlacedOn d.rows l place) (sym desk) (streams.stays l place h); fewer = λ l q h off. off_drained (min room drained_limit) link l q s.links t.links (lines_of s.book) (lines_of g.fed) g.drained g.gives off };
+        record { served = subst Served (sym desk) all; queued = λ h. subst AreQueued (sym desk) (record { all = fed_all feeds s.book s.queue s.patient h.all; sorted = h.sorted }); stays = λ l place h. subst (λ (d : Desk). IsPlacedOn d.rows l place) (sym desk) (streams.stays l place h); fewer = λ l q h off. off_drained (min room drained_limit) link l q s.links t.links (lines_of s.book) (lines_of g.fed) g.drained g.gives off };
   }

@@ -38,7 +38,8 @@ use Rattle.channel_core.specs.Tables.{takes_rows, placed_link, with_link}
 use Rattle.channel_core.specs.Timing.{due_keys, later, number_of, sorted_into}
 use Rattle.channel_core.proofs.Carrying.{with_book}
 use Rattle.link_laws.proofs.LicensedCalls.{MoreLaws}
-use Rattle.link_laws.proofs.Served.{IsQueued}
+use Rattle.link_laws.proofs.Desks.{sorted_later}
+use Rattle.link_laws.proofs.Served.{IsQueued, desk_of, served_dues}
 use Rattle.link_laws.proofs.Serving.{R, Step, base, beside, close, either, fail, frames, from_served, gone_all, joined, joined_by, lose, overdue, ping, quiet, same, send, weak}
 use Rattle.link_laws.proofs.ServingParts.{begins, comes_up, configured, die, drain, finish_call, forget, holds_base, make, place, queued_next, take_from, timers_of}
 use Rattle.link_laws.proofs.Walking.{with_links}
@@ -241,12 +242,23 @@ module _ (laws : MoreLaws) (timed : TimedLaws) (N : ℕ) where
       let t : StateSeen = step.due_gone (number_of key) s in
       joined laws timed N s t _ (forget laws timed N (number_of key) s) (forget_all calls t)
 
+  take_dues : (s : StateSeen) → Step laws timed N s (record s { dues = later s.book.moment s.dues })
+  take_dues s = record {
+    base = (base laws timed N).beside s (record s { dues = later s.book.moment s.dues }) refl refl refl (λ h. h);
+    after = λ p at known served. record {
+      served = served_dues (desk_of s) (later s.book.moment s.dues) served;
+      queued = λ h. record { all = h.all; sorted = sorted_later s.book.moment s.dues h.sorted };
+      stays = λ link place h. h;
+      fewer = λ link place h off. off;
+    };
+  }
+
   pub make_round : (s : StateSeen) → Step laws timed N s (step.round_made s).state
   make_round s =
       let keys : List ℕ = due_keys s.book.moment s.dues in
       let t : StateSeen = record s { dues = later s.book.moment s.dues } in
       let u : StateSeen = step.dues_forgotten keys t in
-      joined laws timed N s t _ (beside laws timed N s t refl refl refl (λ h. h) refl) (joined laws timed N t u _ (forget_all keys t) (make_all (due_keys 0 (sorted_into [] keys)) u))
+      joined laws timed N s t _ (take_dues s) (joined laws timed N t u _ (forget_all keys t) (make_all (due_keys 0 (sorted_into [] keys)) u))
 
   -- the queue
   place_if : (takes : Bool) (number row limit : ℕ) (at : Placed) (s : StateSeen) → at.entry ≡ s.book.ledger.entry → at.moment ≡ s.book.moment

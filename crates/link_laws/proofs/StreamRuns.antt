@@ -160,7 +160,7 @@ module _ (laws : MoreLaws) (timed : TimedLaws) where
   drain_answered k link room octets N (Some why) s t r g at known served a =
       let all : List ℕ = octets ++ drained_by k (event.Drain link room) r in
       let here : IsAnswered N k all s s = record {
-        after = record { served = served; stays = λ l place p. p; fewer = λ l place p off. off };
+        after = record { served = served; queued = λ h. h; stays = λ l place p. p; fewer = λ l place p off. off };
         known = known;
         entry = at;
         agreed = record {

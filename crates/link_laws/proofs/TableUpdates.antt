@@ -17,7 +17,7 @@ use Rattle.h2_link.specs.Drains.{AFrame, Outgoing, Sent, head_block, next_data, 
 use Rattle.h2_link.specs.Feeds.{Line}
 use Rattle.h2_link.specs.Steps as steps
 use Rattle.h2_link.specs.Wire.{Wire}
-use Rattle.link_laws.specs.TableSizes.{IsBlock, IsBlockOwed, first_of, is_acknowledgement, is_table_size, names_size, owes}
+use Rattle.link_laws.specs.TableSizes.{IsBlock, IsBlockOwed, first_named, is_acknowledgement, is_table_size, names_size, owes}
 use Rattle.link_laws.proofs.GivenSends.{Kept, MayGo, frames_in}
 use Rattle.link_laws.proofs.Keeping.{TypeOf}
 use Rattle.link_laws.proofs.QueueNotes.{GoesNext, Noted, added, cut_notes, goes_next, ping_notes, told_notes}
@@ -63,7 +63,7 @@ acknowledged (f ∷ frames) = if is_acknowledgement f then suc (acknowledged fra
 
 abbrev owes_if : Bool → Bool → List Bool → Bool → List FrameSeen → Bool
 owes_if answers opens names owed frames =
-    if answers then owes (drop 1 names) (owed || first_of names) frames
+    if answers then owes (drop 1 names) (owed || first_named names) frames
     else if opens then owes names false frames
     else owes names owed frames
 
@@ -112,7 +112,7 @@ plain_one f true names owed n = ap (λ (a : Bool). owes_if a (f.kind == headers_
 plain_one f false names owed n = ap (λ (a : Bool). owes_if a (f.kind == headers_type) names owed []) n.answers ∙ ap (λ (a : Bool). owes_if false a names owed []) n.opens_is
 
 plain_if : (answers opens : Bool) (f : FrameSeen) (pays : Bool) (names : List Bool) (owed : Bool) (frames : List FrameSeen) → ((names : List Bool) (owed : Bool) → owes names owed (frames ++ f ∷ []) ≡ paid pays (owes names owed frames)) → owes_if answers opens names owed (frames ++ f ∷ []) ≡ paid pays (owes_if answers opens names owed frames)
-plain_if true opens f pays names owed frames more = more (drop 1 names) (owed || first_of names)
+plain_if true opens f pays names owed frames more = more (drop 1 names) (owed || first_named names)
 plain_if false true f pays names owed frames more = more names false
 plain_if false false f pays names owed frames more = more names owed
 

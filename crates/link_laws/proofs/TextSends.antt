@@ -24,7 +24,7 @@ use Rattle.channel_core.proofs.Carrying.{with_book}
 use Rattle.channel_core.proofs.Going as going
 use Rattle.link_laws.proofs.LicensedCalls.{MoreLaws}
 use Rattle.link_laws.proofs.LinkStreams.{Streamless}
-use Rattle.link_laws.proofs.OpenCalls.{IsOpening}
+use Rattle.link_laws.proofs.OpenBuffers.{IsOpening}
 use Rattle.link_laws.proofs.Served.{Served, acted_is, desk_of}
 use Rattle.link_laws.proofs.Serving.{Base, KnownIn, base, known_after}
 use Rattle.link_laws.proofs.TextGoes.{TextGoes, goes, plain_on}

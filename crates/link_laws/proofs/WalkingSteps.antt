@@ -187,14 +187,14 @@ module _ (R : StateSeen → StateSeen → Type 0) (c : Walks R) where
       let b : StateSeen = with_links (buried_in link s.links) s in
       c.joined s u _ (c.died link s t (c.beside b t refl refl refl)) (limit_all links u)
 
-  clock : (s : StateSeen) → R s (clocked s)
+  pub clock : (s : StateSeen) → R s (clocked s)
   unfolding clocked
   clock s =
       let l : NetLeft = net.net_clocked s.book.moment s.net in
       let t : StateSeen = record s { net = l.net } in
       c.joined s t _ (c.beside s t refl refl refl) (limit_all l.gone t)
 
-  settle_net : (s : StateSeen) → R s (net_settled s)
+  pub settle_net : (s : StateSeen) → R s (net_settled s)
   unfolding net_settled
   settle_net s =
       let l : NetLeft = net.net_settled s.net in
@@ -219,7 +219,7 @@ module _ (R : StateSeen → StateSeen → Type 0) (c : Walks R) where
       let t : StateSeen = step.closed ends.NoConfig (number_of key) s in
       c.joined s t _ (close R c ends.NoConfig (number_of key) s refl) (unconfigure_all calls t)
 
-  serve_bare : (s : StateSeen) → R s (bare_served s)
+  pub serve_bare : (s : StateSeen) → R s (bare_served s)
   unfolding bare_served
   serve_bare s =
       let t : StateSeen = record s { bare = later 0 s.bare; impatient = [] } in
@@ -241,7 +241,7 @@ module _ (R : StateSeen → StateSeen → Type 0) (c : Walks R) where
       let t : StateSeen = step.due_gone (number_of key) s in
       c.joined s t _ (c.forgotten (number_of key) s) (forget_all calls t)
 
-  make_round : (s : StateSeen) → R s (step.round_made s).state
+  pub make_round : (s : StateSeen) → R s (step.round_made s).state
   make_round s =
       let keys : List ℕ = due_keys s.book.moment s.dues in
       let t : StateSeen = record s { dues = later s.book.moment s.dues } in
@@ -274,7 +274,7 @@ module _ (R : StateSeen → StateSeen → Type 0) (c : Walks R) where
       let t : StateSeen = step.asked_by row a s in
       c.joined s t _ (c.asked (record { entry = s.book.ledger.entry; generation = a.generation; row = row; answer = a.pick }) s refl) (pick_for number row a.generation a.pick t)
 
-  serve : (number row : ℕ) (s : StateSeen) → R s (settling.served number row s).state
+  pub serve : (number row : ℕ) (s : StateSeen) → R s (settling.served number row s).state
   serve number row s =
       let t : StateSeen = settling.asked s in
       c.joined s t _ (c.beside s t refl refl refl) (serve_by number row (net.net_answer s.net) t)
@@ -285,13 +285,13 @@ module _ (R : StateSeen → StateSeen → Type 0) (c : Walks R) where
       let after : Moved = settling.also m.moved (settling.served p.0 p.1 m.state) in
       c.joined m.state after.state _ (serve p.0 p.1 m.state) (more p after)
 
-  pass : (k : ℕ) (last : ℕ × ℕ) (m : Moved) → R m.state (passed k last m).state
+  pub pass : (k : ℕ) (last : ℕ × ℕ) (m : Moved) → R m.state (passed k last m).state
   unfolding passed
   pass zero last m = same R c m.state
   pass (suc k) last m = pass_on (passed k) (step.next_served last m.state) m (pass k)
 
   -- rounds until nothing moves
-  one_round : (s : StateSeen) → R s (settling.round s).state
+  pub one_round : (s : StateSeen) → R s (settling.round s).state
   one_round s =
       let t : StateSeen = (step.round_made s).state in
       c.joined s t _ (make_round s) (pass settling.most (0, 0) (settling.stays t))

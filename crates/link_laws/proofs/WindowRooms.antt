@@ -47,7 +47,7 @@ pub rooms_fresh : Rooms [] [] fresh_wire
 rooms_fresh = record { link = omega arith; initial_is = omega arith; small = omega arith; credits = tt; rising = omega arith; later = λ n low. refl }
 
 -- one frame more came: nothing that was allowed is taken back
-raised_more : (n : ℕ) (came : List FrameSeen) (f : FrameSeen) → raised n (came ++ f ∷ []) ≡ raised n came + raise_on n f
+pub raised_more : (n : ℕ) (came : List FrameSeen) (f : FrameSeen) → raised n (came ++ f ∷ []) ≡ raised n came + raise_on n f
 raised_more n came f = sum_by_push (raise_on n) came f
 
 credit_same : (c : ℤ) (u r a more : ℕ) → (c +ℤ pos u) ≤ℤ pos r → a ≡ r + more → (c +ℤ pos u) ≤ℤ pos a
@@ -56,7 +56,7 @@ credit_same c u r a more h e = omega (arith, ints, h, e)
 credit_came : (came went : List FrameSeen) (f : FrameSeen) (s : LiveStream) → HasCredit came went s → HasCredit (came ++ f ∷ []) went s
 credit_came came went f s h = record { within = credit_same s.credit (used_on s.number went) (raised s.number came) _ (raise_on s.number f) h.within (raised_more s.number came f) }
 
-size_append : (xs ys : List Setting) (size : ℕ) → size_after size (xs ++ ys) ≡ size_after (size_after size xs) ys
+pub size_append : (xs ys : List Setting) (size : ℕ) → size_after size (xs ++ ys) ≡ size_after (size_after size xs) ys
 size_append [] ys size = refl
 size_append (x ∷ xs) ys size = size_append xs ys (if x.identifier == 4 then x.value else size)
 
@@ -64,7 +64,7 @@ append_none : (xs : List Setting) → xs ++ [] ≡ xs
 append_none [] = refl
 append_none (x ∷ xs) = ap (λ (l : List Setting). x ∷ l) (append_none xs)
 
-size_more : (came : List FrameSeen) (f : FrameSeen) → initial_size (came ++ f ∷ []) ≡ size_after (initial_size came) (settings_told f)
+pub size_more : (came : List FrameSeen) (f : FrameSeen) → initial_size (came ++ f ∷ []) ≡ size_after (initial_size came) (settings_told f)
 size_more came f =
     ap (λ (l : List Setting). size_after 65535 l) (flat_map-append settings_told came (f ∷ []) ∙ ap (λ (l : List Setting). flat_map settings_told came ++ l) (append_none (settings_told f)))
     ∙ size_append (flat_map settings_told came) (settings_told f) 65535
@@ -83,7 +83,7 @@ rooms_came came went f window initial opened live none h = record {
   later = h.later;
 }
 
-no_settings : (f : FrameSeen) (b : Bool) → (f.kind == settings_type) ≡ b → b ≡ false → settings_told f ≡ []
+pub no_settings : (f : FrameSeen) (b : Bool) → (f.kind == settings_type) ≡ b → b ≡ false → settings_told f ≡ []
 no_settings f b is other = ap (λ (c : Bool). if c && not (has_flag f.flags ack_flag) then settings_in f.payload else []) (is ∙ other)
 
 other_kind : (f : FrameSeen) (kind : ℕ) → (f.kind == kind) ≡ true → (kind == settings_type) ≡ false → (f.kind == settings_type) ≡ false
@@ -127,7 +127,7 @@ settings_rooms came went f w settings is h =
       later = h.later;
     }
 
-told_by_flag : (f : FrameSeen) (b : Bool) → (f.kind == settings_type) ≡ true → has_flag f.flags ack_flag ≡ b → settings_told f ≡ (if b then [] else settings_in f.payload)
+pub told_by_flag : (f : FrameSeen) (b : Bool) → (f.kind == settings_type) ≡ true → has_flag f.flags ack_flag ≡ b → settings_told f ≡ (if b then [] else settings_in f.payload)
 told_by_flag f true kind is = ap (λ (c : Bool). if c && not (has_flag f.flags ack_flag) then settings_in f.payload else []) kind ∙ ap (λ (c : Bool). if not c then settings_in f.payload else []) is
 told_by_flag f false kind is = ap (λ (c : Bool). if c && not (has_flag f.flags ack_flag) then settings_in f.payload else []) kind ∙ ap (λ (c : Bool). if not c then settings_in f.payload else []) is
 
@@ -240,13 +240,13 @@ pub found_passes : (p : LiveStream → Bool) (place : ℕ) (live : List LiveStre
 found_passes p place [] x e = absurd (let bad : ⊥ = (cc) in bad)
 found_passes p place (s ∷ live) x e = found_if p (p s) place s (found_from p (place + 1) live) x refl (λ y is. found_passes p (place + 1) live y is) e
 
-raises : (f : FrameSeen) (n : ℕ) → (f.kind == window_update_type) ≡ true → (f.stream == n) ≡ true → raise_on n f ≡ increment f.payload
+pub raises : (f : FrameSeen) (n : ℕ) → (f.kind == window_update_type) ≡ true → (f.stream == n) ≡ true → raise_on n f ≡ increment f.payload
 raises f n kind stream = ap (λ (b : Bool). if b && (f.stream == n) then increment f.payload else 0) kind ∙ ap (λ (b : Bool). if b then increment f.payload else 0) stream
 
 credit_raised : (c : ℤ) (u r a by : ℕ) → (c +ℤ pos u) ≤ℤ pos r → a ≡ r + by → ((c +ℤ pos by) +ℤ pos u) ≤ℤ pos a
 credit_raised c u r a by h e = omega (arith, ints, h, e)
 
-eqb_same : (a b : ℕ) → (a == b) ≡ true → (b == a) ≡ true
+pub eqb_same : (a b : ℕ) → (a == b) ≡ true → (b == a) ≡ true
 eqb_same a b is = (let e : a ≡ b = eqb-true a b is in ap (λ (n : ℕ). b == n) e ∙ ap (λ (n : ℕ). n == b) (sym e) ∙ is)
 
 window_rooms : (came went : List FrameSeen) (f : FrameSeen) (w : Wire) (seen : ℕ) (o : Option (ℕ × LiveStream)) → (f.kind == window_update_type) ≡ true → Finds w.live o → ((x : ℕ × LiveStream) → o ≡ Some x → (x.1.number == f.stream) ≡ true) → Rooms came went w → Rooms (came ++ f ∷ []) went w

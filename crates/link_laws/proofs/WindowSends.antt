@@ -17,7 +17,7 @@ use Rattle.h2_link.specs.Laws.{KeepsWindows}
 use Rattle.h2_link.specs.Wire.{Wire}
 use Rattle.h2_link.proofs.Keeps.{sender_keeps}
 use Rattle.h2_stream.specs.Stream.{or_zero}
-use Rattle.link_laws.specs.Windows.{IsWithinWindows, data_in, data_on, initial_size, raised, used, used_on}
+use Rattle.link_laws.specs.Windows.{IsWithinWindows, data_size, data_size_on, initial_size, raised, used, used_on}
 use Rattle.link_laws.proofs.GivenSends.{Kept, MayGo, frames_in}
 use Rattle.link_laws.proofs.Keeping.{TypeOf}
 use Rattle.link_laws.proofs.LinkSends.{sender_is, taken_length}
@@ -27,18 +27,18 @@ use Rattle.link_laws.proofs.WindowRooms.{HasCredit, Rooms, RoomsOf, cut_rooms, r
 
 -- a frame that has no DATA
 pub record IsBare (f : FrameSeen) : Type 0 where
-  pub all : data_in f ≡ 0
-  pub each : (n : ℕ) → data_on n f ≡ 0
+  pub all : data_size f ≡ 0
+  pub each : (n : ℕ) → data_size_on n f ≡ 0
   pub kind : f.kind ≡ data_type → ⊥
 
 used_same : (u v a : ℕ) → v ≡ u + a → a ≡ 0 → v ≡ u
 used_same u v a e zero_a = omega (arith, e, zero_a)
 
 pub bare_used : (went : List FrameSeen) (f : FrameSeen) → IsBare f → used (went ++ f ∷ []) ≡ used went
-bare_used went f b = used_same (used went) _ (data_in f) (sum_by_push data_in went f) b.all
+bare_used went f b = used_same (used went) _ (data_size f) (sum_by_push data_size went f) b.all
 
 bare_on : (went : List FrameSeen) (f : FrameSeen) (n : ℕ) → IsBare f → used_on n (went ++ f ∷ []) ≡ used_on n went
-bare_on went f n b = used_same (used_on n went) _ (data_on n f) (sum_by_push (data_on n) went f) (b.each n)
+bare_on went f n b = used_same (used_on n went) _ (data_size_on n f) (sum_by_push (data_size_on n) went f) (b.each n)
 
 bare_credit : (came went : List FrameSeen) (f : FrameSeen) (s : LiveStream) → IsBare f → HasCredit came went s → HasCredit came (went ++ f ∷ []) s
 bare_credit came went f s b h = record { within = subst (λ (u : ℕ). (s.credit +ℤ pos u) ≤ℤ pos (raised s.number came)) (sym (bare_on went f s.number b)) h.within }
@@ -100,20 +100,20 @@ head_goes came went w g tag h =
     )
 
 -- DATA
-pub data_all : (b : Bool) (number : ℕ) (content : List ℕ) → data_in (data_frame number content b) ≡ length content
+pub data_all : (b : Bool) (number : ℕ) (content : List ℕ) → data_size (data_frame number content b) ≡ length content
 data_all true number content = refl
 data_all false number content = refl
 
-data_own : (b : Bool) (number n : ℕ) (content : List ℕ) → number ≡ n → data_on n (data_frame number content b) ≡ length content
+pub data_own : (b : Bool) (number n : ℕ) (content : List ℕ) → number ≡ n → data_size_on n (data_frame number content b) ≡ length content
 data_own b number n content e = ap (λ (c : Bool). if c then length content else 0) (eq-eqb number n e)
 
-data_other : (b : Bool) (number n : ℕ) (content : List ℕ) → (n ≡ number → ⊥) → data_on n (data_frame number content b) ≡ 0
+data_other : (b : Bool) (number n : ℕ) (content : List ℕ) → (n ≡ number → ⊥) → data_size_on n (data_frame number content b) ≡ 0
 data_other b number n content ne = ap (λ (c : Bool). if c then length content else 0) (ne_eqb number n (λ e. ne (sym e)))
 
 other_credit : (came went : List FrameSeen) (b : Bool) (number : ℕ) (content : List ℕ) (s : LiveStream) → (s.number ≡ number → ⊥) → HasCredit came went s → HasCredit came (went ++ data_frame number content b ∷ []) s
 other_credit came went b number content s ne h =
     let f : FrameSeen = data_frame number content b in
-    let same : used_on s.number (went ++ f ∷ []) ≡ used_on s.number went = used_same (used_on s.number went) _ (data_on s.number f) (sum_by_push (data_on s.number) went f) (data_other b number s.number content ne) in
+    let same : used_on s.number (went ++ f ∷ []) ≡ used_on s.number went = used_same (used_on s.number went) _ (data_size_on s.number f) (sum_by_push (data_size_on s.number) went f) (data_other b number s.number content ne) in
     record { within = subst (λ (u : ℕ). (s.credit +ℤ pos u) ≤ℤ pos (raised s.number came)) (sym same) h.within }
 
 others_credit : (came went : List FrameSeen) (b : Bool) (content : List ℕ) (a bound : ℕ) (live : List LiveStream) (p : ℕ) (x y : LiveStream) → slice_get live p ≡ Some x → Rising a bound live → HasCredit came (went ++ data_frame x.number content b ∷ []) y → AllByRecursion (HasCredit came went) live
@@ -154,8 +154,8 @@ data_goes came went w g s (Some x) is from e h =
     let at : slice_get w.live x.place ≡ Some x.stream = ap (λ (k : ℕ). slice_get w.live k) (sym none) ∙ from.1 in
     let short : length content ≤ x.len = taken_length x.len (g x.stream.tag).left in
     let own : HasCredit came went x.stream = all_got (HasCredit came went) w.live x.place x.stream at h.credits in
-    let all : used (went ++ f ∷ []) ≡ used went + length content = sum_by_push data_in went f ∙ ap (λ (n : ℕ). used went + n) (data_all x.ends x.stream.number content) in
-    let on : used_on x.stream.number (went ++ f ∷ []) ≡ used_on x.stream.number went + length content = sum_by_push (data_on x.stream.number) went f ∙ ap (λ (n : ℕ). used_on x.stream.number went + n) (data_own x.ends x.stream.number x.stream.number content refl) in
+    let all : used (went ++ f ∷ []) ≡ used went + length content = sum_by_push data_size went f ∙ ap (λ (n : ℕ). used went + n) (data_all x.ends x.stream.number content) in
+    let on : used_on x.stream.number (went ++ f ∷ []) ≡ used_on x.stream.number went + length content = sum_by_push (data_size_on x.stream.number) went f ∙ ap (λ (n : ℕ). used_on x.stream.number went + n) (data_own x.ends x.stream.number x.stream.number content refl) in
     let after : LiveStream = record x.stream { finished = x.ends; credit = x.stream.credit -ℤ pos x.len } in
     let left : HasCredit came (went ++ f ∷ []) after = record { within = lowered x.stream.credit (used_on x.stream.number went) (raised x.stream.number came) _ x.len (length content) own.within on short } in
     let low : x.stream.number < 2 * w.opened + 1 = below 0 (2 * w.opened + 1) w.live x.place x.stream at h.rising in
@@ -166,8 +166,8 @@ data_goes came went w g s (Some x) is from e h =
       credits = others_credit came went x.ends content 0 (2 * w.opened + 1) w.live x.place x.stream after at h.rising left h.credits;
       rising = rising_set 0 (2 * w.opened + 1) w.live x.place x.stream after at refl h.rising;
       later = λ n high.
-          let apart : data_on n f ≡ 0 = data_other x.ends x.stream.number n content (λ eq. omega (arith, eq, low, high)) in
-          used_same (used_on n went) _ (data_on n f) (sum_by_push (data_on n) went f) apart ∙ h.later n high;
+          let apart : data_size_on n f ≡ 0 = data_other x.ends x.stream.number n content (λ eq. omega (arith, eq, low, high)) in
+          used_same (used_on n went) _ (data_size_on n f) (sum_by_push (data_size_on n) went f) apart ∙ h.later n high;
     } in
     let may : IsWithinWindows came went f = λ kind some. record {
       of_link = fits_link w.window (used went) (raised 0 came) _ x.len (length content) h.link all short fits.of_link;

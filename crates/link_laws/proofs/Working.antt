@@ -10,22 +10,30 @@ use Rattle.attempt_ledger.specs.declared.row.Placed.{Placed}
 use Rattle.attempt_ledger.specs.declared.row.Row.{Row}
 use Rattle.ledger_stamps.specs.Steps.{changed_at, placed_row, stamped}
 use Rattle.call_core.specs.declared.live.LiveRow.{LiveRow}
+use Rattle.call_core.specs.declared.state.CallState.{CallState}
+use Rattle.grpc_base.specs.Requests.{RequestSeen}
 use Rattle.call_core.specs.Laws.{IsKept}
 use Rattle.call_core.specs.Numbering.{IsNumbered}
 use Rattle.call_core.specs.Orders.{AreTimed, IsFair}
-use Rattle.call_core.specs.Parts.{find_live, is_by_row, is_row, linked as linked_at, pick_end}
+use Rattle.call_core.specs.Parts.{find_live, is_by_row, is_row, linked as linked_at, pick_end, waits_for}
 use Rattle.call_core.specs.RowLaws.{NeverBreaks}
 use Rattle.call_core.specs.Rows.{AreApart, AreStanding, IsApart, IsOff, IsStanding, row_in}
 use Rattle.call_core.specs.Steps as call
 use Rattle.call_core.specs.Steps.{Stepped}
 use Rattle.call_core.proofs.Queued.{Adds, Any, Off, WaitsIn, adds_closed_by, adds_configured, adds_due, adds_ended_at, adds_news, adds_placed, adds_sent, adds_timed_out, found_place}
+use Rattle.link_laws.proofs.FailedPicks.{AreBarePicks, IsNoPick, Unplaced, bare_closed, bare_configured, bare_failed, bare_heard, bare_made, bare_placed, bare_sent, bare_timed_out}
+use Rattle.link_laws.proofs.Lifting.{at_number}
 use Rattle.link_laws.proofs.LinkStreams.{Streamless}
+use Rattle.link_laws.proofs.Marks.{marks_of}
 use Rattle.channel_core.specs.Books.{call_of}
 use Rattle.link_laws.proofs.OpenRows.{RunsIn, runs_now}
-use Rattle.link_laws.proofs.OpenCalls.{IsLateOf, IsOpening, opens_closed, opens_configured, opens_due, opens_failed, opens_news, opens_placed, opens_sent, opens_timed_out}
+use Rattle.link_laws.proofs.OpenBuffers.{IsOpening}
+use Rattle.link_laws.proofs.OpenCalls.{IsLateOf, opens_closed, opens_configured, opens_due, opens_failed, opens_news, opens_placed, opens_sent, opens_timed_out}
 use Rattle.link_laws.proofs.OrderedCalls.{stands, unplaced}
 use Rattle.channel_core.proofs.OwnRows.{Own, WasRow, place_other, place_same}
 use Rattle.link_laws.proofs.Owning.{Goes, GoesBut, GoesTo, IsOwner, goes_closed_by, goes_configured, goes_due, goes_ended_at, goes_news, goes_placed, goes_sent, goes_timed_out}
+use Rattle.link_laws.proofs.CallCauses.{Keeps, keeps_closed, keeps_configured, keeps_due, keeps_ended_at, keeps_news, keeps_placed, keeps_sent, keeps_timed_out}
+use Rattle.link_laws.proofs.QueueJoins.{Brings, brings_closed_by, brings_configured, brings_due, brings_ended_at, brings_news, brings_off, brings_placed, brings_sent, brings_timed_out}
 use Rattle.link_laws.proofs.RowDrops.{Drops, OffEnd, drops_closed, drops_configured, drops_due, drops_failed, drops_news, drops_placed, drops_sent, drops_timed_out}
 use Rattle.link_laws.proofs.Served.{IsPlacedOn, Stays, Works}
 use Rattle.link_laws.proofs.Unstreamed.{Alike, still_closed, still_configured, still_due, still_ended, still_news, still_placed, still_sent, still_timed_out}
@@ -80,6 +88,11 @@ waits_standing owner rows place (x ∷ live) all (inl here) =
     let st : IsStanding owner rows x = all.0 in
     (st.row, (ap (λ (k : ℕ). row_in rows k) (sym here.0) ∙ st.there, unplaced st.row.placed x.link here.1 st.placed))
 waits_standing owner rows place (x ∷ live) all (inr rest) = waits_standing owner rows place live all.1 rest
+
+pub waits_unplaced : (rows : List Row) (owner place : ℕ) (live : List LiveRow) → AreStanding owner rows live → WaitsIn place live → Unplaced rows place
+waits_unplaced rows owner place live all w =
+    let was = waits_standing owner rows place live all w in
+    ap (λ (o : Option Row). (marks_of o).1) (sym (at_number rows place) ∙ was.1.0) ∙ was.1.1
 
 pub never_waits : (rows : List Row) (link owner place : ℕ) (live : List LiveRow) → IsPlacedOn rows link place → AreStanding owner rows live → WaitsIn place live → ⊥
 never_waits rows link owner place live p all w =
@@ -165,39 +178,54 @@ placed_call row at s apart owner w =
     let own = g.rows.own row (record { row = st.row; is = record { there = ap (λ (k : ℕ). row_in s.ledger.rows k) (sym here) ∙ st.there; call = st.call } }) in
     ap call_of own.is.there ∙ own.is.call
 
+-- a row that is found on a link does not wait
+linked_free : (row : ℕ) (live : List LiveRow) (found : LiveRow) → AreApart live → find_live row live ≡ Some found → is_some found.link ≡ true → WaitsIn row live → ⊥
+linked_free row live found apart is on w =
+    let f : IsFree row (find_live row live) = waits_found row live apart w in
+    let both : Some f.row ≡ Some found = sym f.is ∙ is in
+    let one : f.row ≡ found = (cc) in
+    let no : true ≡ false = sym on ∙ ap (λ (r : LiveRow). is_some r.link) (sym one) ∙ ap (λ (o : Option ℕ). is_some o) f.free in (cc)
+
+-- whether a call waits until the channel is ready stays so while rows of it wait, since none does before it has its configuration
+keeps_list : (a b : CallState) → Keeps a b → IsKept a → (place : ℕ) → WaitsIn place a.live → call.waits b ≡ call.waits a
+keeps_list a b keeps kept place w = elim keeps.chosen [
+  | inl same ↦ ap (λ (q : RequestSeen). waits_for q b.chosen) keeps.request ∙ ap (λ (o : Option Chosen). waits_for a.request o) same
+  | inr first ↦ absurd (subst (λ (l : List LiveRow). WaitsIn place l) (kept.unconfigured first.1).live w)
+]
+
 -- each thing that is done
 module _ (laws : TimedLaws) (m : ℕ) (x : Stepped) (apart : IsApart x) (kept : IsKept x.call) (owner : IsOwner x.call.number x) (timed : AreTimed m x) where
   abbrev Free : ℕ → Type 0
   Free place = Streamless x.ledger.rows place
 
-  by_goes : (off drop : ℕ → Type 0) (t : Stepped) → Adds off x t → Goes m x.call.number x t → Alike x.ledger.rows t.ledger.rows → AreTimed m t → (IsOpening (Unit {0}) Free x.call → IsOpening (Unit {0}) Free t.call) → Drops drop x t → Works m off drop x t
-  by_goes off drop t adds g still after opening drops = record { number = g.owner.number; adds = adds; own = g.rows.but; stays = stays_own m x.call.number x.ledger.rows t.ledger.rows g.rows; still = still; timed = after; opening = opening; drops = drops }
+  by_goes : (off drop : ℕ → Type 0) (t : Stepped) → Adds off x t → Goes m x.call.number x t → Alike x.ledger.rows t.ledger.rows → AreTimed m t → (IsOpening (Unit {0}) Free x.call → IsOpening (Unit {0}) Free t.call) → Drops drop x t → (AreBarePicks x.ledger.rows → AreBarePicks t.ledger.rows) → Brings off x t → Keeps x.call t.call → Works m off drop x t
+  by_goes off drop t adds g still after opening drops bare brings keeps = record { number = g.owner.number; adds = adds; brings = brings; list = keeps_list x.call t.call keeps kept; own = g.rows.but; stays = stays_own m x.call.number x.ledger.rows t.ledger.rows g.rows; still = still; timed = after; opening = opening; drops = drops; bare = bare }
 
   pub works_timed_out : Works m Any Any x (call.timed_out m x)
-  works_timed_out = by_goes Any Any (call.timed_out m x) (adds_timed_out m x) (goes_timed_out x.call.number m x owner) (still_timed_out m x) (laws.timed_out m x m (omega arith) apart timed) (opens_timed_out (Unit {0}) Free m x) (drops_timed_out m x)
+  works_timed_out = by_goes Any Any (call.timed_out m x) (adds_timed_out m x) (goes_timed_out x.call.number m x owner) (still_timed_out m x) (laws.timed_out m x m (omega arith) apart timed) (opens_timed_out (Unit {0}) Free m x) (drops_timed_out m x) (λ h. bare_timed_out x h m) (brings_timed_out m x) (keeps_timed_out m x)
 
   pub works_closed : (why : EndCause) → is_by_row why ≡ false → Works m Any Any x (call.closed_by why m x)
-  works_closed why by = by_goes Any Any (call.closed_by why m x) (adds_closed_by why m x) (goes_closed_by x.call.number why m x owner) (still_closed why m x) (laws.closed why m x by m (omega arith) apart timed) (opens_closed (Unit {0}) Free why m x) (drops_closed why m x)
+  works_closed why by = by_goes Any Any (call.closed_by why m x) (adds_closed_by why m x) (goes_closed_by x.call.number why m x owner) (still_closed why m x) (laws.closed why m x by m (omega arith) apart timed) (opens_closed (Unit {0}) Free why m x) (drops_closed why m x) (λ h. bare_closed x h why m) (brings_closed_by why m x) (keeps_closed why m x)
 
   pub works_sent : (message : List ℕ) → Works m Any Any x (call.sent message m x)
-  works_sent message = by_goes Any Any (call.sent message m x) (adds_sent message m x) (goes_sent x.call.number message m x owner) (still_sent message m x) (laws.sent message m x m (omega arith) apart timed) (opens_sent (Unit {0}) Free message m x apart.apart) (drops_sent message m x)
+  works_sent message = by_goes Any Any (call.sent message m x) (adds_sent message m x) (goes_sent x.call.number message m x owner) (still_sent message m x) (laws.sent message m x m (omega arith) apart timed) (opens_sent (Unit {0}) Free message m x apart.apart) (drops_sent message m x) (λ h. bare_sent x h message m) (brings_sent message m x) (keeps_sent message m x)
 
   pub works_made : Works m Any Any x (call.made_due m x)
-  works_made = by_goes Any Any (call.made_due m x) (adds_due m x) (goes_due x.call.number m x owner) (still_due m x) (laws.made m x m (omega arith) apart timed) (opens_due (Unit {0}) Free m x kept) (drops_due m x)
+  works_made = by_goes Any Any (call.made_due m x) (adds_due m x) (goes_due x.call.number m x owner) (still_due m x) (laws.made m x m (omega arith) apart timed) (opens_due (Unit {0}) Free m x kept) (drops_due m x) (λ h. bare_made x h m) (brings_due m x) (keeps_due m x)
 
-  pub works_failed : (row word : ℕ) → Works m (Off row) (Off row) x (call.pick_failed row m word x)
-  works_failed row word = by_goes (Off row) (Off row) (call.pick_failed row m word x) (adds_ended_at row pick_end m word x) (goes_ended_at x.call.number row pick_end m word x owner) (still_ended row pick_end m word x) (laws.failed row m word x m (omega arith) apart timed) (opens_failed (Unit {0}) Free row m word x) (drops_failed row m word x)
+  pub works_failed : (row word : ℕ) → Unplaced x.ledger.rows row → Works m (Off row) (Off row) x (call.pick_failed row m word x)
+  works_failed row word none = by_goes (Off row) (Off row) (call.pick_failed row m word x) (adds_ended_at row pick_end m word x) (goes_ended_at x.call.number row pick_end m word x owner) (still_ended row pick_end m word x) (laws.failed row m word x m (omega arith) apart timed) (opens_failed (Unit {0}) Free row m word x) (drops_failed row m word x) (λ h. bare_failed x h row m word none) (brings_ended_at row pick_end m word x) (keeps_ended_at row pick_end m word x)
 
-  pub works_heard : (row : ℕ) (told : News) (word link : ℕ) → IsPlacedOn x.ledger.rows link row → IsLateOf (Unit {0}) Free row told → Works m (Off row) (OffEnd row told) x (call.heard_news row told m word x)
-  works_heard row told word link p late =
+  pub works_heard : (row : ℕ) (told : News) (word link : ℕ) → IsPlacedOn x.ledger.rows link row → IsLateOf (Unit {0}) Free row told → IsNoPick told → Works m (Off row) (OffEnd row told) x (call.heard_news row told m word x)
+  works_heard row told word link p late fair_ =
       by_goes (Off row) (OffEnd row told) (call.heard_news row told m word x) (adds_news row told m word x) (goes_news x.call.number row told m word x owner) (still_news row told m word x)
       (laws.heard row told m word x (λ tag end live is found. fair x.ledger.rows link x.call.number row x.call.live p apart.tied live end found) m (omega arith) apart timed)
-      (opens_news (Unit {0}) Free row told m word x apart.apart (linked x.ledger.rows link x.call.number row x.call.live p apart.tied) late) (drops_news row told m word x)
+      (opens_news (Unit {0}) Free row told m word x apart.apart (linked x.ledger.rows link x.call.number row x.call.live p apart.tied) late) (drops_news row told m word x) (λ h. bare_heard x h row told m word fair_) (brings_off row x (call.heard_news row told m word x) (never_waits x.ledger.rows link x.call.number row x.call.live p apart.tied) (brings_news row told m word x)) (keeps_news row told m word x)
 
   pub works_configured : (chosen : Chosen) → Works m Any Any x (call.configured chosen m x)
   works_configured chosen =
       let g : GoesTo m x.call.number chosen x (call.configured chosen m x) = goes_configured x.call.number chosen m x owner in
-      record { number = g.owner.number; adds = adds_configured chosen m x; own = g.rows.but; stays = stays_own m x.call.number x.ledger.rows (call.configured chosen m x).ledger.rows g.rows; still = still_configured chosen m x; timed = laws.configured chosen m x m (omega arith) apart timed; opening = opens_configured (Unit {0}) Free chosen m x; drops = drops_configured chosen m x }
+      record { number = g.owner.number; adds = adds_configured chosen m x; brings = brings_configured chosen m x; list = keeps_list x.call (call.configured chosen m x).call (keeps_configured chosen m x) kept; own = g.rows.but; stays = stays_own m x.call.number x.ledger.rows (call.configured chosen m x).ledger.rows g.rows; still = still_configured chosen m x; timed = laws.configured chosen m x m (omega arith) apart timed; opening = opens_configured (Unit {0}) Free chosen m x; drops = drops_configured chosen m x; bare = λ h. bare_configured x h chosen m }
 
   pub works_placed : (row : ℕ) (at : Placed) → at.entry ≡ x.ledger.entry → at.moment ≡ m → Works m (Off row) Any x (call.placed_at row at x)
   works_placed row at entry now =
@@ -206,10 +234,13 @@ module _ (laws : TimedLaws) (m : ℕ) (x : Stepped) (apart : IsApart x) (kept : 
       record {
         number = g.owner.number;
         adds = adds_placed row at x;
+        brings = brings_placed row at x (λ found is on w. linked_free row x.call.live found apart.apart is on w);
+        list = keeps_list x.call (call.placed_at row at x).call (keeps_placed row at x) kept;
         own = g.rows;
         stays = stays_found (find_live row x.call.live) at x;
         still = still_placed row at x;
         timed = subst (λ (k : ℕ). AreTimed k (call.placed_at row at x)) now (laws.placed row at x entry m le apart timed);
         opening = opens_placed (Unit {0}) Free row at x kept apart.apart;
         drops = drops_placed row at x;
+        bare = λ h. bare_placed x h row at apart;
       }

@@ -1,6 +1,7 @@
 -- Which configuration each call has, by the journal (gRPC, "Service Config in gRPC").
 use Rattle.std.specs.Prelude.{ℕ, Option, Some, None, List, [], ◌∷◌, Result, Ok, Err, take}
 use Rattle.std.specs.Option.{option_map, option_or}
+use Rattle.std.specs.Result.{result_ok}
 use Rattle.grpc_base.specs.Requests.{RequestSeen, names_of_path}
 use Rattle.grpc_base.specs.declared.event.Entry.{Entry}
 use Rattle.grpc_base.specs.declared.event.Event.{Event}
@@ -30,22 +31,18 @@ settings_in fields = methods_in fields >>= λ methods. throttle_in fields >>= λ
 abbrev pub settings_of_tree : Tree → Result Settings Fault
 settings_of_tree tree = fields_at object.Config tree >>= λ fields. settings_in fields
 
-abbrev pub value_of : {A E : Type 0} → Result A E → Option A
-value_of (Ok x) = Some x
-value_of (Err e) = None
-
 abbrev pub settings_at : Result Tree JsonFault → Option Settings
-settings_at (Ok tree) = value_of (settings_of_tree tree)
+settings_at (Ok tree) = result_ok (settings_of_tree tree)
 settings_at (Err fault) = None
 
 -- a result of the resolver without a text brings the empty config
-abbrev pub settings_of : Option (List ℕ) → Option Settings
-settings_of None = Some (record { throttle = None; methods = [] })
-settings_of (Some text) = settings_at (reading text)
+abbrev pub settings_of_text : Option (List ℕ) → Option Settings
+settings_of_text None = Some (record { throttle = None; methods = [] })
+settings_of_text (Some text) = settings_at (reading text)
 
 -- what an entry brings: a result of the resolver that was not refused, and whose config is valid
 abbrev pub brought_by : Event → Reply → Option Settings
-brought_by (event.Resolved addresses text) reply.Done = settings_of text
+brought_by (event.Resolved addresses text) reply.Done = settings_of_text text
 brought_by _ _ = None
 
 -- what is held after these entries: the last one

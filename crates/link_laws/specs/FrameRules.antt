@@ -10,7 +10,7 @@ use Rattle.h2_hpack.specs.Blocks.{State, decoded}
 use Rattle.h2_link.specs.LinkErrors.{is_bad_setting, is_of_opened, is_preface, settings_of}
 use Rattle.link_laws.specs.Decodings.{decoding_of, part_with}
 use Rattle.link_laws.specs.Said.{Block}
-use Rattle.link_laws.specs.Windows.{raised, used, used_on}
+use Rattle.link_laws.specs.Windows.{is_initial_size, raised, used, used_on}
 use Rattle.link_laws.specs.Wires.{IsOpen, is_on}
 
 -- in a header block only CONTINUATION of its stream may come, and nowhere else (section 6.10)
@@ -24,13 +24,13 @@ pub record IsFine (table : State) (whole : Bool) (b : Block) : Type 0 where
   pub short : length b.bytes ≤ 65536
   pub decodes : whole ≡ true → IsOk (decoded table b.bytes)
 
--- SETTINGS_INITIAL_WINDOW_SIZE (4) above the largest window
+-- SETTINGS_INITIAL_WINDOW_SIZE above the largest window
 abbrev pub is_too_large : Setting → Bool
-is_too_large s = (s.identifier == 4) && nat_lt 2147483647 s.value
+is_too_large s = is_initial_size s && nat_lt 2147483647 s.value
 
 -- and one that lifts the window of a stream above it, by the frames that were sent and those that came before (section 6.9.2)
 abbrev pub lifts : List FrameSeen → List FrameSeen → ℕ → Setting → Bool
-lifts out past stream s = (s.identifier == 4) && nat_lt (2147483647 + used_on stream out) (s.value + raised stream past)
+lifts out past stream s = is_initial_size s && nat_lt (2147483647 + used_on stream out) (s.value + raised stream past)
 
 -- a frame keeps these rules, by the frames that were sent before it came and those that came before it
 pub record KeepsRules (out past : List FrameSeen) (f : FrameSeen) : Type 0 where
@@ -48,8 +48,9 @@ pub record KeepsRules (out past : List FrameSeen) (f : FrameSeen) : Type 0 where
   -- the window of the connection stays below 2^31
   pub window : is_on window_update_type 0 f ≡ true → 65535 + raised 0 past + increment f.payload ≤ 2147483647 + used out
 
--- a frame that lifts the window of some stream above the largest: of one that HEADERS opened and RST_STREAM did not end. (That its attempt had not
--- ended is said of the frames at which links break in `channel_laws`; that a frame which is applied lifts no stream of such an attempt is not said.)
+-- a frame that lifts the window of some stream above the largest: of one that HEADERS opened and RST_STREAM did not end. (Of which attempt it is, where a
+-- link breaks at the frame, is said by `LiftedStreams.antt` of `channel_laws`, and by `NarrowWindows.antt` there that a frame which is applied lifts no
+-- stream of an attempt that had not ended.)
 pub record LiftsOne (out past : List FrameSeen) (f : FrameSeen) : Type 0 where
   pub stream : ℕ
   pub is_open : IsOpen out stream

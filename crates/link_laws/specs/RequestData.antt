@@ -1,6 +1,7 @@
 -- What is sent of requests: DATA goes on the streams of rows alone, and is a front of the messages that the application sent, framed one behind
 -- another; END_STREAM stands where all of them went and the application has finished the call (RFC 9113, sections 6.1 and 8.1; gRPC over HTTP/2,
--- "Requests" and "Length-Prefixed-Message"). How soon they are sent is not said, nor that none of an ended attempt are.
+-- "Requests" and "Length-Prefixed-Message"). How soon they are sent is not said; that they are of attempts alone which were outstanding before the drain
+-- is said by `OpenedStreams.antt` of `channel_laws`.
 use Rattle.std.specs.Prelude.{◌≡◌, ℕ, ◌==◌, ◌&&◌, if◌then◌else◌, List, [], ◌∷◌, ◌++◌, length, flat_map}
 use Rattle.grpc_base.specs.declared.event.Entry.{Entry}
 use Rattle.attempt_ledger.specs.Journals.{accepted, is_finished, sent}

@@ -1,5 +1,5 @@
 -- The streams of a connection and the rows that were placed on it and have one correspond one to one (RFC 9113, section 5.1.1). Which of the rows that
--- wait gets the next stream is not said.
+-- wait gets the next stream is said by `OpenedStreams.antt` of `channel_laws`.
 use Rattle.std.specs.Prelude.{◌≡◌, ◌⊎◌, ℕ, ◌+◌, ◌*◌, Some, List, [], ◌∷◌, ◌++◌, length, flat_map, slice_get}
 use Rattle.attempt_ledger.specs.declared.row.Placed.{Placed}
 use Rattle.attempt_ledger.specs.declared.row.Row.{Row}

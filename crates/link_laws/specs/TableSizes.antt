@@ -22,14 +22,14 @@ abbrev pub is_acknowledgement : FrameSeen → Bool
 is_acknowledgement f = (f.kind == settings_type) && has_flag f.flags ack_flag
 
 -- whether an update is owed behind these frames: each acknowledgement answers the next SETTINGS, and HEADERS pay what was owed before them
-abbrev pub first_of : List Bool → Bool
-first_of [] = false
-first_of (name ∷ names) = name
+abbrev pub first_named : List Bool → Bool
+first_named [] = false
+first_named (name ∷ names) = name
 
 abbrev pub owes : List Bool → Bool → List FrameSeen → Bool
 owes names owed [] = owed
 owes names owed (f ∷ frames) =
-    if is_acknowledgement f then owes (drop 1 names) (owed || first_of names) frames
+    if is_acknowledgement f then owes (drop 1 names) (owed || first_named names) frames
     else if f.kind == headers_type then owes names false frames
     else owes names owed frames
 

@@ -19,7 +19,8 @@ use Rattle.attempt_ledger.specs.declared.row.RowEnd.{RowEnd}
 use Rattle.link_laws.specs.Commitments.{IsCommittedRow}
 use Rattle.channel_core.specs.Tables.{numbered}
 
--- an end by a row tells code, text and metadata with which a row ended to which the call is committed
+-- an end by a row tells code, text and metadata with which a row ended to which the call is committed (the last such row, says `TakenEnds.antt` of
+-- `channel_laws`)
 pub record IsOfRow (rows : List Row) (call : ℕ) (told : Code) (text : List ℕ) (meta : List Field) : Type 0 where
   pub place : ℕ
   pub row : Row
