@@ -6,7 +6,6 @@ use Rattle.std.specs.List.{AllByRecursion}
 use Rattle.std.specs.Option.{option_map}
 use Rattle.std.proofs.lemmas.Bool.{cases_eq}
 use Rattle.std.proofs.lemmas.List.{take-append-drop}
-use Rattle.attempt_ledger.specs.declared.ledger.CallSeen.{CallSeen}
 use Rattle.attempt_ledger.specs.declared.news.EndNews.{EndNews}
 use Rattle.attempt_ledger.specs.declared.news.News.{News}
 use Rattle.attempt_ledger.specs.declared.news.News.TheVariants as news
@@ -36,14 +35,16 @@ use Rattle.channel_core.proofs.FairNews.{AreFair, fair_heard}
 use Rattle.link_laws.proofs.RuleBreaks.{Known, known_judges, known_kept}
 use Rattle.link_laws.proofs.GivenLinks as given
 use Rattle.link_laws.proofs.GivenSends.{Holds}
-use Rattle.channel_laws.proofs.HearEnds.{Anyone, AreSaid, Hears, IsSaid, hear}
+use Rattle.channel_laws.proofs.HearEnds.{AreSaid, Hears, IsSaid, hear}
 use Rattle.link_laws.proofs.LicensedCalls.{MoreLaws}
 use Rattle.link_laws.proofs.LinkHears.{break_dies, frame_text, news_heard, none_there, not_true, one_more, or_true, seen_now, take_front, took}
 use Rattle.link_laws.proofs.LinkStays.{StaysOn, dead_on, seen_on, stays, text_in, text_on}
 use Rattle.link_laws.proofs.LinkTexts.{HearsText, frames_more, heard_text, most}
-use Rattle.channel_laws.proofs.CutCalls.{HasCall, IsFree}
+use Rattle.channel_laws.proofs.CutCalls.{AreTwo, IsMarked}
+use Rattle.channel_laws.proofs.CutPoints.{CutBy, IsFrameEnd, IsOwnEnd, IsPoint, Nobody, ReadBy, read_keeps}
+use Rattle.channel_laws.proofs.CutWhys.{IsEndedSo}
 use Rattle.channel_laws.proofs.LostStreams.{loss_sent, loss_unsent}
-use Rattle.channel_laws.proofs.NamedParts.{HasName, PartFor, ReadFor}
+use Rattle.channel_laws.proofs.NamedParts.{HasName, PartFor, ReadFor, Why}
 use Rattle.channel_laws.proofs.NewEnds.{Fresh, Keeps, NewEnds, fresh_less, keeps_same, new_joined, new_less, none_new}
 use Rattle.channel_laws.proofs.NewsEnds.{IsBroken, SayAt, SaysAt, is_told, says_heard}
 use Rattle.link_laws.proofs.Numbered.{numbered_here, numbered_there}
@@ -53,6 +54,7 @@ use Rattle.link_laws.proofs.Serving as serving
 use Rattle.link_laws.proofs.Serving.{KnownIn, R, frame_named, hear_frame, known_after, read_frame}
 use Rattle.link_laws.proofs.LateNews.{AreLate, IsLate, late_less}
 use Rattle.link_laws.proofs.LinkStreams.{Streamless}
+use Rattle.call_core.specs.Commitments.{IsStamped}
 use Rattle.call_core.specs.Parts.{is_unsent}
 use Rattle.link_laws.proofs.Unstreamed.{Alike, stream_at}
 use Rattle.link_laws.proofs.Walking as walking
@@ -65,18 +67,6 @@ Free came went f = Unit {0}
 abbrev pub IsLoss : RowCause → Type 0
 IsLoss why = (why ≡ cause.Lost) ⊎ (why ≡ cause.Unsent)
 
--- so many bytes up to the end of some frame: the first ones of those that came behind others; and up to one that ended an attempt
-pub record IsPoint (start all : List ℕ) (n : ℕ) : Type 0 where
-  pub now : List FrameSeen
-  pub more : List FrameSeen
-  pub front : frames_of all ≡ (frames_of start ++ now) ++ more
-  pub seen : length all ≤ most → n ≡ bytes_in (frames_of start ++ now)
-
-pub record IsFrameEnd (start all : List ℕ) (now : List FrameSeen) (frame : FrameSeen) (n : ℕ) : Type 0 where
-  pub more : List FrameSeen
-  pub front : frames_of all ≡ ((frames_of start ++ now) ++ frame ∷ []) ++ more
-  pub seen : length all ≤ most → n ≡ bytes_in ((frames_of start ++ now) ++ frame ∷ [])
-
 -- what is known of an end that a frame told: `G` has the frames before it, these with the frame, and the row's place
 pub record IsToldEnd (G : List FrameSeen → List FrameSeen → ℕ → EndNews → Type 0) (start all : List ℕ) (place : ℕ) (end : RowEnd) : Type 0 where
   pub now : List FrameSeen
@@ -86,46 +76,24 @@ pub record IsToldEnd (G : List FrameSeen → List FrameSeen → ℕ → EndNews 
   pub gained : G (frames_of start ++ now) ((frames_of start ++ now) ++ frame ∷ []) place told
   pub is : IsSameEnd told end
 
--- and of what a frame brings for a row, where it tells of it a head, a too long message or an end: `B` has the same
-abbrev pub IsGained : (List FrameSeen → List FrameSeen → ℕ → EndNews → Type 0) → (List FrameSeen → List FrameSeen → ℕ → Type 0) → List FrameSeen → List FrameSeen → News → Type 0
-IsGained G B F E (news.Ended tag end) = G F E tag end × B F E tag
-IsGained G B F E (news.Head tag meta seen) = B F E tag
-IsGained G B F E (news.TooLarge tag seen) = B F E tag
+-- and of what a frame brings for a row: `B true` where it tells a head of it, and `B false` where it tells a message that is too long
+abbrev pub IsGained : (List FrameSeen → List FrameSeen → ℕ → EndNews → Type 0) → (Bool → List FrameSeen → List FrameSeen → ℕ → Type 0) → List FrameSeen → List FrameSeen → News → Type 0
+IsGained G B F E (news.Ended tag end) = G F E tag end
+IsGained G B F E (news.Head tag meta seen) = B true F E tag
+IsGained G B F E (news.TooLarge tag seen) = B false F E tag
 IsGained G B F E _ = Unit {0}
 
-abbrev pub AreGained : (List FrameSeen → List FrameSeen → ℕ → EndNews → Type 0) → (List FrameSeen → List FrameSeen → ℕ → Type 0) → List FrameSeen → List FrameSeen → List News → Type 0
+abbrev pub AreGained : (List FrameSeen → List FrameSeen → ℕ → EndNews → Type 0) → (Bool → List FrameSeen → List FrameSeen → ℕ → Type 0) → List FrameSeen → List FrameSeen → List News → Type 0
 AreGained G B F E ns = AllByRecursion (IsGained G B F E) ns
 
 -- what is kept of a channel while bytes come on a link, and what it makes of the news of each frame
-pub record Gaining (k : ℕ) (I : List ℕ → StateSeen → Type 0) (G : List FrameSeen → List FrameSeen → ℕ → EndNews → Type 0) (B : List FrameSeen → List FrameSeen → ℕ → Type 0) (Z : List Row) : Type 0 where
+pub record Gaining (k : ℕ) (I : List ℕ → StateSeen → Type 0) (G : List FrameSeen → List FrameSeen → ℕ → EndNews → Type 0) (B : Bool → List FrameSeen → List FrameSeen → ℕ → Type 0) (Z : List Row) : Type 0 where
   -- rows have streams as here
   pub streams : (bytes : List ℕ) (s : StateSeen) → I bytes s → Alike Z s.book.ledger.rows
   pub frame : (bytes piece : List ℕ) (s : StateSeen) (slot : LinkSlot) → numbered s.links k ≡ Some slot → slot.dead ≡ false → slot.link.link.wire.broken ≡ None → 1 ≤ length piece → I bytes s → I (bytes ++ take (heard slot.link.link piece).taken piece) (arrivals.frame_heard k (heard_by slot k piece s.links) s)
   pub news : (bytes piece : List ℕ) (s : StateSeen) (slot : LinkSlot) → numbered s.links k ≡ Some slot → slot.dead ≡ false → slot.link.link.wire.broken ≡ None → 1 ≤ length piece → I bytes s → AreGained G B (frames_of bytes) (frames_of (bytes ++ take (heard slot.link.link piece).taken piece)) (link_heard slot.link piece).news
 
--- up to the end of some frame of those that came behind others, which brought something for a row of a call on the link
-pub record IsEndOf (B : List FrameSeen → List FrameSeen → ℕ → Type 0) (k : ℕ) (start all : List ℕ) (rows : List Row) (call n : ℕ) : Type 0 where
-  pub now : List FrameSeen
-  pub frame : FrameSeen
-  pub at : IsFrameEnd start all now frame n
-  pub tag : ℕ
-  pub of : HasCall rows call tag
-  pub on : IsPlacedOn rows k tag
-  pub brought : B (frames_of start ++ now) ((frames_of start ++ now) ++ frame ∷ []) tag
-
--- what was read of each link where a row was cut: at the end of a frame, or where the link broke with what `D` says of how much was read; and
--- what is told on one of them
-abbrev pub ReadBy : (List FrameSeen → List FrameSeen → ℕ → Type 0) → ℕ → List ℕ → List ℕ → (ℕ → Type 0) → (ℕ → ℕ) → List CallSeen → List Row → ℕ → ℕ → ℕ → Type 0
-ReadBy B k start all D base calls rows call link n = (((link ≡ k) × (IsEndOf B k start all rows call n ⊎ D n)) ⊎ ((link ≡ k → ⊥) × (n ≡ base link))) × IsFree call calls
-
-end_keeps : (B : List FrameSeen → List FrameSeen → ℕ → Type 0) (k : ℕ) (start all : List ℕ) (rows after : List Row) (call n : ℕ) → Keeps rows after → IsEndOf B k start all rows call n → IsEndOf B k start all after call n
-end_keeps B k start all rows after call n keeps h = record { now = h.now; frame = h.frame; at = h.at; tag = h.tag; of = keeps.calls call h.tag h.of; on = keeps.stays k h.tag h.on; brought = h.brought }
-
-read_keeps : (B : List FrameSeen → List FrameSeen → ℕ → Type 0) (k : ℕ) (start all : List ℕ) (D : ℕ → Type 0) (base : ℕ → ℕ) (calls : List CallSeen) (rows after : List Row) (call link n : ℕ) → Keeps rows after → ReadBy B k start all D base calls rows call link n → ReadBy B k start all D base calls after call link n
-read_keeps B k start all D base calls rows after call link n keeps (inl (same, inl h), free) = (inl (same, inl (end_keeps B k start all rows after call n keeps h)), free)
-read_keeps B k start all D base calls rows after call link n keeps (inl (same, inr d), free) = (inl (same, inr d), free)
-read_keeps B k start all D base calls rows after call link n keeps (inr off, free) = (inr off, free)
-
+-- what is told on a link, of whose loss `D` says how much was read
 abbrev pub ToldBy : (List FrameSeen → List FrameSeen → ℕ → EndNews → Type 0) → ℕ → List ℕ → List ℕ → (ℕ → Type 0) → List Row → ℕ → ℕ → RowEnd → Type 0
 ToldBy G k start all D Z link place end = (link ≡ k) × ((((is_told end.cause ≡ true) × IsToldEnd G start all place end) ⊎ (IsLoss end.cause × ((IsPoint start all end.seen × D end.seen) × (end.cause ≡ cause.Lost → is_some (stream_at Z place) ≡ true)))) × (end.cause ≡ cause.Unsent → stream_at Z place ≡ None))
 
@@ -161,26 +129,26 @@ pub loss_cause : (b : Bool) (n : ℕ) → IsLoss (loss b n).cause
 loss_cause true n = inl refl
 loss_cause false n = inr refl
 
-module _ (k : ℕ) (octets start all : List ℕ) (D : ℕ → Type 0) (I : List ℕ → StateSeen → Type 0) (G : List FrameSeen → List FrameSeen → ℕ → EndNews → Type 0) (B : List FrameSeen → List FrameSeen → ℕ → Type 0) (Z : List Row) (gaining : Gaining k I G B Z) where
+module _ (k : ℕ) (octets start all : List ℕ) (D : ℕ → Type 0) (I : List ℕ → StateSeen → Type 0) (G : List FrameSeen → List FrameSeen → ℕ → EndNews → Type 0) (B : Bool → List FrameSeen → List FrameSeen → ℕ → Type 0) (Z : List Row) (gaining : Gaining k I G B Z) where
   abbrev pub T : ℕ → ℕ → RowEnd → Type 0
   T link place end = ToldBy G k start all D Z link place end
 
   abbrev pub OpenOn : List ℕ → StateSeen → Type 0
   OpenOn bytes s = Open Known Free known_kept KeepsRules BreaksRules known_judges k octets start bytes s
 
-  -- with what is known of each row of which something is told
-  abbrev TN : (ℕ → ℕ → Type 0) → ℕ → ℕ → RowEnd → Type 0
-  TN Names link place end = T link place end × Names link place
+  -- with how much was seen
+  abbrev TN : ℕ → ℕ → ℕ → RowEnd → Type 0
+  TN n link place end = T link place end × (end.seen ≡ n)
 
   -- what the news of a frame say
   module _ (now : List FrameSeen) (f : FrameSeen) where
     abbrev Gained : News → Type 0
     Gained x = IsGained G B (frames_of start ++ now) ((frames_of start ++ now) ++ f ∷ []) x
 
-    abbrev Named : ℕ → ℕ → Type 0
-    Named link tag = (link ≡ k) × B (frames_of start ++ now) ((frames_of start ++ now) ++ f ∷ []) tag
+    abbrev Named : Bool → ℕ → ℕ → Type 0
+    Named kind link tag = (link ≡ k) × B kind (frames_of start ++ now) ((frames_of start ++ now) ++ f ∷ []) tag
 
-    said_one : (n : ℕ) (P : ℕ → Type 0) (x : News) → SaysAt n P x → ((code : ℕ) → P code → ⊥) → IsFrameEnd start all now f n → Gained x → IsLate (Streamless Z) x → IsSaid Z Named (TN Named) k n x
+    said_one : (n : ℕ) (P : ℕ → Type 0) (x : News) → SaysAt n P x → ((code : ℕ) → P code → ⊥) → IsFrameEnd start all now f n → Gained x → IsLate (Streamless Z) x → IsSaid Z Named (TN n) k n x
     said_one n P (news.Ended tag end) at not here gained late = λ entry moment tokens word. (
       (
         refl,
@@ -192,14 +160,14 @@ module _ (k : ℕ) (octets start all : List ℕ) (D : ℕ → Type 0) (I : List 
               frame = f;
               at = record { more = here.more; front = here.front; seen = λ few. at.seen ∙ here.seen few };
               told = end;
-              gained = gained.0;
+              gained = gained;
               is = record { code = refl; text = refl; meta = refl; pushback = refl; unseen = refl; cause = refl };
             },
           ),
-          λ unsent. late (ap is_unsent unsent),
+          λ unsent. late.late (ap is_unsent unsent),
         ),
       ),
-      (refl, gained.1),
+      at.seen,
     )
     said_one n P (news.Broken code) at not here gained late = absurd (not code at)
     said_one n P news.Ready at not here gained late = tt
@@ -208,12 +176,22 @@ module _ (k : ℕ) (octets start all : List ℕ) (D : ℕ → Type 0) (I : List 
     said_one n P (news.Message tag octets seen) at not here gained late = tt
     said_one n P (news.TooLarge tag seen) at not here gained late = (refl, gained)
 
-    said_all : (n : ℕ) (P : ℕ → Type 0) (ns : List News) → SayAt n P ns → ((code : ℕ) → P code → ⊥) → IsFrameEnd start all now f n → AllByRecursion Gained ns → AreLate (Streamless Z) ns → AreSaid Z Named (TN Named) k n ns
+    said_all : (n : ℕ) (P : ℕ → Type 0) (ns : List News) → SayAt n P ns → ((code : ℕ) → P code → ⊥) → IsFrameEnd start all now f n → AllByRecursion Gained ns → AreLate (Streamless Z) ns → AreSaid Z Named (TN n) k n ns
     said_all n P [] at not here gained late = tt
     said_all n P (x ∷ ns) at not here gained late = (said_one n P x at.0 not here gained.0 late.0, said_all n P ns at.1 not here gained.1 late.1)
 
-  said_lost : (n code : ℕ) → IsPoint start all n → D n → AreSaid Z Anyone (TN Anyone) k n (news.Broken code ∷ [])
-  said_lost n code point d = ((λ row b is entry moment tokens word. ((refl, (inr (loss_cause b n, ((point, d), λ lost. is ∙ loss_sent b n lost)), λ unsent. loss_unsent b n (stream_at Z row) is unsent)), tt)), tt)
+  -- what is told is no cut
+  told_uncut : (link place : ℕ) (end : RowEnd) → T link place end → end.cause ≡ cause.Cut → ⊥
+  told_uncut link place end t cut = elim t.1.0 [
+    | inl told ↦ (let both : true ≡ false = sym told.0 ∙ ap is_told cut in let no : ⊥ = (cc) in no)
+    | inr lost ↦ elim lost.0 [
+      | inl is ↦ (let both : cause.Lost ≡ cause.Cut = sym is ∙ cut in let no : ⊥ = (cc) in no)
+      | inr is ↦ (let both : cause.Unsent ≡ cause.Cut = sym is ∙ cut in let no : ⊥ = (cc) in no)
+    ]
+  ]
+
+  said_lost : (n code : ℕ) → IsPoint start all n → D n → AreSaid Z Nobody (TN n) k n (news.Broken code ∷ [])
+  said_lost n code point d = ((λ row b is entry moment tokens word. ((refl, (inr (loss_cause b n, ((point, d), λ lost. is ∙ loss_sent b n lost)), λ unsent. loss_unsent b n (stream_at Z row) is unsent)), refl)), tt)
 
   -- a frame, or nothing yet
   abbrev NewsOf : GrpcSeen → Hearing → List News
@@ -230,7 +208,7 @@ module _ (k : ℕ) (octets start all : List ℕ) (D : ℕ → Type 0) (I : List 
 
   module _ (laws : MoreLaws) (timed : TimedLaws) (N : ℕ) (base : ℕ → ℕ) where
     abbrev pub Q : StateSeen → StateSeen → ℕ → RowEnd → Type 0
-    Q s t place end = Fresh (ReadBy B k start all D base s.book.ledger.calls t.book.ledger.rows) T t.book.ledger.rows place end
+    Q s t place end = Fresh (ReadBy N B k start all base s.book.ledger.calls t.book.ledger.rows) T t.book.ledger.rows place end
 
     pub record Brings (s t : StateSeen) : Type 0 where
       pub serves : R N (Unit {0}) s t
@@ -251,9 +229,9 @@ module _ (k : ℕ) (octets start all : List ℕ) (D : ℕ → Type 0) (I : List 
           let at_t : t.book.ledger.entry ≡ N = first.serves.base.writes.entry ∙ at in
           let known_t : KnownIn t = known_after N s t first.serves.base at known in
           let keeps : Keeps t.book.ledger.rows u.book.ledger.rows = part_keeps N t u second.serves.base in
-          let reads : StateSeen → StateSeen → ℕ → ℕ → ℕ → Type 0 = λ z y. ReadBy B k start all D base z.book.ledger.calls y.book.ledger.rows in
+          let reads : StateSeen → StateSeen → ℕ → ℕ → ℕ → ℕ → Type 0 = λ z y. ReadBy N B k start all base z.book.ledger.calls y.book.ledger.rows in
           new_joined (Q s u) s.book.ledger.rows t.book.ledger.rows u.book.ledger.rows
-          (new_less (Q s t) (Q s u) s.book.ledger.rows t.book.ledger.rows (λ place end h. fresh_less (reads s t) (reads s u) T T t.book.ledger.rows u.book.ledger.rows place end keeps (λ call link e. read_keeps B k start all D base s.book.ledger.calls t.book.ledger.rows u.book.ledger.rows call link end.seen keeps e) (λ link x. x) h) (first.ends at known served))
+          (new_less (Q s t) (Q s u) s.book.ledger.rows t.book.ledger.rows (λ place end h. fresh_less (reads s t) (reads s u) T T t.book.ledger.rows u.book.ledger.rows place end keeps (λ call link e. read_keeps N B k start all base s.book.ledger.calls t.book.ledger.rows u.book.ledger.rows place call link end.seen keeps e) (λ link x. x) h) (first.ends at known served))
           (new_less (Q t u) (Q s u) t.book.ledger.rows u.book.ledger.rows (λ place end h. fresh_less (reads t u) (reads s u) T T u.book.ledger.rows u.book.ledger.rows place end (keeps_same u.book.ledger.rows) (λ call link e. (e.0, part_free N s t call first.serves.base e.1)) (λ link x. x) h) (second.ends at_t known_t a.served));
     }
 
@@ -304,23 +282,23 @@ module _ (k : ℕ) (octets start all : List ℕ) (D : ℕ → Type 0) (I : List 
       serves_by = hear_frame laws timed N k piece slot s is hears_now fair
 
       -- with what is known of each row of which something is told
-      module _ (Names : ℕ → ℕ → Type 0) (said : AreLate (Streamless Z) h.news → AreSaid Z Names (TN Names) k h.read h.news) where
+      module _ (Names : Bool → ℕ → ℕ → Type 0) (said : AreLate (Streamless Z) h.news → AreSaid Z Names (TN h.read) k h.read h.news) where
         abbrev P : Type 0
         P = serving.HearsOn laws timed N k h.news u
 
-        hears_told : AreLate (Streamless Z) h.news → Hears laws timed N (TN Names) Names (λ link row end x. x.1) P u t
-        hears_told late = hear laws timed N (TN Names) Names (λ link row end x. x.1) Z k h.read h.news u read_u (gaining.streams bytes s inv) fair (said late)
+        hears_told : AreLate (Streamless Z) h.news → Hears laws timed N (TN h.read) Names P u t
+        hears_told late = hear laws timed N (TN h.read) Names Z k h.read h.news u read_u (gaining.streams bytes s inv) fair (said late)
 
         first : R N (Unit {0}) s u
         first = read_frame laws timed N k piece slot s is hears_now
 
-        brings : ((call : ℕ) → HasName Names t.book.ledger.rows call → IsEndOf B k start all t.book.ledger.rows call h.read ⊎ D h.read) → Brings s t
+        brings : ((place call : ℕ) → HasName N (TN h.read) Names t.book.ledger.rows place call → CutBy N B k start all t.book.ledger.rows place call h.read) → Brings s t
         brings point =
-            let Told : ℕ → ℕ → ℕ → Type 0 = ReadFor (TN Names) Names u t.book.ledger.rows in
-            let Reads : ℕ → ℕ → ℕ → Type 0 = ReadBy B k start all D base s.book.ledger.calls t.book.ledger.rows in
-            let seen_to : (call link n : ℕ) → Told call link n → Reads call link n = λ call link n e. (
+            let Told : ℕ → ℕ → ℕ → ℕ → Type 0 = ReadFor N (TN h.read) Names u t.book.ledger.rows in
+            let Reads : ℕ → ℕ → ℕ → ℕ → Type 0 = ReadBy N B k start all base s.book.ledger.calls t.book.ledger.rows in
+            let seen_to : (place call link n : ℕ) → Told place call link n → Reads place call link n = λ place call link n e. (
               elim (cases_eq link k) [
-                | inl same ↦ inl (same, subst (λ (m : ℕ). IsEndOf B k start all t.book.ledger.rows call m ⊎ D m) (sym (e.0.0 ∙ ap (λ (j : ℕ). seen_on j u) same ∙ read_u)) (point call e.1))
+                | inl same ↦ inl (same, subst (λ (m : ℕ). CutBy N B k start all t.book.ledger.rows place call m) (sym (e.0.0 ∙ ap (λ (j : ℕ). seen_on j u) same ∙ read_u)) (point place call e.1))
                 | inr off ↦ inr (off, e.0.0 ∙ others_u link off)
               ],
               e.0.1,
@@ -333,10 +311,31 @@ module _ (k : ℕ) (octets start all : List ℕ) (D : ℕ → Type 0) (I : List 
                   let known_u : KnownIn u = known_after N s u first.base at known in
                   let named : P = frame_named laws timed N k piece slot s is served in
                   let late : AreLate (Streamless Z) h.news = late_less (Streamless u.book.ledger.rows) (Streamless Z) h.news (λ place none. sym (gaining.streams bytes s inv place) ∙ none) named.1.0 in
-                  let part : PartFor N (TN Names) Names u t = (hears_told late).part named at_u known_u a.served in
-                  new_less (Fresh Told (TN Names) t.book.ledger.rows) (Q s t) s.book.ledger.rows t.book.ledger.rows
-                  (λ place e x. fresh_less Told Reads (TN Names) T t.book.ledger.rows t.book.ledger.rows place e (keeps_same t.book.ledger.rows) (λ call link y. seen_to call link e.seen y) (λ link y. y.0) x) (part.ends at_u known_u);
+                  let part : PartFor N (TN h.read) Names u t = (hears_told late).part named at_u known_u a.served in
+                  new_less (Fresh Told (TN h.read) t.book.ledger.rows) (Q s t) s.book.ledger.rows t.book.ledger.rows
+                  (λ place e x. fresh_less Told Reads (TN h.read) T t.book.ledger.rows t.book.ledger.rows place e (keeps_same t.book.ledger.rows) (λ call link y. seen_to place call link e.seen y) (λ link y. y.0) x) (part.ends at_u known_u);
             }
+
+      -- why a row was given up
+      on_link : (link tag : ℕ) → link ≡ k → IsPlacedOn t.book.ledger.rows link tag → IsPlacedOn t.book.ledger.rows k tag
+      on_link link tag same on = subst (λ (j : ℕ). IsPlacedOn t.book.ledger.rows j tag) same on
+
+      own_end : (link place : ℕ) (e : RowEnd) → TN h.read link place e → IsOwnEnd h.read e
+      own_end link place e x = (told_uncut link place e x.0, x.1)
+
+      end_cut : (place call link tag : ℕ) → IsPlacedOn t.book.ledger.rows link tag → IsMarked t.book.ledger.rows call tag N → AreTwo t.book.ledger.rows tag place → IsEndedSo (TN h.read link tag) t.book.ledger.rows tag N → CutBy N B k start all t.book.ledger.rows place call h.read
+      end_cut place call link tag on mark two ended = inr (inl (record { tag = tag; mark = mark; two = two; on = on_link link tag ended.so.0.0 on; ended = record { end = ended.end; ended = ended.ended; now = ended.now; so = own_end link tag ended.end ended.so } }))
+
+      why_lost : (place call link tag : ℕ) → IsPlacedOn t.book.ledger.rows link tag → Why N (TN h.read) Nobody t.book.ledger.rows place call link tag → CutBy N B k start all t.book.ledger.rows place call h.read
+      why_lost place call link tag on (inl (mark, (two, none))) = absurd none
+      why_lost place call link tag on (inr (inl (mark, (two, ended)))) = end_cut place call link tag on mark two ended
+      why_lost place call link tag on (inr (inr (stamp, (same, none)))) = absurd none
+
+      why_cut : (now : List FrameSeen) (f : FrameSeen) → IsFrameEnd start all now f h.read → (place call link tag : ℕ) → IsPlacedOn t.book.ledger.rows link tag → Why N (TN h.read) (Named now f) t.book.ledger.rows place call link tag → CutBy N B k start all t.book.ledger.rows place call h.read
+      why_cut now f at place call link tag on (inl (mark, (two, name))) = inl (record { tag = tag; mark = mark; two = two; on = on_link link tag name.0 on; by = record { now = now; frame = f; at = at; brought = name.1 } })
+      why_cut now f at place call link tag on (inr (inl (mark, (two, ended)))) = end_cut place call link tag on mark two ended
+      why_cut now f at place call link tag on (inr (inr (stamp, (same, name)))) =
+          inr (inr (record { stamp = subst (λ (i : ℕ). IsStamped call t.book.ledger.rows i) (sym same) stamp; by = record { now = now; frame = f; at = at; brought = subst (λ (i : ℕ). B false (frames_of start ++ now) ((frames_of start ++ now) ++ f ∷ []) i) (sym same) name.1 } }))
 
       -- nothing is told, and no row ends
       rows_none : h.news ≡ [] → t.book.ledger.rows ≡ s.book.ledger.rows
@@ -370,7 +369,7 @@ module _ (k : ℕ) (octets start all : List ℕ) (D : ℕ → Type 0) (I : List 
           brings (Named o.now f)
           (λ late. said_all o.now f h.read (IsBroken hears.link.wire) h.news (says_heard slot.link piece) (λ code b. not_broken code whole b) here
           (subst (λ (fs : List FrameSeen). AreGained G B (frames_of start ++ o.now) fs h.news) both from) late)
-          (λ call name. inl (record { now = o.now; frame = f; at = here; tag = name.tag; of = name.of; on = subst (λ (j : ℕ). IsPlacedOn t.book.ledger.rows j name.tag) name.name.0 name.on; brought = name.name.1 }))
+          (λ place call name. why_cut o.now f here place call name.link name.tag name.on name.why)
 
       brings_whole : hears.link.wire.broken ≡ None → Brings s t
       brings_whole whole =
@@ -402,7 +401,7 @@ module _ (k : ℕ) (octets start all : List ℕ) (D : ℕ → Type 0) (I : List 
       frame_by (Some code) broken fin =
           let point : IsPoint start all h.read = point_at after_frame in
           let lost : D h.read = fin h.read (dead_broken code broken) read_t in
-          brings Anyone (λ late. subst (λ (ns : List News). AreSaid Z Anyone (TN Anyone) k h.read ns) (sym (tells code broken)) (said_lost h.read code point lost)) (λ call name. inr lost)
+          brings Nobody (λ late. subst (λ (ns : List News). AreSaid Z Nobody (TN h.read) k h.read ns) (sym (tells code broken)) (said_lost h.read code point lost)) (λ place call name. why_lost place call name.link name.tag name.on name.why)
 
       pub inv_t : I (bytes ++ end) t
       inv_t = gaining.frame bytes piece s slot is alive unbroken some inv

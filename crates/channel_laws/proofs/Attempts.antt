@@ -1,5 +1,5 @@
 -- The attempts of each call are numbered, whatever events a channel is given.
-use Rattle.std.proofs.Common.{◌≡◌, ◌≤◌, ◌<◌, ℕ, zero, suc, Option, Some, None, is_some, true, IfSome, List, [], ◌∷◌, length, refl, sym, ap, subst, arith, slice_get}
+use Rattle.std.proofs.Common.{◌≡◌, ◌≤◌, ◌<◌, ℕ, zero, suc, Option, Some, None, is_some, true, IfSome, List, [], ◌∷◌, length, refl, sym, ap, subst, ◌∙◌, arith, slice_get}
 use Rattle.std.specs.List.{AllByRecursion}
 use Rattle.std.proofs.lemmas.Option.{slice_get_within}
 use Rattle.grpc_base.specs.Requests.{RequestSeen}
@@ -20,6 +20,8 @@ use Rattle.channel_core.specs.Tables.{numbered}
 use Rattle.link_laws.proofs.CallLaws.{IsSound, allowed_by, numbered_by, order_by, reasons_by}
 use Rattle.link_laws.proofs.Calls.{bare}
 use Rattle.link_laws.proofs.ConfiguredCalls.{IsChosen}
+use Rattle.link_laws.specs.Configurations.{chosen_at}
+use Rattle.link_laws.proofs.HedgedCalls.{without_rows}
 use Rattle.link_laws.proofs.Knowing.{HoldsLast}
 use Rattle.link_laws.proofs.Lifted.{SoundIn}
 use Rattle.link_laws.proofs.Lifting.{IsTied, OfCall, same_number}
@@ -31,7 +33,7 @@ got_inside : {X : Type 0} (xs : List X) (i : ℕ) (o : Option X) → slice_get x
 got_inside xs i None is some = absurd (cc)
 got_inside xs i (Some x) is some = (let inside = slice_get_within xs i x is in (omega arith, omega (arith, inside)))
 
-number_within : {X : Type 0} (xs : List X) (k : ℕ) → is_some (numbered xs k) ≡ true → (1 ≤ k) × (k ≤ length xs)
+pub number_within : {X : Type 0} (xs : List X) (k : ℕ) → is_some (numbered xs k) ≡ true → (1 ≤ k) × (k ≤ length xs)
 number_within xs zero e = absurd (cc)
 number_within xs (suc i) e = got_inside xs i (slice_get xs i) refl e
 
@@ -72,6 +74,7 @@ has_attempts entries seen request m n call s by is h may reasons order =
       limit = limit_of s.call.chosen may;
       reasons = reasons.rows;
       order = λ place row of. ordered m row (order place row of);
+      unconfigured = λ none. without_rows s h reasons (by.chosen_is ∙ ap (λ (o : Option ℕ). chosen_at entries o request) none);
     } in
     subst (λ (k : ℕ). HasAttempts entries s.ledger.rows k seen) is own
 

@@ -28,7 +28,7 @@ use Rattle.channel_core.specs.Applying as applying
 use Rattle.channel_core.specs.Applying.{AnswersBy, config_read, conn_of, refusal_of}
 use Rattle.link_laws.specs.Configurations.{held_after, request_by, request_in}
 use Rattle.channel_core.specs.Core.{CoreSeen, IsNew, Runs, Steps, moment_of}
-use Rattle.channel_laws.specs.NoConfigs.{AreBare, EndsBare, HasFailed, HasNoConfig, LacksConfig, has_no_config}
+use Rattle.channel_laws.specs.NoConfigs.{AreUnconfigured, EndsUnconfigured, HasFailed, HasNoConfig, LacksConfig, has_no_config}
 use Rattle.channel_core.specs.States.{StateSeen}
 use Rattle.channel_core.specs.Tables.{numbered}
 use Rattle.link_laws.proofs.CallLaws.{kept_in, once_in}
@@ -146,7 +146,7 @@ abbrev NoneWaits : StateSeen → Type 0
 NoneWaits s = is_some s.held ≡ false → s.unconfigured ≡ true → (k : ℕ) → k ≤ 4294967295 → (c : CallState) → call_at k s ≡ Some c → IsWaiting false c → ⊥
 
 abbrev AllEndBare : List Entry → List CallSeen → Type 0
-AllEndBare entries calls = (k entry : ℕ) (seen : CallSeen) → k ≤ 4294967295 → numbered calls k ≡ Some seen → LacksConfig entries seen entry → EndsBare seen entry
+AllEndBare entries calls = (k entry : ℕ) (seen : CallSeen) → k ≤ 4294967295 → numbered calls k ≡ Some seen → LacksConfig entries seen entry → EndsUnconfigured seen entry
 
 record IsServed (core : CoreSeen) : Type 0 where
   knows : Knows core
@@ -272,7 +272,7 @@ module _ (old new : CoreSeen) (s : Stamped) (r : Reply) (h : Steps old new s r) 
   flag_new f none = flag_left ∙ failed_by (subst (λ (i : ℕ). HasFailed new.journal.entries i) longer f) none
 
   -- the law: a call that lacked a config before
-  law_old : (k entry : ℕ) (of : CallSeen) → k ≤ 4294967295 → numbered new.state.book.ledger.calls k ≡ Some of → LacksConfig new.journal.entries of entry → entry ≤ length es → (o : Option CallSeen) → numbered old.state.book.ledger.calls k ≡ o → EndsBare of entry
+  law_old : (k entry : ℕ) (of : CallSeen) → k ≤ 4294967295 → numbered new.state.book.ledger.calls k ≡ Some of → LacksConfig new.journal.entries of entry → entry ≤ length es → (o : Option CallSeen) → numbered old.state.book.ledger.calls k ≡ o → EndsUnconfigured of entry
   law_old k entry of near there x le None e =
       let now : of.begun ≡ n = begun_now n k old.state.book.ledger new.state.book.ledger of all e there in
       let begun : of.begun ≤ entry = x.begun in
@@ -302,7 +302,7 @@ module _ (old new : CoreSeen) (s : Stamped) (r : Reply) (h : Steps old new s r) 
         };
         hasty = record { request = x.hasty.request; begins = tied.begins ∙ ap (λ (q : RequestSeen). Some q) same; is = x.hasty.is };
       } in
-      let law : EndsBare seen entry = had.law k entry seen near e was in
+      let law : EndsUnconfigured seen entry = had.law k entry seen near e was in
       record { end = law.end; is = still (λ (y : CallEnd). y.entry) n seen.end of.end law.end later.end law.is; by = law.by; cause = law.cause }
 
   -- one that lacks a config behind this entry
@@ -398,7 +398,7 @@ module _ (old new : CoreSeen) (s : Stamped) (r : Reply) (h : Steps old new s r) 
         let done : Caused W (call_at k p.left) (call_at k new.state) = subst (λ (y : StateSeen). Caused W (call_at k p.left) (call_at k y)) (sym p.settles) (caused_settled k m W p.left (seen_by k old new s r p).left_at (inr refl) held (λ none_held lacks. inl refl)) in
         by_row slot cause f some (new_cause W (ended_at k p.left) (ended_at k new.state) cause done none some)
 
-    law_now : EndsBare of n
+    law_now : EndsUnconfigured of n
     law_now =
         let slot = same_number new.state.book.ledger.calls new.state.book.calls k of (sym p.known.sound.count) there in
         let why = cause_in slot.0.call.ended (ended slot.0 slot.1) in
@@ -415,7 +415,7 @@ module _ (old new : CoreSeen) (s : Stamped) (r : Reply) (h : Steps old new s r) 
   law_step k entry of near there x =
       let most : entry ≤ n = (let within = x.within in omega (arith, within, longer)) in
       elim (cases_eq entry n) [
-        | inl now ↦ subst (λ (i : ℕ). EndsBare of i) (sym now) (law_now k of near there (subst (λ (i : ℕ). LacksConfig new.journal.entries of i) now x))
+        | inl now ↦ subst (λ (i : ℕ). EndsUnconfigured of i) (sym now) (law_now k of near there (subst (λ (i : ℕ). LacksConfig new.journal.entries of i) now x))
         | inr off ↦ law_old k entry of near there x (omega (arith, most, off)) (numbered old.state.book.ledger.calls k) refl
       ]
 
@@ -438,7 +438,7 @@ pub no_calls : (k : ℕ) → call_in (numbered [] k) ≡ None
 no_calls zero = refl
 no_calls (suc i) = refl
 
-pub bare_always : MoreLaws → (authority : List ℕ) (new core : CoreSeen) (events : List Stamped) → IsNew authority new → Runs new events core → AreBare core.journal.entries core.state.book.ledger
+pub bare_always : MoreLaws → (authority : List ℕ) (new core : CoreSeen) (events : List Stamped) → IsNew authority new → Runs new events core → AreUnconfigured core.journal.entries core.state.book.ledger
 bare_always laws authority new core events is runs =
     let state = is.2.state in
     let none : new.state.book.ledger.calls ≡ [] = ap (λ (s : StateSeen). s.book.ledger.calls) state in

@@ -301,7 +301,7 @@ new_live s rows row live t many place at is = record {
   rows = (let all : length t.ledger.rows ≡ length rows + 1 = ap (λ (l : List Row). length l) is ∙ more_rows rows row in omega (arith, all, many));
 }
 
-message_live : (octets : List ℕ) (c : CallState) (b : Bool) → (if b then record c { inbox = record c.inbox { messages = c.inbox.messages ++ octets ∷ [] } } else c).live ≡ c.live
+pub message_live : (octets : List ℕ) (c : CallState) (b : Bool) → (if b then record c { inbox = record c.inbox { messages = c.inbox.messages ++ octets ∷ [] } } else c).live ≡ c.live
 message_live octets c true = refl
 message_live octets c false = refl
 

@@ -148,7 +148,7 @@ own_part : (x : Reply) (b : Bool) → b ≡ true → (if b then x ∷ [] else []
 own_part x true e = refl
 own_part x false e = absurd (let never : ⊥ = (cc) in never)
 
-some_live : (o : Option LiveRow) → is_some o ≡ true → (row : LiveRow) × (o ≡ Some row)
+pub some_live : (o : Option LiveRow) → is_some o ≡ true → (row : LiveRow) × (o ≡ Some row)
 some_live None e = absurd (let never : ⊥ = (cc) in never)
 some_live (Some row) e = (row, refl)
 

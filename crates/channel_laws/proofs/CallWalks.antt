@@ -66,7 +66,7 @@ module _ (k m : ℕ) (P : Option CallState → Option CallState → Type 0) (c :
   event_view event.Shutdown s = (λ number u v h. turn_view k P c.same c.joined m number (λ i. call.closed_by ends.Shut i) u v h (λ here x. c.closed ends.Shut x), λ e. (e, c.same (call_at k s)))
   event_view (event.Resolved addresses text) s = λ u e. (e, c.same (call_at k u))
   event_view event.ResolveFailed s = λ e. (e, c.same (call_at k s))
-  event_view (event.Take number) s = λ t h. touch_view k P c.same c.joined m c.like number s t h
+  event_view (event.Take number) s = λ t h due. touch_view k P c.same c.joined m c.like number s t h
   event_view e s = tt
 
   left_view : (e : Event) (s t : StateSeen) (r : Reply) → AnswersBy (refusal_of e s) e s t r → View s t
@@ -77,6 +77,8 @@ module _ (k m : ℕ) (P : Option CallState → Option CallState → Type 0) (c :
   settled_ends = record {
     made = λ number u v h. turn_view k P c.same c.joined m number (λ i. call.made_due i) u v h (λ here x. c.due x);
     failed = λ row number word u v h. turn_view k P c.same c.joined m number (λ i. call.pick_failed row i word) u v h (λ here x. c.heard row (news.Ended row pick_end) word x);
+    taken = λ dues u e. (e, c.same (call_at k u));
+    forgotten = λ number u v h calm. touch_view k P c.same c.joined m c.like number u v h;
   }
 
   settled_view : (s : StateSeen) → View s (settling.settled s)

@@ -147,5 +147,5 @@ pub sorted_settled : (s : StateSeen) → Sorted s.bare → Sorted (settling.sett
 sorted_settled s sorted =
     let u : StateSeen = net_settled (clocked s) in
     let h : IsBeside s u = before_served s in
-    let rest : Sorts true (bare_served u) (rounds settling.most (bare_served u)) = all_rounds (Sorts true) (sorting true) (record { made = λ number x y g. g.sorted true; failed = λ row number word x y g. g.sorted true }) settling.most (bare_served u) in
+    let rest : Sorts true (bare_served u) (rounds settling.most (bare_served u)) = all_rounds (Sorts true) (sorting true) (record { made = λ number x y g. g.sorted true; failed = λ row number word x y g. g.sorted true; taken = λ dues x g. g; forgotten = λ number x y h calm g. subst Sorted (sym (same_waiting true x y h.waiting)) g }) settling.most (bare_served u) in
     rest (sorts_served u (subst Sorted (sym (same_waiting true s u h.waiting)) sorted))

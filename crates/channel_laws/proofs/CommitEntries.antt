@@ -27,7 +27,8 @@ use Rattle.call_core.specs.declared.state.CallState.{CallState}
 use Rattle.channel_core.specs.declared.state.slots.CallSlot.{CallSlot}
 use Rattle.channel_core.specs.Arrivals as arrivals
 use Rattle.channel_core.specs.Applying.{AnswersBy, begun_at, conn_of, refusal_of}
-use Rattle.channel_laws.specs.CommitEntries.{AreCommittedSo, CanCommit, EndsByRowIn, IsFirstCommitment, entries_before}
+use Rattle.channel_laws.specs.Cancels.{EndsIn}
+use Rattle.channel_laws.specs.CommitEntries.{AreCommittedSo, CanCommit, IsFirstCommitment, entries_before}
 use Rattle.channel_core.specs.Core.{CoreSeen, Steps, moment_of}
 use Rattle.channel_laws.specs.EndCauses.{is_arrival}
 use Rattle.channel_laws.specs.Response.{response_on}
@@ -51,7 +52,7 @@ use Rattle.link_laws.proofs.LicensedCalls.{IsKnown, MoreLaws, sound_of}
 use Rattle.link_laws.proofs.Lifting.{OfCall, at_number, cause_of, got_more, same_number}
 use Rattle.link_laws.proofs.LinkStreams.{Streamless}
 use Rattle.link_laws.proofs.OneCommitment.{same_row}
-use Rattle.link_laws.proofs.OpenCalls.{IsOpening}
+use Rattle.link_laws.proofs.OpenBuffers.{IsOpening}
 use Rattle.link_laws.proofs.OrderedCalls.{grew_at}
 use Rattle.link_laws.proofs.OverCalls.{committed_at}
 use Rattle.channel_laws.proofs.Overflowing.{held_all, push_over, sends_over}
@@ -249,7 +250,7 @@ module _ (laws : MoreLaws) (timed : TimedLaws) (inbox : InboxLaws) (keeps : Kept
           let by : once.EndsByRow (bare slot.0.call old.state.book.ledger.rows) = (once_old k slot.0 slot.1).ended ended in
           not_both (is_committed_in (call_at k old.state)) (ap is_committed_in (call_there k old.state slot.0 slot.1) ∙ ap is_some by.committed) free_old
 
-      by_row : end_in (call_at k new.state) ≡ Some ends.Row → EndsByRowIn new.state.book.ledger.calls k entry
+      by_row : end_in (call_at k new.state) ≡ Some ends.Row → EndsIn new.state.book.ledger.calls k entry ends.Row
       by_row is =
           let slot : CallSlot = slot_new.0 in
           let ended : slot.call.ended ≡ Some ends.Row = sym (ap end_in (call_there k new.state slot slot_new.1)) ∙ is in
@@ -260,8 +261,8 @@ module _ (laws : MoreLaws) (timed : TimedLaws) (inbox : InboxLaws) (keeps : Kept
             there = seen.1;
             end = end.0;
             is = end.1.0;
-            cause = end.1.1;
-            at = elim (was_end n k old.state.book.ledger new.state.book.ledger seen.0 end.0 all seen.1 end.1.0) [ inl was ↦ absurd (ended_before end.0 was end.1.1) | inr here ↦ here ∙ sym now ];
+            entry_is = elim (was_end n k old.state.book.ledger new.state.book.ledger seen.0 end.0 all seen.1 end.1.0) [ inl was ↦ absurd (ended_before end.0 was end.1.1) | inr here ↦ here ∙ sym now ];
+            cause_is = end.1.1;
           }
 
       abbrev Why : Type 0
@@ -292,15 +293,17 @@ module _ (laws : MoreLaws) (timed : TimedLaws) (inbox : InboxLaws) (keeps : Kept
           let ended : slot.call.ended ≡ Some ends.Response = sym (ap end_in (call_there k new.state slot slot_new.1)) ∙ (to_new k).ended ends.Response is in
           let seen = same_number new.state.book.calls new.state.book.ledger.calls k slot p.known.sound.count slot_new.1 in
           let end = some_cause seen.0.end ends.Response (sym (p.known.sound.tied k slot seen.0 slot_new.1 seen.1).ended ∙ ended) in
-          inr (inl (record {
-            arrives = arrives;
-            seen = seen.0;
-            there = seen.1;
-            end = end.0;
-            is = end.1.0;
-            cause = end.1.1;
-            at = elim (was_end n k old.state.book.ledger new.state.book.ledger seen.0 end.0 all seen.1 end.1.0) [ inl was ↦ absurd (was_open end.0 was none) | inr here ↦ here ∙ sym now ];
-          }))
+          inr (inl (
+            arrives,
+            record {
+              seen = seen.0;
+              there = seen.1;
+              end = end.0;
+              is = end.1.0;
+              cause_is = end.1.1;
+              entry_is = elim (was_end n k old.state.book.ledger new.state.book.ledger seen.0 end.0 all seen.1 end.1.0) [ inl was ↦ absurd (was_open end.0 was none) | inr here ↦ here ∙ sym now ];
+            },
+          ))
         where
           was_open : (end : CallEnd) → WasEnd old.state.book.ledger.calls k end → end_in (call_at k p.found) ≡ None → ⊥
           was_open end was none =

@@ -3,6 +3,7 @@ use Rattle.std.proofs.Common.{◌≡◌, ◌≤◌, ℕ, ◌+◌, ◌-◌, Bool,
 use Rattle.std.proofs.lemmas.List.{take-append-le, take_all}
 use Rattle.grpc_base.specs.declared.event.EndCause.{EndCause}
 use Rattle.grpc_base.specs.declared.event.Entry.{Entry}
+use Rattle.grpc_base.specs.declared.event.EndCause.TheVariants as ends
 use Rattle.grpc_base.specs.declared.event.Event.{Event}
 use Rattle.grpc_base.specs.declared.event.Refusal.TheVariants as refusals
 use Rattle.grpc_base.specs.declared.event.Reply.{Reply}
@@ -16,10 +17,11 @@ use Rattle.call_core.specs.Steps as call
 use Rattle.call_core.specs.declared.state.CallState.{CallState}
 use Rattle.channel_core.specs.declared.state.slots.CallSlot.{CallSlot}
 use Rattle.channel_core.specs.Books.{lacks_call}
-use Rattle.channel_laws.specs.CommitEntries.{BringsHead, CanCommit, EndsByBytes, EndsByRowIn, entries_before}
+use Rattle.channel_laws.specs.CommitEntries.{BringsHead, CanCommit, entries_before}
 use Rattle.channel_laws.specs.ResponseLimits.{IsCallLimit}
 use Rattle.link_laws.proofs.Calls.{bare}
-use Rattle.link_laws.proofs.EachEntry.{WasEnd, end_stays, still}
+use Rattle.link_laws.proofs.EachEntry.{still}
+use Rattle.channel_laws.proofs.CutCalls.{ends_stay}
 use Rattle.channel_laws.proofs.RowEnds.{IsRowStill, kept_row}
 
 -- a Send that is done: its call is there, and has not ended
@@ -37,11 +39,6 @@ done_live message c done = done_by c.ended c.is_finished message c refl done
 
 pub not_both : (b : Bool) → b ≡ true → b ≡ false → ⊥
 not_both b is none = (let both : true ≡ false = sym is ∙ none in (cc))
-
-pub ends_still : (n k entry : ℕ) (a b : Ledger) → Later n a b → EndsByRowIn a.calls k entry → EndsByRowIn b.calls k entry
-ends_still n k entry a b l h =
-    let new : WasEnd b.calls k h.end = end_stays n k a b h.seen h.end l h.there h.is in
-    record { seen = new.seen; there = new.there; end = h.end; is = new.is; cause = h.cause; at = h.at }
 
 pub heads_still : (n k entry : ℕ) (es fs past : List Entry) (e : Event) (r : Reply) (a b : Ledger) → Later n a b → ((limit : ℕ) → IsCallLimit es a k limit → IsCallLimit fs b k limit) → BringsHead es a k entry past e r → BringsHead fs b k entry past e r
 heads_still n k entry es fs past e r a b l limits h =
@@ -65,16 +62,11 @@ heads_still n k entry es fs past e r a b l limits h =
       head = h.head;
     }
 
-pub bytes_still : (n k entry : ℕ) (e : Event) (a b : Ledger) → Later n a b → EndsByBytes a.calls k entry e → EndsByBytes b.calls k entry e
-bytes_still n k entry e a b l h =
-    let new : WasEnd b.calls k h.end = end_stays n k a b h.seen h.end l h.there h.is in
-    record { arrives = h.arrives; seen = new.seen; there = new.there; end = h.end; is = new.is; cause = h.cause; at = h.at }
-
 pub can_still : (n k entry : ℕ) (es fs past : List Entry) (e : Entry) (a b : Ledger) → Later n a b → ((limit : ℕ) → IsCallLimit es a k limit → IsCallLimit fs b k limit) → CanCommit es a k entry past e → CanCommit fs b k entry past e
 can_still n k entry es fs past e a b l limits (inl head) = inl (heads_still n k entry es fs past e.event e.reply a b l limits head)
-can_still n k entry es fs past e a b l limits (inr (inl ends_)) = inr (inl (bytes_still n k entry e.event a b l ends_))
+can_still n k entry es fs past e a b l limits (inr (inl ends_)) = inr (inl (ends_.0, ends_stay n k entry ends.Response a b l ends_.1))
 can_still n k entry es fs past e a b l limits (inr (inr (inl over))) = inr (inr (inl over))
-can_still n k entry es fs past e a b l limits (inr (inr (inr h))) = inr (inr (inr (ends_still n k entry a b l h)))
+can_still n k entry es fs past e a b l limits (inr (inr (inr h))) = inr (inr (inr (ends_stay n k entry ends.Row a b l h)))
 
 -- the entries before one
 pub before_last : (es : List Entry) (x : Entry) (entry : ℕ) → entry ≡ length es + 1 → entries_before entry (es ++ x ∷ []) ≡ es

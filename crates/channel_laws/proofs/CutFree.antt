@@ -34,7 +34,9 @@ use Rattle.channel_laws.proofs.NewEnds.{Stands, WasEnded}
 use Rattle.link_laws.proofs.LicensedCalls.{MoreLaws}
 use Rattle.link_laws.proofs.Lifting.{put_slot, slot_was}
 use Rattle.link_laws.proofs.Served.{acted_is}
-use Rattle.link_laws.proofs.Serving.{Base, KnownIn, apart_at, base, kept_at, known_after}
+use Rattle.link_laws.proofs.Serving.{Base, KnownIn, apart_at, base, kept_at, known_after, sound_at}
+use Rattle.link_laws.proofs.CallLaws.{IsSound, once_in}
+use Rattle.channel_laws.proofs.LoneRows.{lone_all}
 use Rattle.link_laws.proofs.ServingParts.{begins, comes_up, configures_base, holds_base}
 use Rattle.link_laws.proofs.Working.{TimedLaws}
 
@@ -123,6 +125,7 @@ module _ (laws : MoreLaws) (timed : TimedLaws) (N : ℕ) where
     tied = (apart_at laws timed N s number slot None is known).tied;
     number_is = (known.sound.each number slot is).number_is;
     free = λ some seen there. free_when seen.end slot.call.ended (known.sound.tied number slot seen is there).ended (λ over. some ((kept_at laws timed N s number slot None is known).ended over).live);
+    lone = (let x : Stepped = lent slot.call s.book.ledger None [] in let sound : IsSound s.book.moment s.book.ledger.entry x = sound_at laws timed N s number slot None is known in lone_all x (once_in s.book.moment s.book.ledger.entry x sound) (kept_at laws timed N s number slot None is known));
   }
 
   did : (f : Stepped → Stepped) (number : ℕ) (tokens : Option Bucket) (s t : StateSeen) → t.book.ledger ≡ (acted f s.book.calls number s.book.ledger tokens).ledger → Base N s t → ((x : Stepped) → SoHere s number x → AllHere s number (f x).ledger) → Frees s t

@@ -151,6 +151,14 @@ pub record IsReady (s w : Stepped) (place : ℕ) (can : CanCommit s place) : Typ
   pub number : now.number ≡ can.first.number
   pub free : now.committed ≡ None
 
+-- a row of the call is of another attempt than that at a place
+pub record IsApartFrom (s : Stepped) (place q : ℕ) : Type 0 where
+  pub row : Row
+  pub is : IsRowOf s.call.number s.ledger.rows place row
+  pub own : Row
+  pub own_is : IsRowOf s.call.number s.ledger.rows q own
+  pub other : row.number ≡ own.number → ⊥
+
 module _ (place m : ℕ) (s w : Stepped) (entry : w.ledger.entry ≡ s.ledger.entry) (tied : AreStanding s.call.number s.ledger.rows s.call.live) (last : AreLast s.call.number s.ledger.rows s.call.live) (can : CanCommit s place) (ready : IsReady s w place can) (sub : (q : ℕ) (end : RowEnd) → Hit (Some place) w.ledger.entry w.call.live q end → Hit (Some place) w.ledger.entry s.call.live q end) (old : NoCuts s.ledger.rows w.ledger.rows) where
   abbrev after : List Row
   after = (step.committed place m w).ledger.rows
@@ -181,6 +189,16 @@ module _ (place m : ℕ) (s w : Stepped) (entry : w.ledger.entry ≡ s.ledger.en
           committed = ap (λ (o : Option ℕ). stamped w.ledger.entry o) ready.free ∙ ap (λ (k : ℕ). Some k) (sym h.now);
         };
       }
+
+  pub commit_apart : (q : ℕ) (row : Row) (end : RowEnd) → row_in after q ≡ Some row → row.ended ≡ Some end → end.cause ≡ cause.Cut → WasEnded s.ledger.rows q end ⊎ IsApartFrom s place q
+  commit_apart q row end there ended cut = elim (cuts_hit (Some place) m (count_of w.tokens) w.call.live (step.commit_stamped place w.ledger) q row end there ended) [
+    | inl was ↦
+        let before : WasEnded w.ledger.rows q end = stamp_written w.ledger.entry w.ledger.rows place q was.row end was.there was.ended in
+        inl (old q before.row end before.there before.ended cut)
+    | inr hit ↦
+        let h : IsHitRow (Some place) w.ledger.entry s.call.number s.ledger.rows q end = hit_row (Some place) w.ledger.entry s.call.number s.ledger.rows s.call.live q end tied last (sub q end hit) in
+        inr (record { row = can.first; is = can.is; own = h.old; own_is = h.is; other = λ same. apart q end h same })
+  ]
 
   pub commit_news : CutNews s after
   commit_news q row end there ended cut = elim (cuts_hit (Some place) m (count_of w.tokens) w.call.live (step.commit_stamped place w.ledger) q row end there ended) [

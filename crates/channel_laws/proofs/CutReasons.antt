@@ -33,7 +33,10 @@ use Rattle.channel_laws.proofs.CutFree.{FreeCuts, Frees, IsOfFree, frees, frees_
 use Rattle.channel_laws.proofs.CutLaw.{CutLaw, aside_later, cut_law, rows_stay}
 use Rattle.channel_laws.proofs.CutWalks.{HasEndedSo}
 use Rattle.channel_laws.proofs.FinalLaw.{FinalLaw, final_law}
+use Rattle.channel_laws.proofs.LastLaw.{IsLast, LastLaw, last_law}
+use Rattle.channel_laws.proofs.LowTokens.{StopForTokens, TokensLaw, tokens_law}
 use Rattle.channel_laws.proofs.NewEnds.{WasEnded}
+use Rattle.channel_laws.proofs.HandedLaw.{HandedLaw, handed_law}
 use Rattle.link_laws.proofs.CallLaws.{FairNews, IsSound}
 use Rattle.link_laws.proofs.Calls.{Both, IsCallLaw}
 use Rattle.link_laws.proofs.Dating.{last_is, le_max}
@@ -51,14 +54,36 @@ use Rattle.link_laws.proofs.SoundCalls.{IsAllowed}
 use Rattle.link_laws.proofs.Working.{TimedLaws}
 
 -- the laws of each call, with all that is known besides
+abbrev IsFinalKnown : ℕ → ℕ → Stepped → Type 0
+IsFinalKnown = Both (Both IsKnown CutLaw) FinalLaw
+
+abbrev IsLastKnown : ℕ → ℕ → Stepped → Type 0
+IsLastKnown = Both IsFinalKnown LastLaw
+
+abbrev IsTokensKnown : ℕ → ℕ → Stepped → Type 0
+IsTokensKnown = Both IsLastKnown TokensLaw
+
 abbrev IsCutKnown : ℕ → ℕ → Stepped → Type 0
-IsCutKnown = Both (Both IsKnown CutLaw) FinalLaw
+IsCutKnown = Both IsTokensKnown HandedLaw
 
 owner : (m n : ℕ) (s : Stepped) → IsCutKnown m n s → IsOwner s.call.number s
-owner m n s h = known_owner m n s h.one.one
+owner m n s h = known_owner m n s h.one.one.one.one.one
 
 kept : (m n : ℕ) (s : Stepped) → IsCutKnown m n s → IsKept s.call
-kept m n s h = known_kept m n s h.one.one
+kept m n s h = known_kept m n s h.one.one.one.one.one
+
+-- each of those that others use
+pub final_in : (m n : ℕ) (s : Stepped) → IsCutKnown m n s → FinalLaw m n s
+final_in m n s h = h.one.one.one.other
+
+pub last_in : (m n : ℕ) (s : Stepped) → IsCutKnown m n s → IsLast s
+last_in m n s h = h.one.one.other
+
+pub tokens_stop : (m n : ℕ) (s : Stepped) → IsCutKnown m n s → StopForTokens s
+tokens_stop m n s h = h.one.other
+
+pub handed_in : (m n : ℕ) (s : Stepped) → IsCutKnown m n s → HandedLaw m n s
+handed_in m n s h = h.other
 
 abbrev pub SoundCuts : StateSeen → Type 0
 SoundCuts s = SoundIn IsCutKnown Free (Allows IsAllowed) s
@@ -67,8 +92,17 @@ module _ (laws : MoreLaws) where
   law : IsCallLaw IsAllowed FairNews Lent IsCutKnown
   law =
       let cuts : IsCallLaw IsAllowed FairNews Lent (Both IsKnown CutLaw) = also IsAllowed FairNews Lent IsKnown CutLaw (known_law laws) (cut_law laws.calls.ended) in
+      let finals : IsCallLaw IsAllowed FairNews Lent IsFinalKnown =
       also IsAllowed FairNews Lent (Both IsKnown CutLaw) FinalLaw cuts
-      (widen IsAllowed FairNews (Both Lent IsKnown) (Both Lent (Both IsKnown CutLaw)) FinalLaw (λ m n s b. record { one = b.one; other = b.other.one }) (final_law laws.calls.ended))
+      (widen IsAllowed FairNews (Both Lent IsKnown) (Both Lent (Both IsKnown CutLaw)) FinalLaw (λ m n s b. record { one = b.one; other = b.other.one }) (final_law laws.calls.ended)) in
+      let lasts : IsCallLaw IsAllowed FairNews Lent IsLastKnown =
+      also IsAllowed FairNews Lent IsFinalKnown LastLaw finals
+      (widen IsAllowed FairNews (Both Lent IsKnown) (Both Lent IsFinalKnown) LastLaw (λ m n s b. record { one = b.one; other = b.other.one.one }) (last_law laws.calls.ended)) in
+      let tokens : IsCallLaw IsAllowed FairNews Lent IsTokensKnown =
+      also IsAllowed FairNews Lent IsLastKnown TokensLaw lasts
+      (widen IsAllowed FairNews (Both Lent IsKnown) (Both Lent IsLastKnown) TokensLaw (λ m n s b. record { one = b.one; other = b.other.one.one.one }) (tokens_law laws.calls.ended)) in
+      also IsAllowed FairNews Lent IsTokensKnown HandedLaw tokens
+      (widen IsAllowed FairNews (Both Lent IsKnown) (Both Lent IsTokensKnown) HandedLaw (λ m n s b. record { one = b.one; other = b.other.one.one.one.one }) handed_law)
 
   abbrev Law : ℕ → StateSeen → StateSeen → Type 0
   Law N = Lifts IsCutKnown Free (Allows IsAllowed) N
@@ -97,13 +131,16 @@ module _ (laws : MoreLaws) where
       let configures : Configures (Law n) = lifts_configured IsAllowed FairNews IsCutKnown law owner laws.calls.leaves laws.calls.ended laws.settles kept (λ x row told fair. fair) Free (Allows IsAllowed) n (λ held may. may) (λ begun configured config request may any. tt) in
       (carried (Law n) c n m s.word s.event old.state new.state r configures (law_event n s.event) h.by).sound refl k.fits (began old s k sound)
 
+  pub known_first : (old : CoreSeen) (s : Stamped) → Knows old → SoundCuts old.state → KnownIn (begun_at (length old.journal.entries + 1) (moment_of old.journal.entries s) s.word old.state)
+  known_first old s k sound =
+      let first : StateSeen = begun_at (length old.journal.entries + 1) (moment_of old.journal.entries s) s.word old.state in
+      record { sound = sound_less IsCutKnown IsSound Free (Allows IsAllowed) first (λ m n x is. sound_of m n x is.one.one.one.one.one) (began old s k sound); fits = k.fits }
+
   free_cuts : TimedLaws → (old new : CoreSeen) (s : Stamped) (r : Reply) → Steps old new s r → Knows old → SoundCuts old.state → FreeCuts old.state.book.ledger.rows old.state.book.ledger.calls new.state.book.ledger.rows
   free_cuts timed old new s r h k sound =
       let m : ℕ = moment_of old.journal.entries s in
       let n : ℕ = length old.journal.entries + 1 in
-      let first : StateSeen = begun_at n m s.word old.state in
-      let known : KnownIn first = record { sound = sound_less IsCutKnown IsSound Free (Allows IsAllowed) first (λ m n x is. sound_of m n x is.one.one) (began old s k sound); fits = k.fits } in
-      (carried (Frees laws timed n) (frees laws timed n) n m s.word s.event old.state new.state r (frees_configured laws timed n) (frees_event laws timed n s.event) h.by).cuts_ refl known
+      (carried (Frees laws timed n) (frees laws timed n) n m s.word s.event old.state new.state r (frees_configured laws timed n) (frees_event laws timed n s.event) h.by).cuts_ refl (known_first old s k sound)
 
 -- when an end was written
 was_or_now : (n : ℕ) (a b : Option RowEnd) (end : RowEnd) → Written (λ e. e.entry) n a b → b ≡ Some end → (a ≡ Some end) ⊎ (end.entry ≡ n)
@@ -154,7 +191,7 @@ module _ (n : ℕ) (a : Ledger) (t : StateSeen) (later : Later n a t.book.ledger
       let free : IsFree row.call a.calls = subst (λ (k : ℕ). IsFree k a.calls) mine f.free in
       let slot = slot_found (numbered t.book.calls row.call) (sound.owned place row there) in
       let of : OfCall IsCutKnown t.book.moment t.book.ledger.entry row.call slot.0.call t.book.ledger.rows = sound.each row.call slot.0 slot.1 in
-      elim (of.holds.one.other place row end (record { there = there; call = sym of.number_is }) ended cut) [
+      elim (of.holds.one.one.one.one.other place row end (record { there = there; call = sym of.number_is }) ended cut) [
         | inl so ↦ inl (so.0, (subst (λ (k : ℕ). EndsIn t.book.ledger.calls row.call k so.0) (sym now) (so_ended row.call slot.0 free slot.1 so), so.1.1))
         | inr aside ↦ inr (subst (λ (k : ℕ). IsCommittedAside t.book.ledger.rows k row.number end.entry) of.number_is aside)
       ]

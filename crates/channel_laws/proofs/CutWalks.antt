@@ -52,7 +52,7 @@ found_if : (P : LiveRow → Type 0) (place : ℕ) (x row : LiveRow) (live : List
 found_if P place x row live true one rest e = (let same : x ≡ row = (cc) in subst P same one)
 found_if P place x row live false one rest e = rest e
 
-found_all : (P : LiveRow → Type 0) (place : ℕ) (live : List LiveRow) (row : LiveRow) → AllByRecursion P live → find_live place live ≡ Some row → P row
+pub found_all : (P : LiveRow → Type 0) (place : ℕ) (live : List LiveRow) (row : LiveRow) → AllByRecursion P live → find_live place live ≡ Some row → P row
 found_all P place [] row all e = absurd (let no : ⊥ = (cc) in no)
 found_all P place (x ∷ live) row all e = found_if P place x row live (is_row place x) all.0 (found_all P place live row all.1) e
 
@@ -80,7 +80,7 @@ best_place : (Q : ℕ → Type 0) (o : Option LiveRow) → IfSome o (λ r. Q r.p
 best_place Q None h = tt
 best_place Q (Some r) h = h
 
-furthest_all : (Q : ℕ → Type 0) (b : Buffered) (live : List LiveRow) → AllByRecursion (λ (r : LiveRow). Q r.place) live → IfSome (furthest b live) Q
+pub furthest_all : (Q : ℕ → Type 0) (b : Buffered) (live : List LiveRow) → AllByRecursion (λ (r : LiveRow). Q r.place) live → IfSome (furthest b live) Q
 furthest_all Q b live all = best_place Q (furthest_from b None live) (best_from (λ (r : LiveRow). Q r.place) b None live tt all)
 
 -- live rows at one place
@@ -104,24 +104,24 @@ pub alone_none : (place : ℕ) (live : List LiveRow) → kept_alone place (witho
 alone_none place [] = refl
 alone_none place (r ∷ live) = alone_if (is_row place r) place r (without place live) refl (alone_none place live)
 
-none_live : (live : List LiveRow) → has_none live ≡ true → live ≡ []
+pub none_live : (live : List LiveRow) → has_none live ≡ true → live ≡ []
 none_live [] e = refl
 none_live (r ∷ live) e = absurd (let size : length (r ∷ live) ≡ 0 = eqb-true (length (r ∷ live)) 0 e in let no : ⊥ = omega (arith, size) in no)
 
-hit_none : (kept : Option ℕ) (entry : ℕ) (live : List LiveRow) (q : ℕ) (end : RowEnd) → live ≡ [] → Hit kept entry live q end → ⊥
+pub hit_none : (kept : Option ℕ) (entry : ℕ) (live : List LiveRow) (q : ℕ) (end : RowEnd) → live ≡ [] → Hit kept entry live q end → ⊥
 hit_none kept entry live q end e hit = subst (λ (l : List LiveRow). Hit kept entry l q end) e hit
 
 -- an end that was told is no cut
 not_cut : (told : EndNews) (end : RowEnd) → is_cut told.cause ≡ false → end.cause ≡ told.cause → end.cause ≡ cause.Cut → ⊥
 not_cut told end own same cut = let both : true ≡ false = sym (ap is_cut cut) ∙ ap is_cut same ∙ own in (cc)
 
-told_none : (told : EndNews) (e : RowEnd) (rows : List Row) (place : ℕ) → is_cut told.cause ≡ false → e.cause ≡ told.cause → NoCuts rows (changed_at (ended_row e) rows place)
+pub told_none : (told : EndNews) (e : RowEnd) (rows : List Row) (place : ℕ) → is_cut told.cause ≡ false → e.cause ≡ told.cause → NoCuts rows (changed_at (ended_row e) rows place)
 told_none told e rows place own same q row end there ended cut = elim (end_written e rows place q row end there ended) [
   | inl was ↦ was
   | inr new ↦ absurd (not_cut told end own (ap (λ (x : RowEnd). x.cause) new.1 ∙ same) cut)
 ]
 
-more_none : (rows after : List Row) (x : Row) → x.ended ≡ None → NoCuts rows after → NoCuts rows (after ++ x ∷ [])
+pub more_none : (rows after : List Row) (x : Row) → x.ended ≡ None → NoCuts rows after → NoCuts rows (after ++ x ∷ [])
 more_none rows after x free old q row end there ended cut = elim (place_back after x q row there) [
   | inl same ↦ absurd (let both : None ≡ Some end = sym free ∙ ap (λ (r : Row). r.ended) (sym same) ∙ ended in let no : ⊥ = (cc) in no)
   | inr was ↦ old q row end was ended cut
@@ -139,7 +139,7 @@ end_if : (b : Bool) (why : EndCause) (m : ℕ) (s w : Stepped) → w.ledger.rows
 end_if true why m s w same other = inl (why, (refl, other))
 end_if false why m s w same other = so_rows s w same
 
-other_cause : (why : EndCause) → is_by_row why ≡ false → why ≡ ends.Row → ⊥
+pub other_cause : (why : EndCause) → is_by_row why ≡ false → why ≡ ends.Row → ⊥
 other_cause why by e = let both : true ≡ false = sym (ap is_by_row e) ∙ by in (cc)
 
 none_if : (o : Option ℕ) → (is_some o ≡ true → ⊥) → o ≡ None
@@ -176,7 +176,7 @@ module _ (s : Stepped) (g : IsGiven s) where
   so_placed row at = so_place_found (find_live row s.call.live) at
 
   -- a commitment
-  no_stamps : s.call.attempts.committed ≡ None → (q : ℕ) (row : Row) → IsRowOf s.call.number s.ledger.rows q row → row.committed ≡ None
+  pub no_stamps : s.call.attempts.committed ≡ None → (q : ℕ) (row : Row) → IsRowOf s.call.number s.ledger.rows q row → row.committed ≡ None
   no_stamps free q row is = none_if row.committed (λ some. let c = g.once.chain q row is some in let both : None ≡ Some c.last = sym free ∙ c.is_last in let no : ⊥ = (cc) in no)
 
   can_each : (live : List LiveRow) → s.call.attempts.committed ≡ None → AreStanding s.call.number s.ledger.rows live → AreLast s.call.number s.ledger.rows live → AllByRecursion (λ (r : LiveRow). CanCommit s r.place) live
@@ -191,7 +191,7 @@ module _ (s : Stepped) (g : IsGiven s) where
     can_each live free tied.1 last.1,
   )
 
-  can_all : s.call.attempts.committed ≡ None → AllByRecursion (λ (r : LiveRow). CanCommit s r.place) s.call.live
+  pub can_all : s.call.attempts.committed ≡ None → AllByRecursion (λ (r : LiveRow). CanCommit s r.place) s.call.live
   can_all free = can_each s.call.live free g.apart.tied g.last
 
   commit_so : (place m : ℕ) (w : Stepped) → w.ledger ≡ s.ledger → w.call.live ≡ s.call.live → CanCommit s place → CutNews s (step.committed place m w).ledger.rows

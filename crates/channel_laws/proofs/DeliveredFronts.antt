@@ -1,5 +1,5 @@
 -- What applications took by each entry is a front of what had come by then, whatever events a channel is given.
-use Rattle.std.proofs.Common.{ℕ, inl, inr, List, ◌∙◌}
+use Rattle.std.proofs.Common.{◌<◌, ℕ, ◌+◌, inl, inr, length, List, arith}
 use Rattle.grpc_base.specs.declared.event.Entry.{Entry}
 use Rattle.grpc_base.specs.declared.event.Reply.{Reply}
 use Rattle.grpc_base.specs.declared.event.Stamped.{Stamped}
@@ -11,22 +11,25 @@ use Rattle.channel_core.specs.Core.{CoreSeen, IsNew, Runs}
 use Rattle.channel_laws.specs.Delivered.{AreDelivered, AreDeliveredIn, AreOfOne, before_end}
 use Rattle.channel_laws.proofs.CallLimits.{limit_still}
 use Rattle.channel_laws.proofs.CallMoves.{KeptLaws}
+use Rattle.channel_laws.specs.Deliveries.{IsCommittedBefore}
+use Rattle.channel_laws.proofs.CommittedBefore.{committed_on}
 use Rattle.channel_laws.proofs.DeliveryRuns.{delivered_always}
-use Rattle.link_laws.proofs.EachEntry.{still, still_some}
+use Rattle.link_laws.proofs.EachEntry.{still}
 use Rattle.channel_laws.proofs.Fronts.{fronts_always}
 use Rattle.link_laws.proofs.LicensedCalls.{MoreLaws}
 use Rattle.channel_laws.proofs.Owned.{InboxLaws}
-use Rattle.channel_laws.proofs.RowEnds.{IsRowStill, kept_row}
+use Rattle.channel_laws.proofs.RowEnds.{IsRowStill}
 use Rattle.link_laws.proofs.Working.{TimedLaws}
 
 -- a later ledger
-of_one_still : (n : ℕ) (es : List Entry) (a b : Ledger) (call : ℕ) (told : List Reply) → Later n a b → AreOfOne es a call told → AreOfOne es b call told
-of_one_still n es a b call told l h =
-    let new : IsRowStill n h.place b.rows h.row = kept_row n h.place a.rows b.rows h.row l.rows h.is.is.there in
+of_one_still : (n : ℕ) (es : List Entry) (a b : Ledger) (call : ℕ) (told : List Reply) → length es < n → Later n a b → AreOfOne es a call told → AreOfOne es b call told
+of_one_still n es a b call told past l h =
+    let on : (new : IsRowStill n h.place b.rows h.row) × IsCommittedBefore b.rows call (length es + 1) h.place new.row = committed_on n a.rows b.rows l.rows call (length es + 1) (omega (arith, past)) h.place h.row h.is in
+    let new : IsRowStill n h.place b.rows h.row = on.0 in
     record {
       place = h.place;
       row = new.row;
-      is = record { is = record { there = new.there; call = new.later.call ∙ h.is.is.call }; committed = still_some n h.row.committed new.row.committed new.later.stamps.committed h.is.committed };
+      is = on.1;
       at = h.at;
       placed = still (λ (p : Placed). p.entry) n h.row.placed new.row.placed h.at new.later.stamps.placed h.placed;
       stream = h.stream;
@@ -41,8 +44,8 @@ of_one_still n es a b call told l h =
       front = h.front;
     }
 
-delivered_still : (n : ℕ) (es : List Entry) (a b : Ledger) → Later n a b → AreDeliveredIn es a → AreDeliveredIn es b
-delivered_still n es a b l h call = elim (h call) [ inl none ↦ inl none | inr one ↦ inr (of_one_still n es a b call (before_end (taken call es)) l one) ]
+delivered_still : (n : ℕ) (es : List Entry) (a b : Ledger) → length es < n → Later n a b → AreDeliveredIn es a → AreDeliveredIn es b
+delivered_still n es a b past l h call = elim (h call) [ inl none ↦ inl none | inr one ↦ inr (of_one_still n es a b call (before_end (taken call es)) past l one) ]
 
 pub delivered_by_always : MoreLaws → TimedLaws → InboxLaws → KeptLaws → (authority : List ℕ) (new core : CoreSeen) (events : List Stamped) → IsNew authority new → Runs new events core → AreDelivered core.journal.entries core.state.book.ledger
 delivered_by_always laws timed inbox kept authority new core events is runs =

@@ -41,9 +41,9 @@ use Rattle.channel_core.proofs.FairNews.{AreFair, fair_heard}
 use Rattle.channel_laws.proofs.FrameHeard.{break_heard, frame_heard}
 use Rattle.channel_core.proofs.Going.{comes, rests}
 use Rattle.channel_laws.proofs.HeadGains.{GetsHead, gets_by, gets_own, head_gains}
-use Rattle.channel_laws.proofs.HeardFrames.{Gains, beside_ok, both_less}
+use Rattle.channel_laws.proofs.HeardFrames.{Gains, beside_ok}
 use Rattle.channel_laws.proofs.HeardLinks as told_of
-use Rattle.channel_laws.proofs.HeardLinks.{IsFresh, IsLinkOk, LinkOk, StreamOk, WaitsOk, all_quiet, gained}
+use Rattle.channel_laws.proofs.HeardLinks.{IsFresh, IsLinkOk, LinkOk, StreamOk, WaitsOk, all_quiet, both_less, gained}
 use Rattle.channel_laws.proofs.HeardTags.{IsFront, OfReader, front_grew, parts_in, parts_of}
 use Rattle.link_laws.proofs.LinkHears.{ReadsOn, SoundOn, frame_sound, frame_text, none_there, not_true, one_more, or_true, take_front, took}
 use Rattle.link_laws.proofs.LinkStays.{dead_on, is_dead_slot, seen_on, text_in, text_on}
@@ -322,8 +322,30 @@ writing = rests Writes (goes_of Writes writes)
 writing_comes : Comes Writes
 writing_comes = comes Writes (goes_of Writes writes)
 
+-- a link that is not dead, and did not break, hears
+pub hears_alive : (slot : LinkSlot) → slot.dead ≡ false → slot.link.link.wire.broken ≡ None → hears_at (Some slot) ≡ true
+hears_alive slot alive unbroken = ap (λ (b : Bool). not (b || is_some slot.link.link.wire.broken)) alive ∙ ap (λ (o : Option ℕ). not (is_some o)) unbroken
+
+-- one frame, or a part of one
+module _ (k : ℕ) (piece : List ℕ) (s : StateSeen) (slot : LinkSlot) where
+  fair_by : (b : Bool) → b ≡ true → IfSome (if b then Some (heard_by slot k piece s.links) else None) (λ h. AreFair h.news) → AreFair (heard_by slot k piece s.links).news
+  fair_by true is f = f
+  fair_by false is f = absurd (let never : ⊥ = (cc) in never)
+
+  fair_alive : slot.dead ≡ false → slot.link.link.wire.broken ≡ None → IfSome (heard_at (Some slot) k piece s.links) (λ h. AreFair h.news) → AreFair (heard_by slot k piece s.links).news
+  fair_alive alive unbroken f = fair_by (hears_at (Some slot)) (hears_alive slot alive unbroken) f
+
+  frame_named : HasTags s.book.ledger.rows k slot.link → AreNamed (IsPlacedOn s.book.ledger.rows k) (link_heard slot.link piece).news
+  frame_named tags = (tells_heard (AreWaiting s.book.ledger.rows k) (IsPlacedOn s.book.ledger.rows k) (keeps_waiting s.book.ledger.rows k) slot.link piece tags).named
+
+  frame_grew : AreFair (heard_by slot k piece s.links).news → RowsGrew s.book.ledger.rows (arrivals.frame_heard k (heard_by slot k piece s.links) s).book.ledger.rows
+  frame_grew fair = grew_by s (arrivals.frame_heard k (heard_by slot k piece s.links) s) (hear_frame Writes writing writing_comes k (heard_by slot k piece s.links) s (changed_length (with_link (heard_link piece)) s.links k) fair) (frame_still k piece slot s)
+
+-- nothing was told of a row, and nothing is
+none_told : (heard : ℕ → List Reply) (p : ℕ) (ns : List News) → heard p ≡ [] → parts_of p ns ≡ [] → heard p ++ parts_of p ns ≡ []
+none_told heard p ns none nothing = ap (λ (l : List Reply). l ++ parts_of p ns) none ∙ nothing
+
 module _ (inbox : InboxLaws) (kept : KeptLaws) where
-  -- one frame, or a part of one
   pub frame_came : (k : ℕ) (bytes octets piece : List ℕ) (s : StateSeen) (slot : LinkSlot) (g : Story) → numbered s.links k ≡ Some slot → slot.dead ≡ false → slot.link.link.wire.broken ≡ None → 1 ≤ length piece → SoundOn k bytes s → SaysOn bytes octets (numbered s.links k) → IfSome (heard_at (Some slot) k piece s.links) (λ h. AreFair h.news) → FramesOf k bytes g s.links → Goes g [] s
       → Came k g bytes (bytes ++ take (heard slot.link.link piece).taken piece) (arrivals.frame_heard k (heard_by slot k piece s.links) s)
   frame_came k bytes octets piece s slot g is alive unbroken some sound said fair of h =
@@ -338,6 +360,7 @@ module _ (inbox : InboxLaws) (kept : KeptLaws) where
       let owed : Going after N s.book.calls rows (changed_at (with_link (heard_link piece)) s.links k) = frame_goes g k told_.limits told_.small told_.own E (Gains (bytes_in E) (stream_at rows) told_.limits (frames_of bytes) E) N s.book.calls rows s.links slot piece is h told_.heard more in
       let u : StateSeen = took k (heard_by slot k piece s.links) s in
       let own : after.frames k ≡ E = ap (λ (b : Bool). if b then E else g.frames k) (eq-eqb k k refl) in
+      let fair_now : AreFair (heard_by slot k piece s.links).news = fair_alive k piece s slot alive unbroken fair in
       record {
         story = after;
         took = refl;
@@ -345,44 +368,22 @@ module _ (inbox : InboxLaws) (kept : KeptLaws) where
         here = record { front = ([], sym own ∙ sym (append-nil (after.frames k))); alive = λ z e d b. own };
         there = λ j apart. ap (λ (b : Bool). if b then E else g.frames j) (ne_eqb j k apart);
         like = record { limits = refl; foretold = refl };
-        goes = hear inbox kept k N u after (fair_of fair) told_.heard.fit owed;
+        goes = hear inbox kept k N u after fair_now told_.heard.fit owed;
         heads = λ p none. elim (told_.heard.fronts p) [
-          | inl nothing ↦ inl (after_none p none nothing)
+          | inl nothing ↦ inl (none_told g.heard p N none nothing)
           | inr f ↦ elim f.1.1 [
             | inl nothing ↦ inl nothing
-            | inr front ↦ elim (named_part (IsPlacedOn rows k) p N named) [
-              | inl nothing ↦ inl (after_none p none nothing)
+            | inr front ↦ elim (named_part (IsPlacedOn rows k) p N (frame_named k piece s slot (h.tags k slot is))) [
+              | inl nothing ↦ inl (none_told g.heard p N none nothing)
               | inr on ↦
                   let parts : parts_of p N ≡ reply.Head front.meta ∷ message_items front.messages = sym (ap (λ (l : List Reply). l ++ parts_of p N) none) ∙ front.is in
                   let gains = head_gains (bytes_in E) (stream_at rows) told_.limits (frames_of bytes) E p front.meta (message_items front.messages) N told_.heard.gains parts in
                   let gets : GetsHead (owned g) rows k (frames_of bytes) E p = record { on = on; number = gains.number; stream = gains.stream; limit = told_.limits p; own = told_.own p; none = gains.gains.0; meta = gains.gains.1.0; there = gains.gains.1.1 } in
-                  inr (gets_by (owned g) rows t.book.ledger.rows k bytes bytes (bytes ++ take (heard slot.link.link piece).taken piece) (bytes ++ take (heard slot.link.link piece).taken piece) p ([], sym (append-nil (frames_of bytes))) ([], sym (append-nil E)) grew gets)
+                  inr (gets_by (owned g) rows (arrivals.frame_heard k (heard_by slot k piece s.links) s).book.ledger.rows k bytes bytes (bytes ++ take (heard slot.link.link piece).taken piece) (bytes ++ take (heard slot.link.link piece).taken piece) p ([], sym (append-nil (frames_of bytes))) ([], sym (append-nil E)) (frame_grew k piece s slot fair_now) gets)
             ]
           ]
         ];
       }
-    where
-      t : StateSeen
-      t = arrivals.frame_heard k (heard_by slot k piece s.links) s
-
-      after_none : (p : ℕ) → g.heard p ≡ [] → parts_of p (link_heard slot.link piece).news ≡ [] → g.heard p ++ parts_of p (link_heard slot.link piece).news ≡ []
-      after_none p none nothing = ap (λ (l : List Reply). l ++ parts_of p (link_heard slot.link piece).news) none ∙ nothing
-
-      named : AreNamed (IsPlacedOn s.book.ledger.rows k) (link_heard slot.link piece).news
-      named = (tells_heard (AreWaiting s.book.ledger.rows k) (IsPlacedOn s.book.ledger.rows k) (keeps_waiting s.book.ledger.rows k) slot.link piece (h.tags k slot is)).named
-
-      fair_by : (b : Bool) → hears_at (Some slot) ≡ b → b ≡ true → IfSome (if b then Some (heard_by slot k piece s.links) else None) (λ h. AreFair h.news) → AreFair (heard_by slot k piece s.links).news
-      fair_by true e is f = f
-      fair_by false e is f = absurd (let never : ⊥ = (cc) in never)
-
-      hears : hears_at (Some slot) ≡ true
-      hears = ap (λ (b : Bool). not (b || is_some slot.link.link.wire.broken)) alive ∙ ap (λ (o : Option ℕ). not (is_some o)) unbroken
-
-      fair_of : IfSome (heard_at (Some slot) k piece s.links) (λ h. AreFair h.news) → AreFair (heard_by slot k piece s.links).news
-      fair_of f = fair_by (hears_at (Some slot)) refl hears f
-
-      grew : RowsGrew s.book.ledger.rows t.book.ledger.rows
-      grew = grew_by s t (hear_frame Writes writing writing_comes k (heard_by slot k piece s.links) s (changed_length (with_link (heard_link piece)) s.links k) (fair_of fair)) (frame_still k piece slot s)
 
   -- bytes that a dead link passes over
   passed_came : (k : ℕ) (bytes more : List ℕ) (s : StateSeen) (slot : LinkSlot) (g : Story) → numbered s.links k ≡ Some slot → hears_at (Some slot) ≡ false → FramesOf k bytes g s.links → Goes g [] s → Came k g bytes (bytes ++ more) s
@@ -395,7 +396,7 @@ module _ (inbox : InboxLaws) (kept : KeptLaws) where
       alive = λ z e dead unbroken.
           let both : Some slot ≡ Some z = sym is ∙ e in
           let same : slot ≡ z = (cc) in
-          let hears : hears_at (Some z) ≡ true = ap (λ (b : Bool). not (b || is_some z.link.link.wire.broken)) dead ∙ ap (λ (o : Option ℕ). not (is_some o)) unbroken in
+          let hears : hears_at (Some z) ≡ true = hears_alive z dead unbroken in
           absurd (let clash : true ≡ false = sym hears ∙ ap (λ (y : LinkSlot). hears_at (Some y)) (sym same) ∙ deaf in (let never : ⊥ = (cc) in never));
     };
     there = λ j apart. refl;

@@ -1,6 +1,7 @@
 -- What applications take of each call is a front of head and messages of the one attempt to which it is committed, whatever events a
 -- channel is given.
 use Rattle.std.proofs.Common.{◌≡◌, ◌≤◌, ℕ, zero, suc, ◌+◌, Bool, true, false, ◌==◌, ◌||◌, if◌then◌else◌, ◌⊎◌, inl, inr, length, Option, Some, None, is_some, List, [], ◌∷◌, ◌++◌, slice_get, refl, sym, ap, subst, ◌∙◌, arith, append_assoc, append-nil}
+use Rattle.std.specs.List.{AllByRecursion}
 use Rattle.std.specs.Option.{option_map}
 use Rattle.std.proofs.lemmas.Bool.{cases_eq, eq-eqb, ne_eqb}
 use Rattle.std.proofs.lemmas.Grind.{flat_map-append}
@@ -18,9 +19,8 @@ use Rattle.grpc_frame.specs.Messages.{messages_of}
 use Rattle.h2_frame.specs.Readings.{frames_of}
 use Rattle.ledger_stamps.specs.Later.{Grown}
 use Rattle.subchannel.specs.Boards as boards
-use Rattle.call_core.specs.Commitments.{IsCommittedOnce, IsStamped}
 use Rattle.call_core.specs.Laws.{came, message_items}
-use Rattle.call_core.specs.Steps.{Stepped, take_reply}
+use Rattle.call_core.specs.Steps.{take_reply}
 use Rattle.channel_net.specs.Steps as net
 use Rattle.channel_core.specs.declared.state.links.LinkSlot.{LinkSlot}
 use Rattle.channel_core.specs.declared.state.slots.CallSlot.{CallSlot}
@@ -35,15 +35,17 @@ use Rattle.channel_core.specs.States.{StateSeen}
 use Rattle.channel_core.specs.Steps as step
 use Rattle.channel_core.specs.Steps.{overdue_ended}
 use Rattle.channel_core.specs.Tables.{fresh_link, has_link, new_slot, numbered, take_reply_of}
-use Rattle.link_laws.proofs.CallLaws.{once_in}
 use Rattle.channel_laws.proofs.CallLimits.{call_limit, foretold_by, foretold_fits, knows_runs, uncommitted}
 use Rattle.channel_laws.proofs.CallMoves.{KeptLaws}
-use Rattle.link_laws.proofs.Calls.{bare}
 use Rattle.channel_core.proofs.Carrying.{with_book}
 use Rattle.channel_laws.proofs.Delivering.{CallOk, IsAs, IsOfOwn, IsToldOn, Story, as_same, as_then, given, given_by}
 use Rattle.channel_laws.proofs.DeliveryFrames.{Came, FramesOf, NoMay, SaysOn, frames_came}
 use Rattle.channel_laws.proofs.DeliveryMoves.{begin_goes}
 use Rattle.channel_laws.proofs.DeliverySteps.{Goes, overdue}
+use Rattle.channel_laws.proofs.CommittedBefore.{is_before}
+use Rattle.channel_laws.specs.Deliveries.{IsCommittedBefore}
+use Rattle.link_laws.specs.Stamps.{IsDatedRow, moment_at}
+use Rattle.link_laws.proofs.Dating.{dated_always}
 use Rattle.channel_laws.proofs.DeliveryTakes.{has_end, is_end, items_more, story_taken, take_goes, took_by, took_other, took_own}
 use Rattle.channel_laws.proofs.DeliveryWalk as walk
 use Rattle.channel_laws.proofs.HeardTags.{IsFront, IsFrontOf, front_grew}
@@ -56,8 +58,8 @@ use Rattle.channel_laws.specs.Response.{Response, response_in, response_on}
 use Rattle.h2_frame.specs.Frames.{FrameSeen}
 use Rattle.attempt_ledger.specs.Journals.{sent}
 use Rattle.link_laws.proofs.Knowing.{Knows, knows_new, knows_step}
-use Rattle.link_laws.proofs.LicensedCalls.{IsKnown, MoreLaws, sound_of}
-use Rattle.link_laws.proofs.Lifting.{OfCall, at_number}
+use Rattle.link_laws.proofs.LicensedCalls.{MoreLaws}
+use Rattle.link_laws.proofs.Lifting.{at_number}
 use Rattle.link_laws.proofs.LinkHears.{ReadsOn, SoundOn, other_frames, sound_stays}
 use Rattle.link_laws.proofs.LinkReads.{ReadsAll, drain_stays, has_if, reads_new, reads_step, received_more, sound_begun, text_there}
 use Rattle.link_laws.proofs.LinkStays.{StaysOn, dead_on, is_dead_slot, seen_on, stays, text_in, text_on}
@@ -288,12 +290,18 @@ module _ (laws : MoreLaws) (timed : TimedLaws) (inbox : InboxLaws) (kept : KeptL
       let b : length t.book.calls ≡ length t.book.ledger.calls = after.sound.count in
       omega (arith, ledgers, a, b)
 
+  -- what a step adds to what was taken of a call, and to what came on a link
+  taken_now : (old new : CoreSeen) (s : Stamped) (r : Reply) → Steps old new s r → (k : ℕ) → taken k new.journal.entries ≡ taken k old.journal.entries ++ taken_by k s.event r
+  taken_now old new s r h k = ap (λ (l : List Entry). taken k l) h.journal ∙ taken_more k old.journal.entries (record { moment = moment_of old.journal.entries s; word = s.word; event = s.event; reply = r; state = conn_of new.state })
+
+  received_now : (old new : CoreSeen) (s : Stamped) (r : Reply) → Steps old new s r → (k : ℕ) → received k new.journal.entries ≡ received k old.journal.entries ++ arrived_by k s.event r
+  received_now old new s r h k = ap (λ (l : List Entry). received k l) h.journal ∙ received_more k old.journal.entries (record { moment = moment_of old.journal.entries s; word = s.word; event = s.event; reply = r; state = conn_of new.state })
+
   pub tells_step : (old new : CoreSeen) (s : Stamped) (r : Reply) → Steps old new s r → Knows old → Served (desk_of old.state) → ReadsAll old → All SaysOf NoMay says_kept old → (g : Story) → Tells old g → ((story : Story) → IsAs g story → Fits story new.state) → (story : Story) × (IsAs g story × Tells new story)
   tells_step old new s r h knows served reads says g told fits =
       let es : List Entry = old.journal.entries in
       let m : ℕ = moment_of es s in
       let n : ℕ = length es + 1 in
-      let x : Entry = record { moment = m; word = s.word; event = s.event; reply = r; state = conn_of new.state } in
       let first : StateSeen = begun_at n m s.word old.state in
       let u : StateSeen = overdue_ended first in
       let v : StateSeen = h.by.answered in
@@ -308,25 +316,22 @@ module _ (laws : MoreLaws) (timed : TimedLaws) (inbox : InboxLaws) (kept : KeptL
       let now_v : v.book.ledger.entry ≡ n = answer_step.base.writes.entry ∙ now_u in
       let settle_step : Step laws timed n v new.state = subst (λ (y : StateSeen). Step laws timed n v y) (sym h.by.settles) (steps.settle laws timed n v) in
       let known_new : KnownIn new.state = known_after n v new.state settle_step.base now_v known_v in
-      let few : length old.state.book.calls ≤ length u.book.calls = calls_less n first u over_step f.known known_u in
       let some : length u.book.calls ≤ length v.book.calls = calls_less n u v answer_step known_u known_v in
       let many : length v.book.calls ≤ length new.state.book.calls = calls_less n v new.state settle_step known_v known_new in
       let stay : (k : ℕ) → StaysOn k first u = λ k. walks.overdue (StaysOn k) (stays k) first in
-      let a : Answered g es s.event r u v = answers n es u v g (overdue inbox kept first g [] told.goes) told.took told.over (λ k. frames_stay k (received k es) g first u (stay k) (told.frames k)) (λ k e. told.unbegun k (none_before old.state.book.calls u.book.calls k few e))
+      let a : Answered g es s.event r u v = answers n es u v g (overdue inbox kept first g [] told.goes) told.took told.over (λ k. frames_stay k (received k es) g first u (stay k) (told.frames k)) (λ k e. told.unbegun k (none_before old.state.book.calls u.book.calls k (calls_less n first u over_step f.known known_u) e))
       (λ k. sound_stays k (received k es) first u (stay k) (sound_begun k n m s.word (received k es) old.state (reads.reads k)))
       (λ k. walks.overdue (given_links.Stays SaysOf NoMay says_kept k) (given_links.stays SaysOf NoMay says_kept k) first (received k es) (sent k es) (says.on k)) s.event r (refusal_of s.event u) refl h.by.answers in
       let goes : Goes a.story [] new.state = subst (λ (y : StateSeen). Goes a.story [] y) (sym h.by.settles) (walk.settles laws timed inbox kept n v now_v known_v on_v.served a.story [] (subst (λ (y : StateSeen). Fits a.story y) h.by.settles (fits a.story a.like)) a.goes) in
-      let settled : (k : ℕ) → StaysOn k v new.state = λ k. subst (λ (y : StateSeen). StaysOn k v y) (sym h.by.settles) (walked.settle (StaysOn k) (stays k) v) in
-      let items : (k : ℕ) → taken k new.journal.entries ≡ taken k es ++ taken_by k s.event r = λ k. ap (λ (l : List Entry). taken k l) h.journal ∙ taken_more k es x in
-      let bytes : (k : ℕ) → received k new.journal.entries ≡ received k es ++ arrived_by k s.event r = λ k. ap (λ (l : List Entry). received k l) h.journal ∙ received_more k es x in (
+      let settled : (k : ℕ) → StaysOn k v new.state = λ k. subst (λ (y : StateSeen). StaysOn k v y) (sym h.by.settles) (walked.settle (StaysOn k) (stays k) v) in (
         a.story,
         (
           a.like,
           record {
             goes = goes;
-            took = λ k. a.took k ∙ ap before_end (sym (items k));
-            over = λ k. a.over k ∙ ap has_end (sym (items k));
-            frames = λ k. subst (λ (l : List ℕ). FramesOf k l a.story new.state.links) (sym (bytes k)) (frames_stay k (received k es ++ arrived_by k s.event r) a.story v new.state (settled k) (a.frames k));
+            took = λ k. a.took k ∙ ap before_end (sym (taken_now old new s r h k));
+            over = λ k. a.over k ∙ ap has_end (sym (taken_now old new s r h k));
+            frames = λ k. subst (λ (l : List ℕ). FramesOf k l a.story new.state.links) (sym (received_now old new s r h k)) (frames_stay k (received k es ++ arrived_by k s.event r) a.story v new.state (settled k) (a.frames k));
             unbegun = λ k e. a.unbegun k (none_before u.book.calls new.state.book.calls k (omega (arith, some, many)) e);
           },
         ),
@@ -412,7 +417,7 @@ no_front : (xs ys : List Reply) → xs ++ ys ≡ [] → xs ≡ []
 no_front [] ys e = refl
 no_front (x ∷ xs) ys e = absurd (let never : ⊥ = (cc) in never)
 
-module _ (core : CoreSeen) (knows : Knows core) (g : Story) (like : IsAs (foretold_by core knows) g) (told : Tells core g) (call : ℕ) where
+module _ (core : CoreSeen) (knows : Knows core) (dated : AllByRecursion (IsDatedRow (moment_at core.journal.entries)) core.state.book.ledger.rows) (g : Story) (like : IsAs (foretold_by core knows) g) (told : Tells core g) (call : ℕ) where
   abbrev entries : List Entry
   entries = core.journal.entries
 
@@ -428,23 +433,20 @@ module _ (core : CoreSeen) (knows : Knows core) (g : Story) (like : IsAs (foreto
   by_row : (slot : CallSlot) → numbered core.state.book.calls call ≡ Some slot → CallOk g [] rows call slot.call → (own : IsOfOwn (given g call slot.call) g.heard slot.call.attempts.committed) → (t : IsToldOn g rows own.place) → IsFrontOf (g.took call) t.limit (response_on t.limit t.number (received t.link entries)) → Told
   by_row slot there ok own t (inl none) = nothing none
   by_row slot there ok own t (inr f) =
-      let of : OfCall IsKnown core.state.book.moment core.state.book.ledger.entry call slot.call rows = knows.sound.each call slot there in
-      let x : Stepped = bare slot.call rows in
-      let once : IsCommittedOnce x = once_in core.state.book.moment core.state.book.ledger.entry x (sound_of core.state.book.moment core.state.book.ledger.entry x of.holds) in
-      let stamp : IsStamped slot.call.number rows own.place = once.stamped own.place own.is in
-      let both : Some t.on.row ≡ Some stamp.row = sym t.on.there ∙ stamp.is.there in
-      let same : t.on.row ≡ stamp.row = (cc) in
-      let number : numbered rows own.place ≡ Some stamp.row = sym (at_number rows own.place) ∙ stamp.is.there in
+      let last : (row : Row) × IsCommittedBefore rows call (length entries + 1) own.place row = is_before core knows dated call (length entries + 1) (omega arith) slot there own.place own.is in
+      let both : Some t.on.row ≡ Some last.0 = sym t.on.there ∙ last.1.is.there in
+      let same : t.on.row ≡ last.0 = (cc) in
+      let number : numbered rows own.place ≡ Some last.0 = sym (at_number rows own.place) ∙ last.1.is.there in
       inr (record {
         place = own.place;
-        row = stamp.row;
-        is = record { is = record { there = stamp.is.there; call = stamp.is.call ∙ of.number_is }; committed = stamp.stamped };
+        row = last.0;
+        is = last.1;
         at = t.on.at;
         placed = ap (λ (r : Row). r.placed) (sym same) ∙ t.on.placed;
         stream = t.number;
         has = sym (ap stream_of number) ∙ t.stream;
         limit = t.limit;
-        limit_is = call_limit core knows call own.place t.limit slot t.on.row there t.on.there (ap (λ (r : Row). r.call) same ∙ stamp.is.call ∙ of.number_is) (λ none. uncommitted slot.call.attempts.committed own.place (ok.kept.free none) own.is) (t.own like.foretold ∙ ap (λ (l : ℕ → ℕ). l own.place) like.limits);
+        limit_is = call_limit core knows call own.place t.limit slot t.on.row there t.on.there (ap (λ (r : Row). r.call) same ∙ last.1.is.call) (λ none. uncommitted slot.call.attempts.committed own.place (ok.kept.free none) own.is) (t.own like.foretold ∙ ap (λ (l : ℕ → ℕ). l own.place) like.limits);
         meta = f.meta;
         messages = f.messages;
         more = f.more;
@@ -486,4 +488,4 @@ delivered_always laws timed inbox kept authority new core events is runs call =
     let knows : Knows core = knows_runs laws new events core runs (knows_new authority new is) in
     let foretold : Story = foretold_by core knows in
     let all : IsSo foretold core = so_foretold laws timed inbox kept authority new core events is runs in
-    of_call core knows all.story all.like all.tells call (numbered core.state.book.calls call) refl
+    of_call core knows (dated_always authority new core events is runs).dated.rows all.story all.like all.tells call (numbered core.state.book.calls call) refl

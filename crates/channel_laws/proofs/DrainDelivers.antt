@@ -16,9 +16,8 @@ use Rattle.grpc_link.specs.Links.{GrpcSeen, opened_all, opened_one, reader_in}
 use Rattle.grpc_link.specs.Readers.{ReaderSeen}
 use Rattle.grpc_link.specs.declared.readers.TagReader.{TagReader}
 use Rattle.channel_core.specs.Draining.{streams_given}
-use Rattle.channel_laws.proofs.HeardLinks.{IsFresh, LinkOk, StreamOk, WaitsOk, bound_of}
+use Rattle.channel_laws.proofs.HeardLinks.{IsFresh, LinkOk, StreamOk, WaitsOk, both_less, bound_of}
 use Rattle.channel_laws.proofs.HeardTags.{OfReader}
-use Rattle.channel_laws.proofs.HeardFrames.{both_less}
 use Rattle.channel_laws.specs.Response.{Response, no_response, response_in}
 use Rattle.h2_frame.specs.Frames.{FrameSeen}
 use Rattle.link_laws.proofs.Keeping.{TypeOf}

@@ -34,7 +34,7 @@ use Rattle.channel_laws.proofs.CutCalls.{ends_stay}
 use Rattle.link_laws.proofs.LicensedCalls.{MoreLaws}
 use Rattle.link_laws.proofs.Lifting.{cause_of, same_number}
 use Rattle.channel_laws.proofs.NewEnds.{Fresh, Keeps, NewEnds, Now, On, Read, ReadOf, cuts_now, does, fresh_less, keeps_same, new_joined, new_less, none_new}
-use Rattle.channel_laws.proofs.QuietEnds.{Part, Silent, part_free, part_joined, part_keeps, rests, stand, tokens_of}
+use Rattle.channel_laws.proofs.QuietEnds.{Part, Silent, part_free, part_lone, part_joined, part_keeps, rests, stand, tokens_of}
 use Rattle.link_laws.proofs.Served.{acted_is}
 use Rattle.link_laws.proofs.Serving.{KnownIn, known_after}
 use Rattle.link_laws.proofs.ServingOffs.{acts_rows}
@@ -114,8 +114,8 @@ module _ (number N m : ℕ) (x : Stepped) (own : x.call.number ≡ number) (at :
   times_if (Some d) = closes_if (nat_le d m)
 
 -- what is read where a row is cut, of a call that ends by its deadline
-abbrev pub TimedOf : ℕ → StateSeen → List CallSeen → ℕ → ℕ → ℕ → Type 0
-TimedOf N s calls call link n = Read Silent s call link n × EndsIn calls call N ends.Deadline
+abbrev pub TimedOf : ℕ → StateSeen → List CallSeen → ℕ → ℕ → ℕ → ℕ → Type 0
+TimedOf N s calls place call link n = Read Silent s place call link n × EndsIn calls call N ends.Deadline
 
 module _ (laws : MoreLaws) (timed : TimedLaws) (N : ℕ) where
   pub record Early (s t : StateSeen) : Type 0 where
@@ -136,7 +136,7 @@ module _ (laws : MoreLaws) (timed : TimedLaws) (N : ℕ) where
         (new_less (Fresh (TimedOf N s t.book.ledger.calls) Silent t.book.ledger.rows) Q s.book.ledger.rows t.book.ledger.rows
         (λ place end h. fresh_less (TimedOf N s t.book.ledger.calls) (TimedOf N s u.book.ledger.calls) Silent Silent t.book.ledger.rows u.book.ledger.rows place end (part_keeps N t u second.part.base) (λ c link e. (e.0, ends_stay t.book.ledger.entry c N ends.Deadline t.book.ledger u.book.ledger later e.1)) (λ link e. e) h) (first.ends at known))
         (new_less (Fresh (TimedOf N t u.book.ledger.calls) Silent u.book.ledger.rows) Q t.book.ledger.rows u.book.ledger.rows
-        (λ place end h. fresh_less (TimedOf N t u.book.ledger.calls) (TimedOf N s u.book.ledger.calls) Silent Silent u.book.ledger.rows u.book.ledger.rows place end (keeps_same u.book.ledger.rows) (λ c link e. ((e.0.0 ∙ first.part.seen link, part_free N s t c first.part.base e.0.1), e.1)) (λ link e. e) h) (second.ends at_t (known_after N s t first.part.base at known)));
+        (λ place end h. fresh_less (TimedOf N t u.book.ledger.calls) (TimedOf N s u.book.ledger.calls) Silent Silent u.book.ledger.rows u.book.ledger.rows place end (keeps_same u.book.ledger.rows) (λ c link e. ((e.0.0 ∙ first.part.seen link, part_free N s t c first.part.base e.0.1, part_lone N s t c place first.part.base e.0.2), e.1)) (λ link e. e) h) (second.ends at_t (known_after N s t first.part.base at known)));
   }
 
   -- one call

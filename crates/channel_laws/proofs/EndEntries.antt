@@ -21,7 +21,7 @@ use Rattle.call_core.specs.Rows.{row_in}
 use Rattle.channel_core.specs.Applying.{Stepped, begun_at, conn_of}
 use Rattle.channel_core.specs.Core.{CoreSeen, IsNew, Runs, Steps, moment_of}
 use Rattle.channel_laws.specs.Cancels.{EndsIn}
-use Rattle.channel_laws.specs.EndEntries.{AreEndedIn, IsBrought, IsCutIn, IsEndedBy, IsEndedOn, IsLostIn, IsToldIn}
+use Rattle.channel_laws.specs.EndEntries.{AreEndedIn, IsCutIn, IsEndedBy, IsEndedOn, IsHeadBy, IsLargeBy, IsLostIn, IsToldIn, IsWithLimit}
 use Rattle.link_laws.specs.FrameRules.{BreaksRules, KeepsRules}
 use Rattle.channel_laws.specs.ResponseLimits.{IsCallLimit}
 use Rattle.channel_core.specs.States.{StateSeen}
@@ -35,12 +35,12 @@ use Rattle.channel_laws.proofs.Delivering.{IsAs, Story, as_then}
 use Rattle.channel_laws.proofs.DeliveryFrames.{NoMay}
 use Rattle.channel_laws.proofs.DeliveryRuns.{Tells, blank, frames_stay, new_tells_as, tells_step}
 use Rattle.channel_laws.proofs.DeliverySteps as delivery
-use Rattle.channel_laws.proofs.CutCalls.{HasCall, IsFree}
+use Rattle.channel_laws.proofs.CutCalls.{IsFree}
 use Rattle.link_laws.proofs.EachEntry.{EndsBy, ends_by, still}
 use Rattle.channel_laws.proofs.CallLimits.{foretold_by, foretold_fits, knows_runs, row_limit}
 use Rattle.channel_laws.proofs.Foretelling.{Fits, fits_as, leads_runs}
 use Rattle.channel_laws.proofs.FrameSays.{SaysOf, says_kept}
-use Rattle.channel_laws.proofs.GainedEnds.{Brought, Coming, Gained, as_brought, as_told, brought_later, gained_later, gaining}
+use Rattle.channel_laws.proofs.GainedEnds.{Brought, Coming, Gained, as_head, as_large, as_told, brought_later, gained_later, gaining}
 use Rattle.link_laws.proofs.GivenAlways.{All, all_new, all_step}
 use Rattle.link_laws.proofs.GivenLinks as given
 use Rattle.link_laws.proofs.RuleBreaks.{Known, known_judges, known_kept}
@@ -56,9 +56,11 @@ use Rattle.channel_laws.proofs.NewEnds.{NewEnds, WasEnded}
 use Rattle.channel_laws.proofs.NewsEnds.{is_told}
 use Rattle.link_laws.proofs.OrderedCalls.{GrewAt, grew_at}
 use Rattle.channel_laws.proofs.Owned.{InboxLaws}
-use Rattle.link_laws.proofs.Served.{IsPlacedOn, Served, desk_of}
+use Rattle.link_laws.proofs.Served.{Served, desk_of}
 use Rattle.link_laws.proofs.ServedRuns.{IsFirst, first_of, served_new, served_step}
 use Rattle.channel_core.proofs.Stamping.{stamped}
+use Rattle.channel_laws.proofs.RestedLinks.{Keeps, Rested, all_rested_new, all_rested_step, keeps}
+use Rattle.channel_laws.proofs.RestedWires.{Retires, retires_kept}
 use Rattle.channel_laws.proofs.ReadsBy.{OfOn, StaysDead, gone_stays, read_later, read_told, row_later, row_told}
 use Rattle.channel_laws.proofs.LostStreams.{sent_later}
 use Rattle.channel_laws.proofs.StepParts.{IsParted, parted}
@@ -80,6 +82,7 @@ none_numbered (suc i) seen e = (cc)
 -- with what is foretold
 module _ (first : Story) (sure : first.foretold ≡ true) where
   any_later : (n link : ℕ) (s t : StateSeen) (before : List Entry) (at : Entry) (place : ℕ) (end : RowEnd) → Later n s.book.ledger t.book.ledger → StaysDead s t → (stream_at s.book.ledger.rows place ≡ None → stream_at t.book.ledger.rows place ≡ None) → (length before + 1 ≡ n → ⊥) → Any (Gained first.limits) (Brought first.limits) s link before at place end → Any (Gained first.limits) (Brought first.limits) t link before at place end
+  unfolding read_later
   any_later n link s t before at place end l stays bare early (inl cut) = inl (cut.0, row_later (Brought first.limits) n s t l stays (brought_later first.limits n s.book.ledger t.book.ledger l) link place end.seen before at early cut.1)
   any_later n link s t before at place end l stays bare early (inr (inl (cause, told))) = inr (inl (
     cause,
@@ -106,6 +109,7 @@ module _ (first : Story) (sure : first.foretold ≡ true) where
           event_is = h.1.event_is;
           reply_is = h.1.reply_is;
           read = read_later n link end.seen (before ++ at ∷ []) s t l stays h.1.read;
+          broke = h.1.broke;
           gone = gone_stays n link (length before + 1) s.book.ledger t.book.ledger l h.1.gone;
           dead = dead.0;
           last = dead.1 ∙ h.1.last;
@@ -152,6 +156,7 @@ module _ (first : Story) (sure : first.foretold ≡ true) where
     pub served : Served (desk_of core.state)
     pub links : breaks.All Known Free known_kept KeepsRules BreaksRules known_judges core
     pub says : All SaysOf NoMay says_kept core
+    pub rested : Rested core
     pub story : Story
     pub like : IsAs first story
     pub tells : Tells core story
@@ -223,9 +228,9 @@ module _ (first : Story) (sure : first.foretold ≡ true) where
 
   module _ (laws : MoreLaws) (timed : TimedLaws) (inbox : InboxLaws) (kept : KeptLaws) where
     -- what is kept of a link where a step begins, and what ended for it is over
-    pub coming : (old : CoreSeen) (n m w k : ℕ) → ReadsAll old → All SaysOf NoMay says_kept old → given.InOn Known Free known_kept (received k old.journal.entries) (sent k old.journal.entries) (numbered old.state.links k) → (g : Story) → IsAs first g → Tells old g
+    pub coming : (old : CoreSeen) (n m w k : ℕ) → ReadsAll old → All SaysOf NoMay says_kept old → Rested old → given.InOn Known Free known_kept (received k old.journal.entries) (sent k old.journal.entries) (numbered old.state.links k) → (g : Story) → IsAs first g → Tells old g
         → Coming first old.state.book.ledger.rows k (sent k old.journal.entries) (received k old.journal.entries) (overdue_ended (begun_at n m w old.state))
-    coming old n m w k reads says on g like told =
+    coming old n m w k reads says rested on g like told =
         let first : StateSeen = begun_at n m w old.state in
         let u : StateSeen = overdue_ended first in
         let bytes : List ℕ = received k old.journal.entries in
@@ -236,15 +241,19 @@ module _ (first : Story) (sure : first.foretold ≡ true) where
           sound = sound_stays k bytes first u stay (sound_begun k n m w bytes old.state (reads.reads k));
           said = overdue (given.Stays SaysOf NoMay says_kept k) (given.stays SaysOf NoMay says_kept k) first bytes (sent k old.journal.entries) (says.on k);
           known = overdue (given.Stays Known Free known_kept k) (given.stays Known Free known_kept k) first bytes (sent k old.journal.entries) on;
+          rested = record {
+            retires = overdue (given.Stays Retires NoMay retires_kept k) (given.stays Retires NoMay retires_kept k) first bytes (sent k old.journal.entries) (rested.retires.on k);
+            rested = overdue (Keeps k) (keeps k) first (rested.rested k);
+          };
           frames = frames_stay k bytes g first u stay (told.frames k);
           goes = delivery.overdue inbox kept first g [] told.goes;
           alike = overdue Still rows_still.still first;
         }
 
     -- by this story
-    pub coming_by : (old : CoreSeen) (n m w k : ℕ) (reads : ReadsAll old) (says : All SaysOf NoMay says_kept old) (on : given.InOn Known Free known_kept (received k old.journal.entries) (sent k old.journal.entries) (numbered old.state.links k)) (g : Story) (like : IsAs first g) (told : Tells old g) → (coming old n m w k reads says on g like told).story ≡ g
+    pub coming_by : (old : CoreSeen) (n m w k : ℕ) (reads : ReadsAll old) (says : All SaysOf NoMay says_kept old) (rested : Rested old) (on : given.InOn Known Free known_kept (received k old.journal.entries) (sent k old.journal.entries) (numbered old.state.links k)) (g : Story) (like : IsAs first g) (told : Tells old g) → (coming old n m w k reads says rested on g like told).story ≡ g
     unfolding coming
-    coming_by old n m w k reads says on g like told = refl
+    coming_by old n m w k reads says rested on g like told = refl
 
     pub ending_step : (old new : CoreSeen) (s : Stamped) (r : Reply) → Steps old new s r → Fits first new.state → IsEnding old → IsEnding new
     ending_step old new s r h fits had =
@@ -264,7 +273,7 @@ module _ (first : Story) (sure : first.foretold ≡ true) where
         not_timed old new s r p had.knows had.by c (subst (λ (y : StateSeen). IsFree c y.book.ledger.calls) (ap overdue_ended (sym p.first_is) ∙ sym p.found_is) free) in
         let ends : NewEnds (Found (Gained first.limits) (Brought first.limits) new.state es x) old.state.book.ledger.rows new.state.book.ledger.rows =
         step_ends laws timed n m s.word es x old.state new.state later (λ other. walked Still rows_still.still n m s.word s.event old.state new.state r (walked_still s.event other) h.by) start.known start.served had.links.each each stays had.links.reads.reads had.links.gives.on reads dated
-        (Gained first.limits) (gained_later first.limits n old.state.book.ledger new.state.book.ledger later) (Brought first.limits) (brought_later first.limits n old.state.book.ledger new.state.book.ledger later) (λ k bytes z. Coming first old.state.book.ledger.rows k (sent k es) bytes z) (λ k. gaining inbox kept first sure old.state.book.ledger.rows k (sent k es)) (λ k. coming old n m s.word k had.links.reads had.says (had.links.gives.on k) had.story had.like had.tells) refl not_timed_now s.event r refl refl h.by in
+        (Gained first.limits) (gained_later first.limits n old.state.book.ledger new.state.book.ledger later) (Brought first.limits) (brought_later first.limits n old.state.book.ledger new.state.book.ledger later) (λ k bytes z. Coming first old.state.book.ledger.rows k (sent k es) bytes z) (λ k. gaining inbox kept first sure old.state.book.ledger.rows k (sent k es)) (λ k. coming old n m s.word k had.links.reads had.says had.rested (had.links.gives.on k) had.story had.like had.tells) refl not_timed_now s.event r refl refl h.by in
         let told = tells_step laws timed inbox kept old new s r h had.knows had.served had.links.reads had.says had.story had.tells (λ story like. fits_as first story new.state (as_then first had.story story had.like like) fits) in
         let law : Law (es ++ x ∷ []) new.state = λ place row there end ended. end_so n es x old.state new.state refl later stays (stay_bare laws timed old new s r h p had.knows had.served) had.law ends place row there end ended in
         record {
@@ -272,6 +281,7 @@ module _ (first : Story) (sure : first.foretold ≡ true) where
           served = served_step laws timed old new s r h had.knows had.served;
           links = links;
           says = all_step SaysOf NoMay says_kept old new s r h had.says;
+          rested = all_rested_step old new s r h had.rested;
           story = told.0;
           like = as_then first had.story told.0 had.like told.1.0;
           tells = told.1.1;
@@ -293,6 +303,7 @@ module _ (first : Story) (sure : first.foretold ≡ true) where
           served = served_new authority core is;
           links = breaks.all_new Known Free known_kept KeepsRules BreaksRules known_judges authority core is;
           says = all_new SaysOf NoMay says_kept authority core is;
+          rested = all_rested_new authority core is;
           story = blank first;
           like = record { limits = refl; foretold = refl };
           tells = new_tells_as first authority core is;
@@ -325,31 +336,21 @@ module _ (first : Story) (sure : first.foretold ≡ true) where
     l = s.book.ledger
 
     -- what a frame brought for a row
-    brings : (call link tag : ℕ) (octets : List ℕ) (F : List FrameSeen) (f : FrameSeen) → HasCall l.rows call tag → IsPlacedOn l.rows link tag → Brought first.limits octets l.rows F (F ++ f ∷ []) tag → IsBrought es l call link octets F f
-    brings call link tag octets F f of on b =
-        let at : numbered l.rows tag ≡ Some of.row = sym (as_numbered l.rows tag) ∙ of.is.there in
-        let both : Some on.row ≡ Some of.row = sym on.there ∙ of.is.there in
-        let same : on.row ≡ of.row = (cc) in
-        record {
-          place = tag;
-          row = of.row;
-          is = of.is;
-          placed = on.at;
-          placed_is = ap (λ (r : Row). r.placed) (sym same) ∙ on.placed;
-          on = on.on;
-          limit = first.limits tag;
-          limit_is = subst (λ (k : ℕ). IsCallLimit es l k (first.limits tag)) of.is.call (limits tag of.row at);
-          brings = as_brought first.limits octets l.rows tag of.row F f at b;
-        }
+    head_of : (tag : ℕ) (r : Row) (F : List FrameSeen) (f : FrameSeen) → numbered l.rows tag ≡ Some r → Brought first.limits l.rows true F (F ++ f ∷ []) tag → IsWithLimit IsHeadBy es l r F f
+    head_of tag r F f at b = record { limit = first.limits tag; limit_is = limits tag r at; by = as_head first.limits l.rows tag r F f at b }
 
-    cut_of : end.cause ≡ cause.Cut → (link : ℕ) (before : List Entry) (at : Entry) → Any (Gained first.limits) (Brought first.limits) s link before at place end → IsCutIn es l row.call link before at end.seen
-    cut_of e link before at (inl cut) = row_told (Brought first.limits) es s brings link place end.seen before at row there cut.1
+    large_of : (tag : ℕ) (r : Row) (F : List FrameSeen) (f : FrameSeen) → numbered l.rows tag ≡ Some r → Brought first.limits l.rows false F (F ++ f ∷ []) tag → IsWithLimit IsLargeBy es l r F f
+    large_of tag r F f at b = record { limit = first.limits tag; limit_is = limits tag r at; by = as_large first.limits l.rows tag r F f at b }
+
+    cut_of : end.cause ≡ cause.Cut → (link : ℕ) (before : List Entry) (at : Entry) → Any (Gained first.limits) (Brought first.limits) s link before at place end → IsCutIn es l row link before at end.seen
+    cut_of e link before at (inl cut) = row_told (Brought first.limits) es s head_of large_of link place end.seen before at row there cut.1
     cut_of e link before at (inr (inl told)) = absurd (not_told end.cause cause.Cut e refl told.0)
     cut_of e link before at (inr (inr (inl loss, h))) = absurd (two_causes end.cause e loss)
     cut_of e link before at (inr (inr (inr loss, h))) = absurd (let both : cause.Cut ≡ cause.Unsent = sym e ∙ loss in let no : ⊥ = (cc) in no)
 
     lost_in : (link : ℕ) (before : List Entry) (at : Entry) → LostOn s link before at place end → IsLostIn l link before at end
-    lost_in link before at h = record { event_is = h.event_is; reply_is = h.reply_is; read = read_told link end.seen (before ++ at ∷ []) s h.read; gone = h.gone; all = sym (ap read_of h.gone.there) ∙ h.last }
+    unfolding read_told
+    lost_in link before at h = record { event_is = h.event_is; reply_is = h.reply_is; read = read_told link end.seen (before ++ at ∷ []) s h.read; broke = h.broke; gone = h.gone; all = sym (ap read_of h.gone.there) ∙ h.last }
 
     lost_of : end.cause ≡ cause.Lost → (link : ℕ) (before : List Entry) (at : Entry) → Any (Gained first.limits) (Brought first.limits) s link before at place end → IsLostIn l link before at end
     lost_of e link before at (inl cut) = absurd (two_causes end.cause cut.0 e)
@@ -395,7 +396,7 @@ module _ (first : Story) (sure : first.foretold ≡ true) where
     by_cause : (c : RowCause) → end.cause ≡ c → (end.cause ≡ cause.Pick) ⊎ IsEndedOn (AnyOf s place) es l row end → IsEndedBy c es l row end
     by_cause cause.Pick e h = tt
     by_cause cause.Cut e (inl pick) = absurd (clash cause.Cut e pick (λ x. (cc)))
-    by_cause cause.Cut e (inr on) = on_less (AnyOf s place) (λ m link before at y. IsCutIn es m row.call link before at y.seen) es l row end (cut_of e) on
+    by_cause cause.Cut e (inr on) = on_less (AnyOf s place) (λ m link before at y. IsCutIn es m row link before at y.seen) es l row end (cut_of e) on
     by_cause cause.Lost e (inl pick) = absurd (clash cause.Lost e pick (λ x. (cc)))
     by_cause cause.Lost e (inr on) = on_less (AnyOf s place) IsLostIn es l row end (lost_of e) on
     by_cause cause.Unsent e (inl pick) = absurd (clash cause.Unsent e pick (λ x. (cc)))

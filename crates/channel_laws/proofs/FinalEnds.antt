@@ -16,7 +16,7 @@ use Rattle.link_laws.proofs.Knowing.{HoldsLast}
 use Rattle.link_laws.proofs.Lifted.{SoundIn}
 use Rattle.link_laws.proofs.Lifting.{IsTied, same_number}
 
-same_request : (o : Option RequestSeen) (q r : RequestSeen) → o ≡ Some q → o ≡ Some r → q ≡ r
+pub same_request : (o : Option RequestSeen) (q r : RequestSeen) → o ≡ Some q → o ≡ Some r → q ≡ r
 same_request o q r e f = (cc)
 
 pub final_known : (entries : List Entry) (s : StateSeen) → SoundCuts s → SoundIn IsSound (IsChosen entries) (HoldsLast entries) s → AreFinal entries s.book.ledger
@@ -28,6 +28,6 @@ final_known entries s cuts h call seen request chosen there begins is =
     let by : IsChosen entries seen.begun seen.configured slot.0.call.request slot.0.call.chosen = tied.chosen in
     let same : slot.0.call.request ≡ request = same_request _ slot.0.call.request request by.begins begins in
     let its : slot.0.call.chosen ≡ Some chosen = by.chosen_is ∙ ap (λ (r : RequestSeen). chosen_at entries seen.configured r) same ∙ is in
-    let own : IsFinalFor (plan_of slot.0.call.chosen) slot.0.call.number ledger.rows = of.holds.other in
+    let own : IsFinalFor (plan_of slot.0.call.chosen) slot.0.call.number ledger.rows = of.holds.one.one.one.other in
     let mine : IsFinalFor (plan_of slot.0.call.chosen) call ledger.rows = subst (λ (k : ℕ). IsFinalFor (plan_of slot.0.call.chosen) k ledger.rows) of.number_is own in
     λ place row end row_is ended counted final. mine place row end row_is ended counted (ap (λ (o : Option Chosen). is_final (plan_of o) end) its ∙ final)

@@ -31,7 +31,7 @@ use Rattle.link_laws.proofs.CallLaws.{FairNews, over_in, owner_in}
 use Rattle.link_laws.proofs.Calls.{Both, Does, EndedStay, IsCallLaw, IsLeftAt, LeavesRows, WasLeftAt}
 use Rattle.link_laws.proofs.EachEntry.{still}
 use Rattle.link_laws.proofs.LentCalls.{Lent}
-use Rattle.link_laws.proofs.LicensedCalls.{IsKnown, sound_of}
+use Rattle.link_laws.proofs.LicensedCalls.{IsKnown, sound_of, stamp_by}
 use Rattle.link_laws.proofs.OrderedCalls.{GrewAt, grew_at, stands}
 use Rattle.link_laws.proofs.Owning.{GoesTo, goes_closed_by, goes_configured, goes_due, goes_ended_at, goes_news, goes_placed, goes_sent, goes_timed_out}
 use Rattle.link_laws.proofs.SoundCalls.{IsAllowed}
@@ -47,13 +47,13 @@ abbrev EndsSo : Stepped → Stepped → Type 0
 EndsSo s t = (place : ℕ) (row : Row) (end : RowEnd) → row_in t.ledger.rows place ≡ Some row → row.ended ≡ Some end → WasEnded s.ledger.rows place end ⊎ ((is_cut end.cause ≡ true) ⊎ Excused (call_plan t.call) t.call.number t.ledger.rows place row end)
 
 -- the ends of the rows where something else is done
-abbrev IsOld : Stepped → ℕ → RowEnd → Type 0
+abbrev pub IsOld : Stepped → ℕ → RowEnd → Type 0
 IsOld s place end = WasEnded s.ledger.rows place end ⊎ (is_cut end.cause ≡ true)
 
-abbrev Each : ℕ → ℕ → Type 0
+abbrev pub Each : ℕ → ℕ → Type 0
 Each link place = Unit {0}
 
-cuts_old : (s : Stepped) (place link entry moment : ℕ) (tokens : Option ℕ) → Each link place → IsOld s place (cut_end entry moment (read_of s.ledger.links link) tokens)
+pub cuts_old : (s : Stepped) (place link entry moment : ℕ) (tokens : Option ℕ) → Each link place → IsOld s place (cut_end entry moment (read_of s.ledger.links link) tokens)
 cuts_old s place link entry moment tokens on = inr refl
 
 all_linked : (live : List LiveRow) → AreLinked Each live
@@ -64,10 +64,10 @@ was_there : (P : RowEnd → Type 0) (o : Option RowEnd) → ((end : RowEnd) → 
 was_there P None h = tt
 was_there P (Some end) h = h end refl
 
-its_end : (P : RowEnd → Type 0) (o : Option RowEnd) (end : RowEnd) → o ≡ Some end → IfSome o P → P end
+pub its_end : (P : RowEnd → Type 0) (o : Option RowEnd) (end : RowEnd) → o ≡ Some end → IfSome o P → P end
 its_end P o end e h = subst (λ (x : Option RowEnd). IfSome x P) e h
 
-begins : (s : Stepped) → told_ends.So (IsOld s) Each s.ledger.links (cuts_old s) s
+pub begins : (s : Stepped) → told_ends.So (IsOld s) Each s.ledger.links (cuts_old s) s
 begins s = record {
   ledger = record { rows = λ place row there. was_there (IsOld s place) row.ended (λ end e. inl (record { row = row; there = there; ended = e })); links_are = refl };
   live = all_linked s.call.live;
@@ -77,13 +77,13 @@ quiet : (s t : Stepped) → told_ends.AllSo (IsOld s) Each s.ledger.links (cuts_
 quiet s t all place row end there ended = elim (its_end (IsOld s place) row.ended end ended (all.rows place row there)) [ inl was ↦ inl was | inr cut ↦ inr (inl cut) ]
 
 -- where a row ends
-abbrev IsTold : Stepped → ℕ → ℕ → RowEnd → Type 0
+abbrev pub IsTold : Stepped → ℕ → ℕ → RowEnd → Type 0
 IsTold s told place end = IsOld s place end ⊎ (place ≡ told)
 
-cuts_told : (s : Stepped) (told place link entry moment : ℕ) (tokens : Option ℕ) → Each link place → IsTold s told place (cut_end entry moment (read_of s.ledger.links link) tokens)
+pub cuts_told : (s : Stepped) (told place link entry moment : ℕ) (tokens : Option ℕ) → Each link place → IsTold s told place (cut_end entry moment (read_of s.ledger.links link) tokens)
 cuts_told s told place link entry moment tokens on = inl (inr refl)
 
-begins_told : (s : Stepped) (told : ℕ) → told_ends.So (IsTold s told) Each s.ledger.links (cuts_told s told) s
+pub begins_told : (s : Stepped) (told : ℕ) → told_ends.So (IsTold s told) Each s.ledger.links (cuts_told s told) s
 begins_told s told = record {
   ledger = record { rows = λ place row there. was_there (IsTold s told place) row.ended (λ end e. inl (inl (record { row = row; there = there; ended = e }))); links_are = refl };
   live = all_linked s.call.live;
@@ -162,9 +162,6 @@ module _ (s t : Stepped) (number : t.call.number ≡ s.call.number) (l : LaterRo
     | inr (inr (inr (inr stamp))) ↦ stamp
   ]
 
-stamp_by : (n entry stamp : ℕ) (o : Option ℕ) → entry ≡ n → o ≡ Some stamp → IfSome o (λ e. e ≤ n) → stamp ≤ entry
-stamp_by n entry stamp o at e by = subst (λ (k : ℕ). stamp ≤ k) (sym at) (subst (λ (x : Option ℕ). IfSome x (λ y. y ≤ n)) e by)
-
 module _ (stay : EndedStay) where
   abbrev Given : ℕ → ℕ → Stepped → Type 0
   Given = Both Lent IsKnown
@@ -172,7 +169,7 @@ module _ (stay : EndedStay) where
   stamped_by : (m n : ℕ) (s : Stepped) → s.ledger.entry ≡ n → IsKnown m n s → (place : ℕ) (row : Row) → IsRowOf s.call.number s.ledger.rows place row → (k : ℕ) → row.committed ≡ Some k → k ≤ s.ledger.entry
   stamped_by m n s at a place row is k e = stamp_by n s.ledger.entry k row.committed at e ((over_in m n s (sound_of m n s a)).stamps place row is).committed
 
-  configured_plan : (m n : ℕ) (chosen : Chosen) (s t : Stepped) → Given m n s → (t.call.chosen ≡ s.call.chosen) ⊎ ((s.call.chosen ≡ None) × (t.call.chosen ≡ Some chosen)) → (t.call.chosen ≡ s.call.chosen) ⊎ ((place : ℕ) (row : Row) → IsRowOf s.call.number s.ledger.rows place row → ⊥)
+  pub configured_plan : (m n : ℕ) (chosen : Chosen) (s t : Stepped) → Given m n s → (t.call.chosen ≡ s.call.chosen) ⊎ ((s.call.chosen ≡ None) × (t.call.chosen ≡ Some chosen)) → (t.call.chosen ≡ s.call.chosen) ⊎ ((place : ℕ) (row : Row) → IsRowOf s.call.number s.ledger.rows place row → ⊥)
   configured_plan m n chosen s t a (inl same) = inl same
   configured_plan m n chosen s t a (inr first) = inr (a.other.one.one.other.fresh first.0)
 
@@ -194,7 +191,7 @@ module _ (stay : EndedStay) where
       }
 
   -- what is done to others
-  follow_left : (c : ℕ) (rows after : List Row) (q number_of next_of : ℕ) → LeavesRows c rows after → next_of ≡ number_of → IsFollowedAt c rows q number_of → IsFollowedAt c after q next_of
+  pub follow_left : (c : ℕ) (rows after : List Row) (q number_of next_of : ℕ) → LeavesRows c rows after → next_of ≡ number_of → IsFollowedAt c rows q number_of → IsFollowedAt c after q next_of
   follow_left c rows after q number_of next_of leaves equal f =
       let at : IsLeftAt c after f.later f.next = leaves.there f.later f.next f.is in
       record { later = f.later; order = f.order; next = at.row; is = at.is; kind = ap is_transparent at.left.kind ∙ f.kind; same = at.left.number ∙ f.same ∙ sym equal }

@@ -30,15 +30,15 @@ use Rattle.link_laws.proofs.OneCommitment.{same_row}
 abbrev pub Excused : CallPlan → ℕ → List Row → ℕ → Row → RowEnd → Type 0
 Excused plan owner rows place row end = (is_final plan end ≡ false) ⊎ (IsFollowedAt owner rows place row.number ⊎ IsStampedBy end.entry row)
 
-within : (rows : List Row) (place : ℕ) (row : Row) → row_in rows place ≡ Some row → place < length rows + 1
+pub within : (rows : List Row) (place : ℕ) (row : Row) → row_in rows place ≡ Some row → place < length rows + 1
 within rows zero row e = absurd (let no : ⊥ = (cc) in no)
 within rows (suc i) row e = (let inside : i < length rows = slice_get_within rows i row e in omega (arith, inside))
 
-found_row : (o : Option Row) (x row : Row) → o ≡ Some x → o ≡ Some row → row ≡ x
+pub found_row : (o : Option Row) (x row : Row) → o ≡ Some x → o ≡ Some row → row ≡ x
 found_row o x row e f = (cc)
 
 -- the end that was written is that of the row
-written_end : (e : RowEnd) (old row : Row) (end : RowEnd) → old.ended ≡ None → row.ended ≡ (ended_row e old).ended → row.ended ≡ Some end → end ≡ e
+pub written_end : (e : RowEnd) (old row : Row) (end : RowEnd) → old.ended ≡ None → row.ended ≡ (ended_row e old).ended → row.ended ≡ Some end → end ≡ e
 written_end e old row end free same is =
     let put : stamped e old.ended ≡ Some e = ap (λ (o : Option RowEnd). stamped e o) free in
     let both : Some end ≡ Some e = sym is ∙ same ∙ put in

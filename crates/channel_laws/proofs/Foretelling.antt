@@ -100,7 +100,7 @@ module _ (laws : MoreLaws) (timed : TimedLaws) (N : ℕ) where
   leads_passed k last m =
       let at : ℕ = m.state.book.moment in
       leads m.state.book.ledger.entry m.state (passed k last m).state (serving.pass laws timed N k last m).base.writes.later
-      (λ j. (turn.pass (walks.View j at KeepsChosen (keeps_chosen at)) (walks.turns j at KeepsChosen (keeps_chosen at)) (walks.settled_ends j at KeepsChosen (keeps_chosen at)) k last m refl).1)
+      (λ j. (turn.pass (walks.View j at KeepsChosen (keeps_chosen at)) (walks.turns j at KeepsChosen (keeps_chosen at)) (walks.settled_ends j at KeepsChosen (keeps_chosen at)).failed k last m refl).1)
 
   pub leads_rounds : (k : ℕ) (m : Moved) → LeadsTo m.state (settling.rounds_on (rounds k) m)
   leads_rounds k m =
@@ -113,7 +113,7 @@ module _ (laws : MoreLaws) (timed : TimedLaws) (N : ℕ) where
   leads_served number row s =
       let at : ℕ = s.book.moment in
       leads s.book.ledger.entry s (settling.served number row s).state (serving.serve laws timed N number row s).base.writes.later
-      (λ j. (turn.serve (walks.View j at KeepsChosen (keeps_chosen at)) (walks.turns j at KeepsChosen (keeps_chosen at)) (walks.settled_ends j at KeepsChosen (keeps_chosen at)) number row s refl).1)
+      (λ j. (turn.serve (walks.View j at KeepsChosen (keeps_chosen at)) (walks.turns j at KeepsChosen (keeps_chosen at)) (walks.settled_ends j at KeepsChosen (keeps_chosen at)).failed number row s refl).1)
 
 -- steps
 leads_step : MoreLaws → (old new : CoreSeen) (s : Stamped) (r : Reply) → Steps old new s r → Knows old → LeadsTo old.state new.state

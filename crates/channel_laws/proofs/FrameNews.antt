@@ -1,5 +1,5 @@
 -- Each kind of frame: what it makes of a link, and what the link tells of it.
-use Rattle.std.proofs.Common.{Bool, Err, List, None, Ok, Option, Result, Some, [], ap, arith, false, filter, if◌then◌else◌, inl, inr, is_none, is_some, length, map, min, not, refl, slice_get, slice_set, subst, sym, true, ℕ, ◌&&◌, ◌++◌, ◌<◌, ◌==◌, ◌||◌, ◌∙◌, ◌∷◌, ◌≡◌, ◌≤◌, ◌⊎◌}
+use Rattle.std.proofs.Common.{Bool, Err, List, None, Ok, Option, Result, Some, [], ap, arith, false, filter, if◌then◌else◌, inl, inr, is_none, is_some, length, map, min, not, refl, slice_set, subst, sym, true, ℕ, ◌&&◌, ◌++◌, ◌<◌, ◌==◌, ◌||◌, ◌∙◌, ◌∷◌, ◌≡◌, ◌≤◌, ◌⊎◌}
 use Rattle.std.specs.Prelude.{IfOk, int_lt, pos, ◌+ℤ◌}
 use Rattle.std.specs.List.{AllByRecursion, remove}
 use Rattle.std.proofs.lemmas.Bool.{eqb-true}
@@ -100,60 +100,56 @@ module _ (S : ℕ → Option ℕ) (L : ℕ → ℕ) (H : ℕ → List Reply) (re
     grew : (limit x : ℕ) → GrewTo (response_in limit x F) (response_in limit x E)
     grew limit x = grew_in limit x F (f ∷ [])
 
+    -- where the stream of the list is live
+    module _ (w : Wire) (x : ℕ × LiveStream) (place : FoundAt h.stream w.live x) (at_end : h.end ≡ count) (unbroken : w.broken ≡ None) (ok : IsOk w) where
+      list_alone : Only F E x.1.number
+      list_alone = subst (λ (k : ℕ). Only F E k) (sym place.number_is) list_only
+
+      abbrev pub list_head : Bool
+      list_head = x.1.head || not (is_interim (http_status h.fields))
+
+      abbrev pub list_news : LinkNews
+      list_news = link.Fields x.1.tag h.fields h.ends seen
+
+      list_was : StreamOk S L H F readers x.1
+      list_was = mine S L H F E readers w unbroken ok x place.at list_alone
+
+      list_gains : (m : News) → Gained count x.1.tag (L x.1.tag) (response_in (L x.1.tag) x.1.number F) (response_in (L x.1.tag) x.1.number E) m → G m
+      list_gains m g = on_stream count S L F E x.1.tag x.1.number list_was.stream m g
+
+      list_reads : (r : ReaderSeen) → OfReader (H x.1.tag) (L x.1.tag) (response_in (L x.1.tag) x.1.number F) x.1.head r → Reads count (H x.1.tag) (L x.1.tag) (response_in (L x.1.tag) x.1.number F) (response_in (L x.1.tag) x.1.number E) list_head x.1.tag (stepped r x.1.tag list_news)
+      list_reads r of = subst (λ (k : ℕ). Reads k (H x.1.tag) (L x.1.tag) (response_in (L x.1.tag) x.1.number F) (response_in (L x.1.tag) x.1.number E) list_head x.1.tag (stepped r x.1.tag (link.Fields x.1.tag h.fields h.ends (min k most)))) at_end
+          (fields_stepped (H x.1.tag) (L x.1.tag) (response_in (L x.1.tag) x.1.number F) (response_in (L x.1.tag) x.1.number E) h x.1.head x.1.tag r (list_here (L x.1.tag) x.1.number (sym place.number_is) of.live) of x.1.tag (grew (L x.1.tag) x.1.number))
+
+      list_named : (r : ReaderSeen) (t : ℕ) → (t ≡ x.1.tag → ⊥) → parts_of t (stepped r x.1.tag list_news).news ≡ []
+      list_named = named_fields x.1.tag h.fields h.ends seen
+
+      list_gone : (q : Queue) → LinkBut S L H E G (grpc_of (record w { live = remove w.live x.0; queue = q }) readers) x.1.tag list_news
+      list_gone q = ended_but S L H F E readers w unbroken ok x place.at list_alone list_news count G list_head list_named (kept_fields x.1.tag h.fields h.ends seen) (fits_fields x.1.tag h.fields h.ends seen) list_gains list_reads q
+
+      abbrev pub list_after : LiveStream
+      list_after = record x.1 { head = x.1.head || not (is_interim (http_status h.fields)) }
+
+      list_goes : (q : Queue) → LinkBut S L H E G (grpc_of (record w { live = slice_set w.live x.0 list_after; queue = q }) readers) x.1.tag list_news
+      list_goes q = put_but S L H F E readers w unbroken ok x place.at list_alone list_news count G list_head list_named (kept_fields x.1.tag h.fields h.ends seen) (fits_fields x.1.tag h.fields h.ends seen) list_gains list_reads q list_after refl refl refl
+
+      -- an error: nothing is read of the tag behind it
+      list_fails : (code : ℕ) → headers_error x.1 (http_status h.fields) h.ends ≡ Some code → (q : Queue) → Ok_ (record w { live = remove w.live x.0; queue = q }) (list_news ∷ link.Fault x.1.tag code seen ∷ [])
+      list_fails code error q =
+          let none : reader_in x.1.tag (told_of (grpc_of (record w { live = remove w.live x.0; queue = q }) readers) x.1.tag list_news (found x.1.tag readers)).link.readers ≡ None = none_behind (grpc_of (record w { live = remove w.live x.0; queue = q }) readers) x.1.tag list_news ok.once (λ r there. over_error x.1 (H x.1.tag) (L x.1.tag) (response_in (L x.1.tag) x.1.number F) r x.1.tag x.1.tag h.fields h.ends seen code (list_was.reader r there) error) in
+          inr (record { part = list_news; rest = link.Fault x.1.tag code seen ∷ []; is = refl; kind = tt; quiet = (λ r there. absurd (let both : None ≡ Some r = sym none ∙ there in (let never : ⊥ = (cc) in never)), tt); but = list_gone q })
+
+      list_ends : (end : Bool) → h.ends ≡ end → (q : Queue) → Ok_ (record w { live = live_after x.0 (headers_effect x.1 (http_status h.fields) end) w.live; queue = q }) (list_news ∷ fault_news x.1.tag seen (headers_effect x.1 (http_status h.fields) end))
+      list_ends true is q = unless_by (λ live ns. Ok_ (record w { live = live; queue = q }) (list_news ∷ ns)) w.live x.0 x.1.tag seen (headers_error x.1 (http_status h.fields) true) _
+          (λ none. inr (record { part = list_news; rest = []; is = refl; kind = tt; quiet = tt; but = list_gone q }))
+          (λ code error. list_fails code (ap (λ (b : Bool). headers_error x.1 (http_status h.fields) b) is ∙ error) q)
+      list_ends false is q = unless_by (λ live ns. Ok_ (record w { live = live; queue = q }) (list_news ∷ ns)) w.live x.0 x.1.tag seen (headers_error x.1 (http_status h.fields) false) _
+          (λ none. inr (record { part = list_news; rest = []; is = refl; kind = tt; quiet = tt; but = list_goes q }))
+          (λ code error. list_fails code (ap (λ (b : Bool). headers_error x.1 (http_status h.fields) b) is ∙ error) q)
+
     listed_ok : (w : Wire) (o : Option (ℕ × LiveStream)) → h.end ≡ count → found_from (is_numbered h.stream) 0 w.live ≡ o → h.stream < bound_of w → w.broken ≡ None → IsOk w → Ok_ (listed w h.fields h.ends seen o).wire (listed w h.fields h.ends seen o).news
     listed_ok w None at_end e low unbroken ok = inl (none_other S L H F E readers w unbroken ok h.stream list_only low (none_on h.stream 0 w.live e), tt)
-    listed_ok w (Some x) at_end e low unbroken ok = by h.ends refl (queue_after x.1.number (headers_effect x.1 (http_status h.fields) h.ends) w.queue)
-      where
-        place : FoundAt h.stream w.live x
-        place = found_at h.stream w.live x e
-
-        at : slice_get w.live x.0 ≡ Some x.1
-        at = place.at
-
-        only : Only F E x.1.number
-        only = subst (λ (k : ℕ). Only F E k) (sym place.number_is) list_only
-
-        head : Bool
-        head = x.1.head || not (is_interim (http_status h.fields))
-
-        n : LinkNews
-        n = link.Fields x.1.tag h.fields h.ends seen
-
-        was : StreamOk S L H F readers x.1
-        was = mine S L H F E readers w unbroken ok x at only
-
-        to : (m : News) → Gained count x.1.tag (L x.1.tag) (response_in (L x.1.tag) x.1.number F) (response_in (L x.1.tag) x.1.number E) m → G m
-        to m g = on_stream count S L F E x.1.tag x.1.number was.stream m g
-
-        reads : (r : ReaderSeen) → OfReader (H x.1.tag) (L x.1.tag) (response_in (L x.1.tag) x.1.number F) x.1.head r → Reads count (H x.1.tag) (L x.1.tag) (response_in (L x.1.tag) x.1.number F) (response_in (L x.1.tag) x.1.number E) head x.1.tag (stepped r x.1.tag n)
-        reads r of = subst (λ (k : ℕ). Reads k (H x.1.tag) (L x.1.tag) (response_in (L x.1.tag) x.1.number F) (response_in (L x.1.tag) x.1.number E) head x.1.tag (stepped r x.1.tag (link.Fields x.1.tag h.fields h.ends (min k most)))) at_end
-            (fields_stepped (H x.1.tag) (L x.1.tag) (response_in (L x.1.tag) x.1.number F) (response_in (L x.1.tag) x.1.number E) h x.1.head x.1.tag r (list_here (L x.1.tag) x.1.number (sym place.number_is) of.live) of x.1.tag (grew (L x.1.tag) x.1.number))
-
-        named : (r : ReaderSeen) (t : ℕ) → (t ≡ x.1.tag → ⊥) → parts_of t (stepped r x.1.tag n).news ≡ []
-        named = named_fields x.1.tag h.fields h.ends seen
-
-        gone : (q : Queue) → LinkBut S L H E G (grpc_of (record w { live = remove w.live x.0; queue = q }) readers) x.1.tag n
-        gone q = ended_but S L H F E readers w unbroken ok x at only n count G head named (kept_fields x.1.tag h.fields h.ends seen) (fits_fields x.1.tag h.fields h.ends seen) to reads q
-
-        y : LiveStream
-        y = record x.1 { head = x.1.head || not (is_interim (http_status h.fields)) }
-
-        goes : (q : Queue) → LinkBut S L H E G (grpc_of (record w { live = slice_set w.live x.0 y; queue = q }) readers) x.1.tag n
-        goes q = put_but S L H F E readers w unbroken ok x at only n count G head named (kept_fields x.1.tag h.fields h.ends seen) (fits_fields x.1.tag h.fields h.ends seen) to reads q y refl refl refl
-
-        -- an error: nothing is read of the tag behind it
-        bad : (code : ℕ) → headers_error x.1 (http_status h.fields) h.ends ≡ Some code → (q : Queue) → Ok_ (record w { live = remove w.live x.0; queue = q }) (n ∷ link.Fault x.1.tag code seen ∷ [])
-        bad code error q =
-            let none : reader_in x.1.tag (told_of (grpc_of (record w { live = remove w.live x.0; queue = q }) readers) x.1.tag n (found x.1.tag readers)).link.readers ≡ None = none_behind (grpc_of (record w { live = remove w.live x.0; queue = q }) readers) x.1.tag n ok.once (λ r there. over_error x.1 (H x.1.tag) (L x.1.tag) (response_in (L x.1.tag) x.1.number F) r x.1.tag x.1.tag h.fields h.ends seen code (was.reader r there) error) in
-            inr (record { part = n; rest = link.Fault x.1.tag code seen ∷ []; is = refl; kind = tt; quiet = (λ r there. absurd (let both : None ≡ Some r = sym none ∙ there in (let never : ⊥ = (cc) in never)), tt); but = gone q })
-
-        by : (end : Bool) → h.ends ≡ end → (q : Queue) → Ok_ (record w { live = live_after x.0 (headers_effect x.1 (http_status h.fields) end) w.live; queue = q }) (n ∷ fault_news x.1.tag seen (headers_effect x.1 (http_status h.fields) end))
-        by true is q = unless_by (λ live ns. Ok_ (record w { live = live; queue = q }) (n ∷ ns)) w.live x.0 x.1.tag seen (headers_error x.1 (http_status h.fields) true) _
-            (λ none. inr (record { part = n; rest = []; is = refl; kind = tt; quiet = tt; but = gone q }))
-            (λ code error. bad code (ap (λ (b : Bool). headers_error x.1 (http_status h.fields) b) is ∙ error) q)
-        by false is q = unless_by (λ live ns. Ok_ (record w { live = live; queue = q }) (n ∷ ns)) w.live x.0 x.1.tag seen (headers_error x.1 (http_status h.fields) false) _
-            (λ none. inr (record { part = n; rest = []; is = refl; kind = tt; quiet = tt; but = goes q }))
-            (λ code error. bad code (ap (λ (b : Bool). headers_error x.1 (http_status h.fields) b) is ∙ error) q)
+    listed_ok w (Some x) at_end e low unbroken ok = list_ends w x (found_at h.stream w.live x e) at_end unbroken ok h.ends refl (queue_after x.1.number (headers_effect x.1 (http_status h.fields) h.ends) w.queue)
 
   abbrev pub ResultOk : Result Told ℕ → Type 0
   ResultOk r = IfOk r (λ t. Ok_ t.wire t.news)
@@ -199,75 +195,73 @@ module _ (S : ℕ → Option ℕ) (L : ℕ → ℕ) (H : ℕ → List Reply) (re
     ends_so : (w : Wire) (x : ℕ × LiveStream) → StreamOk S L H F readers x.1 → (end : ReaderSeen → EndNews) → ((r : ReaderSeen) → OfReader (H x.1.tag) (L x.1.tag) (response_in (L x.1.tag) x.1.number F) x.1.head r → GainsEnd (L x.1.tag) (response_in (L x.1.tag) x.1.number F) (response_in (L x.1.tag) x.1.number E) (end r)) → (r : ReaderSeen) → reader_in x.1.tag readers ≡ Some r → G (news.Ended x.1.tag (end r))
     ends_so w x was end gains r there = inl (record { number = x.1.number; stream = was.stream; gains = gains r (was.reader r there) })
 
-    -- DATA
+    -- DATA of a stream that is live
+    module _ (w : Wire) (x : ℕ × LiveStream) (place : FoundAt f.stream w.live x) (kind : (f.kind == data_type) ≡ true) (unbroken : w.broken ≡ None) (ok : IsOk w) where
+      data_stays : (f.kind == goaway_type) ≡ false
+      data_stays = other_kind f data_type goaway_type kind refl
+
+      data_alone : Only F E x.1.number
+      data_alone = subst (λ (k : ℕ). Only F E k) (sym place.number_is) (off data_stays)
+
+      data_was : StreamOk S L H F readers x.1
+      data_was = mine S L H F E readers w unbroken ok x place.at data_alone
+
+      abbrev pub data_before : Response
+      data_before = response_in (L x.1.tag) x.1.number F
+
+      abbrev pub data_after : Response
+      data_after = response_in (L x.1.tag) x.1.number E
+
+      data_now : data_before.end ≡ None → data_after ≡ with_data (L x.1.tag) data_before a
+      data_now none = here (L x.1.tag) x.1.number data_stays (sym place.number_is) none ∙ data_on (L x.1.tag) data_before a kind
+
+      data_gains : (m : News) → Gained count x.1.tag (L x.1.tag) data_before data_after m → G m
+      data_gains m g = on_stream count S L F E x.1.tag x.1.number data_was.stream m g
+
+      data_reads : x.1.head ≡ true → (r : ReaderSeen) → OfReader (H x.1.tag) (L x.1.tag) data_before x.1.head r → Reads count (H x.1.tag) (L x.1.tag) data_before data_after x.1.head x.1.tag (stepped r x.1.tag (link.Data x.1.tag (content_of f) (has_flag f.flags end_stream_flag) seen))
+      data_reads has r of =
+          let head : is_some data_before.head ≡ true = sym of.came ∙ has in
+          let grows : Grows (L x.1.tag) data_before data_after (content_of f) (has_flag f.flags end_stream_flag) count = subst (λ (q : Response). Grows (L x.1.tag) data_before q (content_of f) (has_flag f.flags end_stream_flag) count) (sym (data_now of.live)) (data_are (L x.1.tag) data_before a of.live head) in
+          data_stepped (H x.1.tag) (L x.1.tag) data_before data_after (content_of f) (has_flag f.flags end_stream_flag) count x.1.head x.1.tag r grows head of x.1.tag (grew_in (L x.1.tag) x.1.number F (f ∷ []))
+
+      data_headed : data_error x.1 ≡ None → x.1.head ≡ true
+      data_headed none = no_error x.1 x.1.head refl none
+
+      data_unheaded : (code : ℕ) → (b : Bool) → x.1.head ≡ b → (if b then None else Some protocol_error) ≡ Some code → x.1.head ≡ false
+      data_unheaded code true at is_ = absurd (let never : ⊥ = (cc) in never)
+      data_unheaded code false at is_ = at
+
+      data_fails : (q : Queue) (code : ℕ) → data_error x.1 ≡ Some code → Ok_ (record w { live = remove w.live x.0; queue = q }) (link.Fault x.1.tag code seen ∷ [])
+      data_fails q code error = inl (
+        ended_ok S L H F E readers w unbroken ok x place.at data_alone q,
+        (
+          ends_so w x data_was (λ r. bare_end status.Internal cause.Framing false seen) (λ r of.
+              let none : is_none data_before.head ≡ true = none_of data_before.head (sym of.came ∙ data_unheaded code x.1.head refl error) in
+              record { none = of.live; end = bare_end status.Internal cause.Framing false count; there = ap (λ (q : Response). q.end) (data_now of.live) ∙ headless (L x.1.tag) data_before a none; fits = data_fits (L x.1.tag) data_before data_after (ap (λ (q : Response). q.data_) (data_now of.live) ∙ headless_data (L x.1.tag) data_before a none) of.sound; is = refl }),
+          tt,
+        ),
+      )
+        where
+          none_of : (o : Option (List Field)) → is_some o ≡ false → is_none o ≡ true
+          none_of None is_ = refl
+          none_of (Some meta) is_ = absurd (let never : ⊥ = (cc) in never)
+
+      abbrev pub data_piece : LinkNews
+      data_piece = link.Data x.1.tag (content_of f) (has_flag f.flags end_stream_flag) seen
+
+      data_gone : (q : Queue) → data_error x.1 ≡ None → Ok_ (record w { live = remove w.live x.0; queue = q }) (data_piece ∷ [])
+      data_gone q none = inr (record { part = data_piece; rest = []; is = refl; kind = tt; quiet = tt; but = ended_but S L H F E readers w unbroken ok x place.at data_alone data_piece count G x.1.head (named_data x.1.tag (content_of f) (has_flag f.flags end_stream_flag) seen) (kept_data x.1.tag (content_of f) (has_flag f.flags end_stream_flag) seen) (fits_data x.1.tag (content_of f) (has_flag f.flags end_stream_flag) seen) data_gains (data_reads (data_headed none)) q })
+
+      data_goes : (q : Queue) → data_error x.1 ≡ None → Ok_ (record w { live = slice_set w.live x.0 x.1; queue = q }) (data_piece ∷ [])
+      data_goes q none = inr (record { part = data_piece; rest = []; is = refl; kind = tt; quiet = tt; but = put_but S L H F E readers w unbroken ok x place.at data_alone data_piece count G x.1.head (named_data x.1.tag (content_of f) (has_flag f.flags end_stream_flag) seen) (kept_data x.1.tag (content_of f) (has_flag f.flags end_stream_flag) seen) (fits_data x.1.tag (content_of f) (has_flag f.flags end_stream_flag) seen) data_gains (data_reads (data_headed none)) q x.1 refl refl refl })
+
+      data_ends : (end : Bool) (q : Queue) → Ok_ (record w { live = live_after x.0 (data_effect x.1 end) w.live; queue = q }) (data_news x.1.tag (content_of f) (has_flag f.flags end_stream_flag) seen (data_effect x.1 end))
+      data_ends true q = data_unless (λ live ns. Ok_ (record w { live = live; queue = q }) ns) w.live x.0 x.1.tag (content_of f) (has_flag f.flags end_stream_flag) seen (data_error x.1) _ (data_gone q) (data_fails q)
+      data_ends false q = data_unless (λ live ns. Ok_ (record w { live = live; queue = q }) ns) w.live x.0 x.1.tag (content_of f) (has_flag f.flags end_stream_flag) seen (data_error x.1) _ (data_goes q) (data_fails q)
+
     data_ok : (w : Wire) (o : Option (ℕ × LiveStream)) → found_from (is_numbered f.stream) 0 w.live ≡ o → (f.kind == data_type) ≡ true → f.stream < bound_of w → w.broken ≡ None → IsOk w → Ok_ (data_told w f seen o).wire (data_told w f seen o).news
     data_ok w None e kind low unbroken ok = inl (beside_ok S L H E (grpc_of w readers) (record { wire = record w { queue = link_updated (length f.payload) w.queue }; rest = [] }) refl refl refl refl refl (none_other S L H F E readers w unbroken ok f.stream (off (other_kind f data_type goaway_type kind refl)) low (none_on f.stream 0 w.live e)), tt)
-    data_ok w (Some x) e kind low unbroken ok = by (has_flag f.flags end_stream_flag) (queue_after x.1.number (data_effect x.1 (has_flag f.flags end_stream_flag)) (stream_updated x.1 (length f.payload) (has_flag f.flags end_stream_flag) (link_updated (length f.payload) w.queue)))
-      where
-        place : FoundAt f.stream w.live x
-        place = found_at f.stream w.live x e
-
-        no_going : (f.kind == goaway_type) ≡ false
-        no_going = other_kind f data_type goaway_type kind refl
-
-        only : Only F E x.1.number
-        only = subst (λ (k : ℕ). Only F E k) (sym place.number_is) (off no_going)
-
-        was : StreamOk S L H F readers x.1
-        was = mine S L H F E readers w unbroken ok x place.at only
-
-        before : Response
-        before = response_in (L x.1.tag) x.1.number F
-
-        after : Response
-        after = response_in (L x.1.tag) x.1.number E
-
-        now : before.end ≡ None → after ≡ with_data (L x.1.tag) before a
-        now none = here (L x.1.tag) x.1.number no_going (sym place.number_is) none ∙ data_on (L x.1.tag) before a kind
-
-        to : (m : News) → Gained count x.1.tag (L x.1.tag) before after m → G m
-        to m g = on_stream count S L F E x.1.tag x.1.number was.stream m g
-
-        reads : x.1.head ≡ true → (r : ReaderSeen) → OfReader (H x.1.tag) (L x.1.tag) before x.1.head r → Reads count (H x.1.tag) (L x.1.tag) before after x.1.head x.1.tag (stepped r x.1.tag (link.Data x.1.tag (content_of f) (has_flag f.flags end_stream_flag) seen))
-        reads has r of =
-            let head : is_some before.head ≡ true = sym of.came ∙ has in
-            let grows : Grows (L x.1.tag) before after (content_of f) (has_flag f.flags end_stream_flag) count = subst (λ (q : Response). Grows (L x.1.tag) before q (content_of f) (has_flag f.flags end_stream_flag) count) (sym (now of.live)) (data_are (L x.1.tag) before a of.live head) in
-            data_stepped (H x.1.tag) (L x.1.tag) before after (content_of f) (has_flag f.flags end_stream_flag) count x.1.head x.1.tag r grows head of x.1.tag (grew_in (L x.1.tag) x.1.number F (f ∷ []))
-
-        with_head : data_error x.1 ≡ None → x.1.head ≡ true
-        with_head none = no_error x.1 x.1.head refl none
-
-        no_head : (code : ℕ) → (b : Bool) → x.1.head ≡ b → (if b then None else Some protocol_error) ≡ Some code → x.1.head ≡ false
-        no_head code true at is_ = absurd (let never : ⊥ = (cc) in never)
-        no_head code false at is_ = at
-
-        faulty : (q : Queue) (code : ℕ) → data_error x.1 ≡ Some code → Ok_ (record w { live = remove w.live x.0; queue = q }) (link.Fault x.1.tag code seen ∷ [])
-        faulty q code error = inl (
-          ended_ok S L H F E readers w unbroken ok x place.at only q,
-          (
-            ends_so w x was (λ r. bare_end status.Internal cause.Framing false seen) (λ r of.
-                let none : is_none before.head ≡ true = not_some before.head (sym of.came ∙ no_head code x.1.head refl error) in
-                record { none = of.live; end = bare_end status.Internal cause.Framing false count; there = ap (λ (q : Response). q.end) (now of.live) ∙ headless (L x.1.tag) before a none; fits = data_fits (L x.1.tag) before after (ap (λ (q : Response). q.data_) (now of.live) ∙ headless_data (L x.1.tag) before a none) of.sound; is = refl }),
-            tt,
-          ),
-        )
-          where
-            not_some : (o : Option (List Field)) → is_some o ≡ false → is_none o ≡ true
-            not_some None is_ = refl
-            not_some (Some meta) is_ = absurd (let never : ⊥ = (cc) in never)
-
-        n : LinkNews
-        n = link.Data x.1.tag (content_of f) (has_flag f.flags end_stream_flag) seen
-
-        gone : (q : Queue) → data_error x.1 ≡ None → Ok_ (record w { live = remove w.live x.0; queue = q }) (n ∷ [])
-        gone q none = inr (record { part = n; rest = []; is = refl; kind = tt; quiet = tt; but = ended_but S L H F E readers w unbroken ok x place.at only n count G x.1.head (named_data x.1.tag (content_of f) (has_flag f.flags end_stream_flag) seen) (kept_data x.1.tag (content_of f) (has_flag f.flags end_stream_flag) seen) (fits_data x.1.tag (content_of f) (has_flag f.flags end_stream_flag) seen) to (reads (with_head none)) q })
-
-        stays : (q : Queue) → data_error x.1 ≡ None → Ok_ (record w { live = slice_set w.live x.0 x.1; queue = q }) (n ∷ [])
-        stays q none = inr (record { part = n; rest = []; is = refl; kind = tt; quiet = tt; but = put_but S L H F E readers w unbroken ok x place.at only n count G x.1.head (named_data x.1.tag (content_of f) (has_flag f.flags end_stream_flag) seen) (kept_data x.1.tag (content_of f) (has_flag f.flags end_stream_flag) seen) (fits_data x.1.tag (content_of f) (has_flag f.flags end_stream_flag) seen) to (reads (with_head none)) q x.1 refl refl refl })
-
-        by : (end : Bool) (q : Queue) → Ok_ (record w { live = live_after x.0 (data_effect x.1 end) w.live; queue = q }) (data_news x.1.tag (content_of f) (has_flag f.flags end_stream_flag) seen (data_effect x.1 end))
-        by true q = data_unless (λ live ns. Ok_ (record w { live = live; queue = q }) ns) w.live x.0 x.1.tag (content_of f) (has_flag f.flags end_stream_flag) seen (data_error x.1) _ (gone q) (faulty q)
-        by false q = data_unless (λ live ns. Ok_ (record w { live = live; queue = q }) ns) w.live x.0 x.1.tag (content_of f) (has_flag f.flags end_stream_flag) seen (data_error x.1) _ (stays q) (faulty q)
+    data_ok w (Some x) e kind low unbroken ok = data_ends w x (found_at f.stream w.live x e) kind unbroken ok (has_flag f.flags end_stream_flag) (queue_after x.1.number (data_effect x.1 (has_flag f.flags end_stream_flag)) (stream_updated x.1 (length f.payload) (has_flag f.flags end_stream_flag) (link_updated (length f.payload) w.queue)))
 
     -- RST_STREAM
     reset_ok : (w : Wire) (o : Option (ℕ × LiveStream)) → found_from (is_numbered f.stream) 0 w.live ≡ o → (f.kind == rst_stream_type) ≡ true → f.stream < bound_of w → w.broken ≡ None → IsOk w → Ok_ (reset_told w (reset_code f.payload) seen o).wire (reset_told w (reset_code f.payload) seen o).news
@@ -297,52 +291,50 @@ module _ (S : ℕ → Option ℕ) (L : ℕ → ℕ) (H : ℕ → List Reply) (re
         none_or None = refl
         none_or (Some meta) = refl
 
-    -- WINDOW_UPDATE
+    -- WINDOW_UPDATE of a stream that is live
+    module _ (w : Wire) (x : ℕ × LiveStream) (place : FoundAt f.stream w.live x) (kind : (f.kind == window_update_type) ≡ true) (unbroken : w.broken ≡ None) (ok : IsOk w) where
+      window_stays : (f.kind == goaway_type) ≡ false
+      window_stays = other_kind f window_update_type goaway_type kind refl
+
+      window_alone : Only F E x.1.number
+      window_alone = subst (λ (k : ℕ). Only F E k) (sym place.number_is) (off window_stays)
+
+      window_was : StreamOk S L H F readers x.1
+      window_was = mine S L H F E readers w unbroken ok x place.at window_alone
+
+      abbrev pub window_before : Response
+      window_before = response_in (L x.1.tag) x.1.number F
+
+      window_now : window_before.end ≡ None → response_in (L x.1.tag) x.1.number E ≡ (if increment f.payload == 0 then record window_before { end = Some (bare_end status.Internal cause.Framing false count) } else window_before)
+      window_now none = here (L x.1.tag) x.1.number window_stays (sym place.number_is) none ∙ update_on (L x.1.tag) window_before a kind
+
+      abbrev pub window_after : LiveStream
+      window_after = record x.1 { credit = x.1.credit +ℤ pos (increment f.payload) }
+
+      abbrev pub window_queue : Queue
+      window_queue = queue_after x.1.number (window_effect w.initial x.1 (increment f.payload)) w.queue
+
+      window_reads : (r : Bool) → (increment f.payload == 0) ≡ r → r ≡ false → (r : ReaderSeen) → reader_in x.1.tag readers ≡ Some r → OfReader (H x.1.tag) (L x.1.tag) (response_in (L x.1.tag) x.1.number E) x.1.head r
+      window_reads z some not_zero r there =
+          let of : OfReader (H x.1.tag) (L x.1.tag) window_before x.1.head r = window_was.reader r there in
+          subst (λ (q : Response). OfReader (H x.1.tag) (L x.1.tag) q x.1.head r) (sym (window_now of.live ∙ ap (λ (b : Bool). if b then record window_before { end = Some (bare_end status.Internal cause.Framing false count) } else window_before) (some ∙ not_zero))) of
+
+      window_ends : (zero_ : Bool) → (increment f.payload == 0) ≡ zero_ → (r : ReaderSeen) → reader_in x.1.tag readers ≡ Some r → G (news.Ended x.1.tag (bare_end status.Internal cause.Framing false seen))
+      window_ends true is_ = ends_so w x window_was (λ r. bare_end status.Internal cause.Framing false seen) (λ r of. record { none = of.live; end = bare_end status.Internal cause.Framing false count; there = ap (λ (q : Response). q.end) (window_now of.live) ∙ ap (λ (b : Bool). (if b then record window_before { end = Some (bare_end status.Internal cause.Framing false count) } else window_before).end) is_; fits = data_fits (L x.1.tag) window_before (response_in (L x.1.tag) x.1.number E) (ap (λ (q : Response). q.data_) (window_now of.live) ∙ ap (λ (b : Bool). (if b then record window_before { end = Some (bare_end status.Internal cause.Framing false count) } else window_before).data_) is_) of.sound; is = refl })
+      window_ends false is_ = λ r there. inr (inl (record { number = x.1.number; stream = window_was.stream; none = (window_was.reader r there).live; fits = sound_fits (L x.1.tag) window_before (window_was.reader r there).sound; frame = f; frames = refl; kind = kind; on = sym place.number_is; some = is_; head = λ limit y. other_head F E one a adds said limit y; is = refl }))
+
+      window_wide : (zero_ : Bool) → (increment f.payload == 0) ≡ zero_ → window_error w.initial x.1 (increment f.payload) ≡ None → zero_ ≡ false
+      window_wide true is_ none = absurd (let error : Some protocol_error ≡ None = sym (ap (λ (b : Bool). if b then Some protocol_error else if int_lt (pos largest_window) (send_window w.initial x.1 +ℤ pos (increment f.payload)) then Some flow_control_error else None) is_) ∙ none in (let never : ⊥ = (cc) in never))
+      window_wide false is_ none = refl
+
+      window_by : (zero_ : Bool) → (increment f.payload == 0) ≡ zero_ → Ok_ (record w { live = live_after x.0 (window_effect w.initial x.1 (increment f.payload)) w.live; queue = window_queue }) (fault_news x.1.tag seen (window_effect w.initial x.1 (increment f.payload)))
+      window_by zero_ is_ = unless_by (λ live ns. Ok_ (record w { live = live; queue = window_queue }) ns) w.live x.0 x.1.tag seen (window_error w.initial x.1 (increment f.payload)) _
+          (λ none. inl (put_ok S L H F E readers w unbroken ok x place.at window_alone window_queue window_after refl refl (record { stream = window_was.stream; reader = window_reads zero_ is_ (window_wide zero_ is_ none) }), tt))
+          (λ code error. inl (ended_ok S L H F E readers w unbroken ok x place.at window_alone window_queue, (window_ends zero_ is_, tt)))
+
     window_ok : (w : Wire) (o : Option (ℕ × LiveStream)) → found_from (is_numbered f.stream) 0 w.live ≡ o → (f.kind == window_update_type) ≡ true → f.stream < bound_of w → w.broken ≡ None → IsOk w → Ok_ (window_told w (increment f.payload) seen o).wire (window_told w (increment f.payload) seen o).news
     window_ok w None e kind low unbroken ok = inl (none_other S L H F E readers w unbroken ok f.stream (off (other_kind f window_update_type goaway_type kind refl)) low (none_on f.stream 0 w.live e), tt)
-    window_ok w (Some x) e kind low unbroken ok = by (increment f.payload == 0) refl
-      where
-        place : FoundAt f.stream w.live x
-        place = found_at f.stream w.live x e
-
-        no_going : (f.kind == goaway_type) ≡ false
-        no_going = other_kind f window_update_type goaway_type kind refl
-
-        only : Only F E x.1.number
-        only = subst (λ (k : ℕ). Only F E k) (sym place.number_is) (off no_going)
-
-        was : StreamOk S L H F readers x.1
-        was = mine S L H F E readers w unbroken ok x place.at only
-
-        before : Response
-        before = response_in (L x.1.tag) x.1.number F
-
-        now : before.end ≡ None → response_in (L x.1.tag) x.1.number E ≡ (if increment f.payload == 0 then record before { end = Some (bare_end status.Internal cause.Framing false count) } else before)
-        now none = here (L x.1.tag) x.1.number no_going (sym place.number_is) none ∙ update_on (L x.1.tag) before a kind
-
-        y : LiveStream
-        y = record x.1 { credit = x.1.credit +ℤ pos (increment f.payload) }
-
-        q : Queue
-        q = queue_after x.1.number (window_effect w.initial x.1 (increment f.payload)) w.queue
-
-        good : (r : Bool) → (increment f.payload == 0) ≡ r → r ≡ false → (r : ReaderSeen) → reader_in x.1.tag readers ≡ Some r → OfReader (H x.1.tag) (L x.1.tag) (response_in (L x.1.tag) x.1.number E) x.1.head r
-        good z some not_zero r there =
-            let of : OfReader (H x.1.tag) (L x.1.tag) before x.1.head r = was.reader r there in
-            subst (λ (q : Response). OfReader (H x.1.tag) (L x.1.tag) q x.1.head r) (sym (now of.live ∙ ap (λ (b : Bool). if b then record before { end = Some (bare_end status.Internal cause.Framing false count) } else before) (some ∙ not_zero))) of
-
-        bad : (zero_ : Bool) → (increment f.payload == 0) ≡ zero_ → (r : ReaderSeen) → reader_in x.1.tag readers ≡ Some r → G (news.Ended x.1.tag (bare_end status.Internal cause.Framing false seen))
-        bad true is_ = ends_so w x was (λ r. bare_end status.Internal cause.Framing false seen) (λ r of. record { none = of.live; end = bare_end status.Internal cause.Framing false count; there = ap (λ (q : Response). q.end) (now of.live) ∙ ap (λ (b : Bool). (if b then record before { end = Some (bare_end status.Internal cause.Framing false count) } else before).end) is_; fits = data_fits (L x.1.tag) before (response_in (L x.1.tag) x.1.number E) (ap (λ (q : Response). q.data_) (now of.live) ∙ ap (λ (b : Bool). (if b then record before { end = Some (bare_end status.Internal cause.Framing false count) } else before).data_) is_) of.sound; is = refl })
-        bad false is_ = λ r there. inr (inl (record { number = x.1.number; stream = was.stream; none = (was.reader r there).live; fits = sound_fits (L x.1.tag) before (was.reader r there).sound; frame = f; frames = refl; kind = kind; on = sym place.number_is; some = is_; head = other_head F E one a adds said (L x.1.tag) x.1.number; is = refl }))
-
-        fails : (zero_ : Bool) → (increment f.payload == 0) ≡ zero_ → window_error w.initial x.1 (increment f.payload) ≡ None → zero_ ≡ false
-        fails true is_ none = absurd (let error : Some protocol_error ≡ None = sym (ap (λ (b : Bool). if b then Some protocol_error else if int_lt (pos largest_window) (send_window w.initial x.1 +ℤ pos (increment f.payload)) then Some flow_control_error else None) is_) ∙ none in (let never : ⊥ = (cc) in never))
-        fails false is_ none = refl
-
-        by : (zero_ : Bool) → (increment f.payload == 0) ≡ zero_ → Ok_ (record w { live = live_after x.0 (window_effect w.initial x.1 (increment f.payload)) w.live; queue = q }) (fault_news x.1.tag seen (window_effect w.initial x.1 (increment f.payload)))
-        by zero_ is_ = unless_by (λ live ns. Ok_ (record w { live = live; queue = q }) ns) w.live x.0 x.1.tag seen (window_error w.initial x.1 (increment f.payload)) _
-            (λ none. inl (put_ok S L H F E readers w unbroken ok x place.at only q y refl refl (record { stream = was.stream; reader = good zero_ is_ (fails zero_ is_ none) }), tt))
-            (λ code error. inl (ended_ok S L H F E readers w unbroken ok x place.at only q, (bad zero_ is_, tt)))
+    window_ok w (Some x) e kind low unbroken ok = window_by w x (found_at f.stream w.live x e) kind unbroken ok (increment f.payload == 0) refl
 
     -- WINDOW_UPDATE of the connection
     link_update_ok : (w : Wire) → (f.kind == window_update_type) ≡ true → f.stream ≡ 0 → w.broken ≡ None → IsOk w → LinkOk S L H E (grpc_of w readers)
@@ -368,72 +360,73 @@ module _ (S : ℕ → Option ℕ) (L : ℕ → ℕ) (H : ℕ → List Reply) (re
     ping_ok : (w : Wire) → IsBeside a → (f.kind == goaway_type) ≡ false → IsOk w → Ok_ (ping_told w f).wire (ping_told w f).news
     ping_ok w is_ going ok = frame_if (has_flag f.flags ack_flag) (record { wire = w; news = [] }) _ (λ b. inl (still_ok w w is_ going refl refl refl refl refl ok, tt)) (λ b. inl (still_ok w _ is_ going refl refl refl refl refl ok, tt))
 
-    -- GOAWAY
+    -- GOAWAY: the streams up to its last one stay, and all others end
+    module _ (kind : (f.kind == goaway_type) ≡ true) where
+      abbrev pub goaway_last : ℕ
+      goaway_last = last_stream f.payload
+
+      stream_stays : (s : LiveStream) → is_within goaway_last s ≡ true → StreamOk S L H F readers s → StreamOk S L H E readers s
+      stream_stays s within o = record {
+        stream = o.stream;
+        reader = λ r e. subst (λ (q : Response). OfReader (H s.tag) (L s.tag) q s.head r) (sym (same_added F E one (Other a) adds said (L s.tag) s.number (goaway_within (L s.tag) s.number (response_in (L s.tag) s.number F) a kind (not_true (is_above goaway_last s) within)))) (o.reader r e);
+      }
+        where
+          not_true : (b : Bool) → not b ≡ true → b ≡ false
+          not_true true e = absurd (let never : ⊥ = (cc) in never)
+          not_true false e = refl
+
+      streams_stay : (live : List LiveStream) → AllByRecursion (StreamOk S L H F readers) live → AllByRecursion (StreamOk S L H E readers) (filter (is_within goaway_last) live)
+      streams_stay [] h = tt
+      streams_stay (s ∷ live) h = with_first (is_within goaway_last s) refl (streams_stay live h.1)
+        where
+          with_first : (b : Bool) → is_within goaway_last s ≡ b → AllByRecursion (StreamOk S L H E readers) (filter (is_within goaway_last) live) → AllByRecursion (StreamOk S L H E readers) (if b then s ∷ filter (is_within goaway_last) live else filter (is_within goaway_last) live)
+          with_first true e rest = (stream_stays s e h.0, rest)
+          with_first false e rest = rest
+
+      stream_gone : (s : LiveStream) → is_above goaway_last s ≡ true → StreamOk S L H F readers s → Quiet G readers (unseen_stream seen s)
+      stream_gone s above o r there =
+          let of : OfReader (H s.tag) (L s.tag) (response_in (L s.tag) s.number F) s.head r = o.reader r there in
+          inl (record {
+            number = s.number;
+            stream = o.stream;
+            gains = record {
+              none = of.live;
+              end = bare_end status.Unavailable cause.Goaway true count;
+              there = ap (λ (q : Response). q.end) (one_added F E one (Other a) adds said (L s.tag) s.number of.live ∙ goaway_above (L s.tag) s.number (response_in (L s.tag) s.number F) a kind above);
+              fits = data_fits (L s.tag) (response_in (L s.tag) s.number F) (response_in (L s.tag) s.number E) (ap (λ (q : Response). q.data_) (one_added F E one (Other a) adds said (L s.tag) s.number of.live ∙ goaway_above (L s.tag) s.number (response_in (L s.tag) s.number F) a kind above)) of.sound;
+              is = ap (λ (b : Bool). unseen_end b seen) of.opened;
+            };
+          })
+
+      streams_gone : (live : List LiveStream) → AllByRecursion (StreamOk S L H F readers) live → AllByRecursion (Quiet G readers) (map (unseen_stream seen) (filter (is_above goaway_last) live))
+      streams_gone [] h = tt
+      streams_gone (s ∷ live) h = with_first (is_above goaway_last s) refl (streams_gone live h.1)
+        where
+          with_first : (b : Bool) → is_above goaway_last s ≡ b → AllByRecursion (Quiet G readers) (map (unseen_stream seen) (filter (is_above goaway_last) live)) → AllByRecursion (Quiet G readers) (map (unseen_stream seen) (if b then s ∷ filter (is_above goaway_last) live else filter (is_above goaway_last) live))
+          with_first true e rest = (stream_gone s e h.0, rest)
+          with_first false e rest = rest
+
+      tags_gone : (tags : List ℕ) → AllByRecursion (WaitsOk L H readers) tags → AllByRecursion (λ (t : ℕ). S t ≡ None) tags → AllByRecursion (Quiet G readers) (map (unseen seen) tags)
+      tags_gone [] h free = tt
+      tags_gone (t ∷ tags) h free = ((λ r there. inr (inr (record { free = free.0; frame = f; frames = refl; kind = kind; head = λ limit x. other_head F E one a adds said limit x; is = ap (λ (b : Bool). unseen_end b seen) (h.0 r there).closed }))), tags_gone tags h.1 free.1)
+
+    retiring_quiet : (b : Bool) → AllByRecursion (Quiet G readers) (if b then [] else link.Retiring ∷ [])
+    retiring_quiet true = tt
+    retiring_quiet false = (tt, tt)
+
     goaway_ok : (w : Wire) → (f.kind == goaway_type) ≡ true → IsOk w → Ok_ (goaway_told w (last_stream f.payload) seen).wire (goaway_told w (last_stream f.payload) seen).news
     goaway_ok w kind ok = inl (
       record {
-        streams = all_within w.live ok.streams;
+        streams = streams_stay kind w.live ok.streams;
         waiting = tt;
         unstreamed = tt;
         unopened = ok.unopened;
         once = ok.once;
-        rising = rising_filter (is_within last) 1 (bound_of w) w.live ok.rising;
+        rising = rising_filter (is_within (last_stream f.payload)) 1 (bound_of w) w.live ok.rising;
         above = λ none goes. absurd (let no : true ≡ false = goes in (let never : ⊥ = (cc) in never));
       },
-      all_append (Quiet G readers) (map (unseen_stream seen) (filter (is_above last) w.live) ++ map (unseen seen) w.waiting) _ (all_append (Quiet G readers) (map (unseen_stream seen) (filter (is_above last) w.live)) (map (unseen seen) w.waiting) (gone_streams w.live ok.streams) (gone_tags w.waiting ok.waiting ok.unstreamed)) (retiring_quiet w.retiring),
+      all_append (Quiet G readers) (map (unseen_stream seen) (filter (is_above (last_stream f.payload)) w.live) ++ map (unseen seen) w.waiting) _ (all_append (Quiet G readers) (map (unseen_stream seen) (filter (is_above (last_stream f.payload)) w.live)) (map (unseen seen) w.waiting) (streams_gone kind w.live ok.streams) (tags_gone kind w.waiting ok.waiting ok.unstreamed)) (retiring_quiet w.retiring),
     )
-      where
-        last : ℕ
-        last = last_stream f.payload
-
-        one_within : (s : LiveStream) → is_within last s ≡ true → StreamOk S L H F readers s → StreamOk S L H E readers s
-        one_within s within o = record {
-          stream = o.stream;
-          reader = λ r e. subst (λ (q : Response). OfReader (H s.tag) (L s.tag) q s.head r) (sym (same_added F E one (Other a) adds said (L s.tag) s.number (goaway_within (L s.tag) s.number (response_in (L s.tag) s.number F) a kind (not_true (is_above last s) within)))) (o.reader r e);
-        }
-          where
-            not_true : (b : Bool) → not b ≡ true → b ≡ false
-            not_true true e = absurd (let never : ⊥ = (cc) in never)
-            not_true false e = refl
-
-        all_within : (live : List LiveStream) → AllByRecursion (StreamOk S L H F readers) live → AllByRecursion (StreamOk S L H E readers) (filter (is_within last) live)
-        all_within [] h = tt
-        all_within (s ∷ live) h = with_first (is_within last s) refl (all_within live h.1)
-          where
-            with_first : (b : Bool) → is_within last s ≡ b → AllByRecursion (StreamOk S L H E readers) (filter (is_within last) live) → AllByRecursion (StreamOk S L H E readers) (if b then s ∷ filter (is_within last) live else filter (is_within last) live)
-            with_first true e rest = (one_within s e h.0, rest)
-            with_first false e rest = rest
-
-        gone_stream : (s : LiveStream) → is_above last s ≡ true → StreamOk S L H F readers s → Quiet G readers (unseen_stream seen s)
-        gone_stream s above o r there =
-            let of : OfReader (H s.tag) (L s.tag) (response_in (L s.tag) s.number F) s.head r = o.reader r there in
-            inl (record {
-              number = s.number;
-              stream = o.stream;
-              gains = record {
-                none = of.live;
-                end = bare_end status.Unavailable cause.Goaway true count;
-                there = ap (λ (q : Response). q.end) (one_added F E one (Other a) adds said (L s.tag) s.number of.live ∙ goaway_above (L s.tag) s.number (response_in (L s.tag) s.number F) a kind above);
-                fits = data_fits (L s.tag) (response_in (L s.tag) s.number F) (response_in (L s.tag) s.number E) (ap (λ (q : Response). q.data_) (one_added F E one (Other a) adds said (L s.tag) s.number of.live ∙ goaway_above (L s.tag) s.number (response_in (L s.tag) s.number F) a kind above)) of.sound;
-                is = ap (λ (b : Bool). unseen_end b seen) of.opened;
-              };
-            })
-
-        gone_streams : (live : List LiveStream) → AllByRecursion (StreamOk S L H F readers) live → AllByRecursion (Quiet G readers) (map (unseen_stream seen) (filter (is_above last) live))
-        gone_streams [] h = tt
-        gone_streams (s ∷ live) h = with_first (is_above last s) refl (gone_streams live h.1)
-          where
-            with_first : (b : Bool) → is_above last s ≡ b → AllByRecursion (Quiet G readers) (map (unseen_stream seen) (filter (is_above last) live)) → AllByRecursion (Quiet G readers) (map (unseen_stream seen) (if b then s ∷ filter (is_above last) live else filter (is_above last) live))
-            with_first true e rest = (gone_stream s e h.0, rest)
-            with_first false e rest = rest
-
-        gone_tags : (tags : List ℕ) → AllByRecursion (WaitsOk L H readers) tags → AllByRecursion (λ (t : ℕ). S t ≡ None) tags → AllByRecursion (Quiet G readers) (map (unseen seen) tags)
-        gone_tags [] h free = tt
-        gone_tags (t ∷ tags) h free = ((λ r there. inr (inr (record { free = free.0; frame = f; frames = refl; kind = kind; head = λ limit x. other_head F E one a adds said limit x; is = ap (λ (b : Bool). unseen_end b seen) (h.0 r there).closed }))), gone_tags tags h.1 free.1)
-
-        retiring_quiet : (b : Bool) → AllByRecursion (Quiet G readers) (if b then [] else link.Retiring ∷ [])
-        retiring_quiet true = tt
-        retiring_quiet false = (tt, tt)
 
     -- by the type
     pub plain_ok : (w : Wire) → (is_of_opened f.kind ≡ true → f.stream < bound_of w) → w.broken ≡ None → IsOk w → Ok_ (plain_told w f seen).wire (plain_told w f seen).news

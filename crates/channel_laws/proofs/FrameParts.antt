@@ -23,7 +23,7 @@ use Rattle.grpc_link.specs.Readers.{ReaderSeen, Stepped, headers_by, read_on, st
 use Rattle.grpc_link.specs.Response.{comes_head, data_end, data_large, end_gained, headers_end, large_gained, message_news}
 use Rattle.grpc_link.specs.Ends.{framing_end, http_end, is_grpc, is_head, status_end}
 use Rattle.link_laws.proofs.Keeping.{TypeOf}
-use Rattle.link_laws.proofs.LateNews.{IsSent, sent_data, sent_headers}
+use Rattle.link_laws.proofs.LateNews.{IsSent, sent_data, sent_headers, sent_so}
 use Rattle.link_laws.proofs.LinkTags.{all_append}
 use Rattle.std.specs.Option.{option_map_or}
 use Rattle.channel_laws.proofs.HeardTags.{OfReader, parts_of, parts_in, parts_append}
@@ -87,7 +87,7 @@ kept_data tag bytes ends seen r = step_if r.over (record { reader = r; news = []
 
 -- no end that they tell is of an attempt that was never sent
 fit_end : (K : ℕ → List Reply) (tag : ℕ) (end : EndNews) → IsSent end → IsFit K (news.Ended tag end)
-fit_end K tag end sent_ un = absurd (let both : false ≡ true = sym sent_ ∙ un in (let never : ⊥ = (cc) in never))
+fit_end K tag end sent_ un = absurd (let both : false ≡ true = sym (sent_so end.cause sent_) ∙ un in (let never : ⊥ = (cc) in never))
 
 fit_gained : (K : ℕ → List Reply) (tag : ℕ) (o : Option EndNews) → IfSome o IsSent → AllByRecursion (IsFit K) (end_gained tag o)
 fit_gained K tag None h = tt

@@ -24,7 +24,7 @@ use Rattle.link_laws.proofs.BlockFrames.{Tested, has_told, no_error, open_by, te
 use Rattle.channel_laws.proofs.FrameReplies.{list_of, said_by, said_first, said_list}
 use Rattle.link_laws.proofs.GivenSends.{Kept, may_go}
 use Rattle.link_laws.proofs.Keeping.{Breaks, IsRead, TypeOf, told_is}
-use Rattle.link_laws.proofs.LinkTexts.{most}
+use Rattle.link_laws.proofs.LinkTexts.{bytes_more, most}
 
 -- the open block, as far as the frames behind it count
 abbrev pub side_block : Block → ℕ → side.Block
@@ -254,10 +254,6 @@ judged_leaves w a None is unbroken =
 
 pub told_leaves : (w : Wire) (a : FrameAt) → (told w a.frame).wire.broken ≡ None → Leaves w a (told w a.frame).wire × ((told w a.frame).wire.read ≡ read_after w.read (9 + length a.frame.payload))
 told_leaves w a unbroken = judged_leaves w a (link_error w a.frame) refl unbroken
-
-pub bytes_more : (fs : List FrameSeen) (f : FrameSeen) → bytes_in (fs ++ f ∷ []) ≡ bytes_in fs + (9 + length f.payload)
-bytes_more [] f = omega arith
-bytes_more (g ∷ fs) f = (let e = bytes_more fs f in omega (arith, e))
 
 pub ends_at : (came : List FrameSeen) (f : FrameSeen) → bytes_in (came ++ f ∷ []) ≡ (frame_at came f).end
 ends_at came f = (let e = bytes_more came f in omega (arith, e))

@@ -134,9 +134,18 @@ not_gone false false gone room e = absurd (let never : ⊥ = (cc) in never)
 not_gone false true true room e = absurd (let never : ⊥ = (cc) in never)
 not_gone false true false room e = refl
 
+-- a link that is neither dead nor broken, and has opened lower streams alone
+pub record IsAboveOn (links : List LinkSlot) (link number : ℕ) : Type 0 where
+  pub slot : LinkSlot
+  pub there : numbered links link ≡ Some slot
+  pub alive : slot.dead ≡ false
+  pub whole : slot.link.link.wire.broken ≡ None
+  pub low : 2 * slot.link.link.wire.opened + 1 ≤ number
+
 -- a row got this stream of a link, and nothing had come on it
-record IsFreshOn (rows : List Row) (link place number : ℕ) (bytes : List ℕ) : Type 0 where
+record IsFreshOn (links : List LinkSlot) (rows : List Row) (link place number : ℕ) (bytes : List ℕ) : Type 0 where
   placed : IsPlacedOn rows link place
+  above : IsAboveOn links link number
   none : (limit : ℕ) → response_on limit number bytes ≡ no_response
 
 module _ (link room whole : ℕ) (bytes : List ℕ) (s t : StateSeen) (r : Reply) (g : Story) (goes : Goes g [] s) (frames : FramesOf link bytes g s.links) (served : Served (desk_of s)) (free : refusal_of (event.Drain link whole) s ≡ None) (d : DrainLeaves link room s r t) where
@@ -148,7 +157,7 @@ module _ (link room whole : ℕ) (bytes : List ℕ) (s t : StateSeen) (r : Reply
       let gone : is_gone link s ≡ false = not_gone s.shut (has_link s.links link) (is_gone link s) whole free in
       sym (ap is_dead_at is) ∙ (or_true (is_dead_at (numbered s.links link)) _ gone).0
 
-  by_opened : (x : Drained) (gives : DrainGives room s.links link (lines_of s.book) (Some x) t.links (lines_of d.fed)) → IsDrainedTo link rows t.links x.opened → (place number : ℕ) → stream_at rows place ≡ None → stream_at (streams_given x.opened rows) place ≡ Some number → IsOpened x.opened place → IsFreshOn rows link place number bytes
+  by_opened : (x : Drained) (gives : DrainGives room s.links link (lines_of s.book) (Some x) t.links (lines_of d.fed)) → IsDrainedTo link rows t.links x.opened → (place number : ℕ) → stream_at rows place ≡ None → stream_at (streams_given x.opened rows) place ≡ Some number → IsOpened x.opened place → IsFreshOn s.links rows link place number bytes
   by_opened x gives to place number none now got =
       let w : Wire = gives.before.link.link.wire in
       let v : Wire = gives.after.link.link.wire in
@@ -168,6 +177,7 @@ module _ (link room whole : ℕ) (bytes : List ℕ) (s t : StateSeen) (r : Reply
       let of : g.frames link ≡ frames_of bytes = frames.alive gives.before gives.was (alive gives.before gives.was) whole_ in
       record {
         placed = on_at x.opened got.index got.number got.there to.opened;
+        above = record { slot = gives.before; there = gives.was; alive = alive gives.before gives.was; whole = whole_; low = omega (arith, low, same) };
         none = λ limit. subst (λ (fs : List FrameSeen). response_in limit number fs ≡ no_response) of (ok.ok.above whole_ stays number (omega (arith, low, same)) limit);
       }
     where
@@ -176,14 +186,14 @@ module _ (link room whole : ℕ) (bytes : List ℕ) (s t : StateSeen) (r : Reply
       on_at (q ∷ more) zero x e all = (let same : q ≡ (place, x) = (cc) in subst (λ (k : ℕ × ℕ). IsPlacedOn rows link k.0) same all.0)
       on_at (q ∷ more) (suc index) x e all = on_at more index x e all.1
 
-  by_drained : (o : Option Drained) → DrainGives room s.links link (lines_of s.book) o t.links (lines_of d.fed) → IsDrainedTo link rows t.links (opened_by o) → (place number : ℕ) → stream_at rows place ≡ None → stream_at (streams_given (opened_by o) rows) place ≡ Some number → IsFreshOn rows link place number bytes
+  by_drained : (o : Option Drained) → DrainGives room s.links link (lines_of s.book) o t.links (lines_of d.fed) → IsDrainedTo link rows t.links (opened_by o) → (place number : ℕ) → stream_at rows place ≡ None → stream_at (streams_given (opened_by o) rows) place ≡ Some number → IsFreshOn s.links rows link place number bytes
   by_drained None gives to place number none now = absurd (let both : None ≡ Some number = sym none ∙ now in (let never : ⊥ = (cc) in never))
   by_drained (Some x) gives to place number none now = elim (apart_or place x.opened) [
     | inl apart ↦ absurd (let both : None ≡ Some number = sym none ∙ sym (given_other x.opened rows place apart) ∙ now in (let never : ⊥ = (cc) in never))
     | inr got ↦ by_opened x gives to place number none now got
   ]
 
-  given_fresh : (place number : ℕ) → stream_at rows place ≡ None → stream_at t.book.ledger.rows place ≡ Some number → IsFreshOn rows link place number bytes
+  given_fresh : (place number : ℕ) → stream_at rows place ≡ None → stream_at t.book.ledger.rows place ≡ Some number → IsFreshOn s.links rows link place number bytes
   given_fresh place number none now =
       let given : t.book.ledger.rows ≡ streams_given (opened_by d.drained) rows = drained_rows link room s t r d in
       let to : IsDrainedTo link rows t.links (opened_by d.drained) = drain_tags room link rows s.links t.links (lines_of s.book) (lines_of d.fed) d.drained d.gives served.rest.tags in
@@ -209,7 +219,7 @@ module _ (laws : MoreLaws) (timed : TimedLaws) (inbox : InboxLaws) (kept : KeptL
   -- the link of which it is a stream
   record IsFresh : Type 0 where
     link : ℕ
-    fresh : IsFreshOn u.book.ledger.rows link place number (received link es)
+    fresh : IsFreshOn u.links u.book.ledger.rows link place number (received link es)
 
   never : {X : Type 0} → stream_at next.state.book.ledger.rows place ≡ None → X
   never e = absurd (let both : None ≡ Some number = sym e ∙ now in (let no : ⊥ = (cc) in no))
@@ -241,11 +251,17 @@ module _ (laws : MoreLaws) (timed : TimedLaws) (inbox : InboxLaws) (kept : KeptL
   fresh : IsFresh
   fresh = by_event s.event refl
 
-  -- nothing had come on it
-  pub fresh_stream : (link : ℕ) → IsPlacedOn next.state.book.ledger.rows link place → (limit : ℕ) → response_on limit number (received link es) ≡ no_response
-  fresh_stream link on limit =
+  one_link : (link : ℕ) → IsPlacedOn next.state.book.ledger.rows link place → fresh.link ≡ link
+  one_link link on =
       let f : IsFresh = fresh in
       let p : IsParted old next s r = parted laws old next s r h knows in
       let later : Later n u.book.ledger next.state.book.ledger = subst (λ (x : StateSeen). Later n x.book.ledger next.state.book.ledger) (p.found_is ∙ ap overdue_ended p.first_is) (later_then n p.found.book.ledger p.left.book.ledger next.state.book.ledger p.told p.settled) in
-      let same : f.link ≡ link = placed_once next.state.book.ledger.rows f.link link place (later_stays n u.book.ledger next.state.book.ledger later f.link place f.fresh.placed) on in
-      subst (λ (k : ℕ). response_on limit number (received k es) ≡ no_response) same (f.fresh.none limit)
+      placed_once next.state.book.ledger.rows f.link link place (later_stays n u.book.ledger next.state.book.ledger later f.link place f.fresh.placed) on
+
+  -- nothing had come on it
+  pub fresh_stream : (link : ℕ) → IsPlacedOn next.state.book.ledger.rows link place → (limit : ℕ) → response_on limit number (received link es) ≡ no_response
+  fresh_stream link on limit = subst (λ (k : ℕ). response_on limit number (received k es) ≡ no_response) (one_link link on) (fresh.fresh.none limit)
+
+  -- and the link had opened lower ones alone
+  pub fresh_above : (link : ℕ) → IsPlacedOn next.state.book.ledger.rows link place → IsAboveOn u.links link number
+  fresh_above link on = subst (λ (k : ℕ). IsAboveOn u.links k number) (one_link link on) fresh.fresh.above

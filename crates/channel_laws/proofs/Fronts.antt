@@ -1,6 +1,6 @@
 -- What holds of journal and ledger whatever events a channel is given, and stays as the ledger grows, holds of each front of the journal.
-use Rattle.std.proofs.Common.{◌≡◌, ◌<◌, ℕ, ◌+◌, Bool, true, false, nat_le, List, [], ◌∷◌, ◌++◌, length, take, refl, sym, ap, subst, ◌∙◌, arith}
-use Rattle.std.proofs.lemmas.List.{length-append, take-append-le, take_all}
+use Rattle.std.proofs.Common.{◌≡◌, ◌<◌, ◌≤◌, ℕ, ◌+◌, Bool, true, false, nat_le, List, [], ◌∷◌, ◌++◌, length, take, refl, sym, ap, subst, ◌∙◌, arith}
+use Rattle.std.proofs.lemmas.List.{length-append, length-take-le, take-append-le, take_all}
 use Rattle.std.proofs.lemmas.Bool.{leb-true, leb-false}
 use Rattle.grpc_base.specs.declared.event.Entry.{Entry}
 use Rattle.grpc_base.specs.declared.event.Reply.{Reply}
@@ -16,7 +16,7 @@ pub runs_more : (old mid new : CoreSeen) (events : List Stamped) (s : Stamped) (
 runs_more old mid new [] s r h k = (new, r, subst (λ (c : CoreSeen). Steps c new s r) h k, refl)
 runs_more old mid new (e ∷ events) s r h k = (h.0, h.1, h.2, runs_more h.0 mid new events s r h.3 k)
 
-module _ (Q : List Entry → Ledger → Type 0) (still : (n : ℕ) (es : List Entry) (a b : Ledger) → Later n a b → Q es a → Q es b) (authority : List ℕ) (new : CoreSeen) (is : IsNew authority new) (always : (core : CoreSeen) (events : List Stamped) → Runs new events core → Q core.journal.entries core.state.book.ledger) where
+module _ (Q : List Entry → Ledger → Type 0) (still : (n : ℕ) (es : List Entry) (a b : Ledger) → length es < n → Later n a b → Q es a → Q es b) (authority : List ℕ) (new : CoreSeen) (is : IsNew authority new) (always : (core : CoreSeen) (events : List Stamped) → Runs new events core → Q core.journal.entries core.state.book.ledger) where
   abbrev pub OfFronts : List Entry → Ledger → Type 0
   OfFronts es ledger = (n : ℕ) → Q (take n es) ledger
 
@@ -27,7 +27,9 @@ module _ (Q : List Entry → Ledger → Type 0) (still : (n : ℕ) (es : List En
 
   front_by : (es : List Entry) (x : Entry) (a b : Ledger) (n : ℕ) (short : Bool) → nat_le n (length es) ≡ short → Later (length es + 1) a b → OfFronts es a → Q (es ++ x ∷ []) b → Q (take n (es ++ x ∷ [])) b
   front_by es x a b n true e l old all =
-      subst (λ (list : List Entry). Q list b) (sym (take-append-le n es (x ∷ []) (leb-true n (length es) e))) (still (length es + 1) (take n es) a b l (old n))
+      let least : n ≤ length es = leb-true n (length es) e in
+      let size : length (take n es) ≡ n = length-take-le n es least in
+      subst (λ (list : List Entry). Q list b) (sym (take-append-le n es (x ∷ []) least)) (still (length es + 1) (take n es) a b (omega (arith, size, least)) l (old n))
   front_by es x a b n false e l old all =
       let longer : length (es ++ x ∷ []) ≡ length es + 1 = length-append es (x ∷ []) in
       let past : length es < n = leb-false n (length es) e in

@@ -34,7 +34,8 @@ use Rattle.link_laws.proofs.Calls.{bare}
 use Rattle.channel_laws.proofs.CommitStays.{before_last, before_old, done_live, has_call}
 use Rattle.channel_laws.proofs.Deliveries.{committed_still}
 use Rattle.link_laws.proofs.EachEntry.{EndsBy, still}
-use Rattle.channel_laws.proofs.FurthestSends.{IsNowTo, ends_now, ends_stay, sends_to, told_end}
+use Rattle.channel_laws.proofs.CutCalls.{ends_stay}
+use Rattle.channel_laws.proofs.FurthestSends.{IsNowTo, ends_now, sends_to, told_end}
 use Rattle.channel_laws.proofs.FurthestStays.{HasFrames, WasRow, furthest_still, sent_still, was_back, was_still}
 use Rattle.channel_laws.proofs.FurthestSteps as found
 use Rattle.channel_laws.proofs.FurthestSteps.{AreEarly, IsFound, WasFurthest}

@@ -9,6 +9,7 @@ use Rattle.call_core.specs.declared.live.LiveRow.{LiveRow}
 use Rattle.call_core.specs.Parts.{find_live, further, further_than, furthest, furthest_from, is_further, is_row, ready_of}
 use Rattle.call_core.specs.Rows.{AreStanding, IsOnLink, IsStanding, row_in}
 use Rattle.attempt_ledger.specs.declared.row.Placed.{Placed}
+use Rattle.call_core.proofs.Queued.{WaitsIn}
 use Rattle.link_laws.proofs.OpenRows.{RunsIn, further_open}
 
 -- less is left of one than of another, or as much, and its number is no higher
@@ -141,6 +142,23 @@ runs_placed owner rows (x ∷ live) place h (inl here) =
     let at = placed_by h.0.row.placed x.link h.0.placed here.1 in
     record { row = h.0.row; there = subst (λ (i : ℕ). row_in rows i ≡ Some h.0.row) here.0 h.0.there; at = at.0; placed = at.1 }
 runs_placed owner rows (x ∷ live) place h (inr rest) = runs_placed owner rows live place h.1 rest
+
+-- and where it waits, none
+pub record IsUnplacedRow (rows : List Row) (place : ℕ) : Type 0 where
+  pub row : Row
+  pub there : row_in rows place ≡ Some row
+  pub unplaced : row.placed ≡ None
+
+unplaced_by : (p : Option Placed) (link : Option ℕ) → IsOnLink p link → link ≡ None → p ≡ None
+unplaced_by None link h e = refl
+unplaced_by (Some at) None h e = absurd h
+unplaced_by (Some at) (Some link) h e = absurd (let no : ⊥ = (cc) in no)
+
+pub waits_unplaced : (owner : ℕ) (rows : List Row) (live : List LiveRow) (place : ℕ) → AreStanding owner rows live → WaitsIn place live → IsUnplacedRow rows place
+waits_unplaced owner rows [] place h waits = absurd waits
+waits_unplaced owner rows (x ∷ live) place h (inl here) =
+    record { row = h.0.row; there = subst (λ (i : ℕ). row_in rows i ≡ Some h.0.row) here.0 h.0.there; unplaced = unplaced_by h.0.row.placed x.link h.0.placed here.1 }
+waits_unplaced owner rows (x ∷ live) place h (inr rest) = waits_unplaced owner rows live place h.1 rest
 
 -- and the other way round
 pub on_link : (p : Option Placed) (link : Option ℕ) (at : Placed) → IsOnLink p link → p ≡ Some at → is_some link ≡ true

@@ -90,7 +90,7 @@ module _ (laws : MoreLaws) (timed : TimedLaws) (authority : List ℕ) (fresh : C
         knows = p.known;
         served = served_step laws timed old new s r h k.knows k.served;
         furthest = subst (λ (l : List Entry). AreToFurthest l new.state.book.ledger) (sym h.journal) (law laws timed old new s r h p k.knows k.served sent_ early ends (one_row new (k.done ++ s ∷ []) run) k.furthest);
-        told = subst (λ (l : List Entry). AreSendsTold l new.state.book.ledger) (sym h.journal) (replies.law laws timed old new s r h p k.knows k.served sent_ early ends k.told);
+        told = subst (λ (l : List Entry). AreSendsTold l new.state.book.ledger) (sym h.journal) (replies.law laws timed old new s r h p k.knows k.served sent_ early ends (one_row new (k.done ++ s ∷ []) run) k.told);
       }
 
   so_runs : (old : CoreSeen) (events : List Stamped) (new : CoreSeen) → Runs old events new → Runs_ old → Runs_ new
@@ -109,7 +109,9 @@ always laws timed authority new core events is runs =
       told = record {
         told = λ k entry message e there sends. absurd (none entry e there);
         full = λ k entry count message e there sends said. absurd (none entry e there);
+        short = λ k entry count limit message e there sends said is. absurd (none entry e there);
         done = λ k entry message e there sends said. absurd (none entry e there);
+        exact = λ k entry count message e there sends holds. absurd (none entry e there);
       };
     })
 

@@ -80,7 +80,7 @@ module _ (k m : ℕ) where
   joins : Joins View
   joins = record {
     joined = λ s t u first second e. (let f = first e in let g = second f.0 in (g.0, joined (call_at k s) (call_at k t) (call_at k u) f.1 g.1));
-    beside = λ s t calls moment deadlines shut unconfigured waiting e. (moment ∙ e, subst (λ (l : List CallSlot). Runs (call_at k s) (call_in (numbered l k))) (sym calls) (same (call_at k s)));
+    beside = λ s t calls moment deadlines dues shut unconfigured waiting e. (moment ∙ e, subst (λ (l : List CallSlot). Runs (call_at k s) (call_in (numbered l k))) (sym calls) (same (call_at k s)));
   }
 
   pub still_live : (s : StateSeen) → s.book.moment ≡ m → Runs (call_at k s) (call_at k (overdue_ended s))
@@ -134,11 +134,6 @@ ends_now J K k n cause s known b later ends slot there live h =
     let low : n ≤ h.end.entry = too_early J K n k s known b later by slot there h.seen h.end live h.there h.is in
     let high : h.end.entry ≤ n = h.by in
     record { seen = h.seen; there = h.there; end = h.end; is = h.is; entry_is = omega (arith, low, high); cause_is = h.cause_is }
-
-pub ends_stay : (n k entry : ℕ) (cause : EndCause) (a b : Ledger) → Later n a b → EndsIn a.calls k entry cause → EndsIn b.calls k entry cause
-ends_stay n k entry cause a b later h =
-    let w : WasEnd b.calls k h.end = end_stays n k a b h.seen h.end later h.there h.is in
-    record { seen = w.seen; there = w.there; end = h.end; is = w.is; entry_is = h.entry_is; cause_is = h.cause_is }
 
 -- a call is committed to the furthest of its rows
 pub record IsNowTo (number place : ℕ) (b : CallState) (t : StateSeen) : Type 0 where

@@ -9,8 +9,10 @@ use Rattle.h2_frame.specs.Frames.{FrameSeen}
 use Rattle.ledger_stamps.specs.Later.{LaterRow, LaterRows, NewRow, Written}
 use Rattle.call_core.specs.Rows.{row_in}
 use Rattle.channel_laws.specs.Furthest.{HasSent, IsNoFurther, IsToFurthest, WasOutstanding, data_for}
+use Rattle.channel_laws.specs.SendReplies.{Holds}
 use Rattle.link_laws.specs.RequestData.{data_on}
 use Rattle.link_laws.specs.StreamRows.{IsSentAs, IsTextOf}
+use Rattle.channel_laws.proofs.CommittedBefore.{committed_on}
 use Rattle.link_laws.proofs.EachEntry.{still}
 use Rattle.link_laws.proofs.Lifting.{at_number}
 use Rattle.link_laws.proofs.OrderedCalls.{GrewAt, grew_at}
@@ -27,7 +29,7 @@ pub record HasFrames (link : ℕ) (es : List Entry) (rows : List Row) : Type 0 w
   pub on : AreOn rows link frames
 
 -- a stamp by an entry before this one was there
-early_placed : (n : ℕ) (a b : Option Placed) (at : Placed) → Written (λ (p : Placed). p.entry) n a b → b ≡ Some at → at.entry < n → a ≡ Some at
+pub early_placed : (n : ℕ) (a b : Option Placed) (at : Placed) → Written (λ (p : Placed). p.entry) n a b → b ≡ Some at → at.entry < n → a ≡ Some at
 early_placed n None None at w e lt = absurd (let no : ⊥ = (cc) in no)
 early_placed n None (Some x) at w e lt = (let same : x ≡ at = (cc) in absurd (let now : at.entry ≡ n = subst (λ (p : Placed). p.entry ≡ n) same w in let no : ⊥ = omega (arith, now, lt) in no))
 early_placed n (Some x) b at w e lt = sym w ∙ e
@@ -40,6 +42,15 @@ going_on : (n entry : ℕ) (a b : Option RowEnd) → entry ≤ n → Written (λ
 going_on n entry None None le w h = tt
 going_on n entry None (Some x) le w h = omega (arith, le, w)
 going_on n entry (Some x) b le w h = subst (λ (o : Option RowEnd). IfSome o (λ end. entry ≤ end.entry)) (sym w) h
+
+placed_on : (n entry : ℕ) (a b : Option Placed) → entry ≤ n → Written (λ (p : Placed). p.entry) n a b → IfSome a (λ p. entry ≤ p.entry) → IfSome b (λ p. entry ≤ p.entry)
+placed_on n entry None None le w h = tt
+placed_on n entry None (Some x) le w h = omega (arith, le, w)
+placed_on n entry (Some x) b le w h = subst (λ (o : Option Placed). IfSome o (λ p. entry ≤ p.entry)) (sym w) h
+
+placed_still : (n entry : ℕ) (a b : Option Placed) (at : Placed) → Written (λ (p : Placed). p.entry) n a b → a ≡ Some at → IfSome a (λ p. p.entry < entry) → IfSome b (λ p. p.entry < entry)
+placed_still n entry None b at w e h = absurd (let no : ⊥ = (cc) in no)
+placed_still n entry (Some x) b at w e h = subst (λ (o : Option Placed). IfSome o (λ p. p.entry < entry)) (sym w) h
 
 -- what was outstanding
 pub record WasRow (n k entry place : ℕ) (olds : List Row) (new : Row) : Type 0 where
@@ -101,6 +112,22 @@ module _ (n : ℕ) (es : List Entry) (olds news : List Row) (later : LaterRows n
         frames = h.frames;
         text = h.text;
         count_is = counts place i row new.row h.at h.frames row.stream new.row.stream there new.there placed h.text refl refl new.later.stamps.stream ∙ h.count_is;
+      }
+
+  -- and how much a call holds that was committed before
+  pub holds_still : (k entry i count : ℕ) → entry ≤ n → Holds olds k entry (take i es) count → Holds news k entry (take i es) count
+  holds_still k entry i count le h =
+      let new = committed_on n olds news later k entry le h.place h.row h.last in
+      record {
+        place = h.place;
+        row = new.0.row;
+        last = new.1;
+        bytes = h.bytes;
+        given = elim h.given [
+          | inl sent ↦ inl (placed_still n entry h.row.placed new.0.row.placed sent.1.at new.0.later.stamps.placed sent.1.placed sent.0, sent_still h.place i h.bytes h.row new.0 h.last.is.there sent.1)
+          | inr none ↦ inr (placed_on n entry h.row.placed new.0.row.placed le new.0.later.stamps.placed none.0, none.1)
+        ];
+        sum = h.sum;
       }
 
   -- and a commitment to the furthest row stays one

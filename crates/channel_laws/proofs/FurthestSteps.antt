@@ -1,12 +1,14 @@
--- To which row a call is committed by a Send that overflows: one step more.
+-- To which row a call is committed by a Send that overflows, and how much a call holds that was committed before: one step more.
 use Rattle.std.proofs.Common.{◌≡◌, ◌≤◌, ◌<◌, ◌⊎◌, ℕ, ◌+◌, ◌-◌, true, false, inl, inr, Option, Some, None, IfSome, is_some, List, [], ◌++◌, length, refl, sym, ap, subst, ◌∙◌, arith}
+use Rattle.std.specs.Option.{option_map_or}
 use Rattle.std.proofs.lemmas.List.{length-append}
 use Rattle.grpc_base.specs.declared.event.Entry.{Entry}
 use Rattle.grpc_base.specs.declared.event.Stamped.{Stamped}
 use Rattle.attempt_ledger.specs.declared.row.Placed.{Placed}
 use Rattle.attempt_ledger.specs.declared.row.Row.{Row}
 use Rattle.attempt_ledger.specs.declared.row.RowEnd.{RowEnd}
-use Rattle.attempt_buffer.specs.Buffers.{Buffered, held, is_open, left_of, text_of}
+use Rattle.attempt_buffer.specs.Buffers.{Buffered, Committed, held, is_open, left_of, taken_by, text_of}
+use Rattle.attempt_buffer.proofs.BufferLaws.{left_is}
 use Rattle.ledger_stamps.specs.Later.{LaterRows}
 use Rattle.call_core.specs.Commitments.{IsCommittedOnce, IsStamped}
 use Rattle.call_core.specs.declared.live.LiveRow.{LiveRow}
@@ -22,17 +24,23 @@ use Rattle.channel_core.specs.Steps as step
 use Rattle.channel_core.specs.Tables.{numbered}
 use Rattle.channel_laws.specs.Deliveries.{IsCommittedBy}
 use Rattle.channel_laws.specs.Furthest.{HasSent, IsNoFurther, WasOutstanding, data_for}
+use Rattle.channel_laws.specs.NotYets.{IsCommittedBefore}
+use Rattle.channel_laws.specs.SendReplies.{Holds}
 use Rattle.link_laws.specs.RequestData.{data_on}
 use Rattle.link_laws.specs.StreamRows.{IsSentAs}
+use Rattle.call_core.proofs.Queued.{WaitsIn}
+use Rattle.link_laws.proofs.BufferMoves.{taken_of_row}
+use Rattle.link_laws.proofs.BufferRows.{IsAligned}
+use Rattle.link_laws.proofs.BufferTexts.{dropped_length}
 use Rattle.link_laws.proofs.CallLaws.{IsSound, apart_by, are_held_by, once_in}
 use Rattle.link_laws.proofs.Calls.{bare}
-use Rattle.channel_laws.proofs.FurthestRows.{Before, IsAhead, IsFurthest, IsPlacedRow, found_of, furthest_row, furthest_some, on_link, runs_placed, standing}
+use Rattle.channel_laws.proofs.FurthestRows.{Before, IsAhead, IsFurthest, IsPlacedRow, IsUnplacedRow, found_of, furthest_row, furthest_some, on_link, runs_placed, standing, waits_unplaced}
 use Rattle.channel_laws.proofs.FurthestSends.{IsSameLive, commit_in, live_in, still_live}
 use Rattle.link_laws.proofs.Knowing.{Knows}
 use Rattle.link_laws.proofs.LicensedCalls.{IsKnown, MoreLaws, sound_of}
 use Rattle.link_laws.proofs.Lifting.{OfCall, at_number}
 use Rattle.link_laws.proofs.LinkStreams.{Streamless}
-use Rattle.link_laws.proofs.OpenCalls.{IsOpening}
+use Rattle.link_laws.proofs.OpenBuffers.{IsOpening}
 use Rattle.link_laws.proofs.OpenRows.{furthest_open, runs_found}
 use Rattle.channel_laws.proofs.Overflowing.{held_all}
 use Rattle.link_laws.proofs.RequestData.{IsSentIn, overdue_texts}
@@ -96,7 +104,11 @@ more_sent : (total a b x y i j : ℕ) → a + x ≡ total → b + y ≡ total �
 more_sent total a b x y i j first second (inl less) = inl (omega (arith, first, second, less))
 more_sent total a b x y i j first second (inr same) = inr ((let e = same.0 in omega (arith, first, second, e)), same.1)
 
--- where a step finds a call that goes on and is not committed
+-- what a call holds that is committed
+held_some : (b : Buffered) (c : Committed) → b.committed ≡ Some c → held b ≡ length (text_of b) - c.taken
+held_some b c e = ap (λ (o : Option Committed). option_map_or (λ c. length (text_of b) - c.taken) o (length (text_of b))) e
+
+-- where a step finds a call that goes on
 module _ (laws : MoreLaws) (timed : TimedLaws) (old : CoreSeen) (s : Stamped) (knows : Knows old) (served : Served (desk_of old.state)) (sent_ : (link : ℕ) → IsSentIn link old.journal.entries old.state) (early : AreEarly (length old.journal.entries) old.state.book.ledger.rows) where
   abbrev es : List Entry
   es = old.journal.entries
@@ -227,6 +239,77 @@ module _ (laws : MoreLaws) (timed : TimedLaws) (old : CoreSeen) (s : Stamped) (k
 
     shares : (place : ℕ) (row : Row) (at : Placed) → row_in olds place ≡ Some row → row.call ≡ k → row.placed ≡ Some at → is_open place b ≡ true → Shares es b total place row
     shares place row at is mine placed open_ = shares_by place row at row.stream is mine placed refl open_
+
+    -- the last row to which a call was committed
+    was_last : (place : ℕ) → slot.call.attempts.committed ≡ Some place → (row : Row) × IsCommittedBefore olds k n place row
+    was_last place is =
+        let stamp : IsStamped was.0.call.number olds place = once_old.stamped place (sym committed_is ∙ is) in
+        let some = some_of stamp.row.committed stamp.stamped in
+        let low : some.0 ≤ length es = subst (λ (o : Option ℕ). IfSome o (λ e. e ≤ length es)) some.1 (early place stamp.row stamp.is.there).committed in (
+          stamp.row,
+          record {
+            is = record { there = stamp.is.there; call = stamp.is.call ∙ of_old.number_is };
+            stamp = some.0;
+            committed = some.1;
+            before = omega (arith, low);
+            last = λ other at next of_call stamped before.
+                let chain = once_old.chain other next (record { there = of_call.there; call = of_call.call ∙ sym of_old.number_is }) (ap is_some stamped) in
+                let both : Some chain.last ≡ Some place = sym chain.is_last ∙ sym committed_is ∙ is in
+                let same : chain.last ≡ place = (cc) in
+                subst (λ (i : ℕ). other ≤ i) same chain.order;
+          },
+        )
+
+    placed_before : (o : Option Placed) → IfSome o (λ p. p.entry ≤ length es) → IfSome o (λ p. p.entry < n)
+    placed_before None h = tt
+    placed_before (Some p) h = omega (arith, h)
+
+    -- it is open, and what it has left is all that the call holds
+    holds_left : (place : ℕ) → slot.call.attempts.committed ≡ Some place → (c : Committed) → b.committed ≡ Some c → (c.is_open ≡ true) × (c.row ≡ place) → Holds olds k n es (held b)
+    holds_left place is c at own =
+        let taken : taken_by place b ≡ Some c.taken = taken_of_row place b c at own.0 own.1 in
+        let open_ : is_open place b ≡ true = ap is_some taken in
+        let left : ready_of place b ≡ length (text_of b) - c.taken = ap length (left_is place c.taken b taken) ∙ dropped_length c.taken (text_of b) in
+        let last = was_last place is in
+        let own_row : IsPlacedRow olds place = runs_placed k olds slot.call.live place stands (opening.runs place open_) in
+        let same : last.0 ≡ own_row.row = one_row olds place place last.0 own_row.row last.1.is.there refl own_row.there in
+        let share : Shares es b total place last.0 = shares place last.0 own_row.at last.1.is.there last.1.is.call (ap (λ (r : Row). r.placed) same ∙ own_row.placed) open_ in
+        record {
+          place = place;
+          row = last.0;
+          last = last.1;
+          bytes = share.count;
+          given = inl (placed_before last.0.placed (early place last.0 last.1.is.there).placed, share.sent);
+          sum = ap (λ (i : ℕ). share.count + i) (held_some b c at ∙ sym left) ∙ share.sum;
+        }
+
+    -- it waits, and the call holds all of its messages
+    holds_all : (place : ℕ) → slot.call.attempts.committed ≡ Some place → (c : Committed) → b.committed ≡ Some c → WaitsIn place slot.call.live → c.taken ≡ 0 → Holds olds k n es (held b)
+    holds_all place is c at waits none =
+        let back : IsBack (Told es k) b = (text 0).back live in
+        let front : back.gone ≡ [] = back.whole (opening.whole (inr tt) place waits) in
+        let all : length (text_of b) ≡ total = ap length (sym (back.is ∙ ap (λ (l : List ℕ). l ++ text_of b) front)) in
+        let held_is : held b ≡ length (text_of b) - c.taken = held_some b c at in
+        let last = was_last place is in
+        let own_row : IsUnplacedRow olds place = waits_unplaced k olds slot.call.live place stands waits in
+        let same : last.0 ≡ own_row.row = one_row olds place place last.0 own_row.row last.1.is.there refl own_row.there in
+        let unplaced : last.0.placed ≡ None = ap (λ (r : Row). r.placed) same ∙ own_row.unplaced in
+        record {
+          place = place;
+          row = last.0;
+          last = last.1;
+          bytes = 0;
+          given = inr (subst (λ (o : Option Placed). IfSome o (λ p. n ≤ p.entry)) (sym unplaced) tt, refl);
+          sum = omega (arith, all, held_is, none);
+        }
+
+    holds_by : (place : ℕ) → slot.call.attempts.committed ≡ Some place → (o : Option Committed) → b.committed ≡ o → IsAligned place slot.call.live o → Holds olds k n es (held b)
+    holds_by place is None at h = absurd (let both : true ≡ false = sym (opening.held (ap is_some is) live) ∙ ap is_some at in (let no : ⊥ = (cc) in no))
+    holds_by place is (Some c) at (inl own) = holds_left place is c at own
+    holds_by place is (Some c) at (inr waits) = holds_all place is c at waits.0 waits.1
+
+    pub holds_now : (place : ℕ) → slot.call.attempts.committed ≡ Some place → Holds olds k n es (held b)
+    holds_now place is = holds_by place is b.committed refl (opening.aligned tt place is)
 
     -- a row that was outstanding is open
     record IsOpenRow (place : ℕ) (row : Row) : Type 0 where

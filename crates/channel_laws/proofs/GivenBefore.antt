@@ -14,7 +14,7 @@ use Rattle.channel_core.specs.declared.state.slots.CallSlot.{CallSlot}
 use Rattle.channel_core.specs.Core.{CoreSeen, IsNew, Runs}
 use Rattle.channel_core.specs.Tables.{numbered}
 use Rattle.channel_laws.specs.Delivered.{before_end}
-use Rattle.channel_laws.specs.NotYets.{AreAllOn, IsCommittedBefore, IsUpTo}
+use Rattle.channel_laws.specs.NotYets.{AreAllOn, IsCommittedBefore, StandsBefore}
 use Rattle.channel_laws.specs.ResponseLimits.{IsCallLimit}
 use Rattle.link_laws.proofs.Dating.{AreDated, dated_always}
 use Rattle.link_laws.proofs.Knowing.{Knows, knows_new}
@@ -78,7 +78,7 @@ module _ (laws : MoreLaws) (timed : TimedLaws) (inbox : InboxLaws) (kept : KeptL
   streamed : (place : ℕ) (row : Row) → IsCommittedBefore rows call n place row → stream_at rows place ≡ row.stream
   streamed place row hb = ap stream_of (sym (at_number rows place) ∙ hb.is.there)
 
-  all : (place : ℕ) (row : Row) (at : Placed) (stream : ℕ) → IsCommittedBefore rows call n place row → row.placed ≡ Some at → row.stream ≡ Some stream → IsUpTo ledger at.link n → AreAllOn took es ledger call at.link stream
+  all : (place : ℕ) (row : Row) (at : Placed) (stream : ℕ) → IsCommittedBefore rows call n place row → row.placed ≡ Some at → row.stream ≡ Some stream → StandsBefore ledger at.link n → AreAllOn took es ledger call at.link stream
   all place row at stream hb placed has up =
       let alive : dead_on at.link core.state ≡ false = alive_before es at.link (received at.link es) core.state ledger ledger refl (later_same n ledger) dated.dated.links up (so.reads.reads at.link) in
       record { limit = foretold.limits place; limit_is = limit_of place row hb; is = given_all laws timed inbox kept authority new core events is runs call untaken slot there live place (to place row hb) row hb.is.there at placed stream has alive }

@@ -55,7 +55,7 @@ module _ (n m w : ℕ) (e : Event) (old new : StateSeen) (r : Reply) (h : applyi
   pub few_late : Few late r
   few_late number is = subst (λ (k : ℕ). k + 1 ≤ 4294967295) (sym few) (most number is)
 
-  own_ready : Owns old → Owns ready
+  pub own_ready : Owns old → Owns ready
   own_ready own =
       let at_late : Owns late = overdue KeepsOwn owned first (owns_same old first refl refl refl own) in
       let at_answer : Owns h.answered = answered KeepsOwn owned own_nets (refusal_of e late) e late h.answered r (own_trod e late r same_late few_late) h.answers at_late in
@@ -74,12 +74,16 @@ module _ (n m w : ℕ) (e : Event) (old new : StateSeen) (r : Reply) (h : applyi
       let start : Now rows ready = record { owns = own_ready own; now = λ place at e. inl e } in
       subst (λ (x : StateSeen). Now rows x) (sym h.settles) (all_rounds (KeepsNow rows) (now_treads rows) (now_places rows) settling.most ready start)
 
-  -- where a row was placed before the step, or else on a link that is not gone
-  pub placed_so : Owns old → (place : ℕ) (at : Placed) → placing_at new.book.ledger.rows place ≡ Some at → (placing_at old.book.ledger.rows place ≡ Some at) ⊎ (gone_at at.link new ≡ None)
-  placed_so own place at e = elim ((now_new own).now place at e) [
+  -- a row was placed before the step, or on a link that is its subchannel's own
+  pub placed_on : Owns old → (place : ℕ) (at : Placed) → placing_at new.book.ledger.rows place ≡ Some at → (placing_at old.book.ledger.rows place ≡ Some at) ⊎ IsLiveLink new.links new.book.ledger.links at.sub at.link
+  placed_on own place at e = elim ((now_new own).now place at e) [
     | inl was ↦ inl (sym (still_ready place) ∙ was)
-    | inr mine ↦ (let l : IsLiveLink new.links new.book.ledger.links at.sub at.link = (now_new own).owns.own at.sub at.link mine in inr (ap gone_of l.there ∙ l.stays))
+    | inr mine ↦ inr ((now_new own).owns.own at.sub at.link mine)
   ]
+
+  -- and so on one that is not gone
+  pub placed_so : Owns old → (place : ℕ) (at : Placed) → placing_at new.book.ledger.rows place ≡ Some at → (placing_at old.book.ledger.rows place ≡ Some at) ⊎ (gone_at at.link new ≡ None)
+  placed_so own place at e = elim (placed_on own place at e) [ inl was ↦ inl was | inr l ↦ inr (ap gone_of l.there ∙ l.stays) ]
 
 -- what the ledger tells of a step
 written_new : (n gone : ℕ) (o p : Option ℕ) → Written (λ e. e) n o p → o ≡ None → p ≡ Some gone → gone ≡ n
@@ -99,7 +103,7 @@ pub gone_now : (n gone k : ℕ) (old new : StateSeen) → Later n old.book.ledge
 gone_now n gone zero old new h none is = absurd (let no : ⊥ = (cc) in no)
 gone_now n gone (suc i) old new h none is = gone_new n gone old.book.ledger.links new.book.ledger.links i h.links none is
 
-grown_length : (n : ℕ) (xs ys : List LinkSeen) → LaterLinks n xs ys → length xs ≤ length ys
+pub grown_length : (n : ℕ) (xs ys : List LinkSeen) → LaterLinks n xs ys → length xs ≤ length ys
 grown_length n [] ys g = omega arith
 grown_length n (x ∷ xs) [] g = absurd g
 grown_length n (x ∷ xs) (y ∷ ys) g = (let rest : length xs ≤ length ys = grown_length n xs ys g.1 in omega (arith, rest))
@@ -175,6 +179,9 @@ module _ (old new : CoreSeen) (s : Stamped) (r : Reply) (h : Steps old new s r) 
   pub later : Later n old.state.book.ledger new.state.book.ledger
   later = stamped n m s.word s.event old.state new.state r h.by
 
+  pub placed_link : Owns old.state → (place : ℕ) (at : Placed) → placing_at new.state.book.ledger.rows place ≡ Some at → (placing_at old.state.book.ledger.rows place ≡ Some at) ⊎ IsLiveLink new.state.links new.state.book.ledger.links at.sub at.link
+  placed_link owns place at e = placed_on n m s.word s.event old.state new.state r h.by links_same links_kept links_most owns place at e
+
   -- each row was placed before the step, or on a link that is not gone
   pub placed_in : Owns old.state → (place : ℕ) (at : Placed) → placing_at new.state.book.ledger.rows place ≡ Some at → (placing_at old.state.book.ledger.rows place ≡ Some at) ⊎ (gone_at at.link new.state ≡ None)
   placed_in owns place at e = placed_so n m s.word s.event old.state new.state r h.by links_same links_kept links_most owns place at e
@@ -208,7 +215,7 @@ gone_runs old (s ∷ events) new h few all =
     gone_runs h.0 events new h.3 few (gone_step old h.0 s h.1 h.2 (omega (arith, few, more)) all)
 
 -- a new channel
-no_row : (place : ℕ) (at : Placed) → placing_at [] place ≡ Some at → ⊥
+pub no_row : (place : ℕ) (at : Placed) → placing_at [] place ≡ Some at → ⊥
 no_row zero at e = (cc)
 no_row (suc i) at e = (cc)
 

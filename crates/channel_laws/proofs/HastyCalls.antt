@@ -96,8 +96,8 @@ lasts_touched k number s t h = record { fewer = λ i. subst (λ (l : List (ℕ �
 lasting : (k : ℕ) → Turns (Lasts k)
 lasting k = record {
   joined = lasts_on k;
-  beside = λ s t calls moment deadlines shut unconfigured same. at_rest k s t calls (λ i. subst (λ (l : List (ℕ × ℕ)). In (0, k) l) (same_waiting false s t same) i);
-  touched = λ number s t h calm. lasts_touched k number s t h;
+  beside = λ s t calls moment deadlines dues shut unconfigured same. at_rest k s t calls (λ i. subst (λ (l : List (ℕ × ℕ)). In (0, k) l) (same_waiting false s t same) i);
+  touched = λ number s t h calm due. lasts_touched k number s t h;
   placed = λ row at number s t h. lasts_turned k number (call.placed_at row at) s t h (keeps_placed row at);
 }
 
@@ -113,7 +113,7 @@ lasts_event k (event.LinkLost link) s old = λ row end number word u v h. lasts_
 lasts_event k event.Shutdown s old = (λ number u v h. lasts_turned k number (call.closed_by ends.Shut u.book.moment) u v h (keeps_closed ends.Shut u.book.moment), at_rest k s (record s { shut = true }) refl (λ i. i))
 lasts_event k (event.Resolved addresses text) s old = λ u. at_rest k u _ refl (λ i. i)
 lasts_event k event.ResolveFailed s old = at_rest k s _ refl (λ i. i)
-lasts_event k (event.Take number) s old = λ t h. lasts_touched k number s t h
+lasts_event k (event.Take number) s old = λ t h due. lasts_touched k number s t h
 lasts_event k e s old = tt
 
 pub lasts_left : (k : ℕ) (e : Event) (s t : StateSeen) (r : Reply) → IsOld e → AnswersBy (refusal_of e s) e s t r → Lasts k s t
@@ -125,6 +125,8 @@ lasts_settled k s =
     (record {
       made = λ number u v h. lasts_turned k number (call.made_due u.book.moment) u v h (keeps_due u.book.moment);
       failed = λ row number word u v h. lasts_turned k number (call.pick_failed row u.book.moment word) u v h (keeps_ended_at row pick_end u.book.moment word);
+      taken = λ dues u. at_rest k u _ refl (λ i. i);
+      forgotten = λ number u v h calm. lasts_touched k number u v h;
     })
     (λ u bare impatient sorted fewer. at_rest k u _ refl (fewer (0, k))) s
     (λ some chosen number u v h. lasts_turned k number (call.configured chosen u.book.moment) u v h (keeps_configured chosen u.book.moment))

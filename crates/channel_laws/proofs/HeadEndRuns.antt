@@ -32,7 +32,6 @@ use Rattle.channel_core.specs.declared.state.links.LinkSlot.{LinkSlot}
 use Rattle.channel_core.proofs.Stamping.{stamped}
 use Rattle.channel_core.proofs.ToldEnds.{as_numbered}
 use Rattle.channel_laws.specs.CommittingHeads.{HadHead}
-use Rattle.channel_laws.specs.Deliveries.{IsCommittedBy}
 use Rattle.channel_laws.specs.EndEntries.{IsEndedOn, IsGoneBy}
 use Rattle.channel_laws.specs.Response.{Response, no_response, response_in}
 use Rattle.channel_laws.specs.ResponseLimits.{IsCallLimit}
@@ -45,7 +44,7 @@ use Rattle.link_laws.proofs.LinkLosses.{DeadStays, dead_stays}
 use Rattle.link_laws.proofs.LinkStays.{dead_on, seen_on}
 use Rattle.link_laws.proofs.RuleBreaks.{Known, known_judges, known_kept}
 use Rattle.link_laws.proofs.Walking.{overdue}
-use Rattle.link_laws.proofs.StreamRuns.{are_placed}
+use Rattle.link_laws.proofs.StreamRuns.{are_placed, streams_always}
 use Rattle.channel_laws.proofs.LastFrames.{brings, last_entry, same_front}
 use Rattle.channel_laws.proofs.ArriveEnds.{Free}
 use Rattle.channel_laws.proofs.LiveRows.{IsLive, is_live}
@@ -65,7 +64,6 @@ use Rattle.link_laws.proofs.WalkingSteps as walking_steps
 use Rattle.link_laws.proofs.Working.{TimedLaws}
 use Rattle.channel_laws.proofs.CallLimits.{foretold_by, foretold_fits, one_limit, row_limit}
 use Rattle.channel_laws.proofs.CallMoves.{KeptLaws}
-use Rattle.channel_laws.proofs.Deliveries.{committed_still}
 use Rattle.channel_laws.proofs.Delivering.{Story}
 use Rattle.channel_laws.proofs.EndEntries.{AnyOf, IsEnding, ending_new, ending_step}
 use Rattle.channel_laws.proofs.Foretelling.{Fits, leads_runs}
@@ -87,14 +85,19 @@ use Rattle.channel_laws.proofs.EndShapes.{shaped_always}
 use Rattle.channel_laws.proofs.ReadsBy.{IsLast, ReadAt, gone_stays}
 use Rattle.channel_laws.proofs.RowEnds.{was_or_now}
 use Rattle.channel_laws.proofs.TakenOnce as taken
+use Rattle.call_core.specs.RowLicenses.{IsStampedBy}
+use Rattle.channel_laws.proofs.OwnHeads.{IsOwn}
+use Rattle.channel_laws.proofs.GainedEnds.{stream_kept}
+use Rattle.link_laws.proofs.RequestRows.{one_place}
+use Rattle.link_laws.specs.StreamRows.{AreStreamsOf, IsSentAs}
 
--- a row that ended: with the frames that were seen by then, where its response, read with this limit, had a head, its call is committed by its end
+-- a row that ended: with the frames that were seen by then, where its response, read with this limit, had a head, the call is committed to it by its end
 pub record HadHeadBy (limit : ℕ) (es : List Entry) (ledger : Ledger) (row : Row) (at : Placed) (end : RowEnd) : Type 0 where
   pub frames : List FrameSeen
   pub more : List FrameSeen
   pub front : frames_of (received at.link es) ≡ frames ++ more
   pub seen : end.seen ≡ bytes_in frames
-  pub commits : (x : ℕ) → row.stream ≡ Some x → (meta : List Field) → (response_in limit x frames).head ≡ Some meta → IsCommittedBy ledger.rows row.call end.entry
+  pub commits : (x : ℕ) → row.stream ≡ Some x → (meta : List Field) → (response_in limit x frames).head ≡ Some meta → IsStampedBy end.entry row
   pub left : (x : ℕ) → row.stream ≡ Some x → IsLeft end.cause limit x frames
 
 -- where the client gave it up, its link was not gone before
@@ -104,13 +107,13 @@ Stands ledger link end = end.cause ≡ cause.Cut → (entry : ℕ) → entry < e
 abbrev pub Law : (ℕ → ℕ) → List Entry → Ledger → Type 0
 Law limits es ledger = (place : ℕ) (row : Row) (at : Placed) (end : RowEnd) → row_in ledger.rows place ≡ Some row → row.placed ≡ Some at → row.ended ≡ Some end → (end.cause ≡ cause.Pick → ⊥) → Stands ledger at.link end → length (received at.link es) ≤ most → HadHeadBy (limits place) es ledger row at end
 
-head_more : (limit x : ℕ) (frames more : List FrameSeen) (meta : List Field) → (response_in limit x frames).head ≡ Some meta → response_in limit x (frames ++ more) ≡ no_response → ⊥
+pub head_more : (limit x : ℕ) (frames more : List FrameSeen) (meta : List Field) → (response_in limit x frames).head ≡ Some meta → response_in limit x (frames ++ more) ≡ no_response → ⊥
 head_more limit x frames more meta head none =
     let both : None ≡ Some meta = sym (ap (λ (r : Response). r.head) none) ∙ (grew_in limit x frames more).head_is meta head in
     (cc)
 
 module _ (first : Story) (sure : first.foretold ≡ true) (laws : MoreLaws) (timed : TimedLaws) (inbox : InboxLaws) (kept : KeptLaws) where
-  module _ (old new : CoreSeen) (s : Stamped) (r : Reply) (h : Steps old new s r) (had : IsEnding first sure old) (had_new : IsEnding first sure new) (over : taken.IsSo old) (over_new : taken.IsSo new) (held : HeldIn NoneOff old.state) (law : Law first.limits old.journal.entries old.state.book.ledger) where
+  module _ (old new : CoreSeen) (s : Stamped) (r : Reply) (h : Steps old new s r) (had : IsEnding first sure old) (had_new : IsEnding first sure new) (over : taken.IsSo old) (over_new : taken.IsSo new) (held : HeldIn NoneOff old.state) (all_streams : (link : ℕ) → AreStreamsOf (sent link new.journal.entries) new.state.book.ledger.rows link) (law : Law first.limits old.journal.entries old.state.book.ledger) where
     abbrev es : List Entry
     es = old.journal.entries
 
@@ -151,15 +154,15 @@ module _ (first : Story) (sure : first.foretold ≡ true) (laws : MoreLaws) (tim
         old_had : HadHeadBy (first.limits place) es old.state.book.ledger was at end
         old_had = law place was at end was_there was_placed was_ended other (λ cut entry early gone. stands cut entry early (gone_stays n at.link entry old.state.book.ledger ledger later gone)) few_old
 
-        by_stream : (o : Option ℕ) → was.stream ≡ o → (y : ℕ) → row.stream ≡ Some y → (meta : List Field) → (response_in (first.limits place) y old_had.frames).head ≡ Some meta → IsCommittedBy ledger.rows row.call end.entry
+        by_stream : (o : Option ℕ) → was.stream ≡ o → (y : ℕ) → row.stream ≡ Some y → (meta : List Field) → (response_in (first.limits place) y old_had.frames).head ≡ Some meta → IsStampedBy end.entry row
         by_stream None e y has meta head =
             let nothing : response_in (first.limits place) y (old_had.frames ++ old_had.more) ≡ no_response = ap (λ (fs : List FrameSeen). response_in (first.limits place) y fs) (sym old_had.front) ∙ fresh y has (ap stream_of (sym (as_numbered old.state.book.ledger.rows place) ∙ was_there) ∙ e) (first.limits place) in
             absurd (head_more (first.limits place) y old_had.frames old_had.more meta head nothing)
         by_stream (Some z) e y has meta head =
             let now : row.stream ≡ Some z = still (λ (j : ℕ). n) n was.stream row.stream z l.stamps.stream e in
             let both : Some z ≡ Some y = sym now ∙ has in
-            let commits : IsCommittedBy old.state.book.ledger.rows was.call end.entry = old_had.commits y (e ∙ both) meta head in
-            subst (λ (j : ℕ). IsCommittedBy ledger.rows j end.entry) (sym l.call) (committed_still n was.call end.entry old.state.book.ledger ledger later commits)
+            let commits : IsStampedBy end.entry was = old_had.commits y (e ∙ both) meta head in
+            record { stamp = commits.stamp; committed = still (λ (j : ℕ). j) n was.committed row.committed commits.stamp l.stamps.committed commits.committed; order = commits.order }
 
         left_by : (o : Option ℕ) → was.stream ≡ o → (y : ℕ) → row.stream ≡ Some y → IsLeft end.cause (first.limits place) y old_had.frames
         left_by None e y has =
@@ -204,6 +207,18 @@ module _ (first : Story) (sure : first.foretold ≡ true) (laws : MoreLaws) (tim
             let alike : Still old.state new.state = walking_steps.walked Still still_walks n (moment_of es s) s.word s.event old.state new.state r (walked_still s.event (subst others (sym is) tt)) h.by in
             sym (alike place) ∙ ap stream_of (sym (as_numbered ledger.rows place) ∙ there) ∙ has
 
+        -- the stream is of this row alone
+        own_mark : (y : ℕ) → row.stream ≡ Some y → IsOwn n k old.state.book.ledger.rows ledger.rows e.on.row y → is_some row.committed ≡ true
+        own_mark y has (inl stamped) = ap (λ (z : Row). is_some z.committed) here ∙ stamped
+        own_mark y has (inr r) =
+            let streams : AreStreamsOf (sent k new.journal.entries) ledger.rows k = all_streams k in
+            let streamed_now : stream_at ledger.rows r.place ≡ Some y = stream_kept n r.place y old.state.book.ledger ledger (numbered old.state.book.ledger.rows r.place) later refl r.has in
+            let stream_is : r.on.row.stream ≡ Some y = sym (ap stream_of (sym (as_numbered ledger.rows r.place) ∙ r.on.there)) ∙ streamed_now in
+            let mine : IsSentAs ledger.rows k place y = record { row = row; there = sym (as_numbered ledger.rows place) ∙ there; at = at; placed = placed; on = link_is; stream = has } in
+            let other_one : IsSentAs ledger.rows k r.place y = record { row = r.on.row; there = sym (as_numbered ledger.rows r.place) ∙ r.on.there; at = r.on.at; placed = r.on.placed; on = r.on.on; stream = stream_is } in
+            let same_place : place ≡ r.place = one_place streams.places place r.place y (streams.all place y mine) (streams.all r.place y other_one) in
+            ap (λ (z : Row). is_some z.committed) (same_row ledger.rows place r.place row r.mark.row there r.mark.is.there same_place) ∙ ap (λ (o : Option ℕ). is_some o) r.mark.committed
+
         newest : Had
         newest = record {
           frames = e.frames;
@@ -212,18 +227,10 @@ module _ (first : Story) (sure : first.foretold ≡ true) (laws : MoreLaws) (tim
           seen = e.seen (subst (λ (l : List ℕ). length l ≤ most) all_is few);
           left = λ y has. e.left y (streamed y has);
           commits = λ y has meta head.
-              let stamp = e.commits y (streamed y has) meta head in
-              let at_entry = some_in stamp.1.row.committed stamp.1.stamped in
-              let within : at_entry.0 ≤ length new.journal.entries = committed_within first sure new had_new over_new stamp.0 stamp.1.row at_entry.0 stamp.1.is.there at_entry.1 in
+              let at_entry = some_in row.committed (own_mark y has (e.commits y (streamed y has) meta head)) in
+              let within : at_entry.0 ≤ length new.journal.entries = committed_within first sure new had_new over_new place row at_entry.0 there at_entry.1 in
               let longer : length new.journal.entries ≡ n = ap (λ (l : List Entry). length l) h.journal ∙ length-append es (x ∷ []) in
-              record {
-                place = stamp.0;
-                row = stamp.1.row;
-                is = record { there = stamp.1.is.there; call = stamp.1.is.call ∙ ap (λ (z : Row). z.call) (sym here) };
-                stamp = at_entry.0;
-                committed = at_entry.1;
-                by = omega (arith, within, longer, now);
-              };
+              record { stamp = at_entry.0; committed = at_entry.1; order = omega (arith, within, longer, now) };
         }
 
       -- it ended as all frames of the entries before were seen, and its link was not dead then
@@ -241,7 +248,7 @@ module _ (first : Story) (sure : first.foretold ≡ true) (laws : MoreLaws) (tim
           unstreamed : stream_at old.state.book.ledger.rows place ≡ None → ⊥
           unstreamed none = (let both : None ≡ Some meta = sym (ap (λ (z : Response). z.head) (fresh y has none (first.limits place))) ∙ head in (cc))
 
-          of_row : (was : Row) → row_in old.state.book.ledger.rows place ≡ Some was → LaterRow n was row → (o : Option ℕ) → was.stream ≡ o → IsCommittedBy ledger.rows row.call end.entry
+          of_row : (was : Row) → row_in old.state.book.ledger.rows place ≡ Some was → LaterRow n was row → (o : Option ℕ) → was.stream ≡ o → IsStampedBy end.entry row
           of_row was e l None none = absurd (unstreamed (ap stream_of (sym (as_numbered old.state.book.ledger.rows place) ∙ e) ∙ none))
           of_row was e l (Some z) some =
               let both : Some z ≡ Some y = sym (still (λ (j : ℕ). n) n was.stream row.stream z l.stamps.stream some) ∙ has in
@@ -253,11 +260,10 @@ module _ (first : Story) (sure : first.foretold ≡ true) (laws : MoreLaws) (tim
               let up = held.up place at running in
               let alive_old : dead_on at.link old.state ≡ false = alive was e was_at open_ up.slot up.is in
               let live : IsLive old.state.book.ledger.rows place up.slot = elim (is_live NoneOff old.state held had.served place at up.slot running up.is (living first sure old had over place was e at was_at open_ up.slot up.is alive_old)) [ inl k ↦ k | inr bad ↦ absurd bad ] in
-              let commits : IsCommittedBy old.state.book.ledger.rows was.call (length es) = row_commits first sure old had over place was e at was_at open_ up.slot up.is alive_old live y (some ∙ both) meta head in
-              let later_on : IsCommittedBy ledger.rows was.call (length es) = committed_still n was.call (length es) old.state.book.ledger ledger later commits in
-              subst (λ (j : ℕ). IsCommittedBy ledger.rows j end.entry) (sym l.call) (record { place = later_on.place; row = later_on.row; is = later_on.is; stamp = later_on.stamp; committed = later_on.committed; by = (let by = later_on.by in omega (arith, by, now)) })
+              let commits : IsStampedBy (length es) was = row_commits first sure old had over place was e at was_at open_ up.slot up.is alive_old live y (some ∙ both) meta head in
+              record { stamp = commits.stamp; committed = still (λ (j : ℕ). j) n was.committed row.committed commits.stamp l.stamps.committed commits.committed; order = (let by = commits.order in omega (arith, by, now)) }
 
-          by_old : (o : Option Row) → row_in old.state.book.ledger.rows place ≡ o → GrewAt (LaterRow n) (NewRow n) o row → IsCommittedBy ledger.rows row.call end.entry
+          by_old : (o : Option Row) → row_in old.state.book.ledger.rows place ≡ o → GrewAt (LaterRow n) (NewRow n) o row → IsStampedBy end.entry row
           by_old None e l = absurd (unstreamed (ap stream_of (sym (as_numbered old.state.book.ledger.rows place) ∙ e)))
           by_old (Some was) e l = of_row was e l was.stream refl
 
@@ -420,7 +426,7 @@ module _ (first : Story) (sure : first.foretold ≡ true) (laws : MoreLaws) (tim
         let over : taken.IsSo old = taken.so_new laws timed inbox kept authority fresh_one old k.done is k.run in
         let over_new : taken.IsSo new = taken.so_new laws timed inbox kept authority fresh_one new (k.done ++ s ∷ []) is run in
         let held : HeldIn NoneOff old.state = held_always laws timed inbox kept authority fresh_one old k.done is k.run in
-        let law : Law first.limits (es ++ x ∷ []) new.state.book.ledger = step_law old new s r h k.ending ending over over_new held k.law in
+        let law : Law first.limits (es ++ x ∷ []) new.state.book.ledger = step_law old new s r h k.ending ending over over_new held (streams_always laws timed authority fresh_one new (k.done ++ s ∷ []) is run) k.law in
         record { done = k.done ++ s ∷ []; run = run; ending = ending; law = subst (λ (l : List Entry). Law first.limits l new.state.book.ledger) (sym h.journal) law }
 
     so_runs : (old : CoreSeen) (events : List Stamped) (new : CoreSeen) → Runs old events new → Fits first new.state → IsSo old → IsSo new
@@ -430,13 +436,13 @@ module _ (first : Story) (sure : first.foretold ≡ true) (laws : MoreLaws) (tim
         so_runs h.0 events new h.3 fits (so_step old h.0 s h.1 h.2 next k)
 
 -- nothing of a link was seen where a pick failed
-not_pick : (limit x : ℕ) (frames : List FrameSeen) (meta : List Field) (end : RowEnd) → IsShaped end → end.seen ≡ bytes_in frames → (response_in limit x frames).head ≡ Some meta → end.cause ≡ cause.Pick → ⊥
+pub not_pick : (limit x : ℕ) (frames : List FrameSeen) (meta : List Field) (end : RowEnd) → IsShaped end → end.seen ≡ bytes_in frames → (response_in limit x frames).head ≡ Some meta → end.cause ≡ cause.Pick → ⊥
 not_pick limit x [] meta end shaped seen head pick = (let both : None ≡ Some meta = head in (cc))
 not_pick limit x (f ∷ frames) meta end shaped seen head pick =
     let none : end.seen ≡ 0 = (subst (λ (c : RowCause). IsShapedBy c end) pick shaped).1 in
     omega (arith, none, seen)
 
-no_row : (place : ℕ) (row : Row) → row_in [] place ≡ Some row → ⊥
+pub no_row : (place : ℕ) (row : Row) → row_in [] place ≡ Some row → ⊥
 no_row zero row e = (cc)
 no_row (suc i) row e = (cc)
 
@@ -457,7 +463,7 @@ had_always laws timed inbox kept authority new core events is runs =
     all.law
 
 pub last_heads_always : MoreLaws → TimedLaws → InboxLaws → KeptLaws → (authority : List ℕ) (new core : CoreSeen) (events : List Stamped) → IsNew authority new → Runs new events core
-    → (call : ℕ) (end : RowEnd) → HadHead core.journal.entries core.state.book.ledger call end → IsCommittedBy core.state.book.ledger.rows call end.entry
+    → (call : ℕ) (end : RowEnd) (h : HadHead core.journal.entries core.state.book.ledger call end) → IsStampedBy end.entry h.row
 last_heads_always laws timed inbox kept authority new core events is runs call end h =
     let es : List Entry = core.journal.entries in
     let ledger : Ledger = core.state.book.ledger in
@@ -465,10 +471,9 @@ last_heads_always laws timed inbox kept authority new core events is runs call e
     let first : Story = foretold_by core knows in
     let law : Law first.limits es ledger = had_always laws timed inbox kept authority new core events is runs in
     let shaped : IsShaped end = (shaped_always authority new core events is runs).each h.place h.row end (sym (as_numbered ledger.rows h.place) ∙ h.is.there) h.ended in
-    let had : HadHeadBy (first.limits h.place) es ledger h.row h.at end = law h.place h.row h.at end h.is.there h.placed h.ended (not_pick h.limit h.stream h.frames h.meta end shaped h.seen h.head) h.stands h.few in
+    let had : HadHeadBy (first.limits h.place) es ledger h.row h.at end = law h.place h.row h.at end h.is.there h.placed h.ended (not_pick h.limit h.stream h.frames h.meta end shaped h.saw.seen h.head) h.stands h.saw.few in
     let limit_is : IsCallLimit es ledger h.row.call (first.limits h.place) = row_limit core knows h.place h.row h.is.there in
     let same : h.limit ≡ first.limits h.place = one_limit es ledger call h.limit (first.limits h.place) h.limit_is (subst (λ (k : ℕ). IsCallLimit es ledger k (first.limits h.place)) h.is.call limit_is) in
-    let frames : h.frames ≡ had.frames = same_front h.frames had.frames h.more had.more (sym h.front ∙ had.front) (sym h.seen ∙ had.seen) in
+    let frames : h.frames ≡ had.frames = same_front h.frames had.frames h.saw.more had.more (sym h.saw.front ∙ had.front) (sym h.saw.seen ∙ had.seen) in
     let response : response_in h.limit h.stream h.frames ≡ response_in (first.limits h.place) h.stream had.frames = ap (λ (m : ℕ). response_in m h.stream h.frames) same ∙ ap (λ (fs : List FrameSeen). response_in (first.limits h.place) h.stream fs) frames in
-    let commits : IsCommittedBy ledger.rows h.row.call end.entry = had.commits h.stream h.has h.meta (sym (ap (λ (r : Response). r.head) response) ∙ h.head) in
-    subst (λ (k : ℕ). IsCommittedBy ledger.rows k end.entry) h.is.call commits
+    had.commits h.stream h.has h.meta (sym (ap (λ (r : Response). r.head) response) ∙ h.head)

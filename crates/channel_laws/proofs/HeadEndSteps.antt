@@ -14,7 +14,6 @@ use Rattle.attempt_ledger.specs.declared.row.Row.{Row}
 use Rattle.attempt_ledger.specs.declared.row.RowCause.TheVariants as cause
 use Rattle.attempt_ledger.specs.declared.row.RowEnd.{RowEnd}
 use Rattle.ledger_stamps.specs.Later.{Later, LaterRow, NewRow}
-use Rattle.call_core.specs.Commitments.{IsStamped}
 use Rattle.call_core.specs.Rows.{row_in}
 use Rattle.channel_core.proofs.ToldEnds.{as_numbered}
 use Rattle.channel_core.specs.Applying.{AnswersBy, begun_at, refusal_of}
@@ -48,7 +47,6 @@ use Rattle.channel_laws.proofs.ArriveEnds.{Free}
 use Rattle.channel_laws.proofs.CallMoves.{KeptLaws}
 use Rattle.channel_laws.proofs.Delivering.{Story}
 use Rattle.channel_laws.proofs.EndEntries.{IsEnding}
-use Rattle.channel_laws.proofs.CutCalls.{stamp_stays}
 use Rattle.channel_laws.proofs.HeadCommits.{some_in}
 use Rattle.channel_laws.proofs.HeadEnds.{Commits, EndedBy, EndedSo, M, OpenOn, Q, ended_later}
 use Rattle.channel_laws.proofs.HeadPieces.{Brings, frames_end}
@@ -59,8 +57,8 @@ use Rattle.channel_laws.proofs.OpenResponses.{left_all}
 use Rattle.channel_laws.proofs.NewEnds.{Fresh, NewEnds, Read, WasEnded, later_stays, new_joined, new_less}
 use Rattle.channel_laws.proofs.Owned.{InboxLaws}
 use Rattle.channel_laws.proofs.QuietEnds.{Part, Silent, overdue_part, part_stays, settle_part}
-use Rattle.channel_laws.proofs.RowEnds.{IsRowStill, kept_row}
 use Rattle.channel_laws.proofs.TakenOnce.{IsSo}
+use Rattle.channel_laws.proofs.OwnHeads.{own_later}
 
 module _ (laws : MoreLaws) (timed : TimedLaws) (inbox : InboxLaws) (kept : KeptLaws) (first : Story) (sure : first.foretold ≡ true) (old new : CoreSeen) (s : Stamped) (r : Reply) (h : Steps old new s r) (had : IsEnding first sure old) (taken : IsSo old) (held : HeldIn NoneOff old.state) (k : ℕ) (piece : List ℕ) (is : s.event ≡ event.Arrived k piece) (done : r ≡ reply.Done) where
   abbrev es : List Entry
@@ -87,16 +85,16 @@ module _ (laws : MoreLaws) (timed : TimedLaws) (inbox : InboxLaws) (kept : KeptL
   abbrev rows : List Row
   rows = old.state.book.ledger.rows
 
-  begun : IsFirst n start
+  pub begun : IsFirst n start
   begun = first_of laws timed old s had.knows had.served
 
-  to_x : Step laws timed n start x
+  pub to_x : Step laws timed n start x
   to_x = serving.overdue laws timed n start
 
-  entry_x : x.book.ledger.entry ≡ n
+  pub entry_x : x.book.ledger.entry ≡ n
   entry_x = to_x.base.writes.entry
 
-  known_x : KnownIn x
+  pub known_x : KnownIn x
   known_x = known_after n start x to_x.base refl begun.known
 
   answers : AnswersBy (refusal_of (event.Arrived k piece) x) (event.Arrived k piece) x v r
@@ -106,7 +104,7 @@ module _ (laws : MoreLaws) (timed : TimedLaws) (inbox : InboxLaws) (kept : KeptL
   came_by None e g = (e, g.0)
   came_by (Some why) e g = absurd (let both : reply.Refused why ≡ reply.Done = sym g.1 ∙ done in (let no : ⊥ = (cc) in no))
 
-  came : (refusal_of (event.Arrived k piece) x ≡ None) × (v ≡ arrivals.piece_arrived k piece x)
+  pub came : (refusal_of (event.Arrived k piece) x ≡ None) × (v ≡ arrivals.piece_arrived k piece x)
   came = came_by (refusal_of (event.Arrived k piece) x) refl answers
 
   alive : dead_on k x ≡ false
@@ -131,30 +129,30 @@ module _ (laws : MoreLaws) (timed : TimedLaws) (inbox : InboxLaws) (kept : KeptL
   comings : Comings k n m s.word s.event old.state new.state r
   comings = record { s = x; t = v; s_is = refl; settles = h.by.settles; arrives = record { piece = piece; event_is = is; reply_is = done; state_is = came.1; alive = alive; there = there } }
 
-  opens : OpenOn laws timed inbox kept first sure n rows k (sent k es) had.story.over (received k es) (received k es) x
+  pub opens : OpenOn laws timed inbox kept first sure n rows k (sent k es) had.story.over (received k es) (received k es) x
   opens = open_now Known Free known_kept KeepsRules BreaksRules known_judges k n m s.word es s.event old.state new.state r comings (had.links.reads.reads k) (had.links.gives.on k) whole x alive refl
 
   abbrev Now : StateSeen → ℕ → RowEnd → Type 0
   Now y place end = Q laws timed inbox kept first sure n rows k (sent k es) had.story.over all y place end
 
-  begins_x : M laws timed inbox kept first sure n rows k (sent k es) had.story.over (received k es) x
+  pub begins_x : M laws timed inbox kept first sure n rows k (sent k es) had.story.over (received k es) x
   begins_x = begins laws timed inbox kept first sure old new s r h had taken held k piece is
 
-  brought : Brings laws timed inbox kept first sure n rows k (sent k es) had.story.over all x v
+  pub brought : Brings laws timed inbox kept first sure n rows k (sent k es) had.story.over (received k es) all x v
   brought =
-      let frames : Brings laws timed inbox kept first sure n rows k (sent k es) had.story.over all x (arrivals.piece_arrived k piece x) =
+      let frames : Brings laws timed inbox kept first sure n rows k (sent k es) had.story.over (received k es) all x (arrivals.piece_arrived k piece x) =
       frames_end laws timed inbox kept first sure n rows k (sent k es) had.story.over all (received k es) (received k es) piece 0 x refl (omega arith)
       (subst (λ (l : List ℕ). M laws timed inbox kept first sure n rows k (sent k es) had.story.over l x) (sym (append-nil (received k es))) begins_x)
       (subst (λ (l : List ℕ). OpenOn laws timed inbox kept first sure n rows k (sent k es) had.story.over (received k es) l x) (sym (append-nil (received k es))) opens) in
-      subst (λ (y : StateSeen). Brings laws timed inbox kept first sure n rows k (sent k es) had.story.over all x y) (sym came.1) frames
+      subst (λ (y : StateSeen). Brings laws timed inbox kept first sure n rows k (sent k es) had.story.over (received k es) all x y) (sym came.1) frames
 
-  to_v : Step laws timed n x v
+  pub to_v : Step laws timed n x v
   to_v = steps.answered laws timed n (refusal_of (event.Arrived k piece) x) (event.Arrived k piece) x v r answers
 
-  behind : Part n Silent v new.state
+  pub behind : Part n Silent v new.state
   behind = subst (λ (y : StateSeen). Part n Silent v y) (sym h.by.settles) (settle_part laws timed n Silent v)
 
-  later_v : Later v.book.ledger.entry v.book.ledger new.state.book.ledger
+  pub later_v : Later v.book.ledger.entry v.book.ledger new.state.book.ledger
   later_v = behind.base.writes.later
 
   abbrev pub Ended : ℕ → RowEnd → Type 0
@@ -203,11 +201,7 @@ module _ (laws : MoreLaws) (timed : TimedLaws) (inbox : InboxLaws) (kept : KeptL
     commits : Commits laws timed inbox kept first sure n rows k (sent k es) had.story.over new.state place on.row brought.stands.frames
     commits y has meta head =
         let p : IsPlacedOn v.book.ledger.rows k place = on_v y has in
-        let stamp = brought.stands.commits place p (runs p) y has meta head in
-        let next : IsRowStill v.book.ledger.entry place new.state.book.ledger.rows p.row = kept_row v.book.ledger.entry place v.book.ledger.rows new.state.book.ledger.rows p.row later_v.rows p.there in
-        let same : next.row ≡ on.row = same_row new.state.book.ledger.rows place place next.row on.row next.there on.there refl in
-        let mine : on.row.call ≡ p.row.call = ap (λ (z : Row). z.call) (sym same) ∙ next.later.call in
-        (stamp.0, subst (λ (i : ℕ). IsStamped i new.state.book.ledger.rows stamp.0) (sym mine) (stamp_stays v.book.ledger.entry p.row.call stamp.0 v.book.ledger new.state.book.ledger later_v stamp.1))
+        own_later n k rows v.book.ledger.entry v.book.ledger new.state.book.ledger later_v place y p.row on.row p.there on.there (brought.stands.commits place p (runs p) y has meta head)
 
     settled : Ended place end
     settled = record { on = on; frames = brought.stands.frames; more = brought.stands.more; front = brought.stands.front; seen = λ few. seen ∙ brought.stands.seen few; commits = commits; left = λ y has. left_all end.cause (first.limits place) y brought.stands.frames (brought.stands.opens place (on_v y has) (runs (on_v y has)) y has) }

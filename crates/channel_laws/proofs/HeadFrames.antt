@@ -42,6 +42,22 @@ one_frame octets bytes piece l (Whole f len) e h unbroken =
     inr (f, adds.behind ∙ ap (λ (fs : List FrameSeen). frames_of bytes ++ fs) one)
 one_frame octets bytes piece l (Fault code) e h unbroken = absurd (let bad : ⊥ = (cc) in bad)
 
+-- and where it heard one, it read this frame
+pub one_reading : (octets bytes piece : List ℕ) (l : Seen) (r : Reading) → reading_of (l.rest ++ piece) ≡ r → Holds Known bytes octets l → (heard_with l piece (front_as l.wire (l.rest ++ piece) r)).link.wire.broken ≡ None
+    → (frames_of (bytes ++ take (heard_with l piece (front_as l.wire (l.rest ++ piece) r)).taken piece) ≡ frames_of bytes) ⊎ ((f : FrameSeen) × ((len : ℕ) × ((reading_of (l.rest ++ piece) ≡ Whole f len) × (frames_of (bytes ++ take (heard_with l piece (front_as l.wire (l.rest ++ piece) r)).taken piece) ≡ frames_of bytes ++ f ∷ []))))
+one_reading octets bytes piece l Partial e h unbroken =
+    let all : take (length piece) piece ≡ piece = take_all (length piece) piece (omega arith) in
+    let part : IsReading (l.rest ++ piece) [] (l.rest ++ piece) None = record { front = refl; back = partial_is_prefix (l.rest ++ piece) e } in
+    let joined : IsReading (bytes ++ piece) (h.came ++ []) (l.rest ++ piece) None = pieces_join bytes piece h.came [] l.rest (l.rest ++ piece) None h.read part in
+    let had : h.came ≡ frames_of bytes = (no_two_readings bytes _ _ _ _ _ _ h.read (has_reading bytes)).0 in
+    let one : frames_of (bytes ++ piece) ≡ h.came ++ [] = (no_two_readings (bytes ++ piece) _ _ _ _ _ _ (has_reading (bytes ++ piece)) joined).0 in
+    inl (ap (λ (p : List ℕ). frames_of (bytes ++ p)) all ∙ one ∙ append-nil h.came ∙ had)
+one_reading octets bytes piece l (Whole f len) e h unbroken =
+    let adds = adds_as Known Free known_kept KeepsRules BreaksRules known_judges octets bytes piece l (Whole f len) e h unbroken in
+    let one : adds.frames ≡ f ∷ [] = adds_frame Known Free known_kept KeepsRules BreaksRules known_judges octets bytes piece l f len e h unbroken in
+    inr (f, (len, (e, adds.behind ∙ ap (λ (fs : List FrameSeen). frames_of bytes ++ fs) one)))
+one_reading octets bytes piece l (Fault code) e h unbroken = absurd (let bad : ⊥ = (cc) in bad)
+
 -- what bytes write
 pub writing : (k : ℕ) (piece : List ℕ) (skip : ℕ) (s : StateSeen) → Writes s (frames_after k piece skip s)
 writing k piece skip s = resting.frames Writes (rests Writes (goes_of Writes writes)) (comes Writes (goes_of Writes writes)) k piece skip s
@@ -61,8 +77,5 @@ told_before octets limit x o F E f told is has (inl r) =
     let none : (response_in limit x F).end ≡ None = subst (λ (n : ℕ). (response_in limit n F).end ≡ None) number r.none in
     let ends : is_some (response_in limit x (F ++ f ∷ [])).end ≡ true = ap (λ (l : List FrameSeen). is_some (response_in limit x l).end) (sym is) ∙ ap (λ (n : ℕ). is_some (response_in limit n E).end) (sym number) ∙ ap is_some r.there in
     ap (λ (l : List FrameSeen). (response_in limit x l).head) is ∙ ended_head limit x F f none ends
-told_before octets limit x o F E f told is has (inr (inl w)) =
-    let both : Some w.number ≡ Some x = sym w.has ∙ has in
-    let number : w.number ≡ x = (cc) in
-    subst (λ (n : ℕ). (response_in limit n E).head ≡ (response_in limit n F).head) number w.head
+told_before octets limit x o F E f told is has (inr (inl w)) = w.head limit x
 told_before octets limit x o F E f told is has (inr (inr u)) = u.head limit x

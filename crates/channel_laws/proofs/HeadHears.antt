@@ -128,7 +128,7 @@ module _ (inbox : InboxLaws) (stay : EndedStay) (keeps : KeptLaws) where
     pub viewed : Joins View
     viewed = record {
       joined = λ s t u first second e. (let f = first e in let g = second f.0 in (g.0, heard_on (call_at k s) (call_at k t) (call_at k u) f.1 g.1));
-      beside = λ s t calls moment deadlines shut unconfigured waiting e. (moment ∙ e, subst (λ (l : List CallSlot). Hears (call_at k s) (call_in (numbered l k))) (sym calls) (heard_at (call_at k s)));
+      beside = λ s t calls moment deadlines dues shut unconfigured waiting e. (moment ∙ e, subst (λ (l : List CallSlot). Hears (call_at k s) (call_in (numbered l k))) (sym calls) (heard_at (call_at k s)));
     }
 
     pub hears : (link : ℕ) (piece : List ℕ) (s : StateSeen) → s.book.moment ≡ m → IsKeptIn (call_at k s) → IsHeard (call_at k s) (call_at k (arrivals.piece_arrived link piece s))

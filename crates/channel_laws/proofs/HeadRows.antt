@@ -1,8 +1,7 @@
 -- Where the response to an attempt that goes on has a head, its call is committed.
-use Rattle.std.proofs.Common.{◌≡◌, ◌∙◌, ◌≤◌, ◌<◌, ℕ, zero, suc, Bool, true, false, if◌then◌else◌, Option, Some, None, IfSome, is_some, List, [], ◌∷◌, length, refl, ap, sym, subst, arith, slice_get}
+use Rattle.std.proofs.Common.{◌≡◌, ◌∙◌, ◌≤◌, ℕ, zero, suc, Bool, true, false, if◌then◌else◌, Option, Some, None, IfSome, is_some, List, [], ◌∷◌, length, refl, ap, sym, subst, arith}
 use Rattle.std.specs.List.{AllByRecursion}
 use Rattle.std.specs.Option.{option_map}
-use Rattle.std.proofs.lemmas.Option.{slice_get_within}
 use Rattle.grpc_base.specs.declared.event.Entry.{Entry}
 use Rattle.grpc_base.specs.declared.event.Reply.{Reply}
 use Rattle.grpc_base.specs.declared.event.Reply.TheVariants as reply
@@ -26,12 +25,11 @@ use Rattle.channel_core.specs.declared.state.links.LinkSlot.{LinkSlot}
 use Rattle.channel_core.specs.declared.state.slots.CallSlot.{CallSlot}
 use Rattle.channel_core.proofs.ToldEnds.{as_numbered}
 use Rattle.channel_laws.specs.CallEnds.{AreEnded}
-use Rattle.channel_laws.specs.Deliveries.{IsCommittedBy}
 use Rattle.channel_laws.specs.EndEntries.{IsGoneBy}
 use Rattle.channel_laws.specs.Response.{response_in}
 use Rattle.link_laws.specs.Stamps.{IsDatedRow, moment_at}
-use Rattle.link_laws.proofs.BreakRuns.{gone_at, gone_dated, gone_of}
-use Rattle.link_laws.proofs.CallLaws.{IsSound, are_held_by, once_in}
+use Rattle.link_laws.proofs.BreakRuns.{entry_within, gone_at, gone_dated, gone_of}
+use Rattle.link_laws.proofs.CallLaws.{IsSound, are_held_by, once_in, kept_in}
 use Rattle.link_laws.proofs.Calls.{bare}
 use Rattle.link_laws.proofs.ConfiguredCalls.{IsChosen}
 use Rattle.link_laws.proofs.CutRows.{running_at, running_of}
@@ -41,6 +39,7 @@ use Rattle.link_laws.proofs.Lifting.{OfCall}
 use Rattle.link_laws.proofs.LinkHears.{SoundOn}
 use Rattle.link_laws.proofs.LinkStays.{dead_on, gone_on, has_gone, is_dead_slot, text_in, text_on}
 use Rattle.link_laws.proofs.LinkTags.{all_got}
+use Rattle.link_laws.proofs.OneCommitment as commitment
 use Rattle.link_laws.proofs.RowLaws.{sound_less}
 use Rattle.link_laws.proofs.Unstreamed.{stream_at, stream_of}
 use Rattle.channel_laws.proofs.CallEnds.{ends_known}
@@ -52,6 +51,8 @@ use Rattle.channel_laws.proofs.HeardTags.{IsTold}
 use Rattle.channel_laws.proofs.LiveResponses.{Follows, live_follows}
 use Rattle.channel_laws.proofs.LiveRows.{IsLive}
 use Rattle.channel_laws.proofs.TakenOnce as taken
+use Rattle.call_core.specs.RowLicenses.{IsStampedBy}
+use Rattle.call_core.specs.Steps.{Stepped}
 
 -- what is told of a head is not nothing
 head_told : (o : Option (List Field)) (meta : List Field) (parts : List Reply) (limit : ℕ) (bytes : List ℕ) → o ≡ Some meta → IsTold o parts limit bytes → parts ≡ [] → ⊥
@@ -70,15 +71,7 @@ head_commits g s goes place limit stream frames meta follows head row there slot
         absurd (head_told (response_in limit stream frames).head meta (g.heard place) limit (response_in limit stream frames).data_ head follows.of.told (ok.free over place row there refl live e))
 
 -- stamps are of entries that were made
-made_within : (es : List Entry) (i : ℕ) (o : Option Entry) → slice_get es i ≡ o → is_some (option_map (λ (e : Entry). e.moment) o) ≡ true → suc i ≤ length es
-made_within es i None is made = absurd (let bad : ⊥ = (cc) in bad)
-made_within es i (Some e) is made = (let inside : i < length es = slice_get_within es i e is in omega (arith, inside))
-
-pub entry_within : (es : List Entry) (entry : ℕ) → is_some (moment_at es entry) ≡ true → entry ≤ length es
-entry_within es zero made = omega arith
-entry_within es (suc i) made = made_within es i (slice_get es i) refl made
-
-row_dated : (es : List Entry) (rows : List Row) (place : ℕ) (row : Row) → AllByRecursion (IsDatedRow (moment_at es)) rows → row_in rows place ≡ Some row → IsDatedRow (moment_at es) row
+pub row_dated : (es : List Entry) (rows : List Row) (place : ℕ) (row : Row) → AllByRecursion (IsDatedRow (moment_at es)) rows → row_in rows place ≡ Some row → IsDatedRow (moment_at es) row
 row_dated es rows zero row all there = absurd (let no : None ≡ Some row = there in (let bad : ⊥ = (cc) in bad))
 row_dated es rows (suc i) row all there = all_got (IsDatedRow (moment_at es)) rows i row there all
 
@@ -110,22 +103,6 @@ module _ (first : Story) (sure : first.foretold ≡ true) (core : CoreSeen) (had
   sound_at : (k : ℕ) (slot : CallSlot) → numbered s.book.calls k ≡ Some slot → IsSound s.book.moment ledger.entry (bare slot.call ledger.rows)
   sound_at k slot at = sound_of s.book.moment ledger.entry (bare slot.call ledger.rows) (of_call k slot at).holds
 
-  -- a committed call
-  pub committed_by : (k : ℕ) (slot : CallSlot) → numbered s.book.calls k ≡ Some slot → is_some slot.call.attempts.committed ≡ true → IsCommittedBy ledger.rows k (length es)
-  committed_by k slot at is =
-      let last = some_in slot.call.attempts.committed is in
-      let once : IsCommittedOnce (bare slot.call ledger.rows) = once_in s.book.moment ledger.entry (bare slot.call ledger.rows) (sound_at k slot at) in
-      let stamp : IsStamped slot.call.number ledger.rows last.0 = once.stamped last.0 last.1 in
-      let entry = some_in stamp.row.committed stamp.stamped in
-      record {
-        place = last.0;
-        row = stamp.row;
-        is = record { there = stamp.is.there; call = stamp.is.call ∙ (of_call k slot at).number_is };
-        stamp = entry.0;
-        committed = entry.1;
-        by = committed_within last.0 stamp.row entry.0 stamp.is.there entry.1;
-      }
-
   -- an attempt that goes on
   module _ (place : ℕ) (row : Row) (there : row_in ledger.rows place ≡ Some row) (at : Placed) (placed : row.placed ≡ Some at) (open_ : row.ended ≡ None) where
     there_at : numbered ledger.rows place ≡ Some row
@@ -140,8 +117,24 @@ module _ (first : Story) (sure : first.foretold ≡ true) (core : CoreSeen) (had
     slot_at : numbered s.book.calls row.call ≡ Some slot
     slot_at = (some_in (numbered s.book.calls row.call) (had.knows.sound.owned place row there)).1
 
+    mine : row.call ≡ slot.call.number
+    mine = sym (of_call row.call slot slot_at).number_is
+
     found : is_some (find_live place slot.call.live) ≡ true
-    found = are_held_by s.book.moment ledger.entry (bare slot.call ledger.rows) (sound_at row.call slot slot_at).one place row there (record { call = sym (of_call row.call slot slot_at).number_is; placed = ap is_some placed; ended = open_ })
+    found = are_held_by s.book.moment ledger.entry (bare slot.call ledger.rows) (sound_at row.call slot slot_at).one place row there (record { call = mine; placed = ap is_some placed; ended = open_ })
+
+    -- of a committed call
+    stamped_here : is_some slot.call.attempts.committed ≡ true → is_some row.committed ≡ true
+    stamped_here is =
+        let x : Stepped = bare slot.call ledger.rows in
+        let sound : IsSound s.book.moment ledger.entry x = sound_at row.call slot slot_at in
+        let last = some_in slot.call.attempts.committed is in
+        let once : IsCommittedOnce x = once_in s.book.moment ledger.entry x sound in
+        let stamp : IsStamped slot.call.number ledger.rows last.0 = once.stamped last.0 last.1 in
+        commitment.over x once (are_held_by s.book.moment ledger.entry x sound.one) (kept_in s.book.moment ledger.entry x sound) last.0 place stamp.row row (record { is = stamp.is; committed = stamp.stamped }) (record { is = record { there = there; call = mine }; placed = ap is_some placed; ended = open_ })
+
+    committed_here : is_some slot.call.attempts.committed ≡ true → IsStampedBy (length es) row
+    committed_here is = (let stamp = some_in row.committed (stamped_here is) in record { stamp = stamp.0; committed = stamp.1; order = committed_within place row stamp.0 there stamp.1 })
 
     ended_law : AreEnded ledger
     ended_law = ends_known (IsChosen es) (HoldsLast es) s (sound_less IsKnown IsSound (IsChosen es) (HoldsLast es) s sound_of had.knows.sound)
@@ -190,8 +183,8 @@ module _ (first : Story) (sure : first.foretold ≡ true) (core : CoreSeen) (had
         unbroken : on.link.link.wire.broken ≡ None
         unbroken = unbroken_by on.link.link.wire.broken (λ code e. sound.broken_dead (text_in on) code text e) alive
 
-        pub row_commits : IsLive ledger.rows place on → (stream : ℕ) → row.stream ≡ Some stream → (meta : List Field) → (response_in (first.limits place) stream (frames_of (received at.link es))).head ≡ Some meta → IsCommittedBy ledger.rows row.call (length es)
+        pub row_commits : IsLive ledger.rows place on → (stream : ℕ) → row.stream ≡ Some stream → (meta : List Field) → (response_in (first.limits place) stream (frames_of (received at.link es))).head ≡ Some meta → IsStampedBy (length es) row
         row_commits live stream has meta head =
             let streamed : stream_at ledger.rows place ≡ Some stream = ap stream_of there_at ∙ has in
             let follows : Follows (had.story.heard place) (first.limits place) stream (frames_of (received at.link es)) = live_follows first had.story sure had.like at.link (received at.link es) s (had.tells.frames at.link) had.tells.goes place stream on up living unbroken live streamed in
-            committed_by row.call slot slot_at (head_commits had.story s had.tells.goes place (first.limits place) stream (frames_of (received at.link es)) meta follows head row there slot slot_at found (not_over (had.story.over row.call) refl))
+            committed_here (head_commits had.story s had.tells.goes place (first.limits place) stream (frames_of (received at.link es)) meta follows head row there slot slot_at found (not_over (had.story.over row.call) refl))

@@ -23,7 +23,6 @@ use Rattle.channel_core.specs.States.{StateSeen}
 use Rattle.channel_core.proofs.Stamping.{stamped}
 use Rattle.channel_core.proofs.ToldEnds.{as_numbered, no_row}
 use Rattle.channel_laws.specs.CommittingHeads.{CommitByHeads, HasHead}
-use Rattle.channel_laws.specs.Deliveries.{IsCommittedBy}
 use Rattle.channel_laws.specs.EndEntries.{IsGoneBy}
 use Rattle.channel_laws.specs.Response.{Response, no_response, response_in, response_on}
 use Rattle.channel_laws.specs.ResponseLimits.{IsCallLimit}
@@ -39,7 +38,6 @@ use Rattle.link_laws.proofs.Unstreamed.{stream_at, stream_of}
 use Rattle.link_laws.proofs.Working.{TimedLaws}
 use Rattle.channel_laws.proofs.CallLimits.{foretold_by, foretold_fits, one_limit, row_limit}
 use Rattle.channel_laws.proofs.CallMoves.{KeptLaws}
-use Rattle.channel_laws.proofs.Deliveries.{committed_still}
 use Rattle.channel_laws.proofs.Delivering.{Story}
 use Rattle.channel_laws.proofs.EndEntries.{IsEnding, ending_new, ending_step}
 use Rattle.channel_laws.proofs.ReadsBy.{gone_stays}
@@ -54,6 +52,7 @@ use Rattle.channel_laws.proofs.HeldRuns.{held_always, live_always}
 use Rattle.channel_laws.proofs.LiveRows.{IsLive}
 use Rattle.channel_laws.proofs.Owned.{InboxLaws}
 use Rattle.channel_laws.proofs.TakenOnce as taken
+use Rattle.call_core.specs.RowLicenses.{IsStampedBy}
 
 -- an attempt goes on behind this entry, and its response, read with this limit, has a head
 record HasHeadBy (limits : ℕ → ℕ) (es : List Entry) (ledger : Ledger) (place entry : ℕ) (row : Row) : Type 0 where
@@ -68,13 +67,13 @@ record HasHeadBy (limits : ℕ → ℕ) (es : List Entry) (ledger : Ledger) (pla
   head : (response_on (limits place) stream (received at.link (take entry es))).head ≡ Some meta
 
 abbrev Law : (ℕ → ℕ) → List Entry → Ledger → Type 0
-Law limits es ledger = (place entry : ℕ) (row : Row) → HasHeadBy limits es ledger place entry row → IsCommittedBy ledger.rows row.call entry
+Law limits es ledger = (place entry : ℕ) (row : Row) → HasHeadBy limits es ledger place entry row → IsStampedBy entry row
 
-later_commit : (rows : List Row) (call n entry : ℕ) → n ≤ entry → IsCommittedBy rows call n → IsCommittedBy rows call entry
-later_commit rows call n entry past h = record { place = h.place; row = h.row; is = h.is; stamp = h.stamp; committed = h.committed; by = (let by = h.by in omega (arith, by, past)) }
+later_stamp : (n entry : ℕ) (row : Row) → n ≤ entry → IsStampedBy n row → IsStampedBy entry row
+later_stamp n entry row past h = record { stamp = h.stamp; committed = h.committed; order = (let by = h.order in omega (arith, by, past)) }
 
 -- more entries
-received_front : (link : ℕ) (es more : List Entry) → received link (es ++ more) ≡ received link es ++ received link more
+pub received_front : (link : ℕ) (es more : List Entry) → received link (es ++ more) ≡ received link es ++ received link more
 received_front link es more = flat_map-append (λ (e : Entry). arrived_by link e.event e.reply) es more
 
 head_stays : (limit stream link entry : ℕ) (es : List Entry) (meta : List Field) → (response_on limit stream (received link (take entry es))).head ≡ Some meta → (response_on limit stream (received link es)).head ≡ Some meta
@@ -112,7 +111,7 @@ module _ (first : Story) (sure : first.foretold ≡ true) (laws : MoreLaws) (tim
     whole : take entry es ≡ es
     whole = take_all entry es past
 
-    last : IsCommittedBy rows row.call entry
+    last : IsStampedBy entry row
     last =
         let runs_ : running_at rows place ≡ Some h.at = runs_at first sure core had over place row h.there h.at h.placed open_ in
         let up = (held_always laws timed inbox kept authority fresh core events is runs).up place h.at runs_ in
@@ -120,7 +119,7 @@ module _ (first : Story) (sure : first.foretold ≡ true) (laws : MoreLaws) (tim
         let alive : up.slot.dead ≡ false = living first sure core had over place row h.there h.at h.placed open_ up.slot up.is stands in
         let head : (response_on (first.limits place) h.stream (received h.at.link es)).head ≡ Some h.meta = subst (λ (l : List Entry). (response_on (first.limits place) h.stream (received h.at.link l)).head ≡ Some h.meta) whole h.head in
         let live : IsLive rows place up.slot = live_always laws timed inbox kept authority fresh core events is runs place h.at up.slot runs_ up.is alive in
-        later_commit rows row.call (length es) entry past (row_commits first sure core had over place row h.there h.at h.placed open_ up.slot up.is stands live h.stream h.has h.meta head)
+        later_stamp (length es) entry row past (row_commits first sure core had over place row h.there h.at h.placed open_ up.slot up.is stands live h.stream h.has h.meta head)
 
   -- a step: what had come before is as it was, for rows that get their streams now got nothing on them
   module _ (old new : CoreSeen) (s : Stamped) (r : Reply) (step : Steps old new s r) (had : IsEnding first sure old) (law : Law first.limits old.journal.entries old.state.book.ledger) (place entry : ℕ) (within : entry ≤ length old.journal.entries) where
@@ -163,7 +162,7 @@ module _ (first : Story) (sure : first.foretold ≡ true) (laws : MoreLaws) (tim
           let now : new_row.placed ≡ Some at.0 = still (λ (p : Placed). p.entry) n row.placed new_row.placed at.0 l.stamps.placed at.1 in
           at.1 ∙ sym now ∙ h.placed
 
-      was : (row : Row) → row_in old.state.book.ledger.rows place ≡ Some row → LaterRow n row new_row → IsCommittedBy new.state.book.ledger.rows new_row.call entry
+      was : (row : Row) → row_in old.state.book.ledger.rows place ≡ Some row → LaterRow n row new_row → IsStampedBy entry new_row
       was row there l =
           let has : row.stream ≡ Some h.stream = old_stream row there l row.stream refl in
           let one : HasHeadBy first.limits before old.state.book.ledger place entry row = record {
@@ -177,14 +176,14 @@ module _ (first : Story) (sure : first.foretold ≡ true) (laws : MoreLaws) (tim
             meta = h.meta;
             head = head;
           } in
-          let commits : IsCommittedBy old.state.book.ledger.rows row.call entry = law place entry row one in
-          subst (λ (k : ℕ). IsCommittedBy new.state.book.ledger.rows k entry) (sym l.call) (committed_still n row.call entry old.state.book.ledger new.state.book.ledger later commits)
+          let commits : IsStampedBy entry row = law place entry row one in
+          record { stamp = commits.stamp; committed = still (λ (e : ℕ). e) n row.committed new_row.committed commits.stamp l.stamps.committed commits.committed; order = commits.order }
 
-      by_row : (o : Option Row) → row_in old.state.book.ledger.rows place ≡ o → GrewAt (LaterRow n) (NewRow n) o new_row → IsCommittedBy new.state.book.ledger.rows new_row.call entry
+      by_row : (o : Option Row) → row_in old.state.book.ledger.rows place ≡ o → GrewAt (LaterRow n) (NewRow n) o new_row → IsStampedBy entry new_row
       by_row (Some row) there l = was row there l
       by_row None there l = absurd (unstreamed (ap stream_of (sym (as_numbered old.state.book.ledger.rows place) ∙ there)))
 
-      earlier : IsCommittedBy new.state.book.ledger.rows new_row.call entry
+      earlier : IsStampedBy entry new_row
       earlier = by_row (row_in old.state.book.ledger.rows place) refl (grew_at (LaterRow n) (NewRow n) old.state.book.ledger.rows new.state.book.ledger.rows place new_row later.rows h.there)
 
   record IsSo (core : CoreSeen) : Type 0 where
@@ -206,7 +205,7 @@ module _ (first : Story) (sure : first.foretold ≡ true) (laws : MoreLaws) (tim
       all : List Entry
       all = old.journal.entries ++ record { moment = moment_of old.journal.entries s; word = s.word; event = s.event; reply = r; state = conn_of new.state } ∷ []
 
-      by : IsEnding first sure new → Runs fresh (k.done ++ s ∷ []) new → length new.journal.entries ≡ length old.journal.entries + 1 → (place entry : ℕ) (b : Bool) → nat_le entry (length old.journal.entries) ≡ b → (row : Row) → HasHeadBy first.limits all new.state.book.ledger place entry row → IsCommittedBy new.state.book.ledger.rows row.call entry
+      by : IsEnding first sure new → Runs fresh (k.done ++ s ∷ []) new → length new.journal.entries ≡ length old.journal.entries + 1 → (place entry : ℕ) (b : Bool) → nat_le entry (length old.journal.entries) ≡ b → (row : Row) → HasHeadBy first.limits all new.state.book.ledger place entry row → IsStampedBy entry row
       by ending run longer place entry true e row head = earlier old new s r h k.ending k.law place entry (leb-true entry (length old.journal.entries) e) row head
       by ending run longer place entry false e row head =
           let past : length old.journal.entries < entry = leb-false entry (length old.journal.entries) e in
@@ -233,7 +232,7 @@ heads_commit_always laws timed inbox kept authority new core events is runs =
       law = λ place entry row h. absurd (no_row place row (ap (λ (rows : List Row). row_in rows place) (sym none) ∙ h.there));
     } in
     let all : IsSo first refl laws timed inbox kept authority new is core = so_runs first refl laws timed inbox kept authority new is new events core runs (foretold_fits core knows) begun in
-    let one : (call entry : ℕ) → HasHead es ledger call entry → IsCommittedBy ledger.rows call entry = λ call entry h.
+    let one : (call entry : ℕ) (h : HasHead es ledger call entry) → IsStampedBy entry h.row = λ call entry h.
     let limit_is : IsCallLimit es ledger h.row.call (first.limits h.place) = row_limit core knows h.place h.row h.is.there in
     let same : h.limit ≡ first.limits h.place = one_limit es ledger call h.limit (first.limits h.place) h.limit_is (subst (λ (k : ℕ). IsCallLimit es ledger k (first.limits h.place)) h.is.call limit_is) in
     let by : HasHeadBy first.limits es ledger h.place entry h.row = record {
@@ -247,5 +246,5 @@ heads_commit_always laws timed inbox kept authority new core events is runs =
       meta = h.meta;
       head = subst (λ (m : ℕ). (response_on m h.stream (received h.at.link (take entry es))).head ≡ Some h.meta) same h.head;
     } in
-    subst (λ (k : ℕ). IsCommittedBy ledger.rows k entry) h.is.call (all.law h.place entry h.row by) in
+    all.law h.place entry h.row by in
     record { going = one; last = last_heads_always laws timed inbox kept authority new core events is runs }

@@ -28,9 +28,9 @@ use Rattle.link_laws.proofs.LinkOvers.{IsOverIn, OverStays, buried_over, over_st
 use Rattle.link_laws.proofs.LinkStays.{seen_on}
 use Rattle.link_laws.proofs.LinkStreams.{Streamless, streams_sealed}
 use Rattle.link_laws.proofs.LinkTags.{all_less}
-use Rattle.channel_laws.proofs.FreeCuts.{told_less}
-use Rattle.channel_laws.proofs.NewEnds.{IsToldOn, Now, On, cuts_now}
-use Rattle.channel_laws.proofs.NamedParts.{PartFor, for_idle, for_joined, for_message, for_told, gone_rows, seal_rows}
+use Rattle.channel_laws.proofs.CutWhys.{told_less}
+use Rattle.channel_laws.proofs.NewEnds.{Now, On, cuts_now}
+use Rattle.channel_laws.proofs.NamedParts.{IsNameOf, PartFor, for_idle, for_joined, for_message, for_told, gone_rows, seal_rows}
 use Rattle.channel_laws.proofs.QuietEnds.{Part, did, rests, tokens_of}
 use Rattle.link_laws.proofs.ReaderTags.{AreNamed, IsNamed, OfEnds, named_ends, named_less}
 use Rattle.channel_core.proofs.Resting as resting
@@ -46,19 +46,19 @@ use Rattle.link_laws.proofs.Working.{TimedLaws}
 
 -- what is said of each end that is told, and of each loss, where so much of the link was read and rows have streams as here; and of each row of which a
 -- head or a too long message is told
-abbrev pub IsSaid : List Row → (ℕ → ℕ → Type 0) → (ℕ → ℕ → RowEnd → Type 0) → ℕ → ℕ → News → Type 0
+abbrev pub IsSaid : List Row → (Bool → ℕ → ℕ → Type 0) → (ℕ → ℕ → RowEnd → Type 0) → ℕ → ℕ → News → Type 0
 IsSaid first Names T link read (news.Ended tag end) = IsToldSo (T link tag) end
 IsSaid first Names T link read (news.Broken why) = (row : ℕ) (was_sent : Bool) → is_some (stream_at first row) ≡ was_sent → IsToldSo (T link row) (loss was_sent read)
-IsSaid first Names T link read (news.Head tag meta seen) = Names link tag
-IsSaid first Names T link read (news.TooLarge tag seen) = Names link tag
+IsSaid first Names T link read (news.Head tag meta seen) = Names true link tag
+IsSaid first Names T link read (news.TooLarge tag seen) = Names false link tag
 IsSaid first Names T link read _ = Unit {0}
 
-abbrev pub AreSaid : List Row → (ℕ → ℕ → Type 0) → (ℕ → ℕ → RowEnd → Type 0) → ℕ → ℕ → List News → Type 0
+abbrev pub AreSaid : List Row → (Bool → ℕ → ℕ → Type 0) → (ℕ → ℕ → RowEnd → Type 0) → ℕ → ℕ → List News → Type 0
 AreSaid first Names T link read ns = AllByRecursion (IsSaid first Names T link read) ns
 
 -- of which rows news tell does not matter
-abbrev pub Anyone : ℕ → ℕ → Type 0
-Anyone link tag = Unit {0}
+abbrev pub Anyone : Bool → ℕ → ℕ → Type 0
+Anyone kind link tag = Unit {0}
 
 abbrev AreEnds : (ℕ → ℕ → RowEnd → Type 0) → ℕ → List (ℕ × EndNews) → Type 0
 AreEnds T link ends = AllByRecursion (λ (e : ℕ × EndNews). IsToldSo (T link e.0) e.1) ends
@@ -77,7 +77,7 @@ insert_said : (T : ℕ → ℕ → RowEnd → Type 0) (link : ℕ) (es : List (�
 insert_said T link [] k v so all = (so, tt)
 insert_said T link (e ∷ es) k v so all = insert_by T link (nat_cmp k e.0) e es (insert_entry nat_cmp es k v) k v refl so all (insert_said T link es k v so all.1)
 
-kept_said : (first : List Row) (Names : ℕ → ℕ → Type 0) (T : ℕ → ℕ → RowEnd → Type 0) (link read : ℕ) (n : News) (ends : List (ℕ × EndNews)) → IsSaid first Names T link read n → AreEnds T link ends → AreEnds T link (step.end_kept n ends)
+kept_said : (first : List Row) (Names : Bool → ℕ → ℕ → Type 0) (T : ℕ → ℕ → RowEnd → Type 0) (link read : ℕ) (n : News) (ends : List (ℕ × EndNews)) → IsSaid first Names T link read n → AreEnds T link ends → AreEnds T link (step.end_kept n ends)
 kept_said first Names T link read (news.Ended tag end) ends so all = insert_said T link ends tag end so all
 kept_said first Names T link read news.Ready ends so all = all
 kept_said first Names T link read news.Retiring ends so all = all
@@ -86,11 +86,11 @@ kept_said first Names T link read (news.Head tag meta seen) ends so all = all
 kept_said first Names T link read (news.Message tag octets seen) ends so all = all
 kept_said first Names T link read (news.TooLarge tag seen) ends so all = all
 
-said_ends : (first : List Row) (Names : ℕ → ℕ → Type 0) (T : ℕ → ℕ → RowEnd → Type 0) (link read : ℕ) (ns : List News) (ends : List (ℕ × EndNews)) → AreSaid first Names T link read ns → AreEnds T link ends → AreEnds T link (step.ends_kept ns ends)
+said_ends : (first : List Row) (Names : Bool → ℕ → ℕ → Type 0) (T : ℕ → ℕ → RowEnd → Type 0) (link read : ℕ) (ns : List News) (ends : List (ℕ × EndNews)) → AreSaid first Names T link read ns → AreEnds T link ends → AreEnds T link (step.ends_kept ns ends)
 said_ends first Names T link read [] ends so all = all
 said_ends first Names T link read (n ∷ ns) ends so all = said_ends first Names T link read ns (step.end_kept n ends) so.1 (kept_said first Names T link read n ends so.0 all)
 
-module _ (laws : MoreLaws) (timed : TimedLaws) (N : ℕ) (T : ℕ → ℕ → RowEnd → Type 0) (Names : ℕ → ℕ → Type 0) (named : (link row : ℕ) (end : RowEnd) → T link row end → Names link row) where
+module _ (laws : MoreLaws) (timed : TimedLaws) (N : ℕ) (T : ℕ → ℕ → RowEnd → Type 0) (Names : Bool → ℕ → ℕ → Type 0) where
   -- a part of what comes on a link, where `P` is known besides
   pub record Hears (P : Type 0) (s t : StateSeen) : Type 0 where
     pub serves : R N P s t
@@ -138,11 +138,8 @@ module _ (laws : MoreLaws) (timed : TimedLaws) (N : ℕ) (T : ℕ → ℕ → Ro
   then_seal P s t h = then_step P s t _ h (serving.seal laws timed N t) (idle t _ (resting.seal (Part N T) (rests laws timed N T) t) (seal_rows t))
 
   -- a call hears of its row
-  said_on : (s : StateSeen) (link row : ℕ) (n : News) → IsPlacedOn s.book.ledger.rows link row → AreToldSo (T link row) n → AreToldSo (λ end. IsToldOn T s.book.ledger.rows row end) n
-  said_on s link row n on so = told_less (T link row) (λ end. IsToldOn T s.book.ledger.rows row end) (λ end told. record { link = link; on = on; told = told }) n so
-
   said_now : (s : StateSeen) (link number row : ℕ) (n : News) → IsPlacedOn s.book.ledger.rows link row → AreToldSo (T link row) n → AreToldSo (Now T s number row) n
-  said_now s link number row n on so = told_less (λ end. IsToldOn T s.book.ledger.rows row end) (Now T s number row) (λ end told. inr (inr (inr told))) n (said_on s link row n on so)
+  said_now s link number row n on so = told_less (T link row) (Now T s number row) (λ end told. inr (inr (inr (record { link = link; on = on; told = told })))) n so
 
   tell_part : (link row : ℕ) (n : News) (s : StateSeen) → IsFair n → AreToldSo (T link row) n → IsPlacedOn s.book.ledger.rows link row → Part N T s (step.told row n s)
   tell_part link row n s fair so on =
@@ -154,10 +151,10 @@ module _ (laws : MoreLaws) (timed : TimedLaws) (N : ℕ) (T : ℕ → ℕ → Ro
       (did laws timed N T f number (tokens_of laws timed N T number s) s (with_book b.book s) refl ((base laws timed N).heard row n number s fair) (λ k. (seen_stays k).heard row n number s)
       (λ x h. (so_news (Now T s number) (On T s number) s.book.ledger.links (cuts_now T s number) row n s.book.moment (next_word s) x (said_now s link number row n on so) h).ledger))
 
-  tell_named : (link row : ℕ) (n : News) (s : StateSeen) → IsFair n → AreToldSo (T link row) n → Names link row → IsPlacedOn s.book.ledger.rows link row → PartFor N T Names s (step.told row n s)
-  tell_named link row n s fair so name on = for_told laws timed N T Names link row n s fair on (tell_part link row n s fair so on) name (said_on s link row n on so)
+  tell_named : (link row : ℕ) (n : News) (s : StateSeen) → IsFair n → AreToldSo (T link row) n → IsNameOf Names link row n → IsPlacedOn s.book.ledger.rows link row → PartFor N T Names s (step.told row n s)
+  tell_named link row n s fair so name on = for_told laws timed N T Names link row n s fair on (tell_part link row n s fair so on) name so
 
-  tell : (link row : ℕ) (n : News) (s : StateSeen) → IsFair n → AreToldSo (T link row) n → Names link row → Hears (serving.Told laws timed N link row n s) s (step.told row n s)
+  tell : (link row : ℕ) (n : News) (s : StateSeen) → IsFair n → AreToldSo (T link row) n → IsNameOf Names link row n → Hears (serving.Told laws timed N link row n s) s (step.told row n s)
   tell link row n s fair so name = record {
     serves = serving.tell laws timed N link row n s fair;
     seen = λ k. walking.tell (SeenStays k) (seen_stays k) row n s;
@@ -178,7 +175,7 @@ module _ (laws : MoreLaws) (timed : TimedLaws) (N : ℕ) (T : ℕ → ℕ → Ro
       let t : StateSeen = step.left_behind link row s in
       let u : StateSeen = step.told row (news.Ended row end) t in
       let first : Hears P s t = stepped P s t (serving.left laws timed N link row s) (idle s t ((rests laws timed N T).beside s t refl refl refl (λ h. h)) refl) in
-      either P (has_ended (row_at s.book row)) s s _ (same P s) (then_gone P link s u (joined P (serving.Told laws timed N link row (news.Ended row end) t) s t u first (tell link row (news.Ended row end) t fair so (named link row _ (so 0 0 None None))) (λ p a. (p.0, (λ k unsent. p.1.0 unsent, p.1.1)))))
+      either P (has_ended (row_at s.book row)) s s _ (same P s) (then_gone P link s u (joined P (serving.Told laws timed N link row (news.Ended row end) t) s t u first (tell link row (news.Ended row end) t fair so tt) (λ p a. (p.0, (λ k unsent. p.1.0.late unsent, (p.1.1, p.1.0.no_pick))))))
 
   end_all : (link : ℕ) (ends : List (ℕ × EndNews)) (s : StateSeen) → AreFairEnds ends → AreEnds T link ends → Hears (serving.AllEndOn laws timed N link ends s) s (arrivals.all_ended_on link ends s)
   end_all link [] s fair so = same _ s

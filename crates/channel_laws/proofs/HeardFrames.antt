@@ -24,7 +24,7 @@ use Rattle.grpc_link.specs.Readers.{ReaderSeen, stepped}
 use Rattle.grpc_link.specs.declared.readers.TagReader.{TagReader}
 use Rattle.channel_laws.specs.Response.{Response, no_response, response_in}
 use Rattle.channel_laws.specs.ResponseLimits.{IsTooLarge}
-use Rattle.channel_laws.proofs.HeardLinks.{GoesOn, IsFit, LinkBut, LinkOk, Quiet, StreamOk, WaitsOk, bound_of}
+use Rattle.channel_laws.proofs.HeardLinks.{GoesOn, IsFit, LinkBut, LinkOk, Quiet, StreamOk, WaitsOk, both_less, bound_of}
 use Rattle.channel_laws.proofs.HeardTags.{Gained, GainsEnd, GainsHead, GainsLarge, OfReader, Reads, parts_of}
 use Rattle.link_laws.proofs.LinkTags.{all_got, all_less, all_removed}
 use Rattle.link_laws.proofs.LinkTexts.{most}
@@ -47,7 +47,7 @@ pub record Overflows (at : ℕ) (S : ℕ → Option ℕ) (L : ℕ → ℕ) (F E 
   pub kind : (frame.kind == window_update_type) ≡ true
   pub on : frame.stream ≡ number
   pub some : (increment frame.payload == 0) ≡ false
-  pub head : (response_in (L tag) number E).head ≡ (response_in (L tag) number F).head
+  pub head : (limit x : ℕ) → (response_in limit x E).head ≡ (response_in limit x F).head
   pub is : told ≡ bare_end code.Internal cause.Framing false (min at most)
 
 -- an end by GOAWAY of an attempt that has no stream
@@ -192,10 +192,6 @@ none_on number from (s ∷ live) e = none_first number from s live (λ f. none_o
 pub above_all : (a bound : ℕ) (live : List LiveStream) → Rising a bound live → AllByRecursion (λ (z : LiveStream). a ≤ z.number) live
 above_all a bound [] h = tt
 above_all a bound (s ∷ live) h = (h.0, all_less (λ (z : LiveStream). s.number + 1 ≤ z.number) (λ (z : LiveStream). a ≤ z.number) live (λ z le. (let first : a ≤ s.number = h.0 in omega (arith, first, le))) (above_all (s.number + 1) bound live h.1))
-
-pub both_less : {X : Type 0} (P Q R : X → Type 0) (xs : List X) → ((x : X) → P x → Q x → R x) → AllByRecursion P xs → AllByRecursion Q xs → AllByRecursion R xs
-both_less P Q R [] more p q = tt
-both_less P Q R (x ∷ xs) more p q = (more x p.0 q.0, both_less P Q R xs more p.1 q.1)
 
 put_all : (P : LiveStream → Type 0) (a bound : ℕ) (live : List LiveStream) (p : ℕ) (x y : LiveStream) → Rising a bound live → slice_get live p ≡ Some x → P y → AllByRecursion (λ (z : LiveStream). (z.number ≡ x.number → ⊥) → P z) live → AllByRecursion P (slice_set live p y)
 put_all P a bound [] p x y h at one all = tt

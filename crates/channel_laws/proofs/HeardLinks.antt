@@ -306,7 +306,7 @@ pub record LinkBut (S : ℕ → Option ℕ) (L : ℕ → ℕ) (H : ℕ → List 
   pub above : g.link.wire.broken ≡ None → g.link.wire.retiring ≡ false → (x : ℕ) → bound_of g.link.wire ≤ x → (limit : ℕ) → response_in limit x F ≡ no_response
 
 -- what holds of all by two facts of each
-both_less : {X : Type 0} (P Q R : X → Type 0) (xs : List X) → ((x : X) → P x → Q x → R x) → AllByRecursion P xs → AllByRecursion Q xs → AllByRecursion R xs
+pub both_less : {X : Type 0} (P Q R : X → Type 0) (xs : List X) → ((x : X) → P x → Q x → R x) → AllByRecursion P xs → AllByRecursion Q xs → AllByRecursion R xs
 both_less P Q R [] more p q = tt
 both_less P Q R (x ∷ xs) more p q = (more x p.0 q.0, both_less P Q R xs more p.1 q.1)
 

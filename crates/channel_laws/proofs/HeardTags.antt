@@ -138,11 +138,11 @@ parts_messages : (tag seen : ℕ) (messages : List (List ℕ)) → parts_of tag 
 parts_messages tag seen [] = refl
 parts_messages tag seen (m ∷ messages) = ap (λ (l : List Reply). l ++ parts_of tag (map (message_news tag seen) messages)) (own_tag tag (reply.Message m) (tag == tag) (same_tag tag)) ∙ ap (λ (l : List Reply). reply.Message m ∷ l) (parts_messages tag seen messages)
 
-parts_large : (tag t : ℕ) (o : Option ℕ) → parts_of tag (large_gained t o) ≡ []
+pub parts_large : (tag t : ℕ) (o : Option ℕ) → parts_of tag (large_gained t o) ≡ []
 parts_large tag t None = refl
 parts_large tag t (Some seen) = refl
 
-parts_end : (tag t : ℕ) (o : Option EndNews) → parts_of tag (end_gained t o) ≡ []
+pub parts_end : (tag t : ℕ) (o : Option EndNews) → parts_of tag (end_gained t o) ≡ []
 parts_end tag t None = refl
 parts_end tag t (Some end) = refl
 
@@ -334,7 +334,7 @@ module _ (parts : List Reply) (limit : ℕ) (r s : Response) (content : List ℕ
       ∙ ap (λ (l : List Reply). reply.Head meta ∷ message_items (messages_of limit r.data_).whole ++ l) all_parts
       ∙ ap (λ (l : List Reply). reply.Head meta ∷ l) (sym (items_both (messages_of limit r.data_).whole g.messages) ∙ ap message_items (sym joined))
 
-  told_ : IsTold s.head (parts ++ parts_of tag done.news) limit s.data_
+  pub told_ : IsTold s.head (parts ++ parts_of tag done.news) limit s.data_
   told_ = subst (λ (o : Option (List Field)). IsTold o (parts ++ parts_of tag done.news) limit s.data_) (sym now.head_is) (told_by r.head refl of.told)
 
   goes_on : done.reader.over ≡ false → OfReader (parts ++ parts_of tag done.news) limit s head done.reader

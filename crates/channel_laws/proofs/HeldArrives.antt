@@ -296,7 +296,7 @@ module _ (laws : MoreLaws) (timed : TimedLaws) (N : ℕ) where
           let now : running_at s.book.ledger.rows row ≡ None = ap running_of there ∙ ap (λ (o : Option RowEnd). if is_some o then None else p.row.placed) e in
           subst (λ (b : Bool). running_at (if b then s else step.stamped_gone link u).book.ledger.rows row ≡ None) (sym test) now
 
-  ends_base : (link : ℕ) (ends : List (ℕ × EndNews)) (s : StateSeen) → AreFairEnds ends → B s (arrivals.all_ended_on link ends s)
+  pub ends_base : (link : ℕ) (ends : List (ℕ × EndNews)) (s : StateSeen) → AreFairEnds ends → B s (arrivals.all_ended_on link ends s)
   ends_base link [] s fair = c.beside s s refl refl refl (λ h. h)
   ends_base link (e ∷ ends) s fair =
       let t : StateSeen = arrivals.ended_on link e.0 e.1 s in

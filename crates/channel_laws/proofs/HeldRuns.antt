@@ -56,11 +56,11 @@ module _ (laws : MoreLaws) (timed : TimedLaws) (inbox : InboxLaws) (kept : KeptL
     x = overdue_ended start
 
     come : Coming first old.state.book.ledger.rows k (sent k es) (received k es) x
-    come = coming first sure laws timed inbox kept old n (moment_of es s) s.word k had.links.reads had.says (had.links.gives.on k) had.story had.like had.tells
+    come = coming first sure laws timed inbox kept old n (moment_of es s) s.word k had.links.reads had.says had.rested (had.links.gives.on k) had.story had.like had.tells
 
     same : come.story.over ≡ had.story.over
     unfolding come
-    same = ap (λ (g : Story). g.over) (coming_by first sure laws timed inbox kept old n (moment_of es s) s.word k had.links.reads had.says (had.links.gives.on k) had.story had.like had.tells)
+    same = ap (λ (g : Story). g.over) (coming_by first sure laws timed inbox kept old n (moment_of es s) s.word k had.links.reads had.says had.rested (had.links.gives.on k) had.story had.like had.tells)
 
     goes : Step laws timed n start x
     goes = overdue laws timed n start

@@ -61,9 +61,9 @@ use Rattle.channel_laws.proofs.TookAll.{call_within, live_before, told_end, unta
 use Rattle.channel_laws.proofs.Views.{call_in}
 
 -- a call ended in this entry
-record EndsAt (entries : List Entry) (ledger : Ledger) (call ended : ℕ) (cause : EndCause) (entry : Entry) : Type 0 where
-  ends : EndsIn ledger.calls call ended cause
-  there : numbered entries ended ≡ Some entry
+pub record EndsAt (entries : List Entry) (ledger : Ledger) (call ended : ℕ) (cause : EndCause) (entry : Entry) : Type 0 where
+  pub ends : EndsIn ledger.calls call ended cause
+  pub there : numbered entries ended ≡ Some entry
 
 -- these are at least as many as all that had come for a call by some entries, and no other where they must be the same
 record HasFound (Same : Type 0) (took : List Reply) (before : List Entry) (ledger : Ledger) (ended call : ℕ) : Type 0 where
@@ -80,7 +80,7 @@ record AreKept (entries : List Entry) (ledger : Ledger) (calls : List CallSlot) 
   told : (entry ended : ℕ) (e : Entry) (call : ℕ) (told : Code) (text : List ℕ) (meta : List Field) (cause : EndCause) (y : Entry) → numbered entries entry ≡ Some e → e.event ≡ event.Take call → e.reply ≡ reply.End told text meta cause → ended < entry → EndsAt entries ledger call ended cause y → HasFound (IsCalm y.event cause) (before_end (taken call (entries_before entry entries))) (entries_before ended entries) ledger ended call
 
 -- whether an entry brings bytes, and a cause is a deadline
-arrival_of : (e : Event) → (is_arrival e ≡ false) ⊎ ((link : ℕ) × ((piece : List ℕ) × (e ≡ event.Arrived link piece)))
+pub arrival_of : (e : Event) → (is_arrival e ≡ false) ⊎ ((link : ℕ) × ((piece : List ℕ) × (e ≡ event.Arrived link piece)))
 arrival_of (event.Arrived link piece) = inr (link, (piece, refl))
 arrival_of e = inl refl
 
@@ -97,24 +97,24 @@ ends_before (r ∷ xs) ys open_ = ends_before xs ys open_
 
 -- an entry more
 module _ (es : List Entry) (x : Entry) where
-  old_there : (k : ℕ) (y : Entry) → k ≤ length es → numbered (es ++ x ∷ []) k ≡ Some y → numbered es k ≡ Some y
+  pub old_there : (k : ℕ) (y : Entry) → k ≤ length es → numbered (es ++ x ∷ []) k ≡ Some y → numbered es k ≡ Some y
   old_there zero y le e = absurd (let no : None ≡ Some y = e in (let never : ⊥ = (cc) in never))
   old_there (suc i) y le e = elim (got_more es x i y e) [
     | inl last ↦ absurd (let at = last.0 in (let no : ⊥ = omega (arith, at, le) in no))
     | inr there ↦ there
   ]
 
-  new_is : (k : ℕ) (y : Entry) → k ≡ length es + 1 → numbered (es ++ x ∷ []) k ≡ Some y → y ≡ x
+  pub new_is : (k : ℕ) (y : Entry) → k ≡ length es + 1 → numbered (es ++ x ∷ []) k ≡ Some y → y ≡ x
   new_is zero y at e = absurd (let no : None ≡ Some y = e in (let never : ⊥ = (cc) in never))
   new_is (suc i) y at e = elim (got_more es x i y e) [
     | inl last ↦ last.1
     | inr there ↦ absurd (let inside : i < length es = slice_get_within es i y there in (let no : ⊥ = omega (arith, at, inside) in no))
   ]
 
-  front_open : (k : ℕ) → has_end (taken k (es ++ x ∷ [])) ≡ false → has_end (taken k es) ≡ false
+  pub front_open : (k : ℕ) → has_end (taken k (es ++ x ∷ [])) ≡ false → has_end (taken k es) ≡ false
   front_open k open_ = ends_before (taken k es) (taken_by k x.event x.reply) (ap has_end (sym (taken_more k es x)) ∙ open_)
 
-below : (a b : ℕ) → a ≤ b → (a ≡ b → ⊥) → a < b
+pub below : (a b : ℕ) → a ≤ b → (a ≡ b → ⊥) → a < b
 below a b le off = elim (cases_eq a b) [ inl same ↦ absurd (off same) | inr other ↦ omega (arith, le, other) ]
 
 module _ (laws : MoreLaws) (timed_laws : TimedLaws) (inbox : InboxLaws) (kept : KeptLaws) (authority : List ℕ) (new : CoreSeen) (is : IsNew authority new) where

@@ -117,7 +117,7 @@ module _ (laws : MoreLaws) (timed : TimedLaws) (N : ℕ) where
     turn : Turned number f u v
     turn =
         let b = book_acted f number u.book in
-        turned_acted number f (ends_news tag told u.book.moment (next_word u)) u (step.drawn_if (has_drawn (row_at b.book tag)) u) refl refl refl refl
+        turned_acted number f (ends_news tag told u.book.moment (next_word u)) u (step.drawn_if (has_drawn (row_at b.book tag)) u) refl refl refl refl refl
 
     abbrev slot : CallSlot
     slot = (some_in (numbered u.book.calls p.row.call) (known.sound.owned tag p.row p.there)).0

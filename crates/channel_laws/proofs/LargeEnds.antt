@@ -1,5 +1,5 @@
 -- A call that ends by a too long response while bytes come does so as the link tells a message above the limit of the row to which the call is committed.
-use Rattle.std.proofs.Common.{◌≡◌, ◌∙◌, ◌⊎◌, ◌++◌, ℕ, zero, suc, ◌-◌, Bool, true, false, ◌&&◌, if◌then◌else◌, inl, inr, Option, Some, None, is_some, List, [], ◌∷◌, refl, ap, sym}
+use Rattle.std.proofs.Common.{◌≡◌, ◌∙◌, ◌⊎◌, ◌++◌, ℕ, zero, suc, ◌-◌, Bool, true, false, ◌&&◌, if◌then◌else◌, inl, inr, Option, Some, None, is_some, List, [], ◌∷◌, refl, ap, sym, subst}
 use Rattle.std.proofs.lemmas.Bool.{cases_eq}
 use Rattle.grpc_base.specs.declared.event.EndCause.{EndCause}
 use Rattle.grpc_base.specs.declared.event.EndCause.TheVariants as ends
@@ -79,6 +79,21 @@ large_if : (b : Bool) (tag m : ℕ) (x : Stepped) → b ≡ is_committed_live ta
 large_if true tag m x is none some = named_is tag x.call.attempts.committed (first_of (names tag x.call.attempts.committed) (is_some (find_live tag x.call.live)) (sym is))
 large_if false tag m x is none some = absurd (let both : None ≡ Some ends.Response = sym none ∙ some in let no : ⊥ = (cc) in no)
 
+-- a call that is committed to a row ended for a too long response
+abbrev pub IsOverBy : ℕ → ℕ → StateSeen → Type 0
+IsOverBy c p s = (ended_at c s ≡ Some ends.Response) × (committed_in (call_at c s) ≡ Some p)
+
+pub over_by : (c p : ℕ) (s : StateSeen) → IsOverBy c p s ⊎ (IsOverBy c p s → ⊥)
+over_by c p s = by (ended_at c s) (committed_in (call_at c s)) refl refl
+  where
+    by : (o : Option EndCause) (q : Option ℕ) → ended_at c s ≡ o → committed_in (call_at c s) ≡ q → IsOverBy c p s ⊎ (IsOverBy c p s → ⊥)
+    by (Some ends.Response) (Some j) e f = elim (cases_eq j p) [
+      | inl same ↦ inl (e, f ∙ ap (λ (i : ℕ). Some i) same)
+      | inr off ↦ inr (λ so. (let both : Some j ≡ Some p = sym f ∙ so.1 in let same : j ≡ p = (cc) in off same))
+    ]
+    by (Some ends.Response) None e f = inr (λ so. (let both : None ≡ Some p = sym f ∙ so.1 in (cc)))
+    by o q e f = inr (λ so. (let both : o ≡ Some ends.Response = sym e ∙ so.0 in (cc)))
+
 module _ (c : ℕ) where
   large_own : (number tag m : ℕ) (f : Stepped → Stepped) (s v : StateSeen) (o : Option CallSlot) → numbered s.book.calls number ≡ o → Turned number f s v → ((x : Stepped) → x.call.ended ≡ None → (f x).call.ended ≡ Some ends.Response → (f x).call.attempts.committed ≡ Some tag)
       → end_in (call_in (numbered s.book.calls number)) ≡ None → end_in (call_in (numbered v.book.calls number)) ≡ Some ends.Response → committed_in (call_in (numbered v.book.calls number)) ≡ Some tag
@@ -104,7 +119,7 @@ module _ (c : ℕ) where
       turn : Turned number f s v
       turn =
           let b = books.book_acted f number s.book in
-          turned_acted number f (ends_news tag (news.TooLarge tag seen) s.book.moment (next_word s)) s (step.drawn_if (has_drawn (row_at b.book tag)) s) refl refl refl refl
+          turned_acted number f (ends_news tag (news.TooLarge tag seen) s.book.moment (next_word s)) s (step.drawn_if (has_drawn (row_at b.book tag)) s) refl refl refl refl refl
 
       by : (c ≡ number) ⊎ (c ≡ number → ⊥) → committed_in (call_at c v) ≡ Some tag
       by (inl here) =
@@ -135,13 +150,13 @@ module _ (c : ℕ) where
         let number : ℕ = call_of (row_at s.book row) in
         let b = books.book_acted (call.heard_news row n s.book.moment (next_word s)) number s.book in
         let v : StateSeen = step.drawn_if (has_drawn (row_at b.book row)) s in
-        row_turn number row (next_word s) n s _ q (turned_acted number (call.heard_news row n s.book.moment (next_word s)) (ends_news row n s.book.moment (next_word s)) s v refl refl refl refl)
+        row_turn number row (next_word s) n s _ q (turned_acted number (call.heard_news row n s.book.moment (next_word s)) (ends_news row n s.book.moment (next_word s)) s v refl refl refl refl refl)
 
     row_heard : (link : ℕ) (n : News) (s : StateSeen) → NotLarge n → RowView s (arrivals.heard_one link n s)
-    row_heard link news.Ready s q = row_joins.beside s (arrivals.heard_one link news.Ready s) refl refl refl refl refl refl
+    row_heard link news.Ready s q = row_joins.beside s (arrivals.heard_one link news.Ready s) refl refl refl refl refl refl refl
     row_heard link news.Retiring s q =
         let t : StateSeen = record (step.downed link s) { links = retired_in link s.links } in
-        row_joins.joined s t (step.retired link s) (row_joins.beside s t refl refl refl refl refl refl) (walks.gone_one RowView row_joins link t)
+        row_joins.joined s t (step.retired link s) (row_joins.beside s t refl refl refl refl refl refl refl) (walks.gone_one RowView row_joins link t)
     row_heard link (news.Broken why) s q = walks.lose RowView row_joins row_ends link false s
     row_heard link (news.Ended tag end) s q = walks.same RowView row_joins s
     row_heard link (news.Head tag meta seen) s q = row_told tag (news.Head tag meta seen) s q
@@ -214,6 +229,23 @@ module _ (c : ℕ) where
         let got : ByLarge (λ tag. Among (IsLargeOf tag) h.news ⊎ ⊥) v = either_part (λ tag. Among (IsLargeOf tag) h.news) (λ tag. ⊥) u t v (walks.end_kept Heard_ joining hearing_ends link h.news t) after (heard_cause link h.news u first none)
         (λ still. absurd (no_response (ended_at c t) (ended_at c v) (walks.end_kept RowView row_joins row_ends link h.news t after.now).1 still some)) some in
         (got.0, (elim got.1.0 [ inl big ↦ big | inr bad ↦ absurd bad ], got.1.1))
+
+    -- so where the call had ended behind a frame, it had before, or the frame told of the row to which it is committed
+    pub large_by : (p link : ℕ) (h : Heard) (s : StateSeen) → s.book.moment ≡ m → IsKeptIn (call_at c s) → IsOverBy c p (arrivals.frame_heard link h s) → IsOverBy c p s ⊎ ((ended_at c s ≡ None) × Among (IsLargeOf p) h.news)
+    large_by p link h s now kept so = by (ended_at c s) refl
+      where
+        t : StateSeen
+        t = arrivals.frame_heard link h s
+
+        by : (o : Option EndCause) → ended_at c s ≡ o → IsOverBy c p s ⊎ ((ended_at c s ≡ None) × Among (IsLargeOf p) h.news)
+        by None none =
+            let got : ByLarge (λ tag. Among (IsLargeOf tag) h.news) t = frame_cause link h s (record { now = now; kept = kept }) none so.0 in
+            let both : Some got.0 ≡ Some p = sym got.1.1 ∙ so.1 in
+            let same : got.0 ≡ p = (cc) in
+            inr (none, subst (λ (tag : ℕ). Among (IsLargeOf tag) h.news) same got.1.0)
+        by (Some why) some =
+            let same : call_at c t ≡ call_at c s = ((walks.hear_frame Heard_ joining hearing link h s now).1 kept).ended why some in
+            inl (sym (ap end_in same) ∙ so.0, sym (ap committed_in same) ∙ so.1)
 
     -- the frames of a piece
     from_cause : (further : ℕ → StateSeen → StateSeen) (large : ℕ → StateSeen → ℕ → Type 0) (link : ℕ) (o : Option Heard) (s : StateSeen) → ((skip : ℕ) (t : StateSeen) → Heard_ t (further skip t)) → ((skip : ℕ) (t : StateSeen) → Now t → ended_at c t ≡ None → ended_at c (further skip t) ≡ Some ends.Response → ByLarge (large skip t) (further skip t))

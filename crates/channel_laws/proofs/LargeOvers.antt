@@ -344,6 +344,8 @@ too_large_always laws timed inbox kept authority new core events is runs =
     record { at = h.at; placed = h.placed; stream = h.stream; has = h.has; stands = h.stands; large = subst (λ (m : ℕ). IsTooLarge m (response_on m h.stream (received h.at.link (take entry core.journal.entries)))) limit h.large } in
     record {
       each = large_always laws timed inbox kept authority new core events is runs;
-      rows = λ place entry row there h. so.rows place entry row there h.within (large place entry row there h);
+      rows = λ place entry row there h.
+          let at : row_in core.state.book.ledger.rows place ≡ Some row = as_numbered core.state.book.ledger.rows place ∙ there in
+          so.rows place entry row at h.within (large place entry row at h);
       calls = λ call place entry stamp row last stamp_is le h. so.calls call place entry stamp row last stamp_is le h.within (large place entry row last.is.is.there h);
     }

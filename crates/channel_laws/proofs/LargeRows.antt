@@ -102,7 +102,7 @@ module _ (at : ℕ) (S : ℕ → Option ℕ) (L : ℕ → ℕ) (F E : List Frame
   one_told (news.Head t meta seen) g e = absurd e
   one_told (news.Message t octets seen) g e = absurd e
 
-  all_told : (ns : List News) → AllByRecursion (Gains at S L F E) ns → Among (IsLargeOf tag) ns → IsLarge (L tag) (S tag) F E
+  pub all_told : (ns : List News) → AllByRecursion (Gains at S L F E) ns → Among (IsLargeOf tag) ns → IsLarge (L tag) (S tag) F E
   all_told [] g h = absurd h
   all_told (n ∷ ns) g (inl mine) = one_told n g.0 mine
   all_told (n ∷ ns) g (inr rest) = all_told ns g.1 rest

@@ -42,10 +42,10 @@ module _ (laws : MoreLaws) (timed : TimedLaws) (inbox : InboxLaws) (kept : KeptL
     here = as_numbered ledger.rows h.place ∙ h.there
 
     had : HadHeadBy (first.limits h.place) es ledger row h.at h.end
-    had = had_always laws timed inbox kept authority new core events is runs h.place row h.at h.end here h.placed h.ended (λ pick. other (sym h.cause_is ∙ pick)) (λ cut. h.stands (sym h.cause_is ∙ cut)) h.few
+    had = had_always laws timed inbox kept authority new core events is runs h.place row h.at h.end here h.placed h.ended (λ pick. other (sym h.cause_is ∙ pick)) (λ cut. h.stands (sym h.cause_is ∙ cut)) h.saw.few
 
     same : had.frames ≡ frames
-    same = same_front had.frames frames had.more h.more (sym had.front ∙ h.front) (sym had.seen ∙ h.seen)
+    same = same_front had.frames frames had.more h.saw.more (sym had.front ∙ h.saw.front) (sym had.seen ∙ h.saw.seen)
 
     left : IsLeft why (first.limits h.place) stream frames
     left = subst (λ (c : RowCause). IsLeft c (first.limits h.place) stream frames) h.cause_is (subst (λ (fs : List FrameSeen). IsLeft h.end.cause (first.limits h.place) stream fs) same (had.left stream h.has))

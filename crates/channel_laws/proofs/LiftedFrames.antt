@@ -88,8 +88,8 @@ module _ (laws : MoreLaws) (timed : TimedLaws) (n k : ℕ) (octets start : List 
     abbrev u : StateSeen
     u = took k (heard_by slot k piece s.links) s
 
-    abbrev Anyone : ℕ → ℕ → Type 0
-    Anyone link tag = Unit {0}
+    abbrev Anyone : Bool → ℕ → ℕ → Type 0
+    Anyone kind link tag = Unit {0}
 
     abbrev T : ℕ → ℕ → RowEnd → Type 0
     T link place end = (link ≡ k) × IsLeftAt (seen_on k u) end
@@ -100,17 +100,17 @@ module _ (laws : MoreLaws) (timed : TimedLaws) (n k : ℕ) (octets start : List 
     said : (code : ℕ) → AreSaid u.book.ledger.rows Anyone T k (seen_on k u) (news.Broken code ∷ [])
     said code = ((λ row b is entry moment tokens word. (refl, record { seen = refl; cause_is = inr (loss_cause b (seen_on k u)) })), tt)
 
-    hears_it : (code : ℕ) → (heard slot.link.link piece).link.wire.broken ≡ Some code → Hears laws timed n T Anyone (λ link row end x. tt) (serving.HearsOn laws timed n k (heard_by slot k piece s.links).news u) u t
-    hears_it code broken = hear laws timed n T Anyone (λ link row end x. tt) u.book.ledger.rows k (seen_on k u) (heard_by slot k piece s.links).news u refl (λ place. refl) fair (subst (λ (ns : List News). AreSaid u.book.ledger.rows Anyone T k (seen_on k u) ns) (sym (tells code broken)) (said code))
+    hears_it : (code : ℕ) → (heard slot.link.link piece).link.wire.broken ≡ Some code → Hears laws timed n T Anyone (serving.HearsOn laws timed n k (heard_by slot k piece s.links).news u) u t
+    hears_it code broken = hear laws timed n T Anyone u.book.ledger.rows k (seen_on k u) (heard_by slot k piece s.links).news u refl (λ place. refl) fair (subst (λ (ns : List News). AreSaid u.book.ledger.rows Anyone T k (seen_on k u) ns) (sym (tells code broken)) (said code))
 
     ends_seen : (code : ℕ) → (heard slot.link.link piece).link.wire.broken ≡ Some code → SeenEnds s.book.ledger.rows t.book.ledger.rows k (seen_on k t)
     ends_seen code broken =
-        let all : Hears laws timed n T Anyone (λ link row end x. tt) (serving.HearsOn laws timed n k (heard_by slot k piece s.links).news u) u t = hears_it code broken in
+        let all : Hears laws timed n T Anyone (serving.HearsOn laws timed n k (heard_by slot k piece s.links).news u) u t = hears_it code broken in
         let first : R n (Unit {0}) s u = serving.read_frame laws timed n k piece slot s is hears in
         let at_u : Stands u = stands_after s u first at in
         let part : PartFor n T Anyone u t = all.part (serving.frame_named laws timed n k piece slot s is at.served) at_u.entry at_u.known at_u.served in
         subst (λ (i : ℕ). SeenEnds s.book.ledger.rows t.book.ledger.rows k i) (sym (all.seen k))
-        (seen_ends (ReadFor T Anyone u t.book.ledger.rows) T s.book.ledger.rows t.book.ledger.rows k (seen_on k u) (λ call i e. e.0.0) (λ place end e. e.1) (part.ends at_u.entry at_u.known))
+        (seen_ends (ReadFor n T Anyone u t.book.ledger.rows) T s.book.ledger.rows t.book.ledger.rows k (seen_on k u) (λ place call i e. e.0.0) (λ place end e. e.1) (part.ends at_u.entry at_u.known))
 
     shut : (code : ℕ) → (heard slot.link.link piece).link.wire.broken ≡ Some code → Ends Known Free known_kept KeepsRules BreaksRules known_judges k octets bytes piece s t → ShutBy (bytes ++ piece) t
     shut code broken ends =

@@ -1,5 +1,5 @@
 -- In every session the attempt whose window breaks its link has ended by the entry in which the link broke.
-use Rattle.std.proofs.Common.{◌≡◌, ◌∙◌, ◌≤◌, ◌<◌, ◌⊎◌, ℕ, ◌+◌, inl, inr, Some, List, [], ◌∷◌, ◌++◌, length, ap, sym, subst, arith, append-nil}
+use Rattle.std.proofs.Common.{◌≡◌, ◌∙◌, ◌≤◌, ◌<◌, ◌⊎◌, ℕ, ◌+◌, inl, inr, None, Some, List, [], ◌∷◌, ◌++◌, length, ap, sym, subst, arith, append-nil}
 use Rattle.grpc_base.specs.declared.event.Entry.{Entry}
 use Rattle.grpc_base.specs.declared.event.Stamped.{Stamped}
 use Rattle.attempt_ledger.specs.Journals.{received}
@@ -18,8 +18,15 @@ use Rattle.link_laws.proofs.LicensedCalls.{MoreLaws}
 use Rattle.link_laws.proofs.LinkStays.{seen_on}
 use Rattle.link_laws.proofs.RuleBreaks.{Known, known_judges, known_kept}
 use Rattle.link_laws.proofs.Working.{TimedLaws}
-use Rattle.channel_laws.specs.GoneLinks.{IsOverBy}
+use Rattle.link_laws.specs.Commitments.{EndedBy}
+use Rattle.channel_laws.specs.FailedPicks.{AreFailedPicks}
 use Rattle.channel_laws.specs.LiftedStreams.{AreLifted, IsStop, LiftsAttempt}
+use Rattle.attempt_ledger.specs.declared.row.Placed.{Placed}
+use Rattle.attempt_ledger.specs.declared.row.Row.{Row}
+use Rattle.attempt_ledger.specs.declared.row.RowCause.TheVariants as cause
+use Rattle.attempt_ledger.specs.declared.row.RowEnd.{RowEnd}
+use Rattle.channel_laws.proofs.FailedPicks.{failed_picks_known}
+use Rattle.link_laws.proofs.ServedRuns.{served_always}
 use Rattle.channel_laws.proofs.ArriveEnds.{Free}
 use Rattle.channel_laws.proofs.LiftedRows.{LiftsRow}
 use Rattle.channel_laws.proofs.LiftedRuns.{came_before, lifted_always, longer}
@@ -64,11 +71,15 @@ module _ (entries : List Entry) (k : ℕ) (link : LinkSeen) (stop : IsStop entri
     | inr more ↦ absurd (never b.before more.0 b.now more.1 (a.read ∙ ap bytes_in b.applied_are))
   ]
 
-over_later : (ledger : Ledger) (k entry read : ℕ) (out came : List FrameSeen) (f : FrameSeen) → (h : LiftsRow ledger.rows k entry read out came f) → (length ledger.links ≤ 4294967295 → length ledger.rows ≤ 18446744073709551615 → IsOverBy h.of.row entry) → LiftsAttempt ledger k entry read out came f
-over_later ledger k entry read out came f h over = record {
+-- a row that was placed ended by no pick
+placed_other : (ledger : Ledger) (place : ℕ) (row : Row) (at : Placed) (end : RowEnd) → AreFailedPicks ledger → numbered ledger.rows place ≡ Some row → row.placed ≡ Some at → row.ended ≡ Some end → end.cause ≡ cause.Pick → ⊥
+placed_other ledger place row at end picks there placed ended pick = (let both : None ≡ Some at = sym (picks.each place row end there ended pick).placed ∙ placed in (cc))
+
+over_later : (ledger : Ledger) (k entry read : ℕ) (out came : List FrameSeen) (f : FrameSeen) → AreFailedPicks ledger → (h : LiftsRow ledger.rows k entry read out came f) → (length ledger.links ≤ 4294967295 → length ledger.rows ≤ 18446744073709551615 → EndedBy entry h.of.row.ended) → LiftsAttempt ledger k entry read out came f
+over_later ledger k entry read out came f picks h over = record {
   stream = h.stream;
   lifted = h.lifted;
-  of = record { place = h.of.place; row = h.of.row; there = h.of.there; placed = h.of.placed; placed_is = h.of.placed_is; on = h.of.on; has = h.of.has; late = h.of.late; seen = h.of.seen; over = over };
+  of = record { place = h.of.place; row = h.of.row; there = h.of.there; placed = h.of.placed; placed_is = h.of.placed_is; on = h.of.on; has = h.of.has; late = h.of.late; seen = λ end ended now. h.of.seen end ended now (placed_other ledger h.of.place h.of.row h.of.placed end picks h.of.there h.of.placed_is ended); over = over };
 }
 
 -- every list of events
@@ -94,7 +105,7 @@ lifts_always laws timed authority new core events is runs = record {
       }) out text keeps) in
       let a : IsAppliedOn KeepsRules BreaksRules core.journal.entries number link = breaks_always Known Free known_kept KeepsRules BreaksRules known_judges authority new core events is runs number link there few in
       let gone : IsGone link (length stop.before + 1) = gone_by core.journal.entries number link stop a a.ends in
-      over_later ledger number (length stop.before + 1) link.read out past stop.frame law (λ links rows.
-      let over : IsOverBy law.of.row gone.gone = over_by_always laws timed authority new core events is runs links rows law.of.place law.of.row law.of.placed gone.gone law.of.there law.of.placed_is (record { link = link; there = ap (λ (i : ℕ). numbered ledger.links i) law.of.on ∙ there; is = gone.is }) in
+      over_later ledger number (length stop.before + 1) link.read out past stop.frame (failed_picks_known core.state (served_always laws timed authority new core events is runs)) law (λ links rows.
+      let over : EndedBy gone.gone law.of.row.ended = over_by_always laws timed authority new core events is runs links rows law.of.place law.of.row law.of.placed gone.gone law.of.there law.of.placed_is (record { link = link; there = ap (λ (i : ℕ). numbered ledger.links i) law.of.on ∙ there; is = gone.is }) in
       record { end = over.end; is = over.is; by = (let first = over.by in let then_ = gone.by in omega (arith, first, then_)) });
 }

@@ -102,14 +102,14 @@ pub lifts_later : (n m : ℕ) (a b : Ledger) (link read : ℕ) (out past : List 
 lifts_later n m a b link read out past f low l ends h = record { stream = h.stream; lifted = h.lifted; of = of_later n m a b link h.stream read low l ends h.of.place h.of.row h.of.placed h.of.there h.of.placed_is h.of.on h.of.has h.of.late h.of.seen }
 
 -- the ends of a part of a step
-pub seen_ends : (Seen : ℕ → ℕ → ℕ → Type 0) (T : ℕ → ℕ → RowEnd → Type 0) (rows after : List Row) (link read : ℕ) → ((call n : ℕ) → Seen call link n → n ≡ read) → ((place : ℕ) (end : RowEnd) → T link place end → IsLeftAt read end) → NewEnds (Fresh Seen T after) rows after → SeenEnds rows after link read
+pub seen_ends : (Seen : ℕ → ℕ → ℕ → ℕ → Type 0) (T : ℕ → ℕ → RowEnd → Type 0) (rows after : List Row) (link read : ℕ) → ((place call n : ℕ) → Seen place call link n → n ≡ read) → ((place : ℕ) (end : RowEnd) → T link place end → IsLeftAt read end) → NewEnds (Fresh Seen T after) rows after → SeenEnds rows after link read
 seen_ends Seen T rows after link read cuts tells ends place row end on there ended pick = elim (ends place row there end ended) [
   | inl was ↦ inl was
   | inr fresh ↦ inr (fresh_seen fresh)
 ]
   where
     fresh_seen : Fresh Seen T after place end → IsLeftAt read end
-    fresh_seen (inl cut) = record { cause_is = inl cut.is_cut; seen = cuts cut.call end.seen (subst (λ (j : ℕ). Seen cut.call j end.seen) (placed_once after cut.link link place cut.on on) cut.seen) }
+    fresh_seen (inl cut) = record { cause_is = inl cut.is_cut; seen = cuts place cut.call end.seen (subst (λ (j : ℕ). Seen place cut.call j end.seen) (placed_once after cut.link link place cut.on on) cut.seen) }
     fresh_seen (inr (inl by_pick)) = absurd (pick by_pick)
     fresh_seen (inr (inr t)) = tells place end (subst (λ (j : ℕ). T j place end) (placed_once after t.link link place t.on on) t.told)
 

@@ -47,11 +47,11 @@ use Rattle.channel_laws.proofs.NewEnds.{Read}
 use Rattle.channel_laws.proofs.QuietEnds.{Part, Silent, settle_part}
 
 -- an entry of a journal that grew by one is the new one, or an old one
-no_entry : (before behind : List Entry) (at : Entry) → [] ≡ before ++ at ∷ behind → ⊥
+pub no_entry : (before behind : List Entry) (at : Entry) → [] ≡ before ++ at ∷ behind → ⊥
 no_entry [] behind at e = (cc)
 no_entry (b ∷ before) behind at e = (cc)
 
-which : (es before behind : List Entry) (x at : Entry) → es ++ x ∷ [] ≡ before ++ at ∷ behind → ((es ≡ before) × (x ≡ at)) ⊎ ((rest : List Entry) × (es ≡ before ++ at ∷ rest))
+pub which : (es before behind : List Entry) (x at : Entry) → es ++ x ∷ [] ≡ before ++ at ∷ behind → ((es ≡ before) × (x ≡ at)) ⊎ ((rest : List Entry) × (es ≡ before ++ at ∷ rest))
 which [] [] behind x at e = inl (refl, (cc))
 which [] (y ∷ before) behind x at e = absurd (let rest : [] ≡ before ++ at ∷ behind = (cc) in no_entry before behind at rest)
 which (y ∷ es) [] behind x at e = (let same : y ≡ at = (cc) in inr (es, ap (λ (z : Entry). z ∷ es) same))
@@ -75,7 +75,7 @@ none_more fs now more f e =
     omega (arith, size, front)
 
 -- what an entry brought
-brought : (k : ℕ) (e : Event) (r : Reply) (piece : List ℕ) → e ≡ event.Arrived k piece → r ≡ reply.Done → arrived_by k e r ≡ piece
+pub brought : (k : ℕ) (e : Event) (r : Reply) (piece : List ℕ) → e ≡ event.Arrived k piece → r ≡ reply.Done → arrived_by k e r ≡ piece
 brought k e r piece is done = ap (λ (x : Event). arrived_by k x r) is ∙ ap (λ (x : Reply). arrived_by k (event.Arrived k piece) x) done ∙ ap (λ (b : Bool). if b then piece else []) (eq-eqb k k refl)
 
 -- the frames of the entries behind it are behind those that it brought
@@ -157,7 +157,7 @@ module _ (laws : MoreLaws) (timed : TimedLaws) where
           seen = ap (λ (y : StateSeen). seen_on k y) c.settles ∙ seen_settles k c.t;
           behind = subst (λ (i : ℕ). Later i c.t.book.ledger new.state.book.ledger) stands_t.entry settles;
           ends = subst (λ (y : StateSeen). SeenEnds c.t.book.ledger.rows y.book.ledger.rows k (seen_on k c.t)) (sym c.settles)
-              (seen_ends (Read Silent c.t) Silent c.t.book.ledger.rows (settling.settled c.t).book.ledger.rows k (seen_on k c.t) (λ call i e. e.0) (λ place end none. absurd none) (late.ends stands_t.entry stands_t.known));
+              (seen_ends (Read Silent c.t) Silent c.t.book.ledger.rows (settling.settled c.t).book.ledger.rows k (seen_on k c.t) (λ place call i e. e.0) (λ place end none. absurd none) (late.ends stands_t.entry stands_t.known));
         }
 
     few_come : (k : ℕ) → length (received k (es ++ x ∷ [])) ≤ most → (piece : List ℕ) → arrived_by k s.event r ≡ piece → length (received k es ++ piece) ≤ most

@@ -30,7 +30,7 @@ reader_if tag t readers true h e = (t.reader, refl)
 reader_if tag t readers false (inr rest) e = rest
 reader_if tag t readers false (inl mine) e = absurd (let both : false ≡ true = sym e ∙ eq-eqb t.tag tag mine in let no : ⊥ = (cc) in no)
 
-reader_there : (tag : ℕ) (readers : List TagReader) → IsRead tag readers → (r : ReaderSeen) × (reader_in tag readers ≡ Some r)
+pub reader_there : (tag : ℕ) (readers : List TagReader) → IsRead tag readers → (r : ReaderSeen) × (reader_in tag readers ≡ Some r)
 reader_there tag [] h = absurd h
 reader_there tag (t ∷ readers) (inl mine) = reader_if tag t readers (t.tag == tag) (inl mine) refl
 reader_there tag (t ∷ readers) (inr rest) = reader_if tag t readers (t.tag == tag) (inr (reader_there tag readers rest)) refl

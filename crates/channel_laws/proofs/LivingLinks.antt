@@ -10,7 +10,7 @@ use Rattle.channel_core.specs.Books.{link_at}
 use Rattle.channel_core.specs.States.{StateSeen}
 use Rattle.channel_core.specs.Tables.{numbered}
 use Rattle.grpc_base.specs.declared.event.Entry.{Entry}
-use Rattle.channel_laws.specs.NotYets.{IsUpTo}
+use Rattle.channel_laws.specs.NotYets.{StandsBefore}
 use Rattle.link_laws.specs.Stamps.{IsDatedLink, moment_at}
 use Rattle.channel_laws.proofs.CommittedBefore.{stamp_within}
 use Rattle.link_laws.proofs.EachEntry.{kept_in, still}
@@ -43,7 +43,7 @@ none_broken : (dead : Bool) (o : Option ℕ) → ((code : ℕ) → o ≡ Some co
 none_broken dead None breaks alive = refl
 none_broken dead (Some code) breaks alive = absurd (let both : true ≡ false = sym (breaks code refl) ∙ alive in (let no : ⊥ = (cc) in no))
 
-module _ (es : List Entry) (k : ℕ) (bytes : List ℕ) (old : StateSeen) (a b : Ledger) (is : a ≡ old.book.ledger) (later : Later (length es + 1) a b) (dated : AllByRecursion (IsDatedLink (moment_at es)) a.links) (up : IsUpTo b k (length es + 1)) (sound : SoundOn k bytes old) where
+module _ (es : List Entry) (k : ℕ) (bytes : List ℕ) (old : StateSeen) (a b : Ledger) (is : a ≡ old.book.ledger) (later : Later (length es + 1) a b) (dated : AllByRecursion (IsDatedLink (moment_at es)) a.links) (up : StandsBefore b k (length es + 1)) (sound : SoundOn k bytes old) where
   never_gone : (j : ℕ) (o : Option LinkSeen) → j ≡ k → numbered a.links j ≡ o → IsGoneAt o → ⊥
   never_gone zero o same at g = absurd (let both : None ≡ Some g.seen = at ∙ g.there in (let no : ⊥ = (cc) in no))
   never_gone (suc i) o same at g =

@@ -41,6 +41,13 @@ use Rattle.channel_laws.proofs.Turns.{OwnTurn}
 use Rattle.channel_laws.proofs.Views.{call_at, call_in, call_there}
 use Rattle.channel_laws.proofs.LongParts.{HasSent, IsSend, LongNow, SameLong, Settled, WhyLong, long_event, long_found, long_in, send_case, settled_to}
 
+-- a call that has its configuration keeps it
+still_chosen : (a b : CallState) (chosen : Chosen) → Keeps a b → a.chosen ≡ Some chosen → b.chosen ≡ a.chosen
+still_chosen a b chosen keeps is = elim keeps.chosen [
+  | inl same ↦ same
+  | inr none ↦ absurd (let both : None ≡ Some chosen = sym none.1 ∙ is in (let no : ⊥ = (cc) in no))
+]
+
 -- a Send of the call that was done
 pub record HasSend (entries : List Entry) (k len : ℕ) : Type 0 where
   pub at : ℕ
@@ -219,6 +226,7 @@ module _ (old new : CoreSeen) (s : Stamped) (r : Reply) (h : Steps old new s r) 
 
   -- an end of this entry, by its Send
   law_sent : (k : ℕ) (slot : CallSlot) (of : CallSeen) (message : List ℕ) (cause : EndCause) → numbered new.state.book.calls k ≡ Some slot → numbered new.state.book.ledger.calls k ≡ Some of → s.event ≡ event.Send k message → ended_at k p.found ≡ None → ended_at k p.left ≡ Some cause → (o : Option CallSlot) → numbered p.found.book.calls k ≡ o → (p.left ≡ p.found) ⊎ IsSend k message p.found p.left r → IsLong new.journal.entries k slot.call of n
+  unfolding send_now
   law_sent k slot of message cause f g is none some o e (inl same) =
       absurd (let both : None ≡ Some cause = sym none ∙ sym (ap (λ (x : StateSeen). ended_at k x) same) ∙ some in (let no : ⊥ = (cc) in no))
   law_sent k slot of message cause f g is none some None e (inr x) =
@@ -230,23 +238,16 @@ module _ (old new : CoreSeen) (s : Stamped) (r : Reply) (h : Steps old new s r) 
       let now : (call.sent message fm own.before).call.ended ≡ Some cause = ap (λ (c : CallState). c.ended) (sym own.call_is) ∙ sym (ap end_in (call_there k p.left own.after own.there)) ∙ some in
       let long : EndsLong message own.before.call (send_reply message own.before.call) = ends_long message fm own.before cause live now in
       let chosen = some_chosen own.before.call.chosen (length message) long.long in
-      let sends : Keeps own.before.call (call.sent message fm own.before).call = keeps_sent message fm own.before in
-      let first : (call.sent message fm own.before).call.chosen ≡ own.before.call.chosen = (elim sends.chosen [
-        | inl same ↦ same
-        | inr y ↦ absurd (let both : None ≡ Some chosen.0 = sym y.1 ∙ chosen.1.0 in (let no : ⊥ = (cc) in no))
-      ]) in
+      let first : (call.sent message fm own.before).call.chosen ≡ own.before.call.chosen = still_chosen own.before.call (call.sent message fm own.before).call chosen.0 (keeps_sent message fm own.before) chosen.1.0 in
       let behind : Settled (Some own.after.call) (Some slot.call) = subst (λ (o : Option CallState). Settled (Some own.after.call) o) (call_there k new.state slot f) (subst (λ (o : Option CallState). Settled o (call_at k new.state)) (call_there k p.left own.after own.there) (settled k)) in
       let ended : own.after.call.ended ≡ Some cause = ap (λ (c : CallState). c.ended) own.call_is ∙ now in
       let last_chosen : slot.call.chosen ≡ own.after.call.chosen = chosen_stays own.after.call slot.call cause behind.keeps.chosen ended in
-      let sent : HasSend new.journal.entries k (length message) = record {
-        at = n;
-        sending = last;
-        there = there_last;
+      let sent : HasSend new.journal.entries k (length message) = send_now k (length message) (record {
         message = message;
         is = is;
         done = x.replied ∙ ap (λ (z : Option CallSlot). send_reply_of message z) e ∙ ap (λ (c : CallState). send_reply message c) (sym own.same) ∙ long.done;
         len_is = refl;
-      } in
+      }) in
       let chosen_is : slot.call.chosen ≡ Some chosen.0 = last_chosen ∙ ap (λ (c : CallState). c.chosen) own.call_is ∙ first ∙ chosen.1.0 in
       let last_tied : IsChosen new.journal.entries of.begun of.configured slot.call.request slot.call.chosen = (p.known.sound.tied k slot of f g).chosen in
       let configured = some_within new.journal.entries of.configured (sym last_tied.same ∙ ap is_some chosen_is) last_tied.within in

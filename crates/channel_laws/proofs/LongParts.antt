@@ -114,7 +114,7 @@ module _ (k m : ℕ) where
   long_event event.Shutdown s t r now g = inl (other event.Shutdown s t r now ((λ number u v h. turn_view k SameLong same_at same_on m number (λ i. call.closed_by ends.Shut i) u v h (λ here x. (long_closed ends.Shut m x).0)), λ e. (e, same_at (call_at k s))) g)
   long_event (event.Resolved addresses text) s t r now g = inl (other (event.Resolved addresses text) s t r now (λ u e. (e, same_at (call_at k u))) g)
   long_event event.ResolveFailed s t r now g = inl (other event.ResolveFailed s t r now (λ e. (e, same_at (call_at k s))) g)
-  long_event (event.Take number) s t r now g = inl (other (event.Take number) s t r now (λ u h. touch_view k SameLong same_at same_on m (λ a b l. l.longest) number s u h) g)
+  long_event (event.Take number) s t r now g = inl (other (event.Take number) s t r now (λ u h due. touch_view k SameLong same_at same_on m (λ a b l. l.longest) number s u h) g)
   long_event e s t r now g = inl (other e s t r now tt g)
 
 -- the settling: a call that ends by a too long request gets its limit
@@ -182,6 +182,8 @@ module _ (k m : ℕ) where
   settled_ends = record {
     made = λ number u v h. turn_view k Settled settled_at settled_on m number (λ i. call.made_due i) u v h (λ here x. record { keeps = keeps_due m x; longest = (long_due m x).0; ended = by_due (WhyLong x.call (call.made_due m x).call) m x (λ q. absurd (let no : ⊥ = (cc) in no)) });
     failed = λ row number word u v h. turn_view k Settled settled_at settled_on m number (λ i. call.pick_failed row i word) u v h (λ here x. record { keeps = keeps_ended_at row pick_end m word x; longest = (long_ended_at row pick_end m word x).0; ended = by_ended_at (WhyLong x.call (call.pick_failed row m word x).call) row pick_end m word x (λ q. absurd (let no : ⊥ = (cc) in no)) });
+    taken = λ dues u e. (e, settled_at (call_at k u));
+    forgotten = λ number u v h calm. touch_view k Settled settled_at settled_on m (λ a b l. record { keeps = keeps_like a b l; longest = l.longest; ended = inl l.ended }) number u v h;
   }
 
   pub settled_to : (s : StateSeen) → s.book.moment ≡ m → Settled (call_at k s) (call_at k (settling.settled s))

@@ -1,6 +1,7 @@
 -- As bytes come, what waits for an application of a call grows no shorter.
-use Rattle.std.proofs.Common.{◌≡◌, ◌≤◌, ℕ, if◌then◌else◌, suc, ◌⊎◌, inl, inr, Bool, true, false, Option, Some, None, is_some, List, [], ◌∷◌, ◌++◌, length, refl, sym, ap, subst, ◌∙◌, arith}
+use Rattle.std.proofs.Common.{◌≡◌, ◌≤◌, ℕ, if◌then◌else◌, suc, ◌+◌, ◌⊎◌, inl, inr, Bool, true, false, Option, Some, None, is_some, List, [], ◌∷◌, ◌++◌, length, refl, sym, ap, subst, ◌∙◌, arith}
 use Rattle.std.proofs.lemmas.Bool.{cases_eq}
+use Rattle.std.proofs.lemmas.List.{length-append}
 use Rattle.grpc_base.specs.declared.event.Event.TheVariants as event
 use Rattle.grpc_base.specs.declared.event.Reply.{Reply}
 use Rattle.grpc_base.specs.declared.fields.Field.{Field}
@@ -16,10 +17,11 @@ use Rattle.channel_core.specs.declared.state.slots.CallSlot.{CallSlot}
 use Rattle.channel_core.specs.Applying.{AnswersBy, refusal_of}
 use Rattle.channel_core.specs.States.{StateSeen}
 use Rattle.channel_core.specs.Tables.{numbered}
+use Rattle.channel_laws.proofs.Delivering.{given_by}
 use Rattle.channel_laws.proofs.Owned.{InboxLaws}
 use Rattle.channel_laws.proofs.Turns.{Calm, OwnTouch, Touched}
 use Rattle.channel_laws.proofs.TurnSteps.{answered}
-use Rattle.channel_laws.proofs.TurnWalks.{Turns}
+use Rattle.channel_laws.proofs.TurnWalks.{Hears, Turns}
 use Rattle.channel_laws.proofs.Views.{Viewed, call_at, call_in, turn_view}
 
 abbrev pub IsLonger : CallState → CallState → Type 0
@@ -30,11 +32,11 @@ Longer None o = Unit {0}
 Longer (Some a) None = ⊥
 Longer (Some a) (Some b) = IsLonger a b
 
-longer_at : (o : Option CallState) → Longer o o
+pub longer_at : (o : Option CallState) → Longer o o
 longer_at None = tt
 longer_at (Some a) = omega arith
 
-longer_on : (a b c : Option CallState) → Longer a b → Longer b c → Longer a c
+pub longer_on : (a b c : Option CallState) → Longer a b → Longer b c → Longer a c
 longer_on None b c first second = tt
 longer_on (Some a) None c first second = absurd first
 longer_on (Some a) (Some b) None first second = absurd second
@@ -54,6 +56,11 @@ more_message (m ∷ messages) octets = (let le : length (message_items messages)
 more_items : (h : Option (List Field)) (messages : List (List ℕ)) (octets : List ℕ) → length (head_items h ++ message_items messages) ≤ length (head_items h ++ message_items (messages ++ octets ∷ []))
 more_items None messages octets = more_message messages octets
 more_items (Some meta) messages octets = (let le : length (message_items messages) ≤ length (message_items (messages ++ octets ∷ [])) = more_message messages octets in omega (arith, le))
+
+-- with what was taken
+pub longer_given : (over : Bool) (took a b : List Reply) → length a ≤ length b → length (given_by over took a) ≤ length (given_by over took b)
+longer_given true took a b le = omega arith
+longer_given false took a b le = (let first : length (took ++ a) ≡ length took + length a = length-append took a in let second : length (took ++ b) ≡ length took + length b = length-append took b in omega (arith, le, first, second))
 
 module _ (inbox : InboxLaws) (k m : ℕ) where
   head_longer : (row : ℕ) (meta : List Field) (x : Stepped) (live committed : Bool) → live ≡ is_some (find_live row x.call.live) → committed ≡ is_some x.call.attempts.committed → IsLonger x.call (call.heard_head row meta m x).call
@@ -76,7 +83,7 @@ module _ (inbox : InboxLaws) (k m : ℕ) where
   news_longer row news.Retiring word x = same_longer x.call x.call refl
   news_longer row (news.Broken why) word x = same_longer x.call x.call refl
 
-  abbrev View : StateSeen → StateSeen → Type 0
+  abbrev pub View : StateSeen → StateSeen → Type 0
   View = Viewed k Longer longer_at longer_on m
 
   calm_own : (number : ℕ) (s t : StateSeen) (o : Option CallSlot) → numbered s.book.calls number ≡ o → Touched number s t → Calm number s t → Longer (call_in o) (call_in (numbered t.book.calls number))
@@ -87,13 +94,17 @@ module _ (inbox : InboxLaws) (k m : ℕ) where
   calm_by number s t h calm (inl here) = subst (λ (i : ℕ). Longer (call_at i s) (call_at i t)) (sym here) (calm_own number s t (numbered s.book.calls number) refl h calm)
   calm_by number s t h calm (inr off) = subst (λ (o : Option CallState). Longer (call_at k s) o) (sym (ap call_in (h.others k off))) (longer_at (call_at k s))
 
-  turns : Turns View
+  pub turns : Turns View
   turns = record {
     joined = λ s t u first second e. (let f = first e in let g = second f.0 in (g.0, longer_on (call_at k s) (call_at k t) (call_at k u) f.1 g.1));
-    beside = λ s t calls moment deadlines shut unconfigured impatient e. (moment ∙ e, subst (λ (l : List CallSlot). Longer (call_at k s) (call_in (numbered l k))) (sym calls) (longer_at (call_at k s)));
-    touched = λ number s t h calm e. (h.moment ∙ e, calm_by number s t h calm (cases_eq k number));
+    beside = λ s t calls moment deadlines dues shut unconfigured impatient e. (moment ∙ e, subst (λ (l : List CallSlot). Longer (call_at k s) (call_in (numbered l k))) (sym calls) (longer_at (call_at k s)));
+    touched = λ number s t h calm due e. (h.moment ∙ e, calm_by number s t h calm (cases_eq k number));
     placed = λ row at number s t h e. turn_view k Longer longer_at longer_on m number (λ i. call.placed_at row at) s t h (λ here x. same_longer x.call (call.placed_at row at x).call (inbox.placed row at x)) e;
   }
+
+  -- what a call hears of its rows
+  pub tells : Hears View
+  tells row told number word u v h = turn_view k Longer longer_at longer_on m number (λ i. call.heard_news row told i word) u v h (λ here x. news_longer row told word x)
 
   pub longer_arrived : (link : ℕ) (piece : List ℕ) (s t : StateSeen) (r : Reply) → s.book.moment ≡ m → AnswersBy (refusal_of (event.Arrived link piece) s) (event.Arrived link piece) s t r → Longer (call_at k s) (call_at k t)
   longer_arrived link piece s t r now g =

@@ -37,11 +37,11 @@ pub net_then : (call : NetCall) (n : NetSeen) → IsNet n → IsNet (after_call 
 net_then call n x = record { calls = x.calls ++ call ∷ []; policies = x.policies; is = ap (after_call call) x.is ∙ sym (calls_then x.calls (call ∷ []) (net.new_net x.policies)) }
 
 -- a subchannel stays on the board
-some_and : {X : Type 0} (P : X → Type 0) (o : Option X) → IsSomeAnd o P → is_some o ≡ true
+pub some_and : {X : Type 0} (P : X → Type 0) (o : Option X) → IsSomeAnd o P → is_some o ≡ true
 some_and P None h = absurd h
 some_and P (Some x) h = refl
 
-is_there : {X : Type 0} (o : Option X) → is_some o ≡ true → (x : X) × (o ≡ Some x)
+pub is_there : {X : Type 0} (o : Option X) → is_some o ≡ true → (x : X) × (o ≡ Some x)
 is_there None e = absurd (let no : ⊥ = (cc) in no)
 is_there (Some x) e = (x, refl)
 
@@ -127,11 +127,11 @@ less_down sub link n = less_if (net.owns sub link n) n (net.net_lost sub n) n (�
 pub less_shut : (n : NetSeen) → Less n (net.net_shut n).net
 less_shut n sub link e = less_live _ n.links sub link e
 
-connected_links : (o : Option ℕ) (n : NetSeen) → (net.connected_at o n).links ≡ n.links
+pub connected_links : (o : Option ℕ) (n : NetSeen) → (net.connected_at o n).links ≡ n.links
 connected_links None n = refl
 connected_links (Some sub) n = refl
 
-rounds_links : (k : ℕ) (n : NetSeen) → (net.connect_rounds k n).links ≡ n.links
+pub rounds_links : (k : ℕ) (n : NetSeen) → (net.connect_rounds k n).links ≡ n.links
 rounds_links zero n = refl
 rounds_links (suc k) n = rounds_links k (net.connect_round n) ∙ connected_links (net.first_wished n) n
 

@@ -25,7 +25,7 @@ use Rattle.channel_core.specs.Applying as applying
 use Rattle.channel_core.specs.Applying.{AnswersBy, config_read, conn_of, refusal_of}
 use Rattle.link_laws.specs.Configurations.{Settings, brought_by, chosen_by, held_after, held_from}
 use Rattle.channel_core.specs.Core.{CoreSeen, IsNew, Runs, Steps, moment_of}
-use Rattle.channel_laws.specs.NoConfigs.{HasFailed, HasNoConfig, IsBare, has_no_config}
+use Rattle.channel_laws.specs.NoConfigs.{HasFailed, HasNoConfig, IsUnconfigured, has_no_config}
 use Rattle.channel_core.specs.Settling as settling
 use Rattle.channel_core.specs.States.{StateSeen}
 use Rattle.channel_core.specs.Steps.{overdue_ended}
@@ -88,8 +88,8 @@ SameFlag s t = t.unconfigured ≡ s.unconfigured
 same_flag : Turns SameFlag
 same_flag = record {
   joined = λ s t u first second. second ∙ first;
-  beside = λ s t calls moment deadlines shut unconfigured waiting. unconfigured;
-  touched = λ number s t h calm. h.unconfigured;
+  beside = λ s t calls moment deadlines dues shut unconfigured waiting. unconfigured;
+  touched = λ number s t h calm due. h.unconfigured;
   placed = λ row at number s t h. h.unconfigured;
 }
 
@@ -97,7 +97,7 @@ pub flag_found : (s : StateSeen) → SameFlag s (overdue_ended s)
 flag_found s = overdue SameFlag (joins SameFlag same_flag) s refl (λ number u v h. h.unconfigured)
 
 pub flag_settled : (s : StateSeen) → SameFlag s (settling.settled s)
-flag_settled s = turn_steps.settle SameFlag same_flag (record { made = λ number u v h. h.unconfigured; failed = λ row number word u v h. h.unconfigured }) (λ u bare impatient sorted fewer. refl) s (λ some chosen number u v h. h.unconfigured) (λ none lacking number u v h. h.unconfigured)
+flag_settled s = turn_steps.settle SameFlag same_flag (record { made = λ number u v h. h.unconfigured; failed = λ row number word u v h. h.unconfigured; taken = λ dues u. refl; forgotten = λ number u v h calm. h.unconfigured }) (λ u bare impatient sorted fewer. refl) s (λ some chosen number u v h. h.unconfigured) (λ none lacking number u v h. h.unconfigured)
 
 flag_by : (e : Event) (s t : StateSeen) (r : Reply) → Answering SameFlag e s → AnswersBy (refusal_of e s) e s t r → SameFlag s t
 flag_by e s t r given g = turn_steps.answered SameFlag same_flag (refusal_of e s) e s t r (λ free. given) g
@@ -125,7 +125,7 @@ flag_event (event.Cancel number) s t r g = inl (flag_by (event.Cancel number) s 
 flag_event (event.Arrived link piece) s t r g = inl (flag_by (event.Arrived link piece) s t r (λ row told number word u v h. h.unconfigured) g)
 flag_event (event.LinkLost link) s t r g = inl (flag_by (event.LinkLost link) s t r (λ row end number word u v h. h.unconfigured) g)
 flag_event event.Shutdown s t r g = inl (flag_by event.Shutdown s t r ((λ number u v h. h.unconfigured), refl) g)
-flag_event (event.Take number) s t r g = inl (flag_by (event.Take number) s t r (λ u h. h.unconfigured) g)
+flag_event (event.Take number) s t r g = inl (flag_by (event.Take number) s t r (λ u h due. h.unconfigured) g)
 flag_event e s t r g = inl (flag_by e s t r tt g)
 
 abbrev pub IsOther : EndCause → Type 0
@@ -140,7 +140,7 @@ other_event k event.Shutdown = λ is. (cc)
 other_event k e = tt
 
 abbrev pub AllBare : List Entry → List CallSeen → Type 0
-AllBare entries calls = (k : ℕ) (seen : CallSeen) (end : CallEnd) → numbered calls k ≡ Some seen → seen.end ≡ Some end → end.cause ≡ ends.NoConfig → IsBare entries seen end.entry
+AllBare entries calls = (k : ℕ) (seen : CallSeen) (end : CallEnd) → numbered calls k ≡ Some seen → seen.end ≡ Some end → end.cause ≡ ends.NoConfig → IsUnconfigured entries seen end.entry
 
 record IsBareIn (core : CoreSeen) : Type 0 where
   knows : Knows core
@@ -179,9 +179,9 @@ module _ (old new : CoreSeen) (s : Stamped) (r : Reply) (h : Steps old new s r) 
         | inr now ↦ record { at = n; failing = last; there = ap (λ (l : List Entry). numbered l n) h.journal ∙ number_last es last; is = now; by = omega arith }
       ]
 
-  law_old : (k : ℕ) (of : CallSeen) (end : CallEnd) → numbered new.state.book.ledger.calls k ≡ Some of → end.cause ≡ ends.NoConfig → WasEnd old.state.book.ledger.calls k end → IsBare new.journal.entries of end.entry
+  law_old : (k : ℕ) (of : CallSeen) (end : CallEnd) → numbered new.state.book.ledger.calls k ≡ Some of → end.cause ≡ ends.NoConfig → WasEnd old.state.book.ledger.calls k end → IsUnconfigured new.journal.entries of end.entry
   law_old k of end g cause was =
-      let law : IsBare es was.seen end.entry = had.law k was.seen end was.there was.is cause in
+      let law : IsUnconfigured es was.seen end.entry = had.law k was.seen end was.there was.is cause in
       let a = same_number old.state.book.ledger.calls old.state.book.calls k was.seen (sym had.knows.sound.count) was.there in
       let b = same_number new.state.book.ledger.calls new.state.book.calls k of (sym p.known.sound.count) g in
       let whole : Kept m (Some a.0.call) (Some b.0.call) = subst (λ (o : Option CallState). Kept m (Some a.0.call) o) (call_there k new.state b.0 b.1) (subst (λ (o : Option CallState). Kept m o (call_at k new.state)) (call_there k old.state a.0 a.1) (kept_whole k old new s r p (seen_by k old new s r p))) in
@@ -199,7 +199,7 @@ module _ (old new : CoreSeen) (s : Stamped) (r : Reply) (h : Steps old new s r) 
         failed = failed_still end.entry end.entry (omega arith) law.failed;
       }
 
-  law_held : (k : ℕ) (of : CallSeen) → numbered new.state.book.ledger.calls k ≡ Some of → is_some p.left.held ≡ false → p.left.unconfigured ≡ true → IsBare new.journal.entries of n
+  law_held : (k : ℕ) (of : CallSeen) → numbered new.state.book.ledger.calls k ≡ Some of → is_some p.left.held ≡ false → p.left.unconfigured ≡ true → IsUnconfigured new.journal.entries of n
   law_held k of g none lacking =
       let kept : new.state.held ≡ p.left.held = ap (λ (x : StateSeen). x.held) p.settles ∙ settle SameHeld same_held p.left held_configured in
       let holds : HoldsLast new.journal.entries new.state.held = p.known.sound.knows in
@@ -211,7 +211,7 @@ module _ (old new : CoreSeen) (s : Stamped) (r : Reply) (h : Steps old new s r) 
         failed = failed_left lacking;
       }
 
-  law_new : (k : ℕ) (of : CallSeen) (cause : EndCause) → numbered new.state.book.ledger.calls k ≡ Some of → cause ≡ ends.NoConfig → EndedIn k p.first p.found p.left new.state cause → IsBare new.journal.entries of n
+  law_new : (k : ℕ) (of : CallSeen) (cause : EndCause) → numbered new.state.book.ledger.calls k ≡ Some of → cause ≡ ends.NoConfig → EndedIn k p.first p.found p.left new.state cause → IsUnconfigured new.journal.entries of n
   law_new k of cause g q (ByDeadlines none some) =
       let first : end_in (call_at k old.state) ≡ None = sym (ap (λ (x : StateSeen). ended_at k x) p.first_is) ∙ none in
       let was = was_timed m (call_at k old.state) (call_at k p.found) cause (seen_by k old new s r p).timed first some in
@@ -233,7 +233,7 @@ module _ (old new : CoreSeen) (s : Stamped) (r : Reply) (h : Steps old new s r) 
     law = λ k of end g is cause.
         elim (was_end n k old.state.book.ledger new.state.book.ledger of end all g is) [
           | inl was ↦ law_old k of end g cause was
-          | inr now ↦ subst (λ (i : ℕ). IsBare new.journal.entries of i) (sym now) (law_new k of end.cause g cause (ended_in old new s r p had.knows had.by k end (record { seen = of; there = g; is = is }) now))
+          | inr now ↦ subst (λ (i : ℕ). IsUnconfigured new.journal.entries of i) (sym now) (law_new k of end.cause g cause (ended_in old new s r p had.knows had.by k end (record { seen = of; there = g; is = is }) now))
         ];
     failed = λ is.
         let left : p.left.unconfigured ≡ true = sym (ap (λ (x : StateSeen). x.unconfigured) p.settles ∙ flag_settled p.left) ∙ is in
@@ -244,13 +244,19 @@ bare_runs : MoreLaws → (old : CoreSeen) (events : List Stamped) (new : CoreSee
 bare_runs laws old [] new h k = subst IsBareIn (sym h) k
 bare_runs laws old (s ∷ events) new h k = bare_runs laws h.0 events new h.3 (bare_step old h.0 s h.1 h.2 (parted laws old h.0 s h.1 h.2 k.knows) k)
 
-pub bare_ends : MoreLaws → (authority : List ℕ) (new core : CoreSeen) (events : List Stamped) → IsNew authority new → Runs new events core → AllBare core.journal.entries core.state.book.ledger.calls
-bare_ends laws authority new core events is runs =
+begins : (authority : List ℕ) (new : CoreSeen) → IsNew authority new → IsBareIn new
+begins authority new is =
     let none : new.state.book.ledger.calls ≡ [] = ap (λ (s : StateSeen). s.book.ledger.calls) is.2.state in
-    let first : IsBareIn new = record {
+    record {
       knows = knows_new authority new is;
       by = λ k seen end there ended. absurd (none_at k seen (sym (ap (λ (l : List CallSeen). numbered l k) none) ∙ there));
       law = λ k seen end there ended cause. absurd (none_at k seen (sym (ap (λ (l : List CallSeen). numbered l k) none) ∙ there));
       failed = λ flag. absurd (let off : new.state.unconfigured ≡ false = ap (λ (s : StateSeen). s.unconfigured) is.2.state in let both : false ≡ true = sym off ∙ flag in (let no : ⊥ = (cc) in no));
-    } in
-    (bare_runs laws new events core runs first).law
+    }
+
+pub bare_ends : MoreLaws → (authority : List ℕ) (new core : CoreSeen) (events : List Stamped) → IsNew authority new → Runs new events core → AllBare core.journal.entries core.state.book.ledger.calls
+bare_ends laws authority new core events is runs = (bare_runs laws new events core runs (begins authority new is)).law
+
+-- the flag is up only where a resolver had failed, or had brought an invalid config
+pub flag_failed : MoreLaws → (authority : List ℕ) (new core : CoreSeen) (events : List Stamped) → IsNew authority new → Runs new events core → core.state.unconfigured ≡ true → HasFailed core.journal.entries (length core.journal.entries)
+flag_failed laws authority new core events is runs = (bare_runs laws new events core runs (begins authority new is)).failed

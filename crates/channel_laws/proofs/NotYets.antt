@@ -34,7 +34,7 @@ use Rattle.channel_core.specs.Tables.{numbered}
 use Rattle.channel_laws.specs.Cancels.{EndsIn}
 use Rattle.channel_laws.specs.CommitEntries.{entries_before}
 use Rattle.channel_laws.specs.Delivered.{before_end}
-use Rattle.channel_laws.specs.NotYets.{AreAllBefore, AreAllOn, AreNotYet, IsCommittedBefore, IsEmptied, IsUpTo, items_by, items_of}
+use Rattle.channel_laws.specs.NotYets.{AreAllBefore, AreAllOn, AreNotYet, IsCommittedBefore, IsEmptied, StandsBefore, items_by, items_of}
 use Rattle.channel_laws.specs.Response.{Response, no_response, response_in, response_on}
 use Rattle.channel_laws.specs.ResponseLimits.{IsCallLimit}
 use Rattle.channel_laws.proofs.CallLimits.{foretold_by, knows_runs, limit_still}
@@ -107,7 +107,7 @@ ended_on n entry None None w early h = tt
 ended_on n entry None (Some e) w early h = (let at : e.entry ≡ n = w in omega (arith, at, early))
 ended_on n entry (Some x) b w early h = subst (λ (o : Option RowEnd). IfSome o (λ e. entry ≤ e.entry)) (sym w) h
 
-up_back : (n entry link : ℕ) (a b : Ledger) → Later n a b → IsUpTo b link entry → IsUpTo a link entry
+up_back : (n entry link : ℕ) (a b : Ledger) → Later n a b → StandsBefore b link entry → StandsBefore a link entry
 up_back n entry zero a b later up seen there = absurd (let no : None ≡ Some seen = there in (let never : ⊥ = (cc) in never))
 up_back n entry (suc i) a b later up seen there =
     let new = kept_in (LaterLink n) (NewLink n) a.links b.links i seen later.links there in
@@ -125,7 +125,7 @@ module _ (n : ℕ) (took : List Reply) (before : List Entry) (a b : Ledger) (lat
       let limit = found.limits place back.0.was back.1 in
       (limit.0, limit_still n before a b call limit.0 later limit.1)
 
-  all_by : (place : ℕ) (row : Row) (at : Placed) (stream : ℕ) → (hb : IsCommittedBefore b.rows call entry place row) → row.placed ≡ Some at → row.stream ≡ Some stream → IsUpTo b at.link entry → (back : IsRowBack n place hb.stamp a.rows row) → IsCommittedBefore a.rows call entry place back.was → (o : Option ℕ) → back.was.stream ≡ o → AreAllOn took before b call at.link stream
+  all_by : (place : ℕ) (row : Row) (at : Placed) (stream : ℕ) → (hb : IsCommittedBefore b.rows call entry place row) → row.placed ≡ Some at → row.stream ≡ Some stream → StandsBefore b at.link entry → (back : IsRowBack n place hb.stamp a.rows row) → IsCommittedBefore a.rows call entry place back.was → (o : Option ℕ) → back.was.stream ≡ o → AreAllOn took before b call at.link stream
   all_by place row at stream hb placed has up back ha None e =
       let limit = limits_still place row hb in
       let none : stream_at a.rows place ≡ None = ap stream_of (sym (at_number a.rows place) ∙ back.there) ∙ e in

@@ -86,8 +86,8 @@ module _ (inbox : InboxLaws) (k m : ℕ) where
   turns : Turns View
   turns = record {
     joined = λ s t u first second e. (let f = first e in let g = second f.0 in (g.0, stays_on (call_at k s) (call_at k t) (call_at k u) f.1 g.1));
-    beside = λ s t calls moment deadlines shut unconfigured impatient e. (moment ∙ e, subst (λ (l : List CallSlot). Stays (call_at k s) (call_in (numbered l k))) (sym calls) (stays_at (call_at k s)));
-    touched = λ number s t h calm e. (h.moment ∙ e, calm_by number s t h calm (cases_eq k number));
+    beside = λ s t calls moment deadlines dues shut unconfigured impatient e. (moment ∙ e, subst (λ (l : List CallSlot). Stays (call_at k s) (call_in (numbered l k))) (sym calls) (stays_at (call_at k s)));
+    touched = λ number s t h calm due e. (h.moment ∙ e, calm_by number s t h calm (cases_eq k number));
     placed = λ row at number s t h e. turn_view k Stays stays_at stays_on m number (λ i. call.placed_at row at) s t h (λ here x. same_free x.call (call.placed_at row at x).call (inbox.placed row at x)) e;
   }
 
@@ -114,7 +114,7 @@ module _ (inbox : InboxLaws) (k m : ℕ) where
   free_event event.Shutdown s w = (λ number u v h. closes ends.Shut number u v h, λ e. (e, stays_at (call_at k s)))
   free_event (event.Resolved addresses text) s w = λ u e. (e, stays_at (call_at k u))
   free_event event.ResolveFailed s w = λ e. (e, stays_at (call_at k s))
-  free_event (event.Take number) s w = λ t h e. (h.moment ∙ e, other_by number s t h w)
+  free_event (event.Take number) s w = λ t h due e. (h.moment ∙ e, other_by number s t h w)
   free_event e s w = tt
 
   pub free_left : (e : Event) (s t : StateSeen) (r : Reply) → s.book.moment ≡ m → IsOther e → AnswersBy (refusal_of e s) e s t r → Stays (call_at k s) (call_at k t)
@@ -125,6 +125,8 @@ module _ (inbox : InboxLaws) (k m : ℕ) where
   settled_ends = record {
     made = λ number u v h. turn_view k Stays stays_at stays_on m number (λ i. call.made_due i) u v h (λ here x. same_free x.call (call.made_due m x).call (inbox.made m x));
     failed = λ row number word u v h. turn_view k Stays stays_at stays_on m number (λ i. call.pick_failed row i word) u v h (λ here x. same_free x.call (call.pick_failed row m word x).call (inbox.ended row pick_end m word x));
+    taken = λ dues u e. (e, stays_at (call_at k u));
+    forgotten = λ number u v h calm e. (h.moment ∙ e, calm_by number u v h calm (cases_eq k number));
   }
 
   pub free_settled : (s : StateSeen) → s.book.moment ≡ m → Stays (call_at k s) (call_at k (settling.settled s))

@@ -1,10 +1,13 @@
--- Each HEADERS and each DATA is on the stream of an attempt that was outstanding before, whatever events a channel is given.
-use Rattle.std.proofs.Common.{◌≡◌, ◌≤◌, ◌<◌, ◌⊎◌, ℕ, zero, suc, ◌+◌, ◌*◌, false, inl, inr, min, Option, Some, None, IfSome, List, [], ◌∷◌, ◌++◌, length, map, take, flat_map, slice_get, refl, sym, ap, subst, ◌∙◌, arith}
+-- Each HEADERS and each DATA is on the stream of an attempt that was outstanding before, and each RST_STREAM on that of one that has ended, whatever events
+-- a channel is given.
+use Rattle.std.proofs.Common.{◌≡◌, ◌≤◌, ◌<◌, ◌⊎◌, ℕ, zero, suc, ◌+◌, ◌*◌, true, false, inl, inr, min, is_some, Option, Some, None, IfSome, List, [], ◌∷◌, ◌++◌, length, map, take, flat_map, slice_get, refl, sym, ap, subst, ◌∙◌, arith}
 use Rattle.std.specs.Prelude.{nat_le}
 use Rattle.std.specs.Option.{option_map}
-use Rattle.std.specs.List.{AllByRecursion}
+use Rattle.std.specs.List.{AllByRecursion, list_any}
 use Rattle.std.proofs.lemmas.List.{length-append}
 use Rattle.std.proofs.lemmas.Option.{slice_get_within}
+use Rattle.grpc_base.specs.declared.event.EndCause.{EndCause}
+use Rattle.grpc_base.specs.declared.event.EndCause.TheVariants as ending
 use Rattle.grpc_base.specs.declared.event.Entry.{Entry}
 use Rattle.grpc_base.specs.declared.event.Event.{Event}
 use Rattle.grpc_base.specs.declared.event.Event.TheVariants as event
@@ -18,32 +21,37 @@ use Rattle.attempt_ledger.specs.declared.row.Placed.{Placed}
 use Rattle.attempt_ledger.specs.declared.row.Row.{Row}
 use Rattle.attempt_ledger.specs.declared.row.RowEnd.{RowEnd}
 use Rattle.h2_frame.specs.Frames.{FrameSeen}
-use Rattle.h2_frame.specs.Numbers.{headers_type}
+use Rattle.h2_frame.specs.Numbers.{headers_type, rst_stream_type}
 use Rattle.h2_link.specs.declared.live.LiveStream.{LiveStream}
 use Rattle.h2_link.specs.declared.news.Drained.{Drained}
 use Rattle.h2_link.specs.Drains.{named}
 use Rattle.h2_link.specs.Wire.{Wire}
 use Rattle.ledger_stamps.proofs.LaterLaws.{later_then}
 use Rattle.ledger_stamps.specs.Later.{Later, Written}
+use Rattle.call_core.specs.declared.live.LiveRow.{LiveRow}
+use Rattle.call_core.specs.Laws.{IsKept}
 use Rattle.call_core.specs.Rows.{row_in}
 use Rattle.channel_core.specs.declared.state.links.LinkSlot.{LinkSlot}
 use Rattle.channel_core.specs.Applying.{AnswersBy, begun_at, conn_of, refusal_of}
-use Rattle.channel_core.specs.Books.{lines_of}
+use Rattle.channel_core.specs.Books.{call_of, lines_of}
 use Rattle.channel_core.specs.Core.{CoreSeen, IsNew, Runs, Steps, moment_of}
 use Rattle.channel_core.specs.Draining.{DrainLeaves, drained_limit, octets_by, opened_by, streams_given}
 use Rattle.channel_core.specs.States.{StateSeen}
 use Rattle.channel_core.specs.Steps.{is_gone, overdue_ended}
 use Rattle.channel_core.specs.Tables.{DrainGives, has_link, is_dead_at, numbered}
 use Rattle.link_laws.specs.Heads.{IsSentBehind}
-use Rattle.link_laws.specs.StreamRows.{IsSentAs}
+use Rattle.link_laws.specs.StreamRows.{AreStreamsOf, IsSentAs}
+use Rattle.channel_laws.specs.Cancels.{EndsIn}
 use Rattle.channel_laws.specs.Furthest.{WasOutstanding}
 use Rattle.channel_laws.specs.OpenedStreams.{AreOfOutstanding, AreOpenedInTurn, AreSentInTime, AreSentInTurn, HasLower, IsInTurn, IsOfOutstanding}
-use Rattle.link_laws.proofs.CallLaws.{IsSound, apart_by}
+use Rattle.channel_laws.specs.ResetStreams.{AreResetIn, AreResetWhenEnded, IsOfEnded}
+use Rattle.link_laws.proofs.CallLaws.{IsSound, apart_by, kept_by}
 use Rattle.link_laws.proofs.Calls.{bare}
 use Rattle.link_laws.proofs.ConfiguredCalls.{take_all, take_more}
 use Rattle.link_laws.proofs.Dating.{dated_always}
 use Rattle.link_laws.proofs.DrainedHeads.{AreHeadsBy, DrainedHeads, IsHeadBy, drained_heads, frames_in, text_by, on_wire}
 use Rattle.link_laws.proofs.DueHeads.{sent_stays}
+use Rattle.link_laws.proofs.EachEntry.{EndsBy, ends_by}
 use Rattle.link_laws.proofs.Knowing.{Knows, knows_new, none_at}
 use Rattle.link_laws.proofs.LicensedCalls.{MoreLaws}
 use Rattle.link_laws.proofs.Lifting.{OfCall, at_number, got_more}
@@ -56,6 +64,7 @@ use Rattle.link_laws.proofs.LinkStreams.{StreamIs}
 use Rattle.link_laws.proofs.LinkTags.{all_less, of_sends}
 use Rattle.link_laws.proofs.LinkTies.{AllTags, Each, each_tag}
 use Rattle.link_laws.proofs.Numbered.{numbered_here}
+use Rattle.link_laws.proofs.OpenRows.{RunsIn}
 use Rattle.link_laws.proofs.RisingTags.{AreRising, front_rising}
 use Rattle.link_laws.proofs.RowTies.{HasTie}
 use Rattle.link_laws.proofs.Served.{AreWaiting, HasTags, IsPlacedOn, Served, desk_of}
@@ -64,7 +73,9 @@ use Rattle.link_laws.proofs.Serving as serving
 use Rattle.link_laws.proofs.Serving.{After, KnownIn, Step, known_after}
 use Rattle.link_laws.proofs.ServingParts.{IsDrainedTo, drain, drain_tags, drained_rows}
 use Rattle.link_laws.proofs.StreamRows.{given_there, sent_by}
-use Rattle.link_laws.proofs.Unstreamed.{stream_at}
+use Rattle.link_laws.proofs.StreamRuns.{streams_always}
+use Rattle.link_laws.proofs.Streams.{is_reset_of}
+use Rattle.link_laws.proofs.Unstreamed.{stream_at, stream_of}
 use Rattle.link_laws.proofs.Walking as walking
 use Rattle.link_laws.proofs.Working.{TimedLaws}
 use Rattle.channel_laws.proofs.CallMoves.{KeptLaws}
@@ -82,11 +93,14 @@ use Rattle.channel_laws.proofs.LargeCommits.{NoneOff}
 use Rattle.channel_laws.proofs.LiveRows.{IsLive, IsNamed, is_live}
 use Rattle.channel_laws.proofs.Placings.{Unmoved, placing_at, placing_of}
 use Rattle.channel_laws.proofs.PlacingTreads.{Still, still}
+use Rattle.channel_laws.proofs.RefusalRuns.{no_cause}
+use Rattle.channel_laws.proofs.ResetStreams.{HasReset, all_queued, ended_row, never_live, reset_row, resets_stay}
 use Rattle.channel_laws.proofs.RowEnds.{IsRowStill, kept_row}
 use Rattle.channel_laws.proofs.StepParts.{IsParted, parted}
 use Rattle.channel_laws.proofs.StreamlessEnds.{IsUnended, runs_on, tied}
 use Rattle.channel_laws.proofs.StreamTurns.{IsBelow, below_opened, earlier}
 use Rattle.channel_laws.proofs.TagNews.{Among, Is}
+use Rattle.channel_laws.proofs.TimedCuts.{not_timed}
 use Rattle.channel_laws.proofs.Treading.{overdue}
 
 -- an end that is behind all entries is none
@@ -111,6 +125,11 @@ early_at : (n : ℕ) (rows : List Row) (place : ℕ) (at : Placed) (o : Option R
 early_at n rows place at None early is e = absurd (let no : ⊥ = (cc) in no)
 early_at n rows place at (Some row) early is e = early_by n at row.placed (early place row (sym (at_number rows place) ∙ is)).placed e
 
+-- a call of which an attempt runs has not ended
+runs_unended : (place : ℕ) (ended : Option EndCause) (live : List LiveRow) → (is_some ended ≡ true → live ≡ []) → RunsIn place live → ended ≡ None
+runs_unended place None live none runs = refl
+runs_unended place (Some cause) live none runs = absurd (subst (RunsIn place) (none refl) runs)
+
 -- what holds of all streams of a link
 named_got : (P : ℕ → ℕ → Type 0) (live : List LiveStream) (index tag number : ℕ) → AllByRecursion (λ (s : LiveStream). P s.tag s.number) live → slice_get (map named live) index ≡ Some (tag, number) → P tag number
 named_got P [] index tag number all e = absurd (let no : ⊥ = (cc) in no)
@@ -132,19 +151,19 @@ nothing_behind : (before : List ℕ) → IsSentBehind before [] []
 nothing_behind [] = inr (refl, inl (refl, refl))
 nothing_behind (b ∷ before) = inl ((λ e. (let no : ⊥ = (cc) in no)), refl)
 
--- both laws
-abbrev Both : List Row → ℕ → ℕ → List ℕ → List ℕ → Type 0
-Both rows link entry before octets = AreOfOutstanding rows link entry before octets × AreOpenedInTurn rows link entry before octets
+-- all three laws
+abbrev AllOf : Ledger → ℕ → ℕ → List ℕ → List ℕ → Type 0
+AllOf ledger link entry before octets = AreOfOutstanding ledger link entry before octets × AreOpenedInTurn ledger.rows link entry before octets × AreResetIn ledger.rows link entry before octets
 
 abbrev AreSo : List Entry → Ledger → Type 0
 AreSo entries ledger =
-    (before : ℕ) (e : Entry) (link room : ℕ) (octets : List ℕ) → numbered entries (suc before) ≡ Some e → e.event ≡ event.Drain link room → e.reply ≡ reply.Octets octets → Both ledger.rows link (suc before) (sent link (take before entries)) octets
+    (before : ℕ) (e : Entry) (link room : ℕ) (octets : List ℕ) → numbered entries (suc before) ≡ Some e → e.event ≡ event.Drain link room → e.reply ≡ reply.Octets octets → AllOf ledger link (suc before) (sent link (take before entries)) octets
 
-both_stay : (n link entry : ℕ) (a b : Ledger) (before octets : List ℕ) → entry ≤ n → Later n a b → Both a.rows link entry before octets → Both b.rows link entry before octets
-both_stay n link entry a b before octets le later h = (all_stay n link entry a b before octets le later h.0, turns_stay n link entry a b before octets le later h.1)
+laws_stay : (n link entry : ℕ) (a b : Ledger) (before octets : List ℕ) → entry < n → Later n a b → AllOf a link entry before octets → AllOf b link entry before octets
+laws_stay n link entry a b before octets lt later h = (all_stay n link entry a b before octets lt later h.0, turns_stay n link entry a b before octets (omega (arith, lt)) later h.1, resets_stay n link entry a b before octets later h.2)
 
 -- a step
-module _ (laws : MoreLaws) (timed : TimedLaws) (old new : CoreSeen) (s : Stamped) (r : Reply) (h : Steps old new s r) (p : IsParted old new s r) (knows : Knows old) (served : Served (desk_of old.state)) (sent_ : SentAll old) (early : AreEarly (length old.journal.entries) old.state.book.ledger.rows) (early_new : AreEarly (length old.journal.entries + 1) new.state.book.ledger.rows) (held_old : HeldIn NoneOff old.state) where
+module _ (laws : MoreLaws) (timed : TimedLaws) (old new : CoreSeen) (s : Stamped) (r : Reply) (h : Steps old new s r) (p : IsParted old new s r) (knows : Knows old) (served : Served (desk_of old.state)) (sent_ : SentAll old) (early : AreEarly (length old.journal.entries) old.state.book.ledger.rows) (early_new : AreEarly (length old.journal.entries + 1) new.state.book.ledger.rows) (held_old : HeldIn NoneOff old.state) (streams_old : (link : ℕ) → AreStreamsOf (sent link old.journal.entries) old.state.book.ledger.rows link) (ends : EndsBy (length old.journal.entries) old.state.book.ledger.calls) where
   abbrev es : List Entry
   es = old.journal.entries
 
@@ -156,6 +175,9 @@ module _ (laws : MoreLaws) (timed : TimedLaws) (old new : CoreSeen) (s : Stamped
 
   abbrev olds : List Row
   olds = old.state.book.ledger.rows
+
+  abbrev behind : Ledger
+  behind = new.state.book.ledger
 
   abbrev news : List Row
   news = new.state.book.ledger.rows
@@ -214,6 +236,17 @@ module _ (laws : MoreLaws) (timed : TimedLaws) (old new : CoreSeen) (s : Stamped
         going = subst (λ (o : Option RowEnd). IfSome o (λ e. n ≤ e.entry)) (sym ended) tt;
       }
 
+  -- and its call does not end by its deadline
+  untimed : (link tag : ℕ) (q : IsPlacedOn u.book.ledger.rows link tag) → HasTie u.book.calls u.book.ledger.rows tag → EndsIn behind.calls q.row.call n ending.Deadline → ⊥
+  untimed link tag q tie =
+      let rows : List Row = u.book.ledger.rows in
+      let here : call_of (numbered rows tag) ≡ q.row.call = ap call_of (at_number rows tag ∙ q.there) in
+      let there : numbered u.book.calls q.row.call ≡ Some tie.slot = ap (λ (k : ℕ). numbered u.book.calls k) (sym here) ∙ tie.there in
+      let of : OfCall IsSound u.book.moment u.book.ledger.entry _ tie.slot.call rows = finds.known.sound.each _ tie.slot tie.there in
+      let kept : IsKept (bare tie.slot.call rows).call = kept_by u.book.moment u.book.ledger.entry (bare tie.slot.call rows) of.holds.one in
+      let none : tie.slot.call.ended ≡ None = runs_unended tag tie.slot.call.ended tie.slot.call.live (λ over. (kept.ended over).live) tie.runs in
+      not_timed old new s r p knows ends q.row.call (λ seen at. no_cause seen.end (sym (p.known_found.tied q.row.call tie.slot seen there at).ended ∙ none))
+
   later : Later n u.book.ledger new.state.book.ledger
   later = later_then n u.book.ledger t.book.ledger new.state.book.ledger p.told p.settled
 
@@ -234,10 +267,10 @@ module _ (laws : MoreLaws) (timed : TimedLaws) (old new : CoreSeen) (s : Stamped
     sent_at tag number q is = sent_stays n t.book.ledger new.state.book.ledger link tag number p.settled (sent_by t.book.ledger.rows link tag number (drained_to.stays link tag q) is)
 
     -- a stream of the link behind it is one of a row that was outstanding
-    of_live : (tag : ℕ) (f : FrameSeen) → HasTie u.book.calls u.book.ledger.rows tag → IsPlacedOn u.book.ledger.rows link tag → StreamIs t.book.ledger.rows tag f.stream → IsOfOutstanding news link n f
+    of_live : (tag : ℕ) (f : FrameSeen) → HasTie u.book.calls u.book.ledger.rows tag → IsPlacedOn u.book.ledger.rows link tag → StreamIs t.book.ledger.rows tag f.stream → IsOfOutstanding behind link n f
     of_live tag f tie q is =
         let kept : IsRowStill n tag news q.row = kept_row n tag u.book.ledger.rows news q.row later.rows q.there in
-        of_row news link q.row.call n tag kept.row f (sent_at tag f.stream q is) (was_still n q.row.call n tag u.book.ledger.rows news q.row (omega arith) kept (was_out link tag q tie))
+        of_row behind link q.row.call n tag kept.row f (sent_at tag f.stream q is) (was_still n q.row.call n tag u.book.ledger.rows news q.row (omega arith) kept (was_out link tag q tie)) (untimed link tag q tie)
 
     -- one that it opens
     module _ (x : Drained) (g : DrainGives room u.links link (lines_of u.book) (Some x) t.links (lines_of d.fed)) (to : IsDrainedTo link u.book.ledger.rows t.links x.opened) (gives : x.opened ≡ opened_by d.drained) where
@@ -311,7 +344,7 @@ module _ (laws : MoreLaws) (timed : TimedLaws) (old new : CoreSeen) (s : Stamped
             let none : stream_at u.book.ledger.rows by.tag ≡ None = front_got (λ k. stream_at u.book.ledger.rows k ≡ None) opens.new v.waiting by.index by.tag f.stream fresh_tags there_new in
             record { place = by.tag; sent = sent_at by.tag f.stream q (gets by.index by.tag f.stream by.there none); first = lower }
 
-    given : (x : Drained) → DrainGives room u.links link (lines_of u.book) (Some x) t.links (lines_of d.fed) → IsDrainedTo link u.book.ledger.rows t.links x.opened → x.opened ≡ opened_by d.drained → AreOfOutstanding news link n (sent link es) x.octets
+    given : (x : Drained) → DrainGives room u.links link (lines_of u.book) (Some x) t.links (lines_of d.fed) → IsDrainedTo link u.book.ledger.rows t.links x.opened → x.opened ≡ opened_by d.drained → AreOfOutstanding behind link n (sent link es) x.octets
     given x g to gives =
         let w : Wire = g.before.link.link.wire in
         let v : Wire = g.after.link.link.wire in
@@ -322,14 +355,14 @@ module _ (laws : MoreLaws) (timed : TimedLaws) (old new : CoreSeen) (s : Stamped
         let tags : HasTags u.book.ledger.rows link g.after.link = to.tags link g.after there in
         let names : AllByRecursion (λ (z : LiveStream). StreamIs t.book.ledger.rows z.tag z.number) v.live = (drained_to.served.rest.streams link g.after there).named in
         let ready : OnWire (sent link es) w = on x g to gives in
-        let one : (f : FrameSeen) → IsNumbered (map named v.live) f.stream → IsOfOutstanding news link n f = λ f i.
+        let one : (f : FrameSeen) → IsNumbered (map named v.live) f.stream → IsOfOutstanding behind link n f = λ f i.
         of_live i.tag f (tied (HasTie u.book.calls u.book.ledger.rows i.tag) (named_got (λ tag number. T tag) v.live i.index i.tag f.stream ties_now.live i.there))
         (named_got (λ tag number. IsPlacedOn u.book.ledger.rows link tag) v.live i.index i.tag f.stream tags.wire.live i.there)
         (named_got (λ tag number. StreamIs t.book.ledger.rows tag number) v.live i.index i.tag f.stream names i.there) in
         record {
           frames = flat_map frames_in g.drains.sends.frames;
           text = subst (λ (l : List ℕ). IsSentBehind (sent link es) l (flat_map frames_in g.drains.sends.frames)) (sym g.drains.sends.whole) (text_by (sent link es) w (lines_of u.book) g.drains.sends.frames v (lines_of d.fed) g.drains.sends.sends ready);
-          each = all_less (λ (f : FrameSeen). IsOfRequest f → IsNumbered (map named v.live) f.stream) (λ (f : FrameSeen). IsOfRequest f → IsOfOutstanding news link n f) (flat_map frames_in g.drains.sends.frames) (λ f i of. one f (i of)) (all_numbered w (lines_of u.book) g.drains.sends.frames v (lines_of d.fed) g.drains.sends.sends);
+          each = all_less (λ (f : FrameSeen). IsOfRequest f → IsNumbered (map named v.live) f.stream) (λ (f : FrameSeen). IsOfRequest f → IsOfOutstanding behind link n f) (flat_map frames_in g.drains.sends.frames) (λ f i of. one f (i of)) (all_numbered w (lines_of u.book) g.drains.sends.frames v (lines_of d.fed) g.drains.sends.sends);
         }
 
     opened_ : (x : Drained) → DrainGives room u.links link (lines_of u.book) (Some x) t.links (lines_of d.fed) → IsDrainedTo link u.book.ledger.rows t.links x.opened → x.opened ≡ opened_by d.drained → AreOpenedInTurn news link n (sent link es) x.octets
@@ -342,21 +375,54 @@ module _ (laws : MoreLaws) (timed : TimedLaws) (old new : CoreSeen) (s : Stamped
           each = all_less (λ (f : FrameSeen). f.kind ≡ headers_type → IsHeadBy (lines_of u.book) x.opened f) (λ (f : FrameSeen). f.kind ≡ headers_type → IsInTurn news link n f) all.frames (λ f by kind. turn x g to gives f (by kind)) heads;
         }
 
-    given_by : (o : Option Drained) → DrainGives room u.links link (lines_of u.book) o t.links (lines_of d.fed) → IsDrainedTo link u.book.ledger.rows t.links (opened_by o) → opened_by o ≡ opened_by d.drained → Both news link n (sent link es) (octets_by o)
-    given_by None g to gives = (record { frames = []; text = nothing_behind (sent link es); each = tt }, record { frames = []; text = nothing_behind (sent link es); each = tt })
-    given_by (Some x) g to gives = (given x g to gives, opened_ x g to gives)
+    -- one that it resets
+    reset_free : (x : Drained) (g : DrainGives room u.links link (lines_of u.book) (Some x) t.links (lines_of d.fed)) (to : IsDrainedTo link u.book.ledger.rows t.links x.opened) (gives : x.opened ≡ opened_by d.drained)
+        → (f : FrameSeen) (place : ℕ) (mine : IsSentAs u.book.ledger.rows link place f.stream) → mine.row.ended ≡ None → list_any (is_reset_of f.stream) g.before.link.link.wire.queue.items ≡ true → ⊥
+    reset_free x g to gives f place mine free queued =
+        let rows : List Row = u.book.ledger.rows in
+        let run : running_at rows place ≡ Some mine.at = open_runs rows place mine.row mine.at mine.there mine.placed free in
+        let slot : numbered u.links mine.at.link ≡ Some g.before = ap (λ (k : ℕ). numbered u.links k) mine.on ∙ g.was in
+        let live : IsLive rows place g.before = elim (is_live NoneOff u finds.holds finds.serves place mine.at g.before run slot (alive g.before g.was)) [ inl l ↦ l | inr never ↦ absurd never ] in
+        never_live (sent link es) g.before.link.link.wire place f.stream (on x g to gives) queued (live.streamed f.stream (ap stream_of mine.there ∙ mine.stream))
 
-    drained : Both news link n (sent link es) (octets_by d.drained)
+    reset_by : (x : Drained) (g : DrainGives room u.links link (lines_of u.book) (Some x) t.links (lines_of d.fed)) (to : IsDrainedTo link u.book.ledger.rows t.links x.opened) (gives : x.opened ≡ opened_by d.drained)
+        → (f : FrameSeen) (place : ℕ) (mine : IsSentAs u.book.ledger.rows link place f.stream) (o : Option RowEnd) → mine.row.ended ≡ o → list_any (is_reset_of f.stream) g.before.link.link.wire.queue.items ≡ true → IsOfEnded news link n f
+    reset_by x g to gives f place mine None is queued = absurd (reset_free x g to gives f place mine is queued)
+    reset_by x g to gives f place mine (Some end) is queued = ended_row n link place u.book.ledger new.state.book.ledger f mine end is later (λ row there. (early_new place row there).ended)
+
+    reset_one : (x : Drained) (g : DrainGives room u.links link (lines_of u.book) (Some x) t.links (lines_of d.fed)) (to : IsDrainedTo link u.book.ledger.rows t.links x.opened) (gives : x.opened ≡ opened_by d.drained)
+        → (f : FrameSeen) → list_any (is_reset_of f.stream) g.before.link.link.wire.queue.items ≡ true → IsOfEnded news link n f
+    reset_one x g to gives f queued =
+        let row = reset_row (sent link es) g.before.link.link.wire olds link f.stream (on x g to gives) (streams_old link) queued in
+        let mine : IsSentAs u.book.ledger.rows link row.0 f.stream = sent_stays n old.state.book.ledger u.book.ledger link row.0 f.stream p.begun row.1 in
+        reset_by x g to gives f row.0 mine mine.row.ended refl queued
+
+    resets_ : (x : Drained) → DrainGives room u.links link (lines_of u.book) (Some x) t.links (lines_of d.fed) → IsDrainedTo link u.book.ledger.rows t.links x.opened → x.opened ≡ opened_by d.drained → AreResetIn news link n (sent link es) x.octets
+    resets_ x g to gives =
+        let w : Wire = g.before.link.link.wire in
+        let v : Wire = g.after.link.link.wire in
+        let frames : List FrameSeen = flat_map frames_in g.drains.sends.frames in
+        record {
+          frames = frames;
+          text = subst (λ (l : List ℕ). IsSentBehind (sent link es) l frames) (sym g.drains.sends.whole) (text_by (sent link es) w (lines_of u.book) g.drains.sends.frames v (lines_of d.fed) g.drains.sends.sends (on x g to gives));
+          each = all_less (HasReset w.queue.items) (λ (f : FrameSeen). f.kind ≡ rst_stream_type → IsOfEnded news link n f) frames (λ f has kind. reset_one x g to gives f (has kind)) (all_queued w (lines_of u.book) g.drains.sends.frames v (lines_of d.fed) g.drains.sends.sends);
+        }
+
+    given_by : (o : Option Drained) → DrainGives room u.links link (lines_of u.book) o t.links (lines_of d.fed) → IsDrainedTo link u.book.ledger.rows t.links (opened_by o) → opened_by o ≡ opened_by d.drained → AllOf behind link n (sent link es) (octets_by o)
+    given_by None g to gives = (record { frames = []; text = nothing_behind (sent link es); each = tt }, record { frames = []; text = nothing_behind (sent link es); each = tt }, record { frames = []; text = nothing_behind (sent link es); each = tt })
+    given_by (Some x) g to gives = (given x g to gives, opened_ x g to gives, resets_ x g to gives)
+
+    drained : AllOf behind link n (sent link es) (octets_by d.drained)
     drained = given_by d.drained d.gives (drain_tags room link u.book.ledger.rows u.links t.links (lines_of u.book) (lines_of d.fed) d.drained d.gives finds.serves.rest.tags) refl
 
-  answered : (link room : ℕ) (octets : List ℕ) (o : Option Refusal) → refusal_of (event.Drain link room) u ≡ o → AnswersBy o (event.Drain link room) u t r → r ≡ reply.Octets octets → Both news link n (sent link es) octets
+  answered : (link room : ℕ) (octets : List ℕ) (o : Option Refusal) → refusal_of (event.Drain link room) u ≡ o → AnswersBy o (event.Drain link room) u t r → r ≡ reply.Octets octets → AllOf behind link n (sent link es) octets
   answered link room octets (Some why) is g told = absurd (let other : reply.Refused why ≡ reply.Octets octets = sym g.1 ∙ told in (let no : ⊥ = (cc) in no))
   answered link room octets None is g told =
       let replied : reply.Octets (octets_by g.drained) ≡ reply.Octets octets = sym g.reply_is ∙ told in
       let same : octets_by g.drained ≡ octets = (cc) in
-      subst (λ (l : List ℕ). Both news link n (sent link es) l) same (drained link room is g)
+      subst (λ (l : List ℕ). AllOf behind link n (sent link es) l) same (drained link room is g)
 
-  now : (link room : ℕ) (octets : List ℕ) → s.event ≡ event.Drain link room → r ≡ reply.Octets octets → Both news link n (sent link es) octets
+  now : (link room : ℕ) (octets : List ℕ) → s.event ≡ event.Drain link room → r ≡ reply.Octets octets → AllOf behind link n (sent link es) octets
   now link room octets is told = answered link room octets (refusal_of (event.Drain link room) u) refl (subst (λ (e : Event). AnswersBy (refusal_of e u) e u t r) is p.answers) told
 
   abbrev x : Entry
@@ -369,18 +435,18 @@ module _ (laws : MoreLaws) (timed : TimedLaws) (old new : CoreSeen) (s : Stamped
   all = later_then n old.state.book.ledger p.left.book.ledger new.state.book.ledger (later_then n old.state.book.ledger p.found.book.ledger p.left.book.ledger p.begun p.told) p.settled
 
   in_time : (i : ℕ) (e : Entry) → AreSo es old.state.book.ledger → ((i ≡ length es) × (e ≡ x)) ⊎ (slice_get es i ≡ Some e)
-      → (link room : ℕ) (octets : List ℕ) → e.event ≡ event.Drain link room → e.reply ≡ reply.Octets octets → Both news link (suc i) (sent link (take i y)) octets
+      → (link room : ℕ) (octets : List ℕ) → e.event ≡ event.Drain link room → e.reply ≡ reply.Octets octets → AllOf behind link (suc i) (sent link (take i y)) octets
   in_time i e law (inl last) link room octets is told =
-      let here : Both news link n (sent link es) octets = now link room octets (ap (λ (z : Entry). z.event) (sym last.1) ∙ is) (ap (λ (z : Entry). z.reply) (sym last.1) ∙ told) in
+      let here : AllOf behind link n (sent link es) octets = now link room octets (ap (λ (z : Entry). z.event) (sym last.1) ∙ is) (ap (λ (z : Entry). z.reply) (sym last.1) ∙ told) in
       let at : i ≤ length es = (let e = last.0 in omega (arith, e)) in
       let next : n ≡ suc i = (let e = last.0 in omega (arith, e)) in
       let before : take i y ≡ es = take_more es x i at ∙ take_all es i last.0 in
-      subst (λ (l : List Entry). Both news link (suc i) (sent link l) octets) (sym before) (subst (λ (k : ℕ). Both news link k (sent link es) octets) next here)
+      subst (λ (l : List Entry). AllOf behind link (suc i) (sent link l) octets) (sym before) (subst (λ (k : ℕ). AllOf behind link k (sent link es) octets) next here)
   in_time i e law (inr was) link room octets is told =
       let inside = slice_get_within es i e was in
       let before : take i y ≡ take i es = take_more es x i (omega (arith, inside)) in
-      let there : Both news link (suc i) (sent link (take i es)) octets = both_stay n link (suc i) old.state.book.ledger new.state.book.ledger (sent link (take i es)) octets (omega (arith, inside)) all (law i e link room octets was is told) in
-      subst (λ (l : List Entry). Both news link (suc i) (sent link l) octets) (sym before) there
+      let there : AllOf behind link (suc i) (sent link (take i es)) octets = laws_stay n link (suc i) old.state.book.ledger new.state.book.ledger (sent link (take i es)) octets (omega (arith, inside)) all (law i e link room octets was is told) in
+      subst (λ (l : List Entry). AllOf behind link (suc i) (sent link l) octets) (sym before) there
 
   law : AreSo es old.state.book.ledger → AreSo y new.state.book.ledger
   law had i e link room octets there is told = in_time i e had (got_more es x i e there) link room octets is told
@@ -393,6 +459,7 @@ module _ (laws : MoreLaws) (timed : TimedLaws) (inbox : InboxLaws) (kept_ : Kept
     knows : Knows core
     served : Served (desk_of core.state)
     sent_ : SentAll core
+    ends_ : EndsBy (length core.journal.entries) core.state.book.ledger.calls
     in_time_ : AreSo core.journal.entries core.state.book.ledger
 
   so_step : (old new : CoreSeen) (s : Stamped) (r : Reply) → Steps old new s r → Runs_ old → Runs_ new
@@ -402,6 +469,8 @@ module _ (laws : MoreLaws) (timed : TimedLaws) (inbox : InboxLaws) (kept_ : Kept
       let run : Runs fresh (k.done ++ s ∷ []) new = runs_more fresh old new k.done s r k.run h in
       let longer : length new.journal.entries ≡ length old.journal.entries + 1 = ap (λ (l : List Entry). length l) h.journal ∙ length-append old.journal.entries (_ ∷ []) in
       let early_new : AreEarly (length old.journal.entries + 1) new.state.book.ledger.rows = subst (λ (j : ℕ). AreEarly j new.state.book.ledger.rows) longer (early_rows new.journal.entries new.state.book.ledger (dated_always authority fresh new (k.done ++ s ∷ []) new_one run).dated) in
+      let n : ℕ = length old.journal.entries + 1 in
+      let all_ : Later n old.state.book.ledger new.state.book.ledger = later_then n old.state.book.ledger p.left.book.ledger new.state.book.ledger (later_then n old.state.book.ledger p.found.book.ledger p.left.book.ledger p.begun p.told) p.settled in
       let held_old : HeldIn NoneOff old.state = held_always laws timed inbox kept_ authority fresh old k.done new_one k.run in
       record {
         done = k.done ++ s ∷ [];
@@ -409,7 +478,8 @@ module _ (laws : MoreLaws) (timed : TimedLaws) (inbox : InboxLaws) (kept_ : Kept
         knows = p.known;
         served = served_step laws timed old new s r h k.knows k.served;
         sent_ = sent_all_step old new s r h k.sent_;
-        in_time_ = subst (λ (l : List Entry). AreSo l new.state.book.ledger) (sym h.journal) (law laws timed old new s r h p k.knows k.served k.sent_ early early_new held_old k.in_time_);
+        ends_ = subst (λ (j : ℕ). EndsBy j new.state.book.ledger.calls) (sym longer) (ends_by n (length old.journal.entries) old.state.book.ledger new.state.book.ledger refl all_ k.ends_);
+        in_time_ = subst (λ (l : List Entry). AreSo l new.state.book.ledger) (sym h.journal) (law laws timed old new s r h p k.knows k.served k.sent_ early early_new held_old (streams_always laws timed authority fresh old k.done new_one k.run) k.ends_ k.in_time_);
       }
 
   so_runs : (old : CoreSeen) (events : List Stamped) (new : CoreSeen) → Runs old events new → Runs_ old → Runs_ new
@@ -425,6 +495,7 @@ always laws timed inbox kept authority new core events is runs =
       knows = knows_new authority new is;
       served = served_new authority new is;
       sent_ = sent_new authority new is;
+      ends_ = λ k seen end there ended. absurd (none_at k seen (sym (ap (λ (y : StateSeen). numbered y.book.ledger.calls k) is.2.state) ∙ there));
       in_time_ = λ i e link room octets there is_ told. absurd (none (suc i) e there);
     })).in_time_
 
@@ -433,3 +504,6 @@ in_time_always laws timed inbox kept authority new core events is runs i e link 
 
 pub in_turn_always : MoreLaws → TimedLaws → InboxLaws → KeptLaws → (authority : List ℕ) (new core : CoreSeen) (events : List Stamped) → IsNew authority new → Runs new events core → AreSentInTurn core.journal.entries core.state.book.ledger
 in_turn_always laws timed inbox kept authority new core events is runs i e link room octets there is_ told = (always laws timed inbox kept authority new core events is runs i e link room octets there is_ told).1
+
+pub resets_always : MoreLaws → TimedLaws → InboxLaws → KeptLaws → (authority : List ℕ) (new core : CoreSeen) (events : List Stamped) → IsNew authority new → Runs new events core → AreResetWhenEnded core.journal.entries core.state.book.ledger
+resets_always laws timed inbox kept authority new core events is runs i e link room octets there is_ told = (always laws timed inbox kept authority new core events is runs i e link room octets there is_ told).2

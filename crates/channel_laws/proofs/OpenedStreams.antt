@@ -2,6 +2,7 @@
 use Rattle.std.proofs.Common.{◌≡◌, ◌≤◌, ◌<◌, ◌⊎◌, ℕ, zero, suc, ◌+◌, ◌*◌, ◌-◌, false, inl, inr, Option, Some, None, IfSome, List, [], ◌∷◌, ◌++◌, map, length, flat_map, slice_get, refl, sym, ap, subst, ◌∙◌, arith}
 use Rattle.std.specs.List.{AllByRecursion}
 use Rattle.std.proofs.lemmas.List.{map-append}
+use Rattle.grpc_base.specs.declared.event.EndCause.TheVariants as ending
 use Rattle.attempt_ledger.specs.declared.ledger.Ledger.{Ledger}
 use Rattle.attempt_ledger.specs.declared.row.Placed.{Placed}
 use Rattle.attempt_ledger.specs.declared.row.Row.{Row}
@@ -18,9 +19,10 @@ use Rattle.ledger_stamps.specs.Later.{Later, LaterRow, Written}
 use Rattle.call_core.specs.Rows.{row_in}
 use Rattle.channel_core.specs.Tables.{numbered}
 use Rattle.link_laws.specs.StreamRows.{IsSentAs}
+use Rattle.channel_laws.specs.Cancels.{EndsIn}
 use Rattle.channel_laws.specs.Furthest.{WasOutstanding}
 use Rattle.channel_laws.specs.OpenedStreams.{AreOfOutstanding, AreOpenedInTurn, HasLower, IsInTurn, IsOfOutstanding}
-use Rattle.link_laws.proofs.DrainedHeads.{frames_in}
+use Rattle.link_laws.proofs.DrainedHeads.{frames_in, got_front}
 use Rattle.link_laws.proofs.DueHeads.{sent_stays}
 use Rattle.link_laws.proofs.EachEntry.{still}
 use Rattle.link_laws.proofs.Keeping.{TypeOf}
@@ -28,6 +30,7 @@ use Rattle.link_laws.proofs.Lifting.{at_number}
 use Rattle.link_laws.proofs.LinkOpens.{Opens, named_set, sends_open}
 use Rattle.link_laws.proofs.LinkSends.{sender_is}
 use Rattle.link_laws.proofs.LinkTags.{all_append, all_less}
+use Rattle.channel_laws.proofs.CutCalls.{ends_back}
 use Rattle.channel_laws.proofs.FurthestStays.{WasRow, was_back, was_still}
 use Rattle.channel_laws.proofs.RowEnds.{IsRowStill, kept_row}
 
@@ -45,11 +48,6 @@ abbrev pub AreNumbered : List (ℕ × ℕ) → List FrameSeen → Type 0
 AreNumbered streams frames = AllByRecursion (λ (f : FrameSeen). IsOfRequest f → IsNumbered streams f.stream) frames
 
 -- lists
-got_front : (xs ys : List (ℕ × ℕ)) (index : ℕ) (x : ℕ × ℕ) → slice_get xs index ≡ Some x → slice_get (xs ++ ys) index ≡ Some x
-got_front [] ys index x e = absurd (let never : ⊥ = (cc) in never)
-got_front (z ∷ xs) ys zero x e = e
-got_front (z ∷ xs) ys (suc index) x e = got_front xs ys index x e
-
 got_last : (xs : List (ℕ × ℕ)) (x : ℕ × ℕ) → slice_get (xs ++ x ∷ []) (length xs) ≡ Some x
 got_last [] x = refl
 got_last (z ∷ xs) x = got_last xs x
@@ -116,16 +114,23 @@ all_numbered w g (f ∷ fs) w2 g2 h =
 one_row : (rows : List Row) (place : ℕ) (a b : Row) → row_in rows place ≡ Some a → numbered rows place ≡ Some b → a ≡ b
 one_row rows place a b e f = (let both : Some a ≡ Some b = sym e ∙ sym (at_number rows place) ∙ f in (cc))
 
-pub of_row : (rows : List Row) (link call entry place : ℕ) (row : Row) (f : FrameSeen) (sent : IsSentAs rows link place f.stream) → WasOutstanding rows call entry place row → IsOfOutstanding rows link entry f
-of_row rows link call entry place row f sent was =
+pub of_row : (ledger : Ledger) (link call entry place : ℕ) (row : Row) (f : FrameSeen) (sent : IsSentAs ledger.rows link place f.stream) → WasOutstanding ledger.rows call entry place row → (EndsIn ledger.calls call entry ending.Deadline → ⊥) → IsOfOutstanding ledger link entry f
+of_row ledger link call entry place row f sent was untimed =
+    let rows : List Row = ledger.rows in
     let same : row ≡ sent.row = one_row rows place row sent.row was.is.there sent.there in
-    let mine : WasOutstanding rows row.call entry place row = subst (λ (k : ℕ). WasOutstanding rows k entry place row) (sym was.is.call) was in
-    record { place = place; sent = sent; was = subst (λ (x : Row). WasOutstanding rows x.call entry place x) same mine }
+    let of : call ≡ sent.row.call = sym was.is.call ∙ ap (λ (x : Row). x.call) same in
+    record {
+      place = place;
+      sent = sent;
+      was = subst (λ (x : Row). WasOutstanding rows sent.row.call entry place x) same (subst (λ (k : ℕ). WasOutstanding rows k entry place row) of was);
+      in_time = subst (λ (k : ℕ). EndsIn ledger.calls k entry ending.Deadline → ⊥) of untimed;
+    }
 
-of_stays : (n link entry : ℕ) (a b : Ledger) (f : FrameSeen) → entry ≤ n → Later n a b → IsOfOutstanding a.rows link entry f → IsOfOutstanding b.rows link entry f
-of_stays n link entry a b f le later h =
+of_stays : (n link entry : ℕ) (a b : Ledger) (f : FrameSeen) → entry < n → Later n a b → IsOfOutstanding a link entry f → IsOfOutstanding b link entry f
+of_stays n link entry a b f lt later h =
     let kept : IsRowStill n h.place b.rows h.sent.row = kept_row n h.place a.rows b.rows h.sent.row later.rows h.was.is.there in
-    of_row b.rows link h.sent.row.call entry h.place kept.row f (sent_stays n a b link h.place f.stream later h.sent) (was_still n h.sent.row.call entry h.place a.rows b.rows h.sent.row le kept h.was)
+    of_row b link h.sent.row.call entry h.place kept.row f (sent_stays n a b link h.place f.stream later h.sent) (was_still n h.sent.row.call entry h.place a.rows b.rows h.sent.row (omega (arith, lt)) kept h.was)
+    (λ e. h.in_time (ends_back n h.sent.row.call entry ending.Deadline a b later (λ same. omega (arith, lt, same)) e))
 
 -- and of a turn
 ended_back : (n entry : ℕ) (a b : Option RowEnd) → Written (λ (e : RowEnd). e.entry) n a b → IfSome b (λ end. entry < end.entry) → IfSome a (λ end. entry < end.entry)
@@ -146,11 +151,11 @@ turn_stays n link entry a b f le later h = record {
       record { lower = low.lower; sent = sent_stays n a b link other low.lower later low.sent; less = low.less };
 }
 
-pub all_stay : (n link entry : ℕ) (a b : Ledger) (before octets : List ℕ) → entry ≤ n → Later n a b → AreOfOutstanding a.rows link entry before octets → AreOfOutstanding b.rows link entry before octets
-all_stay n link entry a b before octets le later h = record {
+pub all_stay : (n link entry : ℕ) (a b : Ledger) (before octets : List ℕ) → entry < n → Later n a b → AreOfOutstanding a link entry before octets → AreOfOutstanding b link entry before octets
+all_stay n link entry a b before octets lt later h = record {
   frames = h.frames;
   text = h.text;
-  each = all_less (λ (f : FrameSeen). IsOfRequest f → IsOfOutstanding a.rows link entry f) (λ (f : FrameSeen). IsOfRequest f → IsOfOutstanding b.rows link entry f) h.frames (λ f was of. of_stays n link entry a b f le later (was of)) h.each;
+  each = all_less (λ (f : FrameSeen). IsOfRequest f → IsOfOutstanding a link entry f) (λ (f : FrameSeen). IsOfRequest f → IsOfOutstanding b link entry f) h.frames (λ f was of. of_stays n link entry a b f lt later (was of)) h.each;
 }
 
 pub turns_stay : (n link entry : ℕ) (a b : Ledger) (before octets : List ℕ) → entry ≤ n → Later n a b → AreOpenedInTurn a.rows link entry before octets → AreOpenedInTurn b.rows link entry before octets

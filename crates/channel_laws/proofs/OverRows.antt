@@ -121,12 +121,12 @@ module _ (N : ℕ) (E : ℕ → Type 0) (s : StateSeen) (f : Stepped → Stepped
   alive_call t links seen same = alive_same s t links (seen ∙ call_links f number tokens s same)
 
 -- a link that is gone has no row that runs on it, but where it is being lost
-outstanding_on : (link place : ℕ) (s : StateSeen) → Sorted s.outstanding → In (link, suc place) s.outstanding → has_outstanding link s ≡ true
+pub outstanding_on : (link place : ℕ) (s : StateSeen) → Sorted s.outstanding → In (link, suc place) s.outstanding → has_outstanding link s ≡ true
 outstanding_on link place s order i =
     let f : IsFirst link 0 (suc place) s.outstanding = first_in link 0 (suc place) s.outstanding order i (omega arith) in
     ap (is_on link) f.is ∙ eq-eqb f.q.0 link f.on
 
-gone_none : (link : ℕ) (s : StateSeen) → is_gone link s ≡ true → is_dead s.links link ≡ false → has_outstanding link s ≡ true → ⊥
+pub gone_none : (link : ℕ) (s : StateSeen) → is_gone link s ≡ true → is_dead s.links link ≡ false → has_outstanding link s ≡ true → ⊥
 gone_none link s gone alive has =
     let rest : Bool = is_retiring s.links link || is_of_shut_sub link s in
     let none : is_gone link s ≡ (rest && false) = ap (λ (b : Bool). b || (rest && not (has_outstanding link s))) alive ∙ ap (λ (b : Bool). rest && not b) has in
@@ -139,7 +139,7 @@ gone_none link s gone alive has =
 no_place : (rows : List Row) (at : Placed) → running_at rows zero ≡ Some at → ⊥
 no_place rows at e = none_some at e
 
-row_out : (place : ℕ) (at : Placed) (s : StateSeen) → running_at s.book.ledger.rows place ≡ Some at → Sorted s.outstanding → In (at.link, place) s.outstanding → has_outstanding at.link s ≡ true
+pub row_out : (place : ℕ) (at : Placed) (s : StateSeen) → running_at s.book.ledger.rows place ≡ Some at → Sorted s.outstanding → In (at.link, place) s.outstanding → has_outstanding at.link s ≡ true
 row_out zero at s e order i = absurd (no_place s.book.ledger.rows at e)
 row_out (suc place) at s e order i = outstanding_on at.link place s order i
 

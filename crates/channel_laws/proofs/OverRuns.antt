@@ -25,7 +25,8 @@ use Rattle.link_laws.proofs.Pairs.{In, Sorted}
 use Rattle.link_laws.proofs.Served.{Served, desk_of}
 use Rattle.link_laws.proofs.ServedRuns.{IsFirst, first_of, served_new, served_step}
 use Rattle.link_laws.proofs.Working.{TimedLaws}
-use Rattle.channel_laws.specs.GoneLinks.{IsOnGone, IsOverBy}
+use Rattle.channel_laws.specs.GoneLinks.{IsOnGone}
+use Rattle.link_laws.specs.Commitments.{EndedBy}
 use Rattle.channel_laws.proofs.GoneLinks.{Gone, few_late, gone_begins, gone_now, gone_step, later, links_kept, links_most, links_same, made_within, placed_in, runs_longer, same_late}
 use Rattle.channel_laws.proofs.HeldRows.{none_some}
 use Rattle.channel_laws.proofs.LostRows.{No}
@@ -89,22 +90,22 @@ end_got moments row end [] i h e is = absurd (let no : ⊥ = (cc) in no)
 end_got moments row end (r ∷ rows) zero h e is = (let same : r ≡ row = (cc) in dated_end moments end r.ended h.0.ended (ap (λ (x : Row). x.ended) same ∙ is))
 end_got moments row end (r ∷ rows) (suc i) h e is = end_got moments row end rows i h.1 e is
 
-end_within : (es : List Entry) (row : Row) (end : RowEnd) (rows : List Row) (place : ℕ) → AllByRecursion (IsDatedRow (moment_at es)) rows → numbered rows place ≡ Some row → row.ended ≡ Some end → end.entry ≤ length es
+pub end_within : (es : List Entry) (row : Row) (end : RowEnd) (rows : List Row) (place : ℕ) → AllByRecursion (IsDatedRow (moment_at es)) rows → numbered rows place ≡ Some row → row.ended ≡ Some end → end.entry ≤ length es
 end_within es row end rows zero h e is = absurd (let no : ⊥ = (cc) in no)
 end_within es row end rows (suc i) h e is = made_within es end.entry end.moment (end_got (moment_at es) row end rows i h e is)
 
 -- a step
 module _ (laws : MoreLaws) (timed : TimedLaws) (old new : CoreSeen) (s : Stamped) (r : Reply) (h : Steps old new s r) (counted : IsCounted new) (all : Lasts old) where
-  abbrev es : List Entry
+  abbrev pub es : List Entry
   es = old.journal.entries
 
-  abbrev n : ℕ
+  abbrev pub n : ℕ
   n = length es + 1
 
-  abbrev m : ℕ
+  abbrev pub m : ℕ
   m = moment_of es s
 
-  abbrev first : StateSeen
+  abbrev pub first : StateSeen
   first = begun_at n m s.word old.state
 
   abbrev late : StateSeen
@@ -113,7 +114,7 @@ module _ (laws : MoreLaws) (timed : TimedLaws) (old new : CoreSeen) (s : Stamped
   abbrev same_ : length old.state.links ≡ length old.state.book.ledger.links
   same_ = links_same old new s r h all.gone.lawful counted.links
 
-  start : Over n No first
+  pub start : Over n No first
   start =
       let f : IsFirst n first = first_of laws timed old s all.knows all.served in
       record {
@@ -127,16 +128,22 @@ module _ (laws : MoreLaws) (timed : TimedLaws) (old new : CoreSeen) (s : Stamped
         over = λ place at e. inr (let lives = all.alive place at e in record { dead = lives.dead; stays = lives.stays });
       }
 
-  goes : Goes n No first new.state
-  goes =
+  -- what comes before the rounds
+  pub before : Goes n No first (settling.prepared h.by.answered)
+  before =
       let ready : StateSeen = settling.prepared h.by.answered in
       let most = few_late n m s.word s.event old.state new.state r h.by same_ (links_kept old new s r h all.gone.lawful counted.links) (links_most old new s r h all.gone.lawful counted.links) in
       let same_links : length late.links ≡ length late.book.ledger.links = same_late n m s.word s.event old.state new.state r h.by same_ (links_kept old new s r h all.gone.lawful counted.links) (links_most old new s r h all.gone.lawful counted.links) in
       let to_late : Goes n No first late = overdue (Goes n No) (over_treads laws timed n No) first in
       let to_answer : Goes n No late h.by.answered = answered (Goes n No) (over_treads laws timed n No) (over_nets laws timed n) (refusal_of s.event late) s.event late h.by.answered r (over_trod laws timed n s.event late r same_links most) h.by.answers in
       let to_ready : Goes n No h.by.answered ready = prepare (Goes n No) (over_treads laws timed n No) (over_nets laws timed n) h.by.answered in
+      goes_then laws timed n No first late ready to_late (goes_then laws timed n No late h.by.answered ready to_answer to_ready)
+
+  goes : Goes n No first new.state
+  goes =
+      let ready : StateSeen = settling.prepared h.by.answered in
       let to_end : Goes n No ready new.state = subst (λ (x : StateSeen). Goes n No ready x) (sym h.by.settles) (all_rounds (Goes n No) (over_treads laws timed n No) (over_places laws timed n) settling.most ready) in
-      goes_then laws timed n No first late new.state to_late (goes_then laws timed n No late h.by.answered new.state to_answer (goes_then laws timed n No h.by.answered ready new.state to_ready to_end))
+      goes_then laws timed n No first ready new.state before to_end
 
   over_new : Over n No new.state
   over_new = goes.keeps counted.rows start
@@ -174,7 +181,7 @@ module _ (laws : MoreLaws) (timed : TimedLaws) (old new : CoreSeen) (s : Stamped
         | inr none ↦ absurd (let bad : None ≡ Some gone = sym none ∙ went in (let no : ⊥ = (cc) in no))
       ]
 
-  lasts_new : Lasts new
+  pub lasts_new : Lasts new
   lasts_new = record {
     knows = knows_step laws old new s r h all.knows;
     served = served_step laws timed old new s r h all.knows all.served;
@@ -212,7 +219,7 @@ no_run : (place : ℕ) (at : Placed) → running_at [] place ≡ Some at → ⊥
 no_run zero at e = none_some at e
 no_run (suc i) at e = none_some at e
 
-lasts_begins : (authority : List ℕ) (core : CoreSeen) → IsNew authority core → Lasts core
+pub lasts_begins : (authority : List ℕ) (core : CoreSeen) → IsNew authority core → Lasts core
 lasts_begins authority core is = record {
   knows = knows_new authority core is;
   served = served_new authority core is;
@@ -225,14 +232,14 @@ lasts_begins authority core is = record {
   ended = λ place row at end gone there. absurd (none_at place row (sym (ap (λ (s : StateSeen). numbered s.book.ledger.rows place) is.2.state) ∙ there));
 }
 
-over_by : (core : CoreSeen) (all : Lasts core) (place : ℕ) (row : Row) (at : Placed) (gone : ℕ) (o : Option RowEnd) → row.ended ≡ o → numbered core.state.book.ledger.rows place ≡ Some row → row.placed ≡ Some at → gone_at at.link core.state ≡ Some gone → IsOverBy row gone
+over_by : (core : CoreSeen) (all : Lasts core) (place : ℕ) (row : Row) (at : Placed) (gone : ℕ) (o : Option RowEnd) → row.ended ≡ o → numbered core.state.book.ledger.rows place ≡ Some row → row.placed ≡ Some at → gone_at at.link core.state ≡ Some gone → EndedBy gone row.ended
 over_by core all place row at gone None free there placed went =
     absurd (let lives : IsAlive core.state at.link = all.alive place at (open_runs core.state.book.ledger.rows place row at there placed free) in
     let bad : None ≡ Some gone = sym lives.stays ∙ went in (let no : ⊥ = (cc) in no))
 over_by core all place row at gone (Some end) is there placed went = record { end = end; is = is; by = all.ended place row at end gone there placed is went }
 
 pub over_by_always : MoreLaws → TimedLaws → (authority : List ℕ) (new core : CoreSeen) (events : List Stamped) → IsNew authority new → Runs new events core → length core.state.book.ledger.links ≤ 4294967295 → length core.state.book.ledger.rows ≤ 18446744073709551615
-    → (place : ℕ) (row : Row) (at : Placed) (gone : ℕ) → numbered core.state.book.ledger.rows place ≡ Some row → row.placed ≡ Some at → IsOnGone core.state.book.ledger at gone → IsOverBy row gone
+    → (place : ℕ) (row : Row) (at : Placed) (gone : ℕ) → numbered core.state.book.ledger.rows place ≡ Some row → row.placed ≡ Some at → IsOnGone core.state.book.ledger at gone → EndedBy gone row.ended
 over_by_always laws timed authority new core events is runs links rows place row at gone there placed on =
     let all : Lasts core = lasts_runs laws timed new events core runs (record { rows = rows; links = links }) (lasts_begins authority new is) in
     over_by core all place row at gone row.ended refl there placed (ap gone_of on.there ∙ on.is)

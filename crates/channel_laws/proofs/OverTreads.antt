@@ -146,7 +146,7 @@ module _ (laws : MoreLaws) (timed : TimedLaws) (N : ℕ) where
     dialed = λ s. net_goes N s (step.dialed s) (c.beside s _ refl refl refl (λ h. h)) (own_nets.dialed s) refl refl (λ k. refl) (right_dialed s.book.moment (next_word s) s.net) (λ sub link e. e) (stays_dialed s.book.moment (next_word s) s.net);
     undialed = λ sub s may. net_goes N s (arrivals.undialed sub s) (c.beside s _ refl refl refl (λ h. h)) (own_nets.undialed sub s may) refl refl (λ k. refl) (right_failed sub s.net) (λ k link e. e) (stays_failed sub s.net);
     settled = λ s. net_goes N s (record s { net = (net.net_settled s.net).net }) (c.beside s _ refl refl refl (λ h. h)) (own_nets.settled s) refl refl (λ k. refl) (right_settled s.net) (less_settled s.net) (stays_settled s.net);
-    shut = λ s. net_goes N s (record s { net = (net.net_shut s.net).net }) (c.beside s _ refl refl refl (λ h. h)) (own_nets.shut s) refl refl (λ k. refl) (λ h. right_shut s.net) (less_shut s.net) (stays_shut s.net);
+    shut = λ s is. net_goes N s (record s { net = (net.net_shut s.net).net }) (c.beside s _ refl refl refl (λ h. h)) (own_nets.shut s is) refl refl (λ k. refl) (λ h. right_shut s.net) (less_shut s.net) (stays_shut s.net);
     lost = λ link each s. over_lost laws timed N link each s;
     clocked_ = λ s. record { base = (clock laws timed N s).base; keeps = λ few h. clocked_over s few h };
   }

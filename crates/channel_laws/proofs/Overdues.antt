@@ -202,18 +202,27 @@ pub fresh_at : (calls : List CallSlot) (fresh : CallSlot) (k : ℕ) (slot : Call
 fresh_at calls fresh zero slot e = absurd (let no : ⊥ = (cc) in no)
 fresh_at calls fresh (suc i) slot e = elim (got_more calls fresh i slot e) [ inl new ↦ inl ((let at = new.0 in omega (arith, at)), new.1) | inr old ↦ inr old ]
 
-timers_begun : (request : RequestSeen) (s : StateSeen) → length s.book.calls ≡ length s.book.ledger.calls → AreTimers Far s → AreTimers Far (step.begun request s)
-timers_begun request s count h =
+-- what a Begin does beside the timers is done to the channel with the new call, and then its timers are moved
+abbrev pub with_fresh : RequestSeen → StateSeen → StateSeen
+with_fresh request s = step.bare_added (length s.book.ledger.calls + 1) (step.says_yes request.wait) (record s { book = book_begun request s.book })
+
+pub turned_begun : (request : RequestSeen) (s : StateSeen) → Turned (length s.book.ledger.calls + 1) (λ x. x) (with_fresh request s) (step.begun request s)
+turned_begun request s =
     let number : ℕ = length s.book.ledger.calls + 1 in
-    let fresh : CallSlot = fresh_slot number request s.book.moment in
-    let v : StateSeen = step.bare_added number (step.says_yes request.wait) (record s { book = book_begun request s.book }) in
+    let v : StateSeen = with_fresh request s in
     let id : Stepped → Stepped = λ x. x in
     let acted : IsActed number id v.book.calls v.book.calls = record {
       others = λ k off. refl;
       none = λ e. e;
-      own = λ slot e. record { before = lent slot.call s.book.ledger None []; same = refl; after = slot; there = e; call_is = refl; kept = refl };
+      own = λ slot e. record { before = lent slot.call s.book.ledger None []; same = refl; after = slot; there = e; call_is = refl; kept = refl; still = refl };
     } in
-    let turned : Turned number id v (step.begun request s) = turned_followed number id [] v v refl refl refl refl refl acted (λ slot e h. absurd (let no : ⊥ = (cc) in no)) in
+    turned_followed number id [] v v refl refl refl refl refl refl acted (λ slot e h. absurd (let no : ⊥ = (cc) in no))
+
+timers_begun : (request : RequestSeen) (s : StateSeen) → length s.book.calls ≡ length s.book.ledger.calls → AreTimers Far s → AreTimers Far (step.begun request s)
+timers_begun request s count h =
+    let number : ℕ = length s.book.ledger.calls + 1 in
+    let fresh : CallSlot = fresh_slot number request s.book.moment in
+    let v : StateSeen = with_fresh request s in
     let but : AreTimersBut Far number v = record {
       sorted = h.sorted;
       set = λ k slot off e. elim (fresh_at s.book.calls fresh k slot e) [ inl new ↦ absurd (off (new.0 ∙ ap (λ (i : ℕ). i + 1) count)) | inr old ↦ h.set k slot old ];
@@ -222,7 +231,7 @@ timers_begun request s count h =
         | inr old ↦ h.kept k slot old d at
       ];
     } in
-    turned_timers Far number id v (step.begun request s) turned but
+    turned_timers Far number (λ x. x) v (step.begun request s) (turned_begun request s) but
 
 -- the event and the settling
 abbrev Timing : StateSeen → StateSeen → Type 0
@@ -240,13 +249,15 @@ timing_event (event.LinkLost link) s count = λ row end number word u v turned. 
 timing_event event.Shutdown s count = (λ number u v turned. turns_timers number (call.closed_by ends.Shut u.book.moment) u v turned, λ h. record { sorted = h.sorted; set = h.set; kept = h.kept })
 timing_event (event.Resolved addresses text) s count = λ u h. record { sorted = h.sorted; set = h.set; kept = h.kept }
 timing_event event.ResolveFailed s count = λ h. record { sorted = h.sorted; set = h.set; kept = h.kept }
-timing_event (event.Take number) s count = λ t h. touched_timers Far number s t h
+timing_event (event.Take number) s count = λ t h due. touched_timers Far number s t h
 timing_event e s count = tt
 
 timing_ends : Ends Timing
 timing_ends = record {
   made = λ number u v turned. turns_timers number (call.made_due u.book.moment) u v turned;
   failed = λ row number word u v turned. turns_timers number (call.pick_failed row u.book.moment word) u v turned;
+  taken = λ dues u h. record { sorted = h.sorted; set = h.set; kept = h.kept };
+  forgotten = λ number u v h calm. touched_timers Far number u v h;
 }
 
 timers_settled : (s : StateSeen) → AreTimers Far s → AreTimers Far (settling.settled s)

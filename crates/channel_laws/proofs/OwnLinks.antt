@@ -79,6 +79,14 @@ dead_kept f links k link same = elim (cases_eq k link) [
   | inr far ↦ ap is_dead_at (numbered_there f links k link far)
 ]
 
+pub retiring_kept : (f : LinkSlot → LinkSlot) (links : List LinkSlot) (k link : ℕ) → ((x : LinkSlot) → numbered links k ≡ Some x → (f x).retiring ≡ x.retiring) → is_retiring (changed_at f links k) link ≡ is_retiring links link
+retiring_kept f links k link same = elim (cases_eq k link) [
+  | inl here ↦
+      let at : numbered (changed_at f links k) link ≡ option_map f (numbered links k) = ap (λ (j : ℕ). numbered (changed_at f links k) j) (sym here) ∙ numbered_here f links k in
+      ap is_retiring_at at ∙ retiring_by f (numbered links k) same ∙ ap (λ (j : ℕ). is_retiring links j) here
+  | inr far ↦ ap is_retiring_at (numbered_there f links k link far)
+]
+
 there_live : (f : LinkSlot → LinkSlot) (links : List LinkSlot) (seen : List LinkSeen) (k sub link : ℕ) → (k ≡ link → ⊥) → IsLiveLink links seen sub link → IsLiveLink (changed_at f links k) seen sub link
 there_live f links seen k sub link far h = record {
   dead = ap is_dead_at (numbered_there f links k link far) ∙ h.dead;
@@ -199,15 +207,15 @@ live_last links seen new sub link is same sub_is stays =
 some_refusal : (o : Option Refusal) → o ≡ None → is_some o ≡ false
 some_refusal o e = ap (λ (x : Option Refusal). is_some x) e
 
-refused_known : (o : Option SubRecord) → net.dial_refusal o ≡ None → is_some o ≡ true
+pub refused_known : (o : Option SubRecord) → net.dial_refusal o ≡ None → is_some o ≡ true
 refused_known None e = absurd (let no : ⊥ = (cc) in no)
 refused_known (Some s) e = refl
 
 module _ (n : NetSeen) (links : List LinkSlot) (seen : List LinkSeen) (sub entry link : ℕ) (may : net.dial_refusal (boards.numbered n.board sub) ≡ None) (number : link ≡ length links + 1) (same : length links ≡ length seen) (h : OwnsBy n links seen) where
-  after_up : net.net_up sub link n ≡ after_call (Up sub link) n
+  pub after_up : net.net_up sub link n ≡ after_call (Up sub link) n
   after_up = sym (ap (λ (b : Bool). if b then n else net.net_up sub link n) (some_refusal (net.dial_refusal (boards.numbered n.board sub)) may))
 
-  stays_known : (k : ℕ) → is_some (boards.numbered n.board k) ≡ true → is_some (boards.numbered (net.net_up sub link n).board k) ≡ true
+  pub stays_known : (k : ℕ) → is_some (boards.numbered n.board k) ≡ true → is_some (boards.numbered (net.net_up sub link n).board k) ≡ true
   stays_known k e = subst (λ (m : NetSeen). is_some (boards.numbered m.board k) ≡ true) (sym after_up) (known_then (Up sub link) n k h.made e)
 
   live_up : (k l : ℕ) → (link_of n.links k ≡ Some l) ⊎ ((sub ≡ k) × (link ≡ l)) → IsLiveLink (links ++ new_slot fresh_link ∷ []) (seen ++ new_link sub entry ∷ []) k l

@@ -117,7 +117,7 @@ own_clocked s h =
     own_passed l.gone (record s { net = l.net }) ticks.off (owns_net (Clock s.book.moment) s.net l.net s.links s.book.ledger.links refl ticks.less h)
 
 -- a dial fails
-undialed_is : (sub : ℕ) (s : StateSeen) → net.dial_refusal (boards.numbered s.net.board sub) ≡ None → net.net_dial_failed sub s.net ≡ after_call (DialFailed sub) s.net
+pub undialed_is : (sub : ℕ) (s : StateSeen) → net.dial_refusal (boards.numbered s.net.board sub) ≡ None → net.net_dial_failed sub s.net ≡ after_call (DialFailed sub) s.net
 undialed_is sub s may = sym (ap (λ (o : Option Refusal). if is_some o then s.net else net.net_dial_failed sub s.net) may)
 
 pub own_nets : Nets KeepsOwn
@@ -129,7 +129,7 @@ own_nets = record {
   dialed = λ s h. owns_net (Dial s.book.moment (next_word s)) s.net _ s.links s.book.ledger.links refl (λ sub link e. e) h;
   undialed = λ sub s may h. owns_net (DialFailed sub) s.net (net.net_dial_failed sub s.net) s.links s.book.ledger.links (undialed_is sub s may) (λ k link e. e) h;
   settled = λ s h. owns_net Settle s.net _ s.links s.book.ledger.links refl (less_settled s.net) h;
-  shut = λ s h. owns_net Shut s.net _ s.links s.book.ledger.links refl (less_shut s.net) h;
+  shut = λ s is h. owns_net Shut s.net _ s.links s.book.ledger.links refl (less_shut s.net) h;
   lost = own_lost;
   clocked_ = own_clocked;
 }

@@ -180,7 +180,7 @@ module _ (k m : ℕ) where
   keeps_event event.Shutdown s now = (λ number u v h. turn_view k (Kept m) (kept_at m) (kept_then m) m number (λ i. call.closed_by ends.Shut i) u v h (λ here x. keeps_closed ends.Shut m x), λ e. (e, kept_at m (call_at k s)))
   keeps_event (event.Resolved addresses text) s now = λ u e. (e, kept_at m (call_at k u))
   keeps_event event.ResolveFailed s now = λ e. (e, kept_at m (call_at k s))
-  keeps_event (event.Take number) s now = λ t h. touch_view k (Kept m) (kept_at m) (kept_then m) m keeps_like number s t h
+  keeps_event (event.Take number) s now = λ t h due. touch_view k (Kept m) (kept_at m) (kept_then m) m keeps_like number s t h
   keeps_event e s now = tt
 
   pub kept_answered : (e : Event) (s t : StateSeen) (r : Reply) → s.book.moment ≡ m → AnswersBy (refusal_of e s) e s t r → (t.book.moment ≡ m) × Kept m (call_at k s) (call_at k t)
@@ -191,6 +191,8 @@ module _ (k m : ℕ) where
   kept_ends = record {
     made = λ number u v h. turn_view k (Kept m) (kept_at m) (kept_then m) m number (λ i. call.made_due i) u v h (λ here x. keeps_due m x);
     failed = λ row number word u v h. turn_view k (Kept m) (kept_at m) (kept_then m) m number (λ i. call.pick_failed row i word) u v h (λ here x. keeps_ended_at row pick_end m word x);
+    taken = λ dues u e. (e, kept_at m (call_at k u));
+    forgotten = λ number u v h calm. touch_view k (Kept m) (kept_at m) (kept_then m) m keeps_like number u v h;
   }
 
   pub kept_settled : (s : StateSeen) → s.book.moment ≡ m → ((settling.settled s).book.moment ≡ m) × Kept m (call_at k s) (call_at k (settling.settled s))
@@ -222,7 +224,7 @@ module _ (k m : ℕ) where
     causes_event event.Shutdown s w = (λ number u v h. turn_view k (Caused W) caused_at caused_on m number (λ i. call.closed_by ends.Shut i) u v h (λ here x. by_closed W ends.Shut m x w), λ e. (e, caused_at (call_at k s)))
     causes_event (event.Resolved addresses text) s w = λ u e. (e, caused_at (call_at k u))
     causes_event event.ResolveFailed s w = λ e. (e, caused_at (call_at k s))
-    causes_event (event.Take number) s w = λ t h. touch_view k (Caused W) caused_at caused_on m (λ a b l. inl l.ended) number s t h
+    causes_event (event.Take number) s w = λ t h due. touch_view k (Caused W) caused_at caused_on m (λ a b l. inl l.ended) number s t h
     causes_event e s w = tt
 
     pub caused_answered : (e : Event) (s t : StateSeen) (r : Reply) → s.book.moment ≡ m → (refusal_of e s ≡ None → MayEnd W k e) → AnswersBy (refusal_of e s) e s t r → Caused W (call_at k s) (call_at k t)
@@ -232,6 +234,8 @@ module _ (k m : ℕ) where
     caused_ends w = record {
       made = λ number u v h. turn_view k (Caused W) caused_at caused_on m number (λ i. call.made_due i) u v h (λ here x. by_due W m x w);
       failed = λ row number word u v h. turn_view k (Caused W) caused_at caused_on m number (λ i. call.pick_failed row i word) u v h (λ here x. by_ended_at W row pick_end m word x w);
+      taken = λ dues u e. (e, caused_at (call_at k u));
+      forgotten = λ number u v h calm. touch_view k (Caused W) caused_at caused_on m (λ a b l. inl l.ended) number u v h;
     }
 
     pub caused_settled : (s : StateSeen) → s.book.moment ≡ m → W ends.Row → (is_some s.held ≡ true → W ends.Request) → (is_some s.held ≡ false → s.unconfigured ≡ true → W ends.NoConfig) → Caused W (call_at k s) (call_at k (settling.settled s))

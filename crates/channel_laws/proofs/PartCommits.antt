@@ -80,11 +80,11 @@ placed_one : (b : Bool) (row : LiveRow) (at : Placed) (x : Stepped) → Over IsC
 placed_one true row at x h = h
 placed_one false row at x h = h
 
-placed_stays : (found : Option LiveRow) (at : Placed) (x : Stepped) → Over IsCommitted x (call.placed_if_live found at x)
+pub placed_stays : (found : Option LiveRow) (at : Placed) (x : Stepped) → Over IsCommitted x (call.placed_if_live found at x)
 placed_stays None at x h = h
 placed_stays (Some row) at x h = placed_one (is_some row.link) row at x h
 
-kept_like : (a b : CallState) → IsLike a b → IsKept a → IsKept b
+pub kept_like : (a b : CallState) → IsLike a b → IsKept a → IsKept b
 kept_like a b h k = record {
   ended = λ e. (let was = k.ended (ap (λ (o : Option EndCause). is_some o) (sym h.ended) ∙ e) in record { live = h.live ∙ was.live; stopped = ap (λ (x : Attempts). x.stopped) h.attempts ∙ was.stopped });
   committed = λ place e. (let was = k.committed place (ap (λ (x : Attempts). x.committed) (sym h.attempts) ∙ e) in record { live = subst (AllAt place) (sym h.live) was.live; stopped = ap (λ (x : Attempts). x.stopped) h.attempts ∙ was.stopped });
@@ -132,7 +132,7 @@ module _ (stay : EndedStay) (keeps : KeptLaws) (V : Type 0) (k m : ℕ) where
   parts_event event.Shutdown s w = (λ number. closes ends.Shut number, λ e. (e, part_at V (call_at k s)))
   parts_event (event.Resolved addresses text) s w = λ u e. (e, part_at V (call_at k u))
   parts_event event.ResolveFailed s w = λ e. (e, part_at V (call_at k s))
-  parts_event (event.Take number) s w = λ t h. touch_view k (Part V) (part_at V) (part_on V) m (part_like V) number s t h
+  parts_event (event.Take number) s w = λ t h due. touch_view k (Part V) (part_at V) (part_on V) m (part_like V) number s t h
   parts_event e s w = tt
 
   pub part_answered : (e : Event) (s t : StateSeen) (r : Reply) → s.book.moment ≡ m → MayCommit V k e → AnswersBy (refusal_of e s) e s t r → (t.book.moment ≡ m) × Part V (call_at k s) (call_at k t)
@@ -143,6 +143,8 @@ module _ (stay : EndedStay) (keeps : KeptLaws) (V : Type 0) (k m : ℕ) where
   part_ends = record {
     made = λ number u v h. turn_view k (Part V) (part_at V) (part_on V) m number (λ i. call.made_due i) u v h (λ here x. part_of V (call.made_due m) x (keeps.made m x) (stay.made m x) (chain_due (Over IsCommitted) over_chain m x) (by_due V m x));
     failed = λ row number word u v h. turn_view k (Part V) (part_at V) (part_on V) m number (λ i. call.pick_failed row i word) u v h (λ here x. part_of V (call.pick_failed row m word) x (keeps.failed row m word x) (stay.failed row m word x) (chain_ended_at (Over IsCommitted) over_chain row pick_end m word x) (by_ended_at V row pick_end m word x));
+    taken = λ dues u e. (e, part_at V (call_at k u));
+    forgotten = λ number u v h calm. touch_view k (Part V) (part_at V) (part_on V) m (part_like V) number u v h;
   }
 
   pub part_settled : (s : StateSeen) → s.book.moment ≡ m → ((settling.settled s).book.moment ≡ m) × Part V (call_at k s) (call_at k (settling.settled s))

@@ -100,7 +100,7 @@ still_nets = record {
   dialed = λ s place. refl;
   undialed = λ sub s may place. refl;
   settled = λ s place. refl;
-  shut = λ s place. refl;
+  shut = λ s is place. refl;
   lost = still_lost;
   clocked_ = still_clocked;
 }

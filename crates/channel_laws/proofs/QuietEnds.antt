@@ -1,6 +1,6 @@
 -- What is done to a channel without what comes on links: each end that a row gets is a cut or one by a pick that failed, and how much was read
 -- of each link stays.
-use Rattle.std.proofs.Common.{◌≡◌, ◌∙◌, ℕ, Option, Some, None, List, refl, sym, ap, subst, inl, inr}
+use Rattle.std.proofs.Common.{◌≡◌, ◌∙◌, ℕ, Option, Some, None, List, [], refl, sym, ap, subst, inl, inr}
 use Rattle.grpc_base.specs.declared.event.Event.{Event}
 use Rattle.grpc_base.specs.declared.event.Event.TheVariants as event
 use Rattle.grpc_base.specs.declared.event.Reply.{Reply}
@@ -10,7 +10,7 @@ use Rattle.attempt_ledger.specs.declared.row.RowEnd.{RowEnd}
 use Rattle.a6_numbers.specs.Throttling.{Bucket}
 use Rattle.call_core.specs.Parts.{pick_end}
 use Rattle.call_core.specs.Steps as call
-use Rattle.call_core.specs.Steps.{Stepped}
+use Rattle.call_core.specs.Steps.{Stepped, lent}
 use Rattle.channel_core.specs.declared.state.book.Book.{Book}
 use Rattle.channel_core.specs.declared.state.slots.CallSlot.{CallSlot}
 use Rattle.channel_core.specs.Applying as applying
@@ -29,11 +29,13 @@ use Rattle.link_laws.proofs.LinkComings.{seen_stays}
 use Rattle.link_laws.proofs.LinkReads.{drain_stays, seen_up}
 use Rattle.link_laws.proofs.LinkStays.{placed_on, seen_on}
 use Rattle.channel_laws.proofs.CutCalls.{IsFree, free_back, free_when}
+use Rattle.channel_laws.proofs.LoneRows.{IsLone, lone_all, lone_back}
+use Rattle.link_laws.proofs.CallLaws.{IsSound, once_in}
 use Rattle.channel_laws.proofs.NewEnds.{AllNow, Fresh, Keeps, NewEnds, Read, SoNow, Stands, any_call, cuts_now, On, Now, does, fresh_less, keeps_same, later_keeps, new_joined, new_less, none_by_streams, none_new}
 use Rattle.channel_core.proofs.Resting.{Configures, Gone, Rests, overdue}
 use Rattle.channel_core.proofs.RestingSteps.{answered, settle}
 use Rattle.link_laws.proofs.Served.{Stays}
-use Rattle.link_laws.proofs.Serving.{Base, KnownIn, apart_at, base, kept_at, known_after}
+use Rattle.link_laws.proofs.Serving.{Base, KnownIn, apart_at, base, kept_at, known_after, sound_at}
 use Rattle.link_laws.proofs.ServingParts.{begins, comes_up, configures_base, drain, drained_rows, holds_base}
 use Rattle.channel_core.proofs.ToldEnds.{so_closed_by, so_configured, so_due, so_ended_at, so_placed, so_sent, so_timed_out}
 use Rattle.link_laws.proofs.Working.{TimedLaws}
@@ -67,6 +69,10 @@ part_stays N s t b = (part_keeps N s t b).stays
 pub part_free : (N : ℕ) (s t : StateSeen) (call : ℕ) → Base N s t → IsFree call t.book.ledger.calls → IsFree call s.book.ledger.calls
 part_free N s t call b free = free_back s.book.ledger.entry call s.book.ledger t.book.ledger b.writes.later free
 
+-- nor had it been committed to another attempt than later
+pub part_lone : (N : ℕ) (s t : StateSeen) (call place : ℕ) → Base N s t → IsLone t.book.ledger.rows call place → IsLone s.book.ledger.rows call place
+part_lone N s t call place b lone = lone_back s.book.ledger.entry s.book.ledger t.book.ledger b.writes.later call place lone
+
 module _ (laws : MoreLaws) (timed : TimedLaws) (N : ℕ) (T : ℕ → ℕ → RowEnd → Type 0) where
   pub part_joined : (s t u : StateSeen) → Part N T s t → Part N T t u → Part N T s u
   part_joined s t u first second = record {
@@ -79,7 +85,7 @@ module _ (laws : MoreLaws) (timed : TimedLaws) (N : ℕ) (T : ℕ → ℕ → Ro
         let Q : ℕ → RowEnd → Type 0 = Fresh (Read T s) T u.book.ledger.rows in
         new_joined Q s.book.ledger.rows t.book.ledger.rows u.book.ledger.rows
         (new_less (Fresh (Read T s) T t.book.ledger.rows) Q s.book.ledger.rows t.book.ledger.rows (λ place end h. fresh_less (Read T s) (Read T s) T T t.book.ledger.rows u.book.ledger.rows place end keeps (λ call link e. e) (λ link e. e) h) a)
-        (new_less (Fresh (Read T t) T u.book.ledger.rows) Q t.book.ledger.rows u.book.ledger.rows (λ place end h. fresh_less (Read T t) (Read T s) T T u.book.ledger.rows u.book.ledger.rows place end (keeps_same u.book.ledger.rows) (λ call link e. (e.0 ∙ first.seen link, part_free N s t call first.base e.1)) (λ link e. e) h) b);
+        (new_less (Fresh (Read T t) T u.book.ledger.rows) Q t.book.ledger.rows u.book.ledger.rows (λ place end h. fresh_less (Read T t) (Read T s) T T u.book.ledger.rows u.book.ledger.rows place end (keeps_same u.book.ledger.rows) (λ call link e. (e.0 ∙ first.seen link, part_free N s t call first.base e.1, part_lone N s t call place first.base e.2)) (λ link e. e) h) b);
   }
 
   -- the rows stay
@@ -91,6 +97,7 @@ module _ (laws : MoreLaws) (timed : TimedLaws) (N : ℕ) (T : ℕ → ℕ → Ro
     tied = (apart_at laws timed N s number slot None is known).tied;
     number_is = (known.sound.each number slot is).number_is;
     free = λ some seen there. free_when seen.end slot.call.ended (known.sound.tied number slot seen is there).ended (λ over. some ((kept_at laws timed N s number slot None is known).ended over).live);
+    lone = (let x : Stepped = lent slot.call s.book.ledger None [] in let sound : IsSound s.book.moment s.book.ledger.entry x = sound_at laws timed N s number slot None is known in lone_all x (once_in s.book.moment s.book.ledger.entry x sound) (kept_at laws timed N s number slot None is known));
   }
 
   -- one call does something

@@ -143,7 +143,7 @@ module _ (laws : MoreLaws) (timed : TimedLaws) (inbox : InboxLaws) (kept : KeptL
 
   module _ (left_is : p.left ≡ left) (tag : ℕ) (large : LargeIn link piece 0 u tag) (committed : committed_in (call_at k left) ≡ Some tag) where
     come : Coming first old.state.book.ledger.rows link (sent link es) (received link es) u
-    come = coming first sure laws timed inbox kept old n (moment_of es s) s.word link had.links.reads had.says (had.links.gives.on link) had.story had.like had.tells
+    come = coming first sure laws timed inbox kept old n (moment_of es s) s.word link had.links.reads had.says had.rested (had.links.gives.on link) had.story had.like had.tells
 
     told : Told laws timed inbox kept first sure n old.state.book.ledger.rows link (sent link es) (received link es) tag (received link es ++ piece) left
     told = large_frames laws timed inbox kept first sure n old.state.book.ledger.rows link (sent link es) (received link es) tag (received link es) piece 0 u (omega arith) ([], sym (append-nil (received link es)))

@@ -1,5 +1,5 @@
 -- No frame brings both a head and an end of a response: where one has an end with a frame more, and had none before, it had its head before.
-use Rattle.std.proofs.Common.{◌≡◌, ◌∙◌, ℕ, ◌+◌, ◌==◌, ◌&&◌, Bool, true, false, nat_lt, ◌%◌, if◌then◌else◌, List, [], ◌∷◌, ◌++◌, length, refl, ap, sym, Option, Some, None, is_some, is_none, Result, Ok, Err}
+use Rattle.std.proofs.Common.{◌≡◌, ◌∙◌, ℕ, ◌+◌, ◌==◌, ◌&&◌, Bool, true, false, nat_lt, ◌%◌, if◌then◌else◌, List, [], ◌∷◌, ◌++◌, length, refl, ap, sym, Option, Some, None, is_some, is_none, Result, Ok, Err, ◌⊎◌, inl, inr}
 use Rattle.std.specs.Prelude.{codes}
 use Rattle.grpc_base.specs.ErrorCodes.{refused_stream}
 use Rattle.grpc_base.specs.declared.code.Code.TheVariants as code
@@ -20,6 +20,7 @@ use Rattle.link_laws.specs.Said.{Block, FrameAt, HeaderList, Headers, Other, Sai
 use Rattle.channel_laws.specs.Messages.{messages_of}
 use Rattle.channel_laws.specs.Response.{Response, bare_end, end_with, framing_end, has_bad_flag, http_code, http_status, is_head, is_interim, no_response, response_from, response_in, status_end, trailers_end, with_data, with_frame, with_headers, with_said}
 use Rattle.channel_laws.proofs.FrameReplies.{Adds, from_both, list_of, said_by, said_first, said_list}
+use Rattle.std.proofs.lemmas.Bool.{ne_eqb}
 
 -- a frame says one thing at most
 abbrev Short : List Said → Type 0
@@ -148,3 +149,27 @@ pub other_head : (F E : List FrameSeen) (one : List Said) (a : FrameAt) → Adds
 other_head F E one a adds is limit x =
     let r : Response = response_in limit x F in
     ap (λ (t : Response). t.head) (adds.adds limit x ∙ ap (λ (l : List Said). response_from limit x r l) is) ∙ either_head (is_some r.end) r (with_said limit x r (Other a)) (frame_head limit x r a)
+
+-- a frame leaves all heads, or all responses but that on one stream
+abbrev pub IsOnOne : List FrameSeen → List FrameSeen → Type 0
+IsOnOne F E = ((limit x : ℕ) → (response_in limit x E).head ≡ (response_in limit x F).head) ⊎ ((z : ℕ) × ((limit x : ℕ) → (x ≡ z → ⊥) → response_in limit x E ≡ response_in limit x F))
+
+either_off : (b c : Bool) (r t : Response) → c ≡ false → (if b then r else if c then t else r) ≡ r
+either_off true c r t off = refl
+either_off false true r t off = absurd (let never : ⊥ = (cc) in never)
+either_off false false r t off = refl
+
+one_by : (F E : List FrameSeen) (rest : List Said) → Short rest → ((limit x : ℕ) → response_in limit x E ≡ response_from limit x (response_in limit x F) rest) → IsOnOne F E
+one_by F E [] short same = inl (λ limit x. ap (λ (r : Response). r.head) (same limit x))
+one_by F E (Headers h ∷ []) short same = inr (h.stream, λ limit x off. same limit x ∙ either_off (is_some (response_in limit x F).end) (h.stream == x) (response_in limit x F) (with_headers limit (response_in limit x F) h) (ne_eqb h.stream x (λ e. off (sym e))))
+one_by F E (Other a ∷ []) short same = inl (λ limit x. ap (λ (r : Response). r.head) (same limit x) ∙ either_head (is_some (response_in limit x F).end) (response_in limit x F) (with_frame limit x (response_in limit x F) a) (frame_head limit x (response_in limit x F) a))
+one_by F E (s ∷ t ∷ rest) short same = absurd short
+
+pub on_one : (F : List FrameSeen) (f : FrameSeen) → IsOnOne F (F ++ f ∷ [])
+on_one F f =
+    let at = at_next 0 F f in
+    let said = said_next (Ok new_table) None (frames_at 0 F) at.0 in
+    one_by F (F ++ f ∷ []) said.rest said.short (λ limit x.
+    ap (λ (l : List FrameAt). response_from limit x no_response (said_from (Ok new_table) None l)) at.1
+    ∙ ap (λ (l : List Said). response_from limit x no_response l) said.is
+    ∙ from_both limit x no_response (said_in F) said.rest)

@@ -114,8 +114,8 @@ module _ (stay : EndedStay) (inbox : InboxLaws) (V : Type 0) (k m : ℕ) where
   turns : Turns View
   turns = record {
     joined = λ s t u first second e. (let f = first e in let g = second f.0 in (g.0, rest_on V (call_at k s) (call_at k t) (call_at k u) f.1 g.1));
-    beside = λ s t calls moment deadlines shut unconfigured impatient e. (moment ∙ e, subst (λ (l : List CallSlot). Rest V (call_at k s) (call_in (numbered l k))) (sym calls) (rest_at V (call_at k s)));
-    touched = λ number s t h calm e. (h.moment ∙ e, calm_by number s t h calm (cases_eq k number));
+    beside = λ s t calls moment deadlines dues shut unconfigured impatient e. (moment ∙ e, subst (λ (l : List CallSlot). Rest V (call_at k s) (call_in (numbered l k))) (sym calls) (rest_at V (call_at k s)));
+    touched = λ number s t h calm due e. (h.moment ∙ e, calm_by number s t h calm (cases_eq k number));
     placed = λ row at number s t h e. turn_view k (Rest V) (rest_at V) (rest_on V) m number (λ i. call.placed_at row at) s t h (λ here x d. record { fixed = fixed_placed stay m row at x d; inbox = inl (inbox.placed row at x) }) e;
   }
 
@@ -143,7 +143,7 @@ module _ (stay : EndedStay) (inbox : InboxLaws) (V : Type 0) (k m : ℕ) where
   rest_event event.Shutdown s w = (λ number u v h. closes ends.Shut number u v h, λ e. (e, rest_at V (call_at k s)))
   rest_event (event.Resolved addresses text) s w = λ u e. (e, rest_at V (call_at k u))
   rest_event event.ResolveFailed s w = λ e. (e, rest_at V (call_at k s))
-  rest_event (event.Take number) s w = λ t h e. (h.moment ∙ e, taken_by number s t h w)
+  rest_event (event.Take number) s w = λ t h due e. (h.moment ∙ e, taken_by number s t h w)
   rest_event e s w = tt
 
   pub rest_left : (e : Event) (s t : StateSeen) (r : Reply) → s.book.moment ≡ m → Loud e → AnswersBy (refusal_of e s) e s t r → Rest V (call_at k s) (call_at k t)
@@ -154,6 +154,8 @@ module _ (stay : EndedStay) (inbox : InboxLaws) (V : Type 0) (k m : ℕ) where
   settled_ends = record {
     made = λ number u v h. turn_view k (Rest V) (rest_at V) (rest_on V) m number (λ i. call.made_due i) u v h (λ here x d. record { fixed = fixed_due stay m x d; inbox = inl (inbox.made m x) });
     failed = λ row number word u v h. turn_view k (Rest V) (rest_at V) (rest_on V) m number (λ i. call.pick_failed row i word) u v h (λ here x d. record { fixed = fixed_news stay m row (news.Ended row pick_end) word x d; inbox = inl (inbox.ended row pick_end m word x) });
+    taken = λ dues u e. (e, rest_at V (call_at k u));
+    forgotten = λ number u v h calm e. (h.moment ∙ e, calm_by number u v h calm (cases_eq k number));
   }
 
   pub rest_settled : (s : StateSeen) → s.book.moment ≡ m → Rest V (call_at k s) (call_at k (settling.settled s))

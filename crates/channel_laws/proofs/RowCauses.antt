@@ -55,7 +55,7 @@ module _ (core : CoreSeen) (had : IsEndedSo core) where
       omega (arith, order, same)
 
   -- and the last one is that one
-  is_to : (k place : ℕ) (slot : CallSlot) (row : Row) → numbered core.state.book.calls k ≡ Some slot → IsLastCommitted rows k place row → slot.call.attempts.committed ≡ Some place
+  pub is_to : (k place : ℕ) (slot : CallSlot) (row : Row) → numbered core.state.book.calls k ≡ Some slot → IsLastCommitted rows k place row → slot.call.attempts.committed ≡ Some place
   is_to k place slot row there h =
       let number : slot.call.number ≡ k = (known k slot there).number_is in
       let mine : IsRowOf slot.call.number rows place row = record { there = h.is.is.there; call = h.is.is.call ∙ sym number } in

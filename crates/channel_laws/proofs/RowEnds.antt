@@ -175,7 +175,7 @@ latest : (n a b : ℕ) (o : Option ℕ) → o ≡ Some b → a ≤ n → b ≤ n
 latest n a b o e first second (inl now) = omega (arith, first, second, now)
 latest n a b o e first second (inr now) = (let both : Some b ≡ Some n = sym e ∙ now in let same : b ≡ n = (cc) in omega (arith, first, second, same))
 
-some_by : {X : Type 0} (P : X → Type 0) (o : Option X) (x : X) → o ≡ Some x → IfSome o P → P x
+pub some_by : {X : Type 0} (P : X → Type 0) (o : Option X) (x : X) → o ≡ Some x → IfSome o P → P x
 some_by {X = X} P o x e h = subst (λ (z : Option X). IfSome z P) e h
 
 row_end_of : (k n at : ℕ) (c : CallState) (y : Stepped) → y.call.attempts.committed ≡ c.attempts.committed → at ≤ n → IsOverBy at y → y.call.number ≡ k → HasRowEnd n y → IsEndOf y.ledger.rows k c n

@@ -57,25 +57,25 @@ shut_all : (keys : List ℕ) (s : StateSeen) → (step.all_timed_out keys s).shu
 shut_all [] s = refl
 shut_all (key ∷ keys) s = (let t : StateSeen = step.timed_out (number_of key) s in shut_all keys t ∙ (turned_out (number_of key) s).shut)
 
-shut_found : (s : StateSeen) → (overdue_ended s).shut ≡ s.shut
+pub shut_found : (s : StateSeen) → (overdue_ended s).shut ≡ s.shut
 unfolding overdue_ended
 shut_found s = shut_all (due_keys s.book.moment s.deadlines) (record s { deadlines = later s.book.moment s.deadlines })
 
-abbrev SameShut : StateSeen → StateSeen → Type 0
+abbrev pub SameShut : StateSeen → StateSeen → Type 0
 SameShut s t = t.shut ≡ s.shut
 
-same_shut : Turns SameShut
+pub same_shut : Turns SameShut
 same_shut = record {
   joined = λ s t u first second. second ∙ first;
-  beside = λ s t calls moment deadlines shut unconfigured waiting. shut;
-  touched = λ number s t h calm. h.shut;
+  beside = λ s t calls moment deadlines dues shut unconfigured waiting. shut;
+  touched = λ number s t h calm due. h.shut;
   placed = λ row at number s t h. h.shut;
 }
 
-abbrev IsOpenEvent : Event → Type 0
+abbrev pub IsOpenEvent : Event → Type 0
 IsOpenEvent e = e ≡ event.Shutdown → ⊥
 
-shut_event : (e : Event) (s : StateSeen) → IsOpenEvent e → Answering SameShut e s
+pub shut_event : (e : Event) (s : StateSeen) → IsOpenEvent e → Answering SameShut e s
 shut_event (event.Begin request) s other = refl
 shut_event (event.Send number message) s other = λ u v h. h.shut
 shut_event (event.Cancel number) s other = λ u v h. h.shut
@@ -84,11 +84,11 @@ shut_event (event.LinkLost link) s other = λ row end number word u v h. h.shut
 shut_event event.Shutdown s other = absurd (other refl)
 shut_event (event.Resolved addresses text) s other = λ u. refl
 shut_event event.ResolveFailed s other = refl
-shut_event (event.Take number) s other = λ t h. h.shut
+shut_event (event.Take number) s other = λ t h due. h.shut
 shut_event e s other = tt
 
-shut_settled : (s : StateSeen) → (settling.settled s).shut ≡ s.shut
-shut_settled s = settle SameShut same_shut (record { made = λ number u v h. h.shut; failed = λ row number word u v h. h.shut }) (λ u bare impatient sorted fewer. refl) s (λ some chosen number u v h. h.shut) (λ none lacking number u v h. h.shut)
+pub shut_settled : (s : StateSeen) → (settling.settled s).shut ≡ s.shut
+shut_settled s = settle SameShut same_shut (record { made = λ number u v h. h.shut; failed = λ row number word u v h. h.shut; taken = λ dues u. refl; forgotten = λ number u v h calm. h.shut }) (λ u bare impatient sorted fewer. refl) s (λ some chosen number u v h. h.shut) (λ none lacking number u v h. h.shut)
 
 -- the call of a number, if there is one, has ended
 abbrev pub OverIn : Option CallState → Type 0
@@ -148,7 +148,7 @@ module _ (k m : ℕ) where
   over_event event.Shutdown s shut free = (λ number u v h. shuts number u v h, λ e. (e, over_at (call_at k s)))
   over_event (event.Resolved addresses text) s shut free = λ u e. (e, over_at (call_at k u))
   over_event event.ResolveFailed s shut free = λ e. (e, over_at (call_at k s))
-  over_event (event.Take number) s shut free = λ t h. touch_view k StaysOver over_at over_on m (λ a b l. (keeps_like a b l).ended) number s t h
+  over_event (event.Take number) s shut free = λ t h due. touch_view k StaysOver over_at over_on m (λ a b l. (keeps_like a b l).ended) number s t h
   over_event e s shut free = tt
 
   over_answered : (e : Event) (s t : StateSeen) (r : Reply) → s.book.moment ≡ m → s.shut ≡ true → AnswersBy (refusal_of e s) e s t r → StaysOver (call_at k s) (call_at k t)
@@ -158,6 +158,8 @@ module _ (k m : ℕ) where
   over_ends = record {
     made = λ number u v h. turn_view k StaysOver over_at over_on m number (λ i. call.made_due i) u v h (λ here x. (keeps_due m x).ended);
     failed = λ row number word u v h. turn_view k StaysOver over_at over_on m number (λ i. call.pick_failed row i word) u v h (λ here x. (keeps_ended_at row pick_end m word x).ended);
+    taken = λ dues u e. (e, over_at (call_at k u));
+    forgotten = λ number u v h calm. touch_view k StaysOver over_at over_on m (λ a b l. (keeps_like a b l).ended) number u v h;
   }
 
   over_settled : (s : StateSeen) → s.book.moment ≡ m → StaysOver (call_at k s) (call_at k (settling.settled s))
@@ -234,7 +236,7 @@ record IsClosed (core : CoreSeen) : Type 0 where
   over : core.state.shut ≡ true → AllOver core.state
   law : AreShutBy core.journal.entries core.state.book.ledger.calls
 
-is_shutdown : (e : Event) → (e ≡ event.Shutdown) ⊎ (e ≡ event.Shutdown → ⊥)
+pub is_shutdown : (e : Event) → (e ≡ event.Shutdown) ⊎ (e ≡ event.Shutdown → ⊥)
 is_shutdown event.Shutdown = inl refl
 is_shutdown e = inr (λ x. (cc))
 

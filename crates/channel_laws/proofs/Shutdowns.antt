@@ -61,6 +61,9 @@ shut_event (event.LinkUp sub) = λ s e. e
 shut_event (event.Resolved addresses text) = λ config kinds s is e. e
 shut_event e = tt
 
+pub closed_shut : (s : StateSeen) → s.shut ≡ true → (applying.all_closed s).shut ≡ true
+closed_shut s e = close_all StaysShut stays_shut (length s.book.calls) 0 s e
+
 -- a Shutdown shuts it
 shut_by : (b : Bool) (u : StateSeen) → u.shut ≡ b → (if b then u else applying.shut_off u).shut ≡ true
 shut_by true u e = e

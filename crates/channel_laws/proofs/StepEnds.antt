@@ -17,7 +17,7 @@ use Rattle.attempt_ledger.specs.declared.row.RowCause.TheVariants as cause
 use Rattle.attempt_ledger.specs.declared.row.RowEnd.{RowEnd}
 use Rattle.ledger_stamps.specs.Later.{Later}
 use Rattle.h2_frame.specs.Frames.{FrameSeen}
-use Rattle.h2_frame.specs.Readings.{frames_of}
+use Rattle.h2_frame.specs.Readings.{fault_of, frames_of, rest_of}
 use Rattle.channel_core.specs.Applying as applying
 use Rattle.channel_core.specs.Applying.{AnswersBy, refusal_of}
 use Rattle.channel_core.specs.Arrivals as arrivals
@@ -31,9 +31,10 @@ use Rattle.channel_core.specs.States.{StateSeen}
 use Rattle.channel_core.specs.Steps.{has_outstanding, is_gone, is_of_shut_sub, overdue_ended}
 use Rattle.channel_core.specs.Tables.{has_link, is_dead_at, is_retiring, numbered}
 use Rattle.channel_laws.proofs.ArriveEnds as arrive
-use Rattle.channel_laws.proofs.ArriveEnds.{Free, Gaining, IsEndOf, IsLoss, IsPoint, IsToldEnd, ReadBy, ToldBy, loss_cause}
+use Rattle.channel_laws.proofs.ArriveEnds.{Free, Gaining, IsLoss, IsToldEnd, ToldBy, loss_cause}
+use Rattle.channel_laws.proofs.CutPoints.{CutBy, IsBrought, IsOwnEnd, IsPoint, ReadBy}
 use Rattle.link_laws.proofs.BreakRuns.{Whole, gone_dated, gone_later, gone_now, open_now}
-use Rattle.link_laws.proofs.Breaking.{Open}
+use Rattle.link_laws.proofs.Breaking.{Comes, Open, Shut, comes}
 use Rattle.link_laws.proofs.Dating.{Lawful}
 use Rattle.link_laws.proofs.RuleBreaks.{Known, known_judges, known_kept}
 use Rattle.link_laws.proofs.GivenLinks as given
@@ -45,14 +46,16 @@ use Rattle.link_laws.proofs.LinkHears.{SoundOn, lost_dead, other_frames}
 use Rattle.link_laws.proofs.LinkReads.{has_if, received_more, text_there}
 use Rattle.link_laws.proofs.LinkStays.{dead_on, seen_on, text_on}
 use Rattle.link_laws.proofs.LinkTexts.{most}
-use Rattle.channel_laws.proofs.CutCalls.{IsFree, ends_stay}
+use Rattle.channel_laws.proofs.CutCalls.{IsFree, IsMarked, ends_stay, two_stay}
+use Rattle.channel_laws.proofs.CutWhys.{IsEndedSo}
 use Rattle.channel_laws.proofs.EarlyCuts.{Early, TimedOf, overdue_early}
-use Rattle.channel_laws.proofs.NamedParts.{PartFor, ReadFor}
+use Rattle.channel_laws.proofs.NamedParts.{PartFor, ReadFor, ended_keeps}
 use Rattle.channel_laws.proofs.LostStreams.{loss_sent, loss_unsent, sent_later}
-use Rattle.channel_laws.proofs.NewEnds.{Fresh, Keeps, NewEnds, Read, keeps_same, new_joined, new_less}
+use Rattle.channel_laws.proofs.NewEnds.{Fresh, Keeps, NewEnds, Read, keeps_joined, keeps_same, new_joined, new_less}
 use Rattle.channel_laws.proofs.NewsEnds.{is_told}
-use Rattle.channel_laws.proofs.ReadsBy.{CutAt, CutRow, FrameCut, OfOn, ReadAt, StaysDead, gone_by, read_at}
-use Rattle.channel_laws.proofs.QuietEnds.{IsQuiet, Part, Silent, part_free, part_keeps, quiet_none, quiet_part, rests, settle_part}
+use Rattle.channel_laws.proofs.ReadsBy.{CutAt, CutRow, FrameAt, FrameCut, OfOn, ReadAt, StaysDead, gone_by, read_at}
+use Rattle.channel_laws.proofs.PickCuts.{PickWhy, Picked, ReadPick, settle_picked}
+use Rattle.channel_laws.proofs.QuietEnds.{IsQuiet, Part, Silent, part_free, part_keeps, quiet_none, quiet_part, rests}
 use Rattle.channel_core.proofs.Resting as resting
 use Rattle.link_laws.proofs.Served.{IsPlacedOn, Served, desk_of}
 use Rattle.link_laws.proofs.Serving as serving
@@ -76,6 +79,7 @@ pub record LostOn (s : StateSeen) (link : ℕ) (before : List Entry) (at : Entry
   pub event_is : (at.event ≡ event.LinkLost link) ⊎ ((piece : List ℕ) × (at.event ≡ event.Arrived link piece))
   pub reply_is : at.reply ≡ reply.Done
   pub read : ReadAt s link (before ++ at ∷ []) end.seen
+  pub broke : (piece : List ℕ) → at.event ≡ event.Arrived link piece → read.more ≡ [] → fault_of (rest_of (received link (before ++ at ∷ []))) ≡ None → ⊥
   pub gone : IsGoneBy s.book.ledger link (length before + 1)
   pub dead : dead_on link s ≡ true
   pub last : seen_on link s ≡ end.seen
@@ -98,23 +102,23 @@ pub record ToldOn (G : List ℕ → List Row → List FrameSeen → List FrameSe
   pub unsent : end.cause ≡ cause.Unsent → stream_at s.book.ledger.rows place ≡ None
 
 -- what an end is, by its cause
-abbrev pub Any : (List ℕ → List Row → List FrameSeen → List FrameSeen → ℕ → EndNews → Type 0) → (List ℕ → List Row → List FrameSeen → List FrameSeen → ℕ → Type 0) → StateSeen → ℕ → List Entry → Entry → ℕ → RowEnd → Type 0
+abbrev pub Any : (List ℕ → List Row → List FrameSeen → List FrameSeen → ℕ → EndNews → Type 0) → (List Row → Bool → List FrameSeen → List FrameSeen → ℕ → Type 0) → StateSeen → ℕ → List Entry → Entry → ℕ → RowEnd → Type 0
 Any G B s link before at place end = ((end.cause ≡ cause.Cut) × CutRow B s link before at place end.seen) ⊎ (((is_told end.cause ≡ true) × ToldOn G s link before at place end) ⊎ (IsLoss end.cause × LostOn s link before at place end))
 
-pub record FoundOn (G : List ℕ → List Row → List FrameSeen → List FrameSeen → ℕ → EndNews → Type 0) (B : List ℕ → List Row → List FrameSeen → List FrameSeen → ℕ → Type 0) (s : StateSeen) (es : List Entry) (x : Entry) (place : ℕ) (end : RowEnd) : Type 0 where
+pub record FoundOn (G : List ℕ → List Row → List FrameSeen → List FrameSeen → ℕ → EndNews → Type 0) (B : List Row → Bool → List FrameSeen → List FrameSeen → ℕ → Type 0) (s : StateSeen) (es : List Entry) (x : Entry) (place : ℕ) (end : RowEnd) : Type 0 where
   pub link : ℕ
   pub on : IsPlacedOn s.book.ledger.rows link place
   pub by : length (received link (es ++ x ∷ [])) ≤ most → Any G B s link es x place end
 
-abbrev pub Found : (List ℕ → List Row → List FrameSeen → List FrameSeen → ℕ → EndNews → Type 0) → (List ℕ → List Row → List FrameSeen → List FrameSeen → ℕ → Type 0) → StateSeen → List Entry → Entry → ℕ → RowEnd → Type 0
+abbrev pub Found : (List ℕ → List Row → List FrameSeen → List FrameSeen → ℕ → EndNews → Type 0) → (List Row → Bool → List FrameSeen → List FrameSeen → ℕ → Type 0) → StateSeen → List Entry → Entry → ℕ → RowEnd → Type 0
 Found G B s es x place end = (end.cause ≡ cause.Pick) ⊎ FoundOn G B s es x place end
 
 module _ (laws : MoreLaws) (timed : TimedLaws) (n m w : ℕ) (es : List Entry) (x : Entry) (old new : StateSeen) (later : Later n old.book.ledger new.book.ledger) (alike : others x.event → Alike old.book.ledger.rows new.book.ledger.rows)
     (known : KnownIn (applying.begun_at n m w old)) (served : Served (desk_of (applying.begun_at n m w old))) (of : (k : ℕ) → OfOn k es old) (of_new : (k : ℕ) → OfOn k (es ++ x ∷ []) new) (stays_dead : StaysDead old new) (reads : (k : ℕ) → SoundOn k (received k es) old)
     (on : (k : ℕ) → given.InOn Known Free known_kept (received k es) (sent k es) (numbered old.links k)) (reads_new : (k : ℕ) → SoundOn k (received k (es ++ x ∷ [])) new)
     (dated : Lawful (record { journal = record { entries = es ++ x ∷ [] }; state = new; spent = false })) (G : List ℕ → List Row → List FrameSeen → List FrameSeen → ℕ → EndNews → Type 0) (grown : (octets : List ℕ) (F E : List FrameSeen) (place : ℕ) (told : EndNews) → G octets old.book.ledger.rows F E place told → G octets new.book.ledger.rows F E place told)
-    (B : List ℕ → List Row → List FrameSeen → List FrameSeen → ℕ → Type 0) (grown_by : (octets : List ℕ) (F E : List FrameSeen) (place : ℕ) → B octets old.book.ledger.rows F E place → B octets new.book.ledger.rows F E place)
-    (I : ℕ → List ℕ → StateSeen → Type 0) (gaining : (k : ℕ) → Gaining k (I k) (G (sent k es) old.book.ledger.rows) (B (sent k es) old.book.ledger.rows) old.book.ledger.rows) (begins : (k : ℕ) → I k (received k es) (overdue_ended (applying.begun_at n m w old)))
+    (B : List Row → Bool → List FrameSeen → List FrameSeen → ℕ → Type 0) (grown_by : (kind : Bool) (F E : List FrameSeen) (place : ℕ) → B old.book.ledger.rows kind F E place → B new.book.ledger.rows kind F E place)
+    (I : ℕ → List ℕ → StateSeen → Type 0) (gaining : (k : ℕ) → Gaining k (I k) (G (sent k es) old.book.ledger.rows) (B old.book.ledger.rows) old.book.ledger.rows) (begins : (k : ℕ) → I k (received k es) (overdue_ended (applying.begun_at n m w old)))
     (at_n : n ≡ length es + 1) (not_timed : (c : ℕ) → IsFree c (overdue_ended (applying.begun_at n m w old)).book.ledger.calls → EndsIn new.book.ledger.calls c (length es + 1) ending.Deadline → ⊥) where
   abbrev first : StateSeen
   first = applying.begun_at n m w old
@@ -153,17 +157,17 @@ module _ (laws : MoreLaws) (timed : TimedLaws) (n m w : ℕ) (es : List Entry) (
   abbrev NoBytes : ℕ → Type 0
   NoBytes k = (piece : List ℕ) → x.event ≡ event.Arrived k piece → x.reply ≡ reply.Done → ⊥
 
-  cut_timed : (c k read : ℕ) → read ≡ seen_on k old → Few k → IsTimed c → CutAt B new c k es x read
-  cut_timed c k read e few timed = record { timed = λ ends. before_by k read e few; beside = λ none. before_by k read e few; comes = λ piece ev rp not. absurd (not timed) }
+  cut_timed : (p c k read : ℕ) → read ≡ seen_on k old → Few k → IsTimed c → CutAt B new p c k es x read
+  cut_timed p c k read e few timed = record { timed = λ ends. before_by k read e few; beside = λ none. before_by k read e few; comes = λ piece ev rp not. absurd (not timed) }
 
-  cut_quiet : (c k read : ℕ) → read ≡ seen_on k old → Few k → NoBytes k → CutAt B new c k es x read
-  cut_quiet c k read e few none = record { timed = λ ends. before_by k read e few; beside = λ no. before_by k read e few; comes = λ piece ev rp not. absurd (none piece ev rp) }
+  cut_quiet : (p c k read : ℕ) → read ≡ seen_on k old → Few k → NoBytes k → CutAt B new p c k es x read
+  cut_quiet p c k read e few none = record { timed = λ ends. before_by k read e few; beside = λ no. before_by k read e few; comes = λ piece ev rp not. absurd (none piece ev rp) }
 
   -- ends of a part
-  found : (Seen : ℕ → ℕ → ℕ → Type 0) (T : ℕ → ℕ → RowEnd → Type 0) (rows : List Row) → Keeps rows L.rows → ((call link read : ℕ) → Seen call link read → Few link → CutAt B new call link es x read) → ((link place : ℕ) (end : RowEnd) → T link place end → Few link → Any G B new link es x place end)
+  found : (Seen : ℕ → ℕ → ℕ → ℕ → Type 0) (T : ℕ → ℕ → RowEnd → Type 0) (rows : List Row) → Keeps rows L.rows → ((place call link read : ℕ) → Seen place call link read → Few link → CutAt B new place call link es x read) → ((link place : ℕ) (end : RowEnd) → T link place end → Few link → Any G B new link es x place end)
       → (place : ℕ) (end : RowEnd) → Fresh Seen T rows place end → Found G B new es x place end
   found Seen T rows keeps cuts told place end (inl cut) =
-      inr (record { link = cut.link; on = keeps.stays cut.link place cut.on; by = λ few. inl (cut.is_cut, record { call = cut.call; of = keeps.calls cut.call place cut.of; is = cuts cut.call cut.link end.seen cut.seen few }) })
+      inr (record { link = cut.link; on = keeps.stays cut.link place cut.on; by = λ few. inl (cut.is_cut, record { call = cut.call; of = keeps.calls cut.call place cut.of; is = cuts place cut.call cut.link end.seen cut.seen few }) })
   found Seen T rows keeps cuts told place end (inr (inl pick)) = inl pick
   found Seen T rows keeps cuts told place end (inr (inr t)) = inr (record { link = t.link; on = keeps.stays t.link place t.on; by = λ few. told t.link place end t.told few })
 
@@ -194,29 +198,32 @@ module _ (laws : MoreLaws) (timed : TimedLaws) (n m w : ℕ) (es : List Entry) (
 
   -- all parts
   module _ (t : StateSeen) (settles : new ≡ settling.settled t) where
-    late : Part n Silent t new
-    late = subst (λ (y : StateSeen). Part n Silent t y) (sym settles) (settle_part laws timed n Silent t)
+    picked : Picked laws timed n t new
+    picked = subst (λ (y : StateSeen). Picked laws timed n t y) (sym settles) (settle_picked laws timed n t)
 
-    total : Base n s t → (Keeps t.book.ledger.rows L.rows → NewEnds (Found G B new es x) s.book.ledger.rows t.book.ledger.rows) → ((c k read : ℕ) → (IsTimed c → ⊥) → read ≡ seen_on k t → Few k → CutAt B new c k es x read) → NewEnds (Found G B new es x) old.book.ledger.rows L.rows
+    late : Part n Silent t new
+    late = picked.part
+
+    total : Base n s t → (Keeps t.book.ledger.rows L.rows → NewEnds (Found G B new es x) s.book.ledger.rows t.book.ledger.rows) → ((p c k read : ℕ) → (IsTimed c → ⊥) → read ≡ seen_on k t → PickWhy n L c → Few k → CutAt B new p c k es x read) → NewEnds (Found G B new es x) old.book.ledger.rows L.rows
     total base ends cuts =
         let at_t : t.book.ledger.entry ≡ n = base.writes.entry ∙ early.base.writes.entry in
         let known_t : KnownIn t = known_after n s t base early.base.writes.entry known_s in
         let keeps_t : Keeps t.book.ledger.rows L.rows = part_keeps n t new late.base in
         let keeps_first : Keeps s.book.ledger.rows t.book.ledger.rows = part_keeps n s t base in
-        let keeps_s : Keeps s.book.ledger.rows L.rows = record { stays = λ link place p. keeps_t.stays link place (keeps_first.stays link place p); calls = λ c place h. keeps_t.calls c place (keeps_first.calls c place h); stamps = λ c place h. keeps_t.stamps c place (keeps_first.stamps c place h) } in
+        let keeps_s : Keeps s.book.ledger.rows L.rows = keeps_joined s.book.ledger.rows t.book.ledger.rows L.rows keeps_first keeps_t in
         let timed_now : (c : ℕ) → EndsIn s.book.ledger.calls c n ending.Deadline → IsTimed c = λ c h. subst (λ (i : ℕ). EndsIn L.calls c i ending.Deadline) at_n
         (ends_stay t.book.ledger.entry c n ending.Deadline t.book.ledger L late.base.writes.later (ends_stay s.book.ledger.entry c n ending.Deadline s.book.ledger t.book.ledger base.writes.later h)) in
         let Q : ℕ → RowEnd → Type 0 = Found G B new es x in
         new_joined Q old.book.ledger.rows s.book.ledger.rows L.rows
-        (new_less (Fresh (TimedOf n first s.book.ledger.calls) Silent s.book.ledger.rows) Q old.book.ledger.rows s.book.ledger.rows (found (TimedOf n first s.book.ledger.calls) Silent s.book.ledger.rows keeps_s (λ c link j e few. cut_timed c link j e.0.0 few (timed_now c e.1)) silent) (first_part.ends refl known))
+        (new_less (Fresh (TimedOf n first s.book.ledger.calls) Silent s.book.ledger.rows) Q old.book.ledger.rows s.book.ledger.rows (found (TimedOf n first s.book.ledger.calls) Silent s.book.ledger.rows keeps_s (λ p c link j e few. cut_timed p c link j e.0.0 few (timed_now c e.1)) silent) (first_part.ends refl known))
         (new_joined Q s.book.ledger.rows t.book.ledger.rows L.rows (ends keeps_t)
-        (new_less (Fresh (Read Silent t) Silent L.rows) Q t.book.ledger.rows L.rows (found (Read Silent t) Silent L.rows (keeps_same L.rows) (λ c link j e few. cuts c link j (not_timed c (part_free n s t c base e.1)) e.0 few) silent) (late.ends at_t known_t)))
+        (new_less (Fresh (ReadPick n t L) Silent L.rows) Q t.book.ledger.rows L.rows (found (ReadPick n t L) Silent L.rows (keeps_same L.rows) (λ p c link j e few. cuts p c link j (not_timed c (part_free n s t c base e.0.1)) e.0.0 e.1 few) silent) (picked.ends at_t known_t)))
 
     -- nothing comes on a link
     by_part : ((k : ℕ) → NoBytes k) → Part n Silent s t → NewEnds (Found G B new es x) old.book.ledger.rows L.rows
     by_part none part = total part.base
-        (λ keeps. new_less (Fresh (Read Silent s) Silent t.book.ledger.rows) (Found G B new es x) s.book.ledger.rows t.book.ledger.rows (found (Read Silent s) Silent t.book.ledger.rows keeps (λ c link j e few. cut_quiet c link j (e.0 ∙ seen_s link) few (none link)) silent) (part.ends early.base.writes.entry known_s))
-        (λ c k j not e few. cut_quiet c k j (e ∙ part.seen k ∙ seen_s k) few (none k))
+        (λ keeps. new_less (Fresh (Read Silent s) Silent t.book.ledger.rows) (Found G B new es x) s.book.ledger.rows t.book.ledger.rows (found (Read Silent s) Silent t.book.ledger.rows keeps (λ p c link j e few. cut_quiet p c link j (e.0 ∙ seen_s link) few (none link)) silent) (part.ends early.base.writes.entry known_s))
+        (λ p c k j not e why few. cut_quiet p c k j (e ∙ part.seen k ∙ seen_s k) few (none k))
 
     refused : (e : Event) (r : Reply) (why : Refusal) → x.reply ≡ r → AnswersBy (Some why) e s t r → NewEnds (Found G B new es x) old.book.ledger.rows L.rows
     refused e r why rp g = by_part (λ k piece ev done. (let both : reply.Refused why ≡ reply.Done = sym (rp ∙ g.1) ∙ done in let no : ⊥ = (cc) in no)) (subst (λ (y : StateSeen). Part n Silent s y) (sym g.0) (resting.same (Part n Silent) (rests laws timed n Silent) s))
@@ -230,8 +237,8 @@ module _ (laws : MoreLaws) (timed : TimedLaws) (n m w : ℕ) (es : List Entry) (
     lost link r None ev rp is g =
         let none : (k : ℕ) → NoBytes k = λ k piece is_event done. (let both : event.LinkLost link ≡ event.Arrived k piece = sym ev ∙ is_event in let no : ⊥ = (cc) in no) in
         let T : ℕ → ℕ → RowEnd → Type 0 = λ l place end. (l ≡ link) × (IsLoss end.cause × ((end.seen ≡ seen_on link s) × ((end.cause ≡ cause.Lost → is_some (stream_at s.book.ledger.rows place) ≡ true) × (end.cause ≡ cause.Unsent → stream_at s.book.ledger.rows place ≡ None)))) in
-        let lose_it : Hears laws timed n T Anyone (λ l p end h. tt) (Unit {0}) s (arrivals.lost link true s) = lose laws timed n T Anyone (λ l p end h. tt) link (seen_on link s) s.book.ledger.rows (λ row b is entry moment tokens word. (refl, (loss_cause b (seen_on link s), (refl, (λ lost. is ∙ loss_sent b (seen_on link s) lost, λ unsent. loss_unsent b (seen_on link s) (stream_at s.book.ledger.rows row) is unsent))))) true s refl (λ place. refl) in
-        let hears : Hears laws timed n T Anyone (λ l p end h. tt) (Unit {0}) s t = subst (λ (y : StateSeen). Hears laws timed n T Anyone (λ l p end h. tt) (Unit {0}) s y) (sym g.0) lose_it in
+        let lose_it : Hears laws timed n T Anyone (Unit {0}) s (arrivals.lost link true s) = lose laws timed n T Anyone link (seen_on link s) s.book.ledger.rows (λ row b is entry moment tokens word. (refl, (loss_cause b (seen_on link s), (refl, (λ lost. is ∙ loss_sent b (seen_on link s) lost, λ unsent. loss_unsent b (seen_on link s) (stream_at s.book.ledger.rows row) is unsent))))) true s refl (λ place. refl) in
+        let hears : Hears laws timed n T Anyone (Unit {0}) s t = subst (λ (y : StateSeen). Hears laws timed n T Anyone (Unit {0}) s y) (sym g.0) lose_it in
         let part : PartFor n T Anyone s t = hears.part tt early.base.writes.entry known_s served_s in
         let has : has_link s.links link ≡ true = has_if s.shut (has_link s.links link) (is_gone link s) is in
         let there : is_some (text_on link s) ≡ true = text_there (numbered s.links link) has in
@@ -243,6 +250,7 @@ module _ (laws : MoreLaws) (timed : TimedLaws) (n m w : ℕ) (es : List Entry) (
             event_is = inl ev;
             reply_is = rp ∙ g.1;
             read = behind_by link end.seen (h.1.1.0 ∙ sym (late.seen link ∙ part.seen link)) (subst (λ (j : ℕ). Few j) h.0 few);
+            broke = λ piece is_event left sound. (let both : event.LinkLost link ≡ event.Arrived link piece = sym ev ∙ is_event in (cc));
             gone = gone_new link dead;
             dead = dead;
             last = late.seen link ∙ part.seen link ∙ sym h.1.1.0;
@@ -251,8 +259,8 @@ module _ (laws : MoreLaws) (timed : TimedLaws) (n m w : ℕ) (es : List Entry) (
           },
         ))) in
         total part.base
-        (λ keeps. new_less (Fresh (ReadFor T Anyone s t.book.ledger.rows) T t.book.ledger.rows) (Found G B new es x) s.book.ledger.rows t.book.ledger.rows (found (ReadFor T Anyone s t.book.ledger.rows) T t.book.ledger.rows keeps (λ c l j e few. cut_quiet c l j (e.0.0 ∙ seen_s l) few (none l)) told) (part.ends early.base.writes.entry known_s))
-        (λ c k j not e few. cut_quiet c k j (e ∙ part.seen k ∙ seen_s k) few (none k))
+        (λ keeps. new_less (Fresh (ReadFor n T Anyone s t.book.ledger.rows) T t.book.ledger.rows) (Found G B new es x) s.book.ledger.rows t.book.ledger.rows (found (ReadFor n T Anyone s t.book.ledger.rows) T t.book.ledger.rows keeps (λ p c l j e few. cut_quiet p c l j (e.0.0 ∙ seen_s l) few (none l)) told) (part.ends early.base.writes.entry known_s))
+        (λ p c k j not e why few. cut_quiet p c k j (e ∙ part.seen k ∙ seen_s k) few (none k))
 
     -- bytes come
     module _ (link : ℕ) (piece : List ℕ) (r : Reply) (ev : x.event ≡ event.Arrived link piece) (rp : x.reply ≡ r) (is : refusal_of (event.Arrived link piece) s ≡ None) (g : AnswersBy None (event.Arrived link piece) s t r) where
@@ -298,11 +306,11 @@ module _ (laws : MoreLaws) (timed : TimedLaws) (n m w : ℕ) (es : List Entry) (
       abbrev base : ℕ → ℕ
       base l = seen_on l s
 
-      brings : arrive.Brings link (sent link es) start all D (I link) (G (sent link es) old.book.ledger.rows) (B (sent link es) old.book.ledger.rows) old.book.ledger.rows (gaining link) laws timed n base s (arrivals.piece_arrived link piece s)
-      brings = arrive.frames link (sent link es) start all D (I link) (G (sent link es) old.book.ledger.rows) (B (sent link es) old.book.ledger.rows) old.book.ledger.rows (gaining link) laws timed n base start piece 0 s refl (omega arith) there (λ l off. refl) opens (subst (λ (l : List ℕ). I link l s) (sym (append-nil start)) (begins link)) (λ j dead seen. (dead, seen))
+      brings : arrive.Brings link (sent link es) start all D (I link) (G (sent link es) old.book.ledger.rows) (B old.book.ledger.rows) old.book.ledger.rows (gaining link) laws timed n base s (arrivals.piece_arrived link piece s)
+      brings = arrive.frames link (sent link es) start all D (I link) (G (sent link es) old.book.ledger.rows) (B old.book.ledger.rows) old.book.ledger.rows (gaining link) laws timed n base start piece 0 s refl (omega arith) there (λ l off. refl) opens (subst (λ (l : List ℕ). I link l s) (sym (append-nil start)) (begins link)) (λ j dead seen. (dead, seen))
 
-      brought : arrive.Brings link (sent link es) start all D (I link) (G (sent link es) old.book.ledger.rows) (B (sent link es) old.book.ledger.rows) old.book.ledger.rows (gaining link) laws timed n base s t
-      brought = subst (λ (y : StateSeen). arrive.Brings link (sent link es) start all D (I link) (G (sent link es) old.book.ledger.rows) (B (sent link es) old.book.ledger.rows) old.book.ledger.rows (gaining link) laws timed n base s y) (sym g.0) brings
+      brought : arrive.Brings link (sent link es) start all D (I link) (G (sent link es) old.book.ledger.rows) (B old.book.ledger.rows) old.book.ledger.rows (gaining link) laws timed n base s t
+      brought = subst (λ (y : StateSeen). arrive.Brings link (sent link es) start all D (I link) (G (sent link es) old.book.ledger.rows) (B old.book.ledger.rows) old.book.ledger.rows (gaining link) laws timed n base s y) (sym g.0) brings
 
       dead_by : (j : ℕ) → D j → dead_on link new ≡ true
       dead_by j d = dead_new link (subst (λ (y : StateSeen). dead_on link y ≡ true) (sym g.0) d.0)
@@ -312,6 +320,39 @@ module _ (laws : MoreLaws) (timed : TimedLaws) (n m w : ℕ) (es : List Entry) (
 
       comes_bare : (place : ℕ) → stream_at old.book.ledger.rows place ≡ None → stream_at L.rows place ≡ None
       comes_bare place none = bare_new (other_event link x.event (inr (piece, ev))) place none
+
+      -- the bytes break the link
+      broken : Comes Known Free known_kept KeepsRules BreaksRules known_judges link (sent link es) start all (arrivals.piece_arrived link piece s)
+      broken = comes Known Free known_kept KeepsRules BreaksRules known_judges link (sent link es) start start piece 0 s (omega arith) there opens
+
+      abbrev ShutOn : Type 0
+      ShutOn = Shut Known Free known_kept KeepsRules BreaksRules known_judges link (sent link es) start all (arrivals.piece_arrived link piece s)
+
+      shut_by : (j : ℕ) → D j → Comes Known Free known_kept KeepsRules BreaksRules known_judges link (sent link es) start all (arrivals.piece_arrived link piece s) → ShutOn
+      shut_by j d (inl opened) = absurd (let clash : true ≡ false = sym d.0 ∙ opened.alive in let no : ⊥ = (cc) in no)
+      shut_by j d (inr shut) = shut
+
+      gone_now_on : (j : ℕ) → D j → IsGoneBy L link (length (es ++ x ∷ []))
+      gone_now_on j d = subst (λ (i : ℕ). IsGoneBy L link i) (sym (length-append es (x ∷ []))) (gone_new link (dead_by j d))
+
+      lost_on : (place : ℕ) (end : RowEnd) → D end.seen → ShutOn → Few link → (end.cause ≡ cause.Lost → is_some (stream_at old.book.ledger.rows place) ≡ true) → (end.cause ≡ cause.Unsent → stream_at old.book.ledger.rows place ≡ None) → LostOn new link es x place end
+      lost_on place end d shut few sent unsent = record {
+        event_is = inr (piece, ev);
+        reply_is = rp ∙ g.1;
+        read = record {
+          frames = frames_of start ++ shut.now;
+          more = shut.left;
+          front = ap frames_of all_is ∙ shut.behind;
+          read_is = sym d.1 ∙ shut.count (few_all few);
+          all = inr (record { gone = gone_now_on end.seen d; dead = dead_by end.seen d; last = last_by end.seen d });
+        };
+        broke = λ other is_event none sound. shut.breaks none (ap (λ (l : List ℕ). fault_of (rest_of l)) (sym all_is) ∙ sound);
+        gone = gone_new link (dead_by end.seen d);
+        dead = dead_by end.seen d;
+        last = last_by end.seen d;
+        sent = λ why. sent_later n old.book.ledger L place later (sent why);
+        unsent = λ why. comes_bare place (unsent why);
+      }
 
       told_on : (place : ℕ) (end : RowEnd) → ((is_told end.cause ≡ true) × IsToldEnd (G (sent link es) old.book.ledger.rows) start all place end) ⊎ (IsLoss end.cause × ((IsPoint start all end.seen × D end.seen) × (end.cause ≡ cause.Lost → is_some (stream_at old.book.ledger.rows place) ≡ true))) → (end.cause ≡ cause.Unsent → stream_at old.book.ledger.rows place ≡ None) → Few link → Any G B new link es x place end
       told_on place end (inl h) unsent few = inr (inl (
@@ -331,54 +372,56 @@ module _ (laws : MoreLaws) (timed : TimedLaws) (n m w : ℕ) (es : List Entry) (
           unsent = λ why. comes_bare place (unsent why);
         },
       ))
-      told_on place end (inr h) unsent few = inr (inr (h.0, record { event_is = inr (piece, ev); reply_is = rp ∙ g.1; read = behind_by link end.seen (sym (last_by end.seen h.1.0.1)) few; gone = gone_new link (dead_by end.seen h.1.0.1); dead = dead_by end.seen h.1.0.1; last = last_by end.seen h.1.0.1; sent = λ why. sent_later n old.book.ledger L place later (h.1.1 why); unsent = λ why. comes_bare place (unsent why) }))
+      told_on place end (inr h) unsent few = inr (inr (h.0, lost_on place end h.1.0.1 (shut_by end.seen h.1.0.1 broken) few h.1.1 unsent))
 
       told_by : (l place : ℕ) (end : RowEnd) → T l place end → Few l → Any G B new l es x place end
       told_by l place end h few = subst (λ (j : ℕ). Any G B new j es x place end) (sym h.0) (told_on place end h.1.0 h.1.1 (subst (λ (j : ℕ). Few j) h.0 few))
 
       -- rows that are cut as the piece comes, and behind it
-      own_cut : (c read : ℕ) → (IsTimed c → ⊥) → FrameCut B new c link es piece read ⊎ ReadAt new link (es ++ x ∷ []) read → CutAt B new c link es x read
-      own_cut c read not how = record {
+      own_cut : (p c read : ℕ) → (IsTimed c → ⊥) → FrameCut B L.rows p c link es piece read ⊎ (ReadAt new link (es ++ x ∷ []) read × PickWhy (length es + 1) L c) → CutAt B new p c link es x read
+      own_cut p c read not how = record {
         timed = λ ends. absurd (not ends);
         beside = λ none. absurd (none piece ev (rp ∙ g.1));
         comes = λ other is_event is_reply no.
             let both : event.Arrived link piece ≡ event.Arrived link other = sym ev ∙ is_event in
             let same : piece ≡ other = (cc) in
-            subst (λ (l : List ℕ). FrameCut B new c link es l read ⊎ ReadAt new link (es ++ x ∷ []) read) same how;
+            subst (λ (l : List ℕ). FrameCut B L.rows p c link es l read ⊎ (ReadAt new link (es ++ x ∷ []) read × PickWhy (length es + 1) L c)) same how;
       }
 
       others_none : (l : ℕ) → (l ≡ link → ⊥) → NoBytes l
       others_none l off other is_event done = (let both : event.Arrived link piece ≡ event.Arrived l other = sym ev ∙ is_event in let same : link ≡ l = (cc) in off (sym same))
 
-      cut_come : Keeps t.book.ledger.rows L.rows → (c read : ℕ) → (IsTimed c → ⊥) → IsEndOf (B (sent link es) old.book.ledger.rows) link start all t.book.ledger.rows c read ⊎ D read → Few link → CutAt B new c link es x read
-      cut_come keeps c read not (inl h) few = own_cut c read not (inl (record {
+      brought_at : (kind : Bool) (tag read : ℕ) → Few link → IsBrought (B old.book.ledger.rows) kind start all tag read → FrameAt B kind L.rows link es piece tag read
+      brought_at kind tag read few h = record {
         now = h.now;
         frame = h.frame;
         more = h.at.more;
         frames = h.at.front;
         read_is = h.at.seen (few_all few);
-        tag = h.tag;
-        of = keeps.calls c h.tag h.of;
-        on = keeps.stays link h.tag h.on;
-        brought = grown_by (sent link es) (frames_of start ++ h.now) ((frames_of start ++ h.now) ++ h.frame ∷ []) h.tag h.brought;
-      }))
-      cut_come keeps c read not (inr d) few = own_cut c read not (inr (behind_by link read (sym (last_by read d)) few))
+        brought = grown_by kind (frames_of start ++ h.now) ((frames_of start ++ h.now) ++ h.frame ∷ []) tag h.brought;
+      }
 
-      cut_by : Keeps t.book.ledger.rows L.rows → (c l read : ℕ) → ReadBy (B (sent link es) old.book.ledger.rows) link start all D base s.book.ledger.calls t.book.ledger.rows c l read → Few l → CutAt B new c l es x read
-      cut_by keeps c l read (inl h, free) few = subst (λ (j : ℕ). CutAt B new c j es x read) (sym h.0) (cut_come keeps c read (not_timed c free) h.1 (subst (λ (j : ℕ). Few j) h.0 few))
-      cut_by keeps c l read (inr h, free) few = cut_quiet c l read (h.1 ∙ seen_s l) few (others_none l h.0)
+      cut_frame : Keeps t.book.ledger.rows L.rows → (p c read : ℕ) → Few link → CutBy n (B old.book.ledger.rows) link start all t.book.ledger.rows p c read → FrameCut B L.rows p c link es piece read
+      cut_frame keeps p c read few (inl h) = inl (record { tag = h.tag; mark = subst (λ (i : ℕ). IsMarked L.rows c h.tag i) at_n (keeps.marks c h.tag n h.mark); two = two_stay t.book.ledger.rows L.rows h.tag p keeps.numbers h.two; on = keeps.stays link h.tag h.on; by = brought_at true h.tag read few h.by })
+      cut_frame keeps p c read few (inr (inl h)) =
+          inr (inl (record { tag = h.tag; mark = subst (λ (i : ℕ). IsMarked L.rows c h.tag i) at_n (keeps.marks c h.tag n h.mark); two = two_stay t.book.ledger.rows L.rows h.tag p keeps.numbers h.two; on = keeps.stays link h.tag h.on; ended = subst (λ (i : ℕ). IsEndedSo (IsOwnEnd read) L.rows h.tag i) at_n (ended_keeps (IsOwnEnd read) t.book.ledger.rows L.rows h.tag n keeps h.ended) }))
+      cut_frame keeps p c read few (inr (inr h)) = inr (inr (record { stamp = keeps.stamps c p h.stamp; by = brought_at false p read few h.by }))
 
-      cut_end : (c k read : ℕ) → (IsTimed c → ⊥) → read ≡ seen_on k (arrivals.piece_arrived link piece s) → Few k → CutAt B new c k es x read
-      cut_end c k read not e few = elim (cases_eq k link) [
-        | inl same ↦ subst (λ (j : ℕ). CutAt B new c j es x read) (sym same)
-            (own_cut c read not (inr (behind_by link read (e ∙ ap (λ (j : ℕ). seen_on j (arrivals.piece_arrived link piece s)) same ∙ sym (late.seen link ∙ ap (λ (y : StateSeen). seen_on link y) g.0)) (subst (λ (j : ℕ). Few j) same few))))
-        | inr off ↦ cut_quiet c k read (e ∙ (other_frames k link piece 0 s (λ e. off (sym e))).seen ∙ seen_s k) few (others_none k off)
+      cut_by : Keeps t.book.ledger.rows L.rows → (p c l read : ℕ) → ReadBy n (B old.book.ledger.rows) link start all base s.book.ledger.calls t.book.ledger.rows p c l read → Few l → CutAt B new p c l es x read
+      cut_by keeps p c l read (inl h, free) few = subst (λ (j : ℕ). CutAt B new p c j es x read) (sym h.0) (own_cut p c read (not_timed c free) (inl (cut_frame keeps p c read (subst (λ (j : ℕ). Few j) h.0 few) h.1)))
+      cut_by keeps p c l read (inr h, free) few = cut_quiet p c l read (h.1 ∙ seen_s l) few (others_none l h.0)
+
+      cut_end : (p c k read : ℕ) → (IsTimed c → ⊥) → read ≡ seen_on k (arrivals.piece_arrived link piece s) → PickWhy n L c → Few k → CutAt B new p c k es x read
+      cut_end p c k read not e why few = elim (cases_eq k link) [
+        | inl same ↦ subst (λ (j : ℕ). CutAt B new p c j es x read) (sym same)
+            (own_cut p c read not (inr (behind_by link read (e ∙ ap (λ (j : ℕ). seen_on j (arrivals.piece_arrived link piece s)) same ∙ sym (late.seen link ∙ ap (λ (y : StateSeen). seen_on link y) g.0)) (subst (λ (j : ℕ). Few j) same few), subst (λ (i : ℕ). PickWhy i L c) at_n why)))
+        | inr off ↦ cut_quiet p c k read (e ∙ (other_frames k link piece 0 s (λ e. off (sym e))).seen ∙ seen_s k) few (others_none k off)
       ]
 
       come : NewEnds (Found G B new es x) old.book.ledger.rows L.rows
       come = total brought.serves.base
-          (λ keeps. new_less (Fresh (ReadBy (B (sent link es) old.book.ledger.rows) link start all D base s.book.ledger.calls t.book.ledger.rows) T t.book.ledger.rows) (Found G B new es x) s.book.ledger.rows t.book.ledger.rows (found (ReadBy (B (sent link es) old.book.ledger.rows) link start all D base s.book.ledger.calls t.book.ledger.rows) T t.book.ledger.rows keeps (cut_by keeps) told_by) (brought.ends early.base.writes.entry known_s served_s))
-          (λ c k j not e few. cut_end c k j not (e ∙ ap (λ (y : StateSeen). seen_on k y) g.0) few)
+          (λ keeps. new_less (Fresh (ReadBy n (B old.book.ledger.rows) link start all base s.book.ledger.calls t.book.ledger.rows) T t.book.ledger.rows) (Found G B new es x) s.book.ledger.rows t.book.ledger.rows (found (ReadBy n (B old.book.ledger.rows) link start all base s.book.ledger.calls t.book.ledger.rows) T t.book.ledger.rows keeps (cut_by keeps) told_by) (brought.ends early.base.writes.entry known_s served_s))
+          (λ p c k j not e why few. cut_end p c k j not (e ∙ ap (λ (y : StateSeen). seen_on k y) g.0) why few)
 
     arrived : (link : ℕ) (piece : List ℕ) (r : Reply) (o : Option Refusal) → x.event ≡ event.Arrived link piece → x.reply ≡ r → refusal_of (event.Arrived link piece) s ≡ o → AnswersBy o (event.Arrived link piece) s t r → NewEnds (Found G B new es x) old.book.ledger.rows L.rows
     arrived link piece r (Some why) ev rp is g = refused (event.Arrived link piece) r why rp g

@@ -151,7 +151,7 @@ module _ (old new : CoreSeen) (s : Stamped) (r : Reply) (p : IsParted old new s 
   whole : Later number old.state.book.ledger new.state.book.ledger
   whole = later_then number old.state.book.ledger p.found.book.ledger new.state.book.ledger p.begun (later_then number p.found.book.ledger p.left.book.ledger new.state.book.ledger p.told p.settled)
 
-  first_none : ended_at k p.first ≡ None
+  pub first_none : ended_at k p.first ≡ None
   first_none =
       ap (λ (x : StateSeen). ended_at k x) p.first_is ∙ ended_told (IsChosen old.journal.entries) (HoldsLast old.journal.entries) k old.state knew.sound
       ∙ told_of (numbered old.state.book.ledger.calls k) (none_before (end_of (numbered old.state.book.ledger.calls k)) refl whole)

@@ -38,13 +38,22 @@ use Rattle.link_laws.proofs.Knowing.{Knows, knows_new, none_at}
 use Rattle.link_laws.proofs.LicensedCalls.{MoreLaws}
 use Rattle.link_laws.proofs.Lifting.{got_more, same_number}
 use Rattle.link_laws.proofs.Numbered.{numbered_more}
-use Rattle.channel_laws.specs.TakeReplies.{AreTakesTold, IsTakeReply, IsUnknown, WasEndTaken, tells_end, tells_next}
+use Rattle.channel_laws.specs.TakeReplies.{IsUnknown, WasEndTaken, tells_end, tells_next}
 use Rattle.channel_laws.proofs.OpenTakes.{IsFree, IsOther, Stays, free_found, free_left, free_settled}
 use Rattle.channel_laws.proofs.Owned.{InboxLaws}
 use Rattle.channel_laws.proofs.PartCauses.{IsSeenBy, seen_by}
 use Rattle.channel_laws.proofs.StepParts.{IsParted, parted}
 use Rattle.channel_laws.proofs.TakenFlags.{given_take}
 use Rattle.channel_laws.proofs.Views.{call_at, call_in}
+
+-- that a Take is refused only of a call that was not begun, or whose end was taken
+abbrev pub IsToldSo : List Entry → Ledger → ℕ → ℕ → Reply → Type 0
+IsToldSo entries ledger call entry r =
+    (tells_next r ≡ true)
+    ⊎ (((r ≡ reply.Refused refusals.NoSuchCall) × IsUnknown ledger call entry) ⊎ ((r ≡ reply.Refused refusals.CallEnded) × WasEndTaken entries call entry))
+
+abbrev pub AreToldSo : List Entry → Ledger → Type 0
+AreToldSo entries ledger = (entry call : ℕ) (e : Entry) → numbered entries entry ≡ Some e → e.event ≡ event.Take call → IsToldSo entries ledger call entry e.reply
 
 -- what a call tells of itself
 row_next : (o : Option RowEnd) → (tells_end (within_limit (row_end_reply o)) ≡ true) × (tells_next (within_limit (row_end_reply o)) ≡ true)
@@ -98,7 +107,7 @@ take_next true l c e = absurd (let no : ⊥ = (cc) in no)
 take_next false l c e = item_next c.inbox.head l c
 
 -- lists that have grown
-new_in : {X : Type 0} (R : X → X → Type 0) (N : X → Type 0) (olds news : List X) (i : ℕ) (y : X) → Grown R N olds news → slice_get olds i ≡ None → slice_get news i ≡ Some y → N y
+pub new_in : {X : Type 0} (R : X → X → Type 0) (N : X → Type 0) (olds news : List X) (i : ℕ) (y : X) → Grown R N olds news → slice_get olds i ≡ None → slice_get news i ≡ Some y → N y
 new_in R N [] [] i y g none e = absurd (let no : ⊥ = (cc) in no)
 new_in R N [] (x ∷ xs) zero y g none e = (let same : x ≡ y = (cc) in subst N same g.0)
 new_in R N [] (x ∷ xs) (suc i) y g none e = new_in R N [] xs i y g.1 refl e
@@ -106,11 +115,11 @@ new_in R N (o ∷ olds) [] i y g none e = absurd g
 new_in R N (o ∷ olds) (x ∷ xs) zero y g none e = absurd (let no : ⊥ = (cc) in no)
 new_in R N (o ∷ olds) (x ∷ xs) (suc i) y g none e = new_in R N olds xs i y g.1 none e
 
-begun_new : (n k : ℕ) (a b : Ledger) (seen : CallSeen) → Later n a b → numbered a.calls k ≡ None → numbered b.calls k ≡ Some seen → seen.begun ≡ n
+pub begun_new : (n k : ℕ) (a b : Ledger) (seen : CallSeen) → Later n a b → numbered a.calls k ≡ None → numbered b.calls k ≡ Some seen → seen.begun ≡ n
 begun_new n zero a b seen l none e = absurd (let no : ⊥ = (cc) in no)
 begun_new n (suc i) a b seen l none e = (new_in (LaterCall n) (NewCall n) a.calls b.calls i seen l.calls none e).begun
 
-begun_by : (n k : ℕ) (a b : Ledger) (seen : CallSeen) (o : Option CallSeen) → Later n a b → numbered a.calls k ≡ o → numbered b.calls k ≡ Some seen → (seen.begun ≡ n) ⊎ ((was : CallSeen) × ((numbered a.calls k ≡ Some was) × (seen.begun ≡ was.begun)))
+pub begun_by : (n k : ℕ) (a b : Ledger) (seen : CallSeen) (o : Option CallSeen) → Later n a b → numbered a.calls k ≡ o → numbered b.calls k ≡ Some seen → (seen.begun ≡ n) ⊎ ((was : CallSeen) × ((numbered a.calls k ≡ Some was) × (seen.begun ≡ was.begun)))
 begun_by n k a b seen None l none e = inl (begun_new n k a b seen l none e)
 begun_by n zero a b seen (Some was) l there e = absurd (let no : ⊥ = (cc) in no)
 begun_by n (suc i) a b seen (Some was) l there e =
@@ -119,7 +128,7 @@ begun_by n (suc i) a b seen (Some was) l there e =
     let same : new.0 ≡ seen = (cc) in
     inr (was, (there, subst (λ (y : CallSeen). y.begun ≡ was.begun) same new.1.1.begun))
 
-unknown_stays : (n k entry : ℕ) (a b : Ledger) → entry ≤ n → Later n a b → IsUnknown a k entry → IsUnknown b k entry
+pub unknown_stays : (n k entry : ℕ) (a b : Ledger) → entry ≤ n → Later n a b → IsUnknown a k entry → IsUnknown b k entry
 unknown_stays n k entry a b le l h seen there = elim (begun_by n k a b seen (numbered a.calls k) l refl there) [
   | inl now ↦ omega (arith, now, le)
   | inr old ↦ (let low : entry ≤ old.0.begun = h old.0 old.1.0 in let same = old.1.1 in omega (arith, low, same))
@@ -129,7 +138,7 @@ unknown_stays n k entry a b le l h seen there = elim (begun_by n k a b seen (num
 taken_more : (es : List Entry) (x : Entry) (k entry later : ℕ) → entry ≤ later → WasEndTaken es k entry → WasEndTaken (es ++ x ∷ []) k later
 taken_more es x k entry later le h = record { earlier = h.earlier; before = (let b = h.before in omega (arith, b, le)); e = h.e; there = numbered_more es x h.e h.earlier h.there; takes = h.takes; told = h.told }
 
-reply_stays : (n k entry : ℕ) (es : List Entry) (x : Entry) (a b : Ledger) (r : Reply) → entry ≤ n → Later n a b → IsTakeReply es a k entry r → IsTakeReply (es ++ x ∷ []) b k entry r
+reply_stays : (n k entry : ℕ) (es : List Entry) (x : Entry) (a b : Ledger) (r : Reply) → entry ≤ n → Later n a b → IsToldSo es a k entry r → IsToldSo (es ++ x ∷ []) b k entry r
 reply_stays n k entry es x a b r le l (inl next) = inl next
 reply_stays n k entry es x a b r le l (inr (inl none)) = inr (inl (none.0, unknown_stays n k entry a b le l none.1))
 reply_stays n k entry es x a b r le l (inr (inr over)) = inr (inr (over.0, taken_more es x k entry entry (omega arith) over.1))
@@ -157,7 +166,7 @@ take_or inbox k m event.Shutdown = inr tt
 record IsSo (core : CoreSeen) : Type 0 where
   knows : Knows core
   ends : (k : ℕ) → IsFree (call_at k core.state) ⊎ WasEndTaken core.journal.entries k (length core.journal.entries + 1)
-  law : AreTakesTold core.journal.entries core.state.book.ledger
+  law : AreToldSo core.journal.entries core.state.book.ledger
 
 module _ (laws : MoreLaws) (inbox : InboxLaws) where
   module _ (old new : CoreSeen) (s : Stamped) (r : Reply) (h : Steps old new s r) (had : IsSo old) where
@@ -215,7 +224,7 @@ module _ (laws : MoreLaws) (inbox : InboxLaws) where
             let reply_is : r ≡ within_limit (take_reply p.found.book.ledger u.call) = g.1 ∙ ap (λ (o : Option CallSlot). within_limit (take_reply_of p.found.book.ledger o)) e in
             subst IsFree (sym left_at) (elim (taken_free u.call.inbox.is_end_taken p.found.book.ledger u.call free free) [ inl still ↦ still | inr told ↦ absurd (none (ap tells_end reply_is ∙ told)) ])
 
-        told_some : (u : CallSlot) (b : Bool) → u.call.inbox.is_end_taken ≡ b → numbered p.found.book.calls k ≡ Some u → r ≡ within_limit (take_reply p.found.book.ledger u.call) → IsTakeReply (es ++ x ∷ []) new.state.book.ledger k n r
+        told_some : (u : CallSlot) (b : Bool) → u.call.inbox.is_end_taken ≡ b → numbered p.found.book.calls k ≡ Some u → r ≡ within_limit (take_reply p.found.book.ledger u.call) → IsToldSo (es ++ x ∷ []) new.state.book.ledger k n r
         told_some u false e there is = inl (ap tells_next is ∙ take_next u.call.inbox.is_end_taken p.found.book.ledger u.call e)
         told_some u true e there is =
             let refused : r ≡ reply.Refused refusals.CallEnded = is ∙ ap (λ (b : Bool). within_limit (if b then reply.Refused refusals.CallEnded else item_reply u.call.inbox.head p.found.book.ledger u.call)) e in
@@ -224,7 +233,7 @@ module _ (laws : MoreLaws) (inbox : InboxLaws) where
               | inr before ↦ inr (inr (refused, taken_more es x k n n (omega arith) before))
             ]
 
-        told_by : (o : Option CallSlot) → numbered p.found.book.calls k ≡ o → AnswersBy (lacks_call o) (event.Take k) p.found p.left r → IsTakeReply (es ++ x ∷ []) new.state.book.ledger k n r
+        told_by : (o : Option CallSlot) → numbered p.found.book.calls k ≡ o → AnswersBy (lacks_call o) (event.Take k) p.found p.left r → IsToldSo (es ++ x ∷ []) new.state.book.ledger k n r
         told_by None e g = inr (inl (g.1, unknown))
           where
             none_by : (o : Option CallSeen) → numbered p.found.book.ledger.calls k ≡ o → numbered p.found.book.ledger.calls k ≡ None
@@ -235,7 +244,7 @@ module _ (laws : MoreLaws) (inbox : InboxLaws) where
             unknown c there = (let now : c.begun ≡ n = begun_new n k p.found.book.ledger new.state.book.ledger c behind (none_by (numbered p.found.book.ledger.calls k) refl) there in omega (arith, now))
         told_by (Some u) e g = told_some u u.call.inbox.is_end_taken refl e (g.1 ∙ ap (λ (o : Option CallSlot). within_limit (take_reply_of p.found.book.ledger o)) e)
 
-        told_now : IsTakeReply (es ++ x ∷ []) new.state.book.ledger k n r
+        told_now : IsToldSo (es ++ x ∷ []) new.state.book.ledger k n r
         told_now = told_by (numbered p.found.book.calls k) refl given
 
       -- whether an end of the call was taken
@@ -251,16 +260,16 @@ module _ (laws : MoreLaws) (inbox : InboxLaws) where
         ]
       ]
 
-    told_entry : (i k : ℕ) (e : Entry) → e.event ≡ event.Take k → ((i ≡ length es) × (e ≡ x)) ⊎ (slice_get es i ≡ Some e) → IsTakeReply (es ++ x ∷ []) new.state.book.ledger k (suc i) e.reply
+    told_entry : (i k : ℕ) (e : Entry) → e.event ≡ event.Take k → ((i ≡ length es) × (e ≡ x)) ⊎ (slice_get es i ≡ Some e) → IsToldSo (es ++ x ∷ []) new.state.book.ledger k (suc i) e.reply
     told_entry i k e is (inl last) =
         let at : n ≡ suc i = (let same = last.0 in omega (arith, same)) in
-        let now : IsTakeReply (es ++ x ∷ []) new.state.book.ledger k n r = told_now k (ap (λ (y : Entry). y.event) (sym last.1) ∙ is) in
-        subst (λ (y : Entry). IsTakeReply (es ++ x ∷ []) new.state.book.ledger k (suc i) y.reply) (sym last.1) (subst (λ (j : ℕ). IsTakeReply (es ++ x ∷ []) new.state.book.ledger k j r) at now)
+        let now : IsToldSo (es ++ x ∷ []) new.state.book.ledger k n r = told_now k (ap (λ (y : Entry). y.event) (sym last.1) ∙ is) in
+        subst (λ (y : Entry). IsToldSo (es ++ x ∷ []) new.state.book.ledger k (suc i) y.reply) (sym last.1) (subst (λ (j : ℕ). IsToldSo (es ++ x ∷ []) new.state.book.ledger k j r) at now)
     told_entry i k e is (inr was) =
         let low = slice_get_within es i e was in
         reply_stays n k (suc i) es x old.state.book.ledger new.state.book.ledger e.reply (omega (arith, low)) all (had.law (suc i) k e was is)
 
-    law_new : AreTakesTold (es ++ x ∷ []) new.state.book.ledger
+    law_new : AreToldSo (es ++ x ∷ []) new.state.book.ledger
     law_new zero k e there is = absurd (let no : ⊥ = (cc) in no)
     law_new (suc i) k e there is = told_entry i k e is (got_more es x i e there)
 
@@ -270,14 +279,14 @@ module _ (laws : MoreLaws) (inbox : InboxLaws) where
         record {
           knows = p.known;
           ends = λ k. subst (λ (l : List Entry). IsFree (call_at k new.state) ⊎ WasEndTaken l k (length new.journal.entries + 1)) (sym h.journal) (subst (λ (j : ℕ). IsFree (call_at k new.state) ⊎ WasEndTaken (es ++ x ∷ []) k (j + 1)) (sym longer) (ends_new k));
-          law = subst (λ (l : List Entry). AreTakesTold l new.state.book.ledger) (sym h.journal) law_new;
+          law = subst (λ (l : List Entry). AreToldSo l new.state.book.ledger) (sym h.journal) law_new;
         }
 
   so_runs : (old : CoreSeen) (events : List Stamped) (new : CoreSeen) → Runs old events new → IsSo old → IsSo new
   so_runs old [] new h k = subst IsSo (sym h) k
   so_runs old (s ∷ events) new h k = so_runs h.0 events new h.3 (so_step old h.0 s h.1 h.2 k)
 
-  pub takes_told_always : (authority : List ℕ) (new core : CoreSeen) (events : List Stamped) → IsNew authority new → Runs new events core → AreTakesTold core.journal.entries core.state.book.ledger
+  pub takes_told_always : (authority : List ℕ) (new core : CoreSeen) (events : List Stamped) → IsNew authority new → Runs new events core → AreToldSo core.journal.entries core.state.book.ledger
   takes_told_always authority new core events is runs =
       let none : (entry : ℕ) (e : Entry) → numbered new.journal.entries entry ≡ Some e → ⊥ = λ entry e there. none_at entry e (sym (ap (λ (l : List Entry). numbered l entry) is.2.journal) ∙ there) in
       let calls : (k : ℕ) → IsFree (call_at k new.state) = λ k. subst IsFree (sym (ap (λ (y : StateSeen). call_at k y) is.2.state)) (no_call k) in

@@ -211,7 +211,7 @@ module _ (inbox : InboxLaws) (kept : KeptLaws) where
   retire link s g owed h = gone_one link (record (step.downed link s) { links = retired_in link s.links }) g owed (retired_goes link s g owed h)
 
   -- the news of one frame
-  hear_one : (link : ℕ) (n : News) (ns : List News) (s : StateSeen) (g : Story) → Goes g (n ∷ ns) s → Goes g ns (arrivals.heard_one link n s)
+  pub hear_one : (link : ℕ) (n : News) (ns : List News) (s : StateSeen) (g : Story) → Goes g (n ∷ ns) s → Goes g ns (arrivals.heard_one link n s)
   hear_one link news.Ready ns s g h = skip news.Ready ns (arrivals.heard_one link news.Ready s) g (λ p. refl) h
   hear_one link news.Retiring ns s g h = skip news.Retiring ns (step.retired link s) g (λ p. refl) (retire link s g (news.Retiring ∷ ns) h)
   hear_one link (news.Broken why) ns s g h = skip (news.Broken why) ns (arrivals.lost link false s) g (λ p. refl) (lose link false s g (news.Broken why ∷ ns) h)

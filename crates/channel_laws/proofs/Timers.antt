@@ -94,14 +94,14 @@ moved_if_other : (b : Bool) (call : ℕ) (before after : Option ℕ) (p : ℕ ×
 moved_if_other true call before after p timers off h = h
 moved_if_other false call before after p timers off h = on_in call after p (timer_off call before timers) (off_in call before p timers off h)
 
-moved_other : (call : ℕ) (before after : Option ℕ) (p : ℕ × ℕ) (timers : List (ℕ × ℕ)) → (p.1 ≡ call → ⊥) → In p timers → In p (timer_moved call before after timers)
+pub moved_other : (call : ℕ) (before after : Option ℕ) (p : ℕ × ℕ) (timers : List (ℕ × ℕ)) → (p.1 ≡ call → ⊥) → In p timers → In p (timer_moved call before after timers)
 moved_other call before after p timers off h = moved_if_other (is_same_moment before after) call before after p timers off h
 
 moved_if_own : (b : Bool) (call d : ℕ) (before : Option ℕ) (timers : List (ℕ × ℕ)) (L : Type 0) → is_same_moment before (Some d) ≡ b → (before ≡ Some d → In (d, call) timers ⊎ L) → In (d, call) (if b then timers else timer_on call (Some d) (timer_off call before timers)) ⊎ L
 moved_if_own true call d before timers L e h = h (moment_same before (Some d) e)
 moved_if_own false call d before timers L e h = inl (in_self (d, call) (timer_off call before timers))
 
-moved_own : (call d : ℕ) (before after : Option ℕ) (timers : List (ℕ × ℕ)) (L : Type 0) → after ≡ Some d → (before ≡ Some d → In (d, call) timers ⊎ L) → In (d, call) (timer_moved call before after timers) ⊎ L
+pub moved_own : (call d : ℕ) (before after : Option ℕ) (timers : List (ℕ × ℕ)) (L : Type 0) → after ≡ Some d → (before ≡ Some d → In (d, call) timers ⊎ L) → In (d, call) (timer_moved call before after timers) ⊎ L
 moved_own call d before after timers L is h =
     subst (λ (o : Option ℕ). In (d, call) (timer_moved call before o timers) ⊎ L) (sym is) (moved_if_own (is_same_moment before (Some d)) call d before timers L refl h)
 
@@ -117,7 +117,7 @@ moved_if_sorted : (b : Bool) (call : ℕ) (before after : Option ℕ) (timers : 
 moved_if_sorted true call before after timers h = h
 moved_if_sorted false call before after timers h = on_sorted call after (timer_off call before timers) (off_sorted call before timers h)
 
-moved_sorted : (call : ℕ) (before after : Option ℕ) (timers : List (ℕ × ℕ)) → Sorted timers → Sorted (timer_moved call before after timers)
+pub moved_sorted : (call : ℕ) (before after : Option ℕ) (timers : List (ℕ × ℕ)) → Sorted timers → Sorted (timer_moved call before after timers)
 moved_sorted call before after timers h = moved_if_sorted (is_same_moment before after) call before after timers h
 
 -- the deadline of a call is read from what stays
@@ -218,11 +218,11 @@ module _ (L : ℕ → ℕ → Type 0) where
   pub timer_turns : Turns (λ s t. AreTimers s → AreTimers t)
   timer_turns = record {
     joined = λ s t u first second h. second (first h);
-    beside = λ s t calls moment deadlines shut unconfigured waiting h. record {
+    beside = λ s t calls moment deadlines dues shut unconfigured waiting h. record {
       sorted = subst Sorted (sym deadlines) h.sorted;
       set = λ k slot is. h.set k slot (sym (ap (λ (l : List CallSlot). numbered l k) calls) ∙ is);
       kept = λ k slot is. subst (λ (l : List (ℕ × ℕ)). IsKept k slot l) (sym deadlines) (h.kept k slot (sym (ap (λ (l : List CallSlot). numbered l k) calls) ∙ is));
     };
-    touched = λ number s t h calm. touched_timers number s t h;
+    touched = λ number s t h calm due. touched_timers number s t h;
     placed = λ row at number s t turned h. turned_timers number (call.placed_at row at) s t turned (but_one number s h);
   }

@@ -40,7 +40,7 @@ use Rattle.channel_core.proofs.Carrying as carrying
 use Rattle.channel_core.proofs.Stamping.{stamped}
 use Rattle.channel_laws.specs.Cancels.{EndsIn}
 use Rattle.channel_laws.specs.Delivered.{before_end}
-use Rattle.channel_laws.specs.NotYets.{HasNothing, IsAllTaken, IsCommittedBefore, IsEmptied, IsUpTo, items_of}
+use Rattle.channel_laws.specs.NotYets.{HasNothing, IsAllTaken, IsCommittedBefore, IsEmptied, StandsBefore, items_of}
 use Rattle.channel_laws.specs.Response.{response_on}
 use Rattle.channel_laws.specs.ResponseLimits.{IsCallLimit}
 use Rattle.link_laws.specs.Stamps.{IsDatedAt, IsDatedCall, moment_at}
@@ -69,7 +69,7 @@ use Rattle.channel_laws.proofs.DeliverySteps.{Goes}
 use Rattle.channel_laws.proofs.DeliveryTakes.{has_end}
 use Rattle.channel_laws.proofs.Flags.{HasFlag, StaysSo, stays as flags_stay}
 use Rattle.channel_laws.proofs.GivenCalls.{given_all, given_free, given_unsent, row_open}
-use Rattle.channel_laws.proofs.HeadRows.{entry_within}
+use Rattle.link_laws.proofs.BreakRuns.{entry_within}
 use Rattle.channel_laws.proofs.LivingLinks.{alive_before}
 use Rattle.channel_laws.proofs.NothingMore.{IsIdle, is_idle}
 use Rattle.channel_laws.proofs.Owned.{InboxLaws}
@@ -224,7 +224,7 @@ module _ (laws : MoreLaws) (timed : TimedLaws) (inbox : InboxLaws) (kept : KeptL
       took_unsent : row.stream ≡ None → before_end (taken call es) ≡ []
       took_unsent none_ = took [] (given_unsent laws timed inbox kept authority new old events is runs call untaken slot there live place to (streamed ∙ none_))
 
-      took_all : (at : Placed) (stream : ℕ) → row.placed ≡ Some at → row.stream ≡ Some stream → IsUpTo after at.link n → IsAllTaken es after call at.link stream
+      took_all : (at : Placed) (stream : ℕ) → row.placed ≡ Some at → row.stream ≡ Some stream → StandsBefore after at.link n → IsAllTaken es after call at.link stream
       took_all at stream placed has up =
           let limit : ℕ = foretold.limits place in
           let own : back.0.was.stream ≡ Some stream = was_streamed ∙ has in

@@ -38,32 +38,33 @@ pub record Places (R : StateSeen → StateSeen → Type 0) : Type 0 where
   pub asked : (s : StateSeen) → R s (settling.asked s)
   pub placed : (number row limit : ℕ) (a : Asked) (sub link : ℕ) (s : StateSeen) → Picked a sub link s → takes_rows link s.links ≡ true → R s (placed_row_on number row limit (settling.place_at a.generation sub link s) s)
 
-module _ (R : StateSeen → StateSeen → Type 0) (c : Treads R) (d : Places R) where
+module _ (R : StateSeen → StateSeen → Type 0) (c : Treads R) where
   -- due attempts
-  make_one : (number : ℕ) (s : StateSeen) → R s (step.made_one number s)
+  pub make_one : (number : ℕ) (s : StateSeen) → R s (step.made_one number s)
   make_one number s =
       let b : BookActs = book_asked (call.made_due s.book.moment) number s.book in
       then_seal R c s _ (after_book R c b number s s (same R c (with_book b.book s)) (made_over s.book.moment number s.book) (c.made number s))
 
-  make_all : (calls : List ℕ) (s : StateSeen) → R s (step.all_made calls s)
+  pub make_all : (calls : List ℕ) (s : StateSeen) → R s (step.all_made calls s)
   make_all [] s = same R c s
   make_all (key ∷ calls) s =
       let t : StateSeen = step.made_one (number_of key) s in
       c.joined s t _ (make_one (number_of key) s) (make_all calls t)
 
-  forget_all : (calls : List ℕ) (s : StateSeen) → R s (step.dues_forgotten calls s)
+  pub forget_all : (calls : List ℕ) (s : StateSeen) → R s (step.dues_forgotten calls s)
   forget_all [] s = same R c s
   forget_all (key ∷ calls) s =
       let t : StateSeen = step.due_gone (number_of key) s in
       c.joined s t _ (c.forgotten (number_of key) s) (forget_all calls t)
 
-  make_round : (s : StateSeen) → R s (step.round_made s).state
+  pub make_round : (s : StateSeen) → R s (step.round_made s).state
   make_round s =
       let keys : List ℕ = due_keys s.book.moment s.dues in
       let t : StateSeen = record s { dues = later s.book.moment s.dues } in
       let u : StateSeen = step.dues_forgotten keys t in
       c.joined s t _ (aside R c s t refl refl refl refl refl refl) (c.joined t u _ (forget_all keys t) (make_all (due_keys 0 (sorted_into [] keys)) u))
 
+module _ (R : StateSeen → StateSeen → Type 0) (c : Treads R) (d : Places R) where
   -- the queue
   place_if : (takes : Bool) (number row limit : ℕ) (a : Asked) (sub link : ℕ) (s : StateSeen) → Picked a sub link s → takes_rows link s.links ≡ takes
       → R s (settling.placed_if takes number row (settling.place_at a.generation sub link s) (with_links (if takes then changed_at (with_link (placed_link row limit)) s.links link else s.links) s)).state
@@ -78,7 +79,7 @@ module _ (R : StateSeen → StateSeen → Type 0) (c : Treads R) (d : Places R) 
   place_on number row a sub None s p = same R c s
   place_on number row a sub (Some link) s p = place_if (takes_rows link s.links) number row (limit_at (slot_at s.book number)) a sub link s (p link refl) refl
 
-  pick_for : (number row : ℕ) (a : Asked) (p : Pick) (n : NetSeen) (s : StateSeen) → net.net_answer n ≡ Some a → a.pick ≡ p → s.net ≡ net.net_asked n → R s (settling.picked number row a.generation p s).state
+  pub pick_for : (number row : ℕ) (a : Asked) (p : Pick) (n : NetSeen) (s : StateSeen) → net.net_answer n ≡ Some a → a.pick ≡ p → s.net ≡ net.net_asked n → R s (settling.picked number row a.generation p s).state
   pick_for number row a (pick.Place sub) n s answers place is =
       place_on number row a sub (net_lists.link_of s.net.links sub) s (λ link own. record { before = n; answers = answers; place = place; asked = is; own = own })
   pick_for number row a pick.Wait n s answers place is = same R c s
@@ -90,7 +91,7 @@ module _ (R : StateSeen → StateSeen → Type 0) (c : Treads R) (d : Places R) 
       let t : StateSeen = step.asked_by row a s in
       c.joined s t _ (c.asked (record { entry = s.book.ledger.entry; generation = a.generation; row = row; answer = a.pick }) s refl) (pick_for number row a a.pick n t answers refl is)
 
-  serve : (number row : ℕ) (s : StateSeen) → R s (settling.served number row s).state
+  pub serve : (number row : ℕ) (s : StateSeen) → R s (settling.served number row s).state
   serve number row s =
       let t : StateSeen = settling.asked s in
       c.joined s t _ (d.asked s) (serve_by number row (net.net_answer s.net) s.net t refl refl)
@@ -101,16 +102,16 @@ module _ (R : StateSeen → StateSeen → Type 0) (c : Treads R) (d : Places R) 
       let after : Moved = settling.also m.moved (settling.served p.0 p.1 m.state) in
       c.joined m.state after.state _ (serve p.0 p.1 m.state) (more p after)
 
-  pass : (k : ℕ) (last : ℕ × ℕ) (m : Moved) → R m.state (passed k last m).state
+  pub pass : (k : ℕ) (last : ℕ × ℕ) (m : Moved) → R m.state (passed k last m).state
   unfolding passed
   pass zero last m = same R c m.state
   pass (suc k) last m = pass_on (passed k) (step.next_served last m.state) m (pass k)
 
   -- rounds until nothing moves
-  one_round : (s : StateSeen) → R s (settling.round s).state
+  pub one_round : (s : StateSeen) → R s (settling.round s).state
   one_round s =
       let t : StateSeen = (step.round_made s).state in
-      c.joined s t _ (make_round s) (pass settling.most (0, 0) (settling.stays t))
+      c.joined s t _ (make_round R c s) (pass settling.most (0, 0) (settling.stays t))
 
   rounds_on : (further : StateSeen → StateSeen) (m : Moved) → ((s : StateSeen) → R s (further s)) → R m.state (settling.rounds_on further m)
   rounds_on further m more = either R c m.moved m.state (further m.state) m.state (more m.state) (same R c m.state)

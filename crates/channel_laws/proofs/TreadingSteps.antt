@@ -39,6 +39,7 @@ use Rattle.channel_core.specs.Tables.{Heard, heard_at, heard_by, heard_link, hea
 use Rattle.channel_core.specs.Timing.{due_keys, later, number_of}
 use Rattle.channel_core.proofs.Carrying.{with_book}
 use Rattle.channel_core.proofs.FairNews.{AreFair, IsFair, fair_ends, fair_heard}
+use Rattle.channel_laws.proofs.Shutdowns.{closed_shut}
 use Rattle.channel_laws.proofs.Treading.{Ends, Treads, aside, close, either, end_all, gone_all, gone_one, same, tell, then_seal, timers_of, after_book, with_keeps}
 use Rattle.link_laws.proofs.CutBooks.{configured_over, sent_over}
 
@@ -51,7 +52,7 @@ pub record Nets (R : StateSeen → StateSeen → Type 0) : Type 0 where
   pub dialed : (s : StateSeen) → R s (step.dialed s)
   pub undialed : (sub : ℕ) (s : StateSeen) → net.dial_refusal (boards.numbered s.net.board sub) ≡ None → R s (arrivals.undialed sub s)
   pub settled : (s : StateSeen) → R s (record s { net = (net.net_settled s.net).net })
-  pub shut : (s : StateSeen) → R s (record s { net = (net.net_shut s.net).net })
+  pub shut : (s : StateSeen) → s.shut ≡ true → R s (record s { net = (net.net_shut s.net).net })
   pub lost : (link : ℕ) (each : Bool) (s : StateSeen) → R s (arrivals.lost link each s)
   pub clocked_ : (s : StateSeen) → R s (clocked s)
 
@@ -187,17 +188,17 @@ module _ (R : StateSeen → StateSeen → Type 0) (c : Treads R) (d : Nets R) wh
       let t : StateSeen = applying.closed_at index s in
       c.joined s t _ (close R c ends.Shut (min (number_of index + 1) 4294967295) s refl) (close_all more (index + 1) t)
 
-  close_net : (s : StateSeen) → R s (applying.net_closed s)
-  close_net s =
+  close_net : (s : StateSeen) → s.shut ≡ true → R s (applying.net_closed s)
+  close_net s is =
       let r : RackSeen = s.net.asker.rack in
       let t : StateSeen = record s { net = (net.net_shut s.net).net } in
-      left_net (net.net_shut s.net).net _ (net.net_shut s.net).gone s (d.shut s) (gen_retired_live t (live_of r.policies r.pending) _ (gen_retired_live t (live_of r.policies r.current) s.book.ledger.generations (same R c t)))
+      left_net (net.net_shut s.net).net _ (net.net_shut s.net).gone s (d.shut s is) (gen_retired_live t (live_of r.policies r.pending) _ (gen_retired_live t (live_of r.policies r.current) s.book.ledger.generations (same R c t)))
 
   shut_off : (s : StateSeen) → R s (applying.shut_off s)
   shut_off s =
       let t : StateSeen = record s { shut = true } in
       let u : StateSeen = applying.all_closed t in
-      c.joined s t _ (c.beside s t refl refl refl refl refl (λ h. refl)) (c.joined t u _ (close_all (length t.book.calls) 0 t) (close_net u))
+      c.joined s t _ (c.beside s t refl refl refl refl refl (λ h. refl)) (c.joined t u _ (close_all (length t.book.calls) 0 t) (close_net u (closed_shut t refl)))
 
   shut_down : (s : StateSeen) → R s (applying.shut_down s)
   shut_down s = either R c s.shut s s _ (same R c s) (shut_off s)

@@ -16,18 +16,18 @@ use Rattle.channel_core.specs.Steps.{next_word, overdue_ended}
 use Rattle.channel_core.specs.Tables.{Heard, heard_in, retired_in}
 use Rattle.channel_core.specs.Timing.{due_keys, later, number_of}
 use Rattle.channel_laws.proofs.EndActs.{ends_news, ends_timed_out}
-use Rattle.channel_laws.proofs.Turns.{Calm, IsBeside, Touched, Turned, all_gone_beside, gone_beside, sealed_beside, turned_acted, turned_asked, turned_then, waiters}
+use Rattle.channel_laws.proofs.Turns.{Calm, IsBeside, KeepsDue, Touched, Turned, all_gone_beside, gone_beside, sealed_beside, turned_acted, turned_asked, turned_then, waiters}
 
 -- what leaves the calls, and how parts are joined
 pub record Joins (R : StateSeen → StateSeen → Type 0) : Type 0 where
   pub joined : (s t u : StateSeen) → R s t → R t u → R s u
-  pub beside : (s t : StateSeen) → t.book.calls ≡ s.book.calls → t.book.moment ≡ s.book.moment → t.deadlines ≡ s.deadlines → t.shut ≡ s.shut → t.unconfigured ≡ s.unconfigured → waiters t ≡ waiters s → R s t
+  pub beside : (s t : StateSeen) → t.book.calls ≡ s.book.calls → t.book.moment ≡ s.book.moment → t.deadlines ≡ s.deadlines → t.dues ≡ s.dues → t.shut ≡ s.shut → t.unconfigured ≡ s.unconfigured → waiters t ≡ waiters s → R s t
 
 -- what ends no call
 pub record Turns (R : StateSeen → StateSeen → Type 0) : Type 0 where
   pub joined : (s t u : StateSeen) → R s t → R t u → R s u
-  pub beside : (s t : StateSeen) → t.book.calls ≡ s.book.calls → t.book.moment ≡ s.book.moment → t.deadlines ≡ s.deadlines → t.shut ≡ s.shut → t.unconfigured ≡ s.unconfigured → waiters t ≡ waiters s → R s t
-  pub touched : (number : ℕ) (s t : StateSeen) → Touched number s t → Calm number s t → R s t
+  pub beside : (s t : StateSeen) → t.book.calls ≡ s.book.calls → t.book.moment ≡ s.book.moment → t.deadlines ≡ s.deadlines → t.dues ≡ s.dues → t.shut ≡ s.shut → t.unconfigured ≡ s.unconfigured → waiters t ≡ waiters s → R s t
+  pub touched : (number : ℕ) (s t : StateSeen) → Touched number s t → Calm number s t → KeepsDue number s t → R s t
   pub placed : (row : ℕ) (at : Placed) (number : ℕ) (s t : StateSeen) → Turned number (call.placed_at row at) s t → R s t
 
 pub joins : (R : StateSeen → StateSeen → Type 0) → Turns R → Joins R
@@ -51,10 +51,10 @@ HearsEnds R = (row : ℕ) (end : EndNews) (number word : ℕ) (s t : StateSeen) 
 
 module _ (R : StateSeen → StateSeen → Type 0) (c : Joins R) where
   pub beside_by : (s t : StateSeen) → IsBeside s t → R s t
-  beside_by s t h = c.beside s t h.aside.calls h.aside.moment h.aside.deadlines h.aside.shut h.aside.unconfigured h.waiting
+  beside_by s t h = c.beside s t h.aside.calls h.aside.moment h.aside.deadlines h.aside.dues h.aside.shut h.aside.unconfigured h.waiting
 
   pub same : (s : StateSeen) → R s s
-  same s = c.beside s s refl refl refl refl refl refl
+  same s = c.beside s s refl refl refl refl refl refl refl
 
   pub either : (b : Bool) (s t u : StateSeen) → R s t → R s u → R s (if b then t else u)
   either true s t u first second = first
@@ -91,13 +91,13 @@ module _ (R : StateSeen → StateSeen → Type 0) (c : Joins R) where
         let number : ℕ = call_of (row_at s.book row) in
         let b = books.book_acted (call.heard_news row (news.Ended row end) s.book.moment (next_word s)) number s.book in
         let v : StateSeen = step.drawn_if (has_drawn (row_at b.book row)) s in
-        ends row end number (next_word s) s _ (turned_acted number (call.heard_news row (news.Ended row end) s.book.moment (next_word s)) (ends_news row (news.Ended row end) s.book.moment (next_word s)) s v refl refl refl refl)
+        ends row end number (next_word s) s _ (turned_acted number (call.heard_news row (news.Ended row end) s.book.moment (next_word s)) (ends_news row (news.Ended row end) s.book.moment (next_word s)) s v refl refl refl refl refl)
 
     end_one : (link row : ℕ) (end : EndNews) (s : StateSeen) → R s (arrivals.ended_on link row end s)
     end_one link row end s =
         let t : StateSeen = step.left_behind link row s in
         let u : StateSeen = step.told row (news.Ended row end) t in
-        either (has_ended (row_at s.book row)) s s _ (same s) (c.joined s t _ (c.beside s t refl refl refl refl refl refl) (c.joined t u _ (end_told row end t) (gone_one link u)))
+        either (has_ended (row_at s.book row)) s s _ (same s) (c.joined s t _ (c.beside s t refl refl refl refl refl refl refl) (c.joined t u _ (end_told row end t) (gone_one link u)))
 
     end_all : (link : ℕ) (ended : List (ℕ × EndNews)) (s : StateSeen) → R s (arrivals.all_ended_on link ended s)
     end_all link [] s = same s
@@ -110,7 +110,7 @@ module _ (R : StateSeen → StateSeen → Type 0) (c : Joins R) where
     end_kept link ns s =
         let t : StateSeen = arrivals.all_ended_on link (step.ends_kept ns []) s in
         let u : StateSeen = step.sealed_one link t in
-        c.joined s t _ (end_all link (step.ends_kept ns []) s) (c.joined t u _ (c.beside t u refl refl refl refl refl refl) (seal u))
+        c.joined s t _ (end_all link (step.ends_kept ns []) s) (c.joined t u _ (c.beside t u refl refl refl refl refl refl refl) (seal u))
 
     lose_row : (link : ℕ) (each : Bool) (row : ℕ) (s : StateSeen) → R s (arrivals.lost_row link each row s)
     lose_row link true row s =
@@ -132,7 +132,7 @@ module _ (R : StateSeen → StateSeen → Type 0) (c : Joins R) where
     lose link each s =
         let t : StateSeen = step.buried link s in
         let u : StateSeen = arrivals.rows_lost arrivals.most_rows link each 0 t in
-        c.joined s t _ (c.beside s t refl refl refl refl refl refl) (c.joined t u _ (lose_rows arrivals.most_rows link each 0 t) (gone_one link u))
+        c.joined s t _ (c.beside s t refl refl refl refl refl refl refl) (c.joined t u _ (lose_rows arrivals.most_rows link each 0 t) (gone_one link u))
 
   -- the news of a frame, and the frames of a piece
   module _ (hears : Hears R) where
@@ -144,13 +144,13 @@ module _ (R : StateSeen → StateSeen → Type 0) (c : Joins R) where
         let number : ℕ = call_of (row_at s.book row) in
         let b = books.book_acted (call.heard_news row n s.book.moment (next_word s)) number s.book in
         let v : StateSeen = step.drawn_if (has_drawn (row_at b.book row)) s in
-        hears row n number (next_word s) s _ (turned_acted number (call.heard_news row n s.book.moment (next_word s)) (ends_news row n s.book.moment (next_word s)) s v refl refl refl refl)
+        hears row n number (next_word s) s _ (turned_acted number (call.heard_news row n s.book.moment (next_word s)) (ends_news row n s.book.moment (next_word s)) s v refl refl refl refl refl)
 
     pub hear_one : (link : ℕ) (n : News) (s : StateSeen) → R s (arrivals.heard_one link n s)
-    hear_one link news.Ready s = c.beside s _ refl refl refl refl refl refl
+    hear_one link news.Ready s = c.beside s _ refl refl refl refl refl refl refl
     hear_one link news.Retiring s =
         let t : StateSeen = record (step.downed link s) { links = retired_in link s.links } in
-        c.joined s t _ (c.beside s t refl refl refl refl refl refl) (gone_one link t)
+        c.joined s t _ (c.beside s t refl refl refl refl refl refl refl) (gone_one link t)
     hear_one link (news.Broken why) s = lose ends_of link false s
     hear_one link (news.Ended tag end) s = same s
     hear_one link (news.Head tag meta seen) s = tell tag (news.Head tag meta seen) s
@@ -168,10 +168,10 @@ module _ (R : StateSeen → StateSeen → Type 0) (c : Joins R) where
         let t : StateSeen = arrivals.heard_all link ns s in
         c.joined s t _ (hear_all link ns s) (end_kept ends_of link ns t)
 
-    hear_frame : (link : ℕ) (h : Heard) (s : StateSeen) → R s (arrivals.frame_heard link h s)
+    pub hear_frame : (link : ℕ) (h : Heard) (s : StateSeen) → R s (arrivals.frame_heard link h s)
     hear_frame link h s =
         let t : StateSeen = arrivals.read_to link h.read (record s { links = h.links }) in
-        c.joined s t _ (c.beside s t refl refl refl refl refl refl) (hear link h.news t)
+        c.joined s t _ (c.beside s t refl refl refl refl refl refl refl) (hear link h.news t)
 
     frames_on : (further : ℕ → StateSeen → StateSeen) (link : ℕ) (h : Option Heard) (s : StateSeen) → ((skip : ℕ) (s : StateSeen) → R s (further skip s)) → R s (arrivals.frames_from further link h s)
     frames_on further link None s more = same s

@@ -36,12 +36,13 @@ pub record IsAside (s t : StateSeen) : Type 0 where
   pub calls : t.book.calls ≡ s.book.calls
   pub moment : t.book.moment ≡ s.book.moment
   pub deadlines : t.deadlines ≡ s.deadlines
+  pub dues : t.dues ≡ s.dues
   pub held : t.held ≡ s.held
   pub unconfigured : t.unconfigured ≡ s.unconfigured
   pub shut : t.shut ≡ s.shut
 
 then_aside : (s t u : StateSeen) → IsAside s t → IsAside t u → IsAside s u
-then_aside s t u a b = record { calls = b.calls ∙ a.calls; moment = b.moment ∙ a.moment; deadlines = b.deadlines ∙ a.deadlines; held = b.held ∙ a.held; unconfigured = b.unconfigured ∙ a.unconfigured; shut = b.shut ∙ a.shut }
+then_aside s t u a b = record { calls = b.calls ∙ a.calls; moment = b.moment ∙ a.moment; deadlines = b.deadlines ∙ a.deadlines; dues = b.dues ∙ a.dues; held = b.held ∙ a.held; unconfigured = b.unconfigured ∙ a.unconfigured; shut = b.shut ∙ a.shut }
 
 -- the calls that wait for a config: all of them, or those that do not wait for ready
 abbrev pub waiting_in : Bool → StateSeen → List (ℕ × ℕ)
@@ -63,18 +64,18 @@ pub then_beside : (s t u : StateSeen) → IsBeside s t → IsBeside t u → IsBe
 then_beside s t u a b = record { aside = then_aside s t u a.aside b.aside; waiting = b.waiting ∙ a.waiting }
 
 pub at_once : (s : StateSeen) → IsBeside s s
-at_once s = record { aside = record { calls = refl; moment = refl; deadlines = refl; held = refl; unconfigured = refl; shut = refl }; waiting = refl }
+at_once s = record { aside = record { calls = refl; moment = refl; deadlines = refl; dues = refl; held = refl; unconfigured = refl; shut = refl }; waiting = refl }
 
 -- all these parts are the same, and links alone change
-pub over_links : (s t u : StateSeen) → IsBeside t u → t.book.calls ≡ s.book.calls → t.book.moment ≡ s.book.moment → t.deadlines ≡ s.deadlines → t.held ≡ s.held → t.unconfigured ≡ s.unconfigured → t.shut ≡ s.shut → waiters t ≡ waiters s → IsBeside s u
-over_links s t u h calls moment deadlines held unconfigured shut waiting = record {
-  aside = then_aside s t u (record { calls = calls; moment = moment; deadlines = deadlines; held = held; unconfigured = unconfigured; shut = shut }) h.aside;
+pub over_links : (s t u : StateSeen) → IsBeside t u → t.book.calls ≡ s.book.calls → t.book.moment ≡ s.book.moment → t.deadlines ≡ s.deadlines → t.dues ≡ s.dues → t.held ≡ s.held → t.unconfigured ≡ s.unconfigured → t.shut ≡ s.shut → waiters t ≡ waiters s → IsBeside s u
+over_links s t u h calls moment deadlines dues held unconfigured shut waiting = record {
+  aside = then_aside s t u (record { calls = calls; moment = moment; deadlines = deadlines; dues = dues; held = held; unconfigured = unconfigured; shut = shut }) h.aside;
   waiting = h.waiting ∙ waiting;
 }
 
 -- links that are gone, the acts of a call, and seals
 gone_if : (b : Bool) (links : List LinkSeen) (s : StateSeen) → IsBeside s (if b then with_ledger_links links s else s)
-gone_if true links s = record { aside = record { calls = refl; moment = refl; deadlines = refl; held = refl; unconfigured = refl; shut = refl }; waiting = refl }
+gone_if true links s = record { aside = record { calls = refl; moment = refl; deadlines = refl; dues = refl; held = refl; unconfigured = refl; shut = refl }; waiting = refl }
 gone_if false links s = at_once s
 
 pub gone_beside : (link : ℕ) (s : StateSeen) → IsBeside s (step.stamped_gone link s)
@@ -89,13 +90,13 @@ all_gone_beside (link ∷ links) s =
 cut_beside : (link row : ℕ) (s : StateSeen) → IsBeside s (step.cut_on link row s)
 cut_beside link row s =
     let t : StateSeen = step.left_behind link row (step.reset_on link row s) in
-    over_links s t (step.stamped_gone link t) (gone_beside link t) refl refl refl refl refl refl refl
+    over_links s t (step.stamped_gone link t) (gone_beside link t) refl refl refl refl refl refl refl refl
 
 act_aside : (number : ℕ) (a : CallAct) (s : StateSeen) → IsAside s (step.act_done number a s)
 act_aside number (act.Cut row) s = (cut_beside (link_of (row_at s.book row)) row s).aside
-act_aside number (act.Drop row) s = record { calls = refl; moment = refl; deadlines = refl; held = refl; unconfigured = refl; shut = refl }
-act_aside number (act.Queue row) s = record { calls = refl; moment = refl; deadlines = refl; held = refl; unconfigured = refl; shut = refl }
-act_aside number (act.End why) s = record { calls = refl; moment = refl; deadlines = refl; held = refl; unconfigured = refl; shut = refl }
+act_aside number (act.Drop row) s = record { calls = refl; moment = refl; deadlines = refl; dues = refl; held = refl; unconfigured = refl; shut = refl }
+act_aside number (act.Queue row) s = record { calls = refl; moment = refl; deadlines = refl; dues = refl; held = refl; unconfigured = refl; shut = refl }
+act_aside number (act.End why) s = record { calls = refl; moment = refl; deadlines = refl; dues = refl; held = refl; unconfigured = refl; shut = refl }
 
 acts_aside : (number : ℕ) (acts : List CallAct) (s : StateSeen) → IsAside s (step.acts_done number acts s)
 acts_aside number [] s = (at_once s).aside
@@ -159,10 +160,10 @@ module _ (all : Bool) (number : ℕ) where
 
 sealed_links : (links : List ℕ) (s : StateSeen) → IsBeside s (step.links_sealed links s)
 sealed_links [] s = at_once s
-sealed_links (link ∷ links) s = (let t : StateSeen = step.sealed_one link s in over_links s t (step.links_sealed links t) (sealed_links links t) refl refl refl refl refl refl refl)
+sealed_links (link ∷ links) s = (let t : StateSeen = step.sealed_one link s in over_links s t (step.links_sealed links t) (sealed_links links t) refl refl refl refl refl refl refl refl)
 
 pub sealed_beside : (s : StateSeen) → IsBeside s (step.sealed s)
-sealed_beside s = (let t : StateSeen = step.resets_taken s in over_links s t (step.links_sealed s.resets t) (sealed_links s.resets t) refl refl refl refl refl refl refl)
+sealed_beside s = (let t : StateSeen = step.resets_taken s in over_links s t (step.links_sealed s.resets t) (sealed_links s.resets t) refl refl refl refl refl refl refl refl)
 
 -- something happens to one call beside its end and its deadline
 pub record OwnTouch (number : ℕ) (t : StateSeen) (slot : CallSlot) : Type 0 where
@@ -176,6 +177,7 @@ pub record Touched (number : ℕ) (s t : StateSeen) : Type 0 where
   pub shut : t.shut ≡ s.shut
   pub unconfigured : t.unconfigured ≡ s.unconfigured
   pub deadlines : t.deadlines ≡ s.deadlines
+  pub dues : t.dues ≡ s.dues
   pub waiting : waiters t ≡ waiters s
   pub others : (k : ℕ) → (k ≡ number → ⊥) → numbered t.book.calls k ≡ numbered s.book.calls k
   pub none : numbered s.book.calls number ≡ None → numbered t.book.calls number ≡ None
@@ -190,6 +192,8 @@ pub record OwnTurn (number : ℕ) (f : Stepped → Stepped) (s t : StateSeen) (s
   pub call_is : after.call ≡ (f before).call
   pub deadline : after.deadline ≡ deadline_of (Some after)
   pub moved : t.deadlines ≡ timer_moved number slot.deadline after.deadline s.deadlines
+  pub due : after.due ≡ due_at (Some after)
+  pub dued : t.dues ≡ timer_moved number slot.due after.due s.dues
   pub waits : (all : Bool) → In (0, number) (waiting_in all s) → after.call.ended ≡ None → In (0, number) (waiting_in all t)
 
 pub record Turned (number : ℕ) (f : Stepped → Stepped) (s t : StateSeen) : Type 0 where
@@ -200,7 +204,7 @@ pub record Turned (number : ℕ) (f : Stepped → Stepped) (s t : StateSeen) : T
   pub fewer : (all : Bool) (p : ℕ × ℕ) → In p (waiting_in all t) → In p (waiting_in all s)
   pub wait : (all : Bool) (k : ℕ) → (k ≡ number → ⊥) → In (0, k) (waiting_in all s) → In (0, k) (waiting_in all t)
   pub others : (k : ℕ) → (k ≡ number → ⊥) → numbered t.book.calls k ≡ numbered s.book.calls k
-  pub none : numbered s.book.calls number ≡ None → (numbered t.book.calls number ≡ None) × (t.deadlines ≡ s.deadlines)
+  pub none : numbered s.book.calls number ≡ None → (numbered t.book.calls number ≡ None) × (t.deadlines ≡ s.deadlines) × (t.dues ≡ s.dues)
   pub own : (slot : CallSlot) → numbered s.book.calls number ≡ Some slot → OwnTurn number f s t slot
 
 pub turned_then : (number : ℕ) (f : Stepped → Stepped) (s t u : StateSeen) → Turned number f s t → IsBeside t u → Turned number f s u
@@ -212,7 +216,7 @@ turned_then number f s t u h b = record {
   fewer = λ all p i. h.fewer all p (subst (λ (l : List (ℕ × ℕ)). In p l) (same_waiting all t u b.waiting) i);
   wait = λ all k off i. subst (λ (l : List (ℕ × ℕ)). In (0, k) l) (sym (same_waiting all t u b.waiting)) (h.wait all k off i);
   others = λ k off. ap (λ (l : List CallSlot). numbered l k) b.aside.calls ∙ h.others k off;
-  none = λ e. (ap (λ (l : List CallSlot). numbered l number) b.aside.calls ∙ (h.none e).0, b.aside.deadlines ∙ (h.none e).1);
+  none = λ e. (ap (λ (l : List CallSlot). numbered l number) b.aside.calls ∙ (h.none e).0, b.aside.deadlines ∙ (h.none e).1, b.aside.dues ∙ (h.none e).2);
   own = λ slot e.
       let o : OwnTurn number f s t slot = h.own slot e in
       record {
@@ -223,6 +227,8 @@ turned_then number f s t u h b = record {
         call_is = o.call_is;
         deadline = o.deadline;
         moved = b.aside.deadlines ∙ o.moved;
+        due = o.due;
+        dued = b.aside.dues ∙ o.dued;
         waits = λ all i none. subst (λ (l : List (ℕ × ℕ)). In (0, number) l) (sym (same_waiting all t u b.waiting)) (o.waits all i none);
       };
 }
@@ -241,14 +247,26 @@ calm_slot number g s t calls same slot after is now =
     let one : g slot ≡ after = (cc) in
     ap (λ (z : CallSlot). z.call.inbox) (sym one) ∙ same slot
 
+-- and its timer of the next attempt stays
+abbrev pub KeepsDue : ℕ → StateSeen → StateSeen → Type 0
+KeepsDue number s t = (slot after : CallSlot) → numbered s.book.calls number ≡ Some slot → numbered t.book.calls number ≡ Some after → after.due ≡ slot.due
+
+pub due_slot : (number : ℕ) (g : CallSlot → CallSlot) (s t : StateSeen) → t.book.calls ≡ changed_at g s.book.calls number → ((slot : CallSlot) → (g slot).due ≡ slot.due) → KeepsDue number s t
+due_slot number g s t calls same slot after is now =
+    let at : numbered t.book.calls number ≡ Some (g slot) = ap (λ (l : List CallSlot). numbered l number) calls ∙ number_changed g s.book.calls number ∙ ap (λ (o : Option CallSlot). option_map g o) is in
+    let both : Some (g slot) ≡ Some after = sym at ∙ now in
+    let one : g slot ≡ after = (cc) in
+    ap (λ (z : CallSlot). z.due) (sym one) ∙ same slot
+
 -- one slot of the table changes
-pub touched_slot : (number : ℕ) (g : CallSlot → CallSlot) (s t : StateSeen) → t.book.calls ≡ changed_at g s.book.calls number → t.book.moment ≡ s.book.moment → t.deadlines ≡ s.deadlines → t.shut ≡ s.shut → t.unconfigured ≡ s.unconfigured → waiters t ≡ waiters s
+pub touched_slot : (number : ℕ) (g : CallSlot → CallSlot) (s t : StateSeen) → t.book.calls ≡ changed_at g s.book.calls number → t.book.moment ≡ s.book.moment → t.deadlines ≡ s.deadlines → t.dues ≡ s.dues → t.shut ≡ s.shut → t.unconfigured ≡ s.unconfigured → waiters t ≡ waiters s
     → ((slot : CallSlot) → IsLike slot.call (g slot).call) → ((slot : CallSlot) → (g slot).deadline ≡ slot.deadline) → Touched number s t
-touched_slot number g s t calls moment deadlines shut unconfigured waiting like deadline = record {
+touched_slot number g s t calls moment deadlines dues shut unconfigured waiting like deadline = record {
   moment = moment;
   shut = shut;
   unconfigured = unconfigured;
   deadlines = deadlines;
+  dues = dues;
   waiting = waiting;
   others = λ k off. ap (λ (l : List CallSlot). numbered l k) calls ∙ number_other g s.book.calls number k off;
   none = λ e. ap (λ (l : List CallSlot). numbered l number) calls ∙ number_changed g s.book.calls number ∙ none_mapped g (numbered s.book.calls number) e;
@@ -305,6 +323,7 @@ pub record OwnActed (number : ℕ) (f : Stepped → Stepped) (calls : List CallS
   pub there : numbered calls number ≡ Some after
   pub call_is : after.call ≡ (f before).call
   pub kept : after.deadline ≡ slot.deadline
+  pub still : after.due ≡ slot.due
 
 pub record IsActed (number : ℕ) (f : Stepped → Stepped) (calls after : List CallSlot) : Type 0 where
   pub others : (k : ℕ) → (k ≡ number → ⊥) → numbered after k ≡ numbered calls k
@@ -317,12 +336,12 @@ is_acted f calls number ledger tokens = record {
   none = acted_none f calls number ledger tokens;
   own = λ slot e.
       let x : Stepped = lent slot.call ledger tokens [] in
-      record { before = x; same = refl; after = with_call (f x).call slot; there = acted_number f calls number ledger tokens slot (index_at number (length calls)) refl e; call_is = refl; kept = refl };
+      record { before = x; same = refl; after = with_call (f x).call slot; there = acted_number f calls number ledger tokens slot (index_at number (length calls)) refl e; call_is = refl; kept = refl; still = refl };
 }
 
 -- its timers are moved
-timed_own : (number : ℕ) (f : Stepped → Stepped) (s a : StateSeen) (slot new : CallSlot) (x : Stepped) → x.call ≡ slot.call → a.deadlines ≡ s.deadlines → numbered a.book.calls number ≡ Some new → new.call ≡ (f x).call → new.deadline ≡ slot.deadline → ((all : Bool) → In (0, number) (waiting_in all s) → new.call.ended ≡ None → In (0, number) (waiting_in all a)) → OwnTurn number f s (step.timers_moved number a) slot
-timed_own number f s a slot new x same late there is kept waits =
+timed_own : (number : ℕ) (f : Stepped → Stepped) (s a : StateSeen) (slot new : CallSlot) (x : Stepped) → x.call ≡ slot.call → a.deadlines ≡ s.deadlines → a.dues ≡ s.dues → numbered a.book.calls number ≡ Some new → new.call ≡ (f x).call → new.deadline ≡ slot.deadline → new.due ≡ slot.due → ((all : Bool) → In (0, number) (waiting_in all s) → new.call.ended ≡ None → In (0, number) (waiting_in all a)) → OwnTurn number f s (step.timers_moved number a) slot
+timed_own number f s a slot new x same late ontime there is kept still waits =
     let g : CallSlot → CallSlot = with_timers (due_at (Some new)) (deadline_of (Some new)) in
     let first : OwnTurn number f s (step.timers_moved_to number (Some new) a) slot = record {
       before = x;
@@ -332,14 +351,16 @@ timed_own number f s a slot new x same late there is kept waits =
       call_is = is;
       deadline = refl;
       moved = ap (λ (d : Option ℕ). timer_moved number d (deadline_of (Some new)) a.deadlines) kept ∙ ap (λ (l : List (ℕ × ℕ)). timer_moved number slot.deadline (deadline_of (Some new)) l) late;
+      due = refl;
+      dued = ap (λ (d : Option ℕ). timer_moved number d (due_at (Some new)) a.dues) still ∙ ap (λ (l : List (ℕ × ℕ)). timer_moved number slot.due (due_at (Some new)) l) ontime;
       waits = waits;
     } in
     subst (λ (o : Option CallSlot). OwnTurn number f s (step.timers_moved_to number o a) slot) (sym there) first
 
-timed_none : (number : ℕ) (a : StateSeen) (o : Option CallSlot) → numbered a.book.calls number ≡ o → o ≡ None → (numbered (step.timers_moved_to number o a).book.calls number ≡ None) × ((step.timers_moved_to number o a).deadlines ≡ a.deadlines)
+timed_none : (number : ℕ) (a : StateSeen) (o : Option CallSlot) → numbered a.book.calls number ≡ o → o ≡ None → (numbered (step.timers_moved_to number o a).book.calls number ≡ None) × ((step.timers_moved_to number o a).deadlines ≡ a.deadlines) × ((step.timers_moved_to number o a).dues ≡ a.dues)
 timed_none number a None e none =
     let g : CallSlot → CallSlot = with_timers None None in
-    (ap (λ (l : List CallSlot). numbered l number) (put_slot g a.book.calls number) ∙ number_changed g a.book.calls number ∙ none_mapped g (numbered a.book.calls number) e, refl)
+    (ap (λ (l : List CallSlot). numbered l number) (put_slot g a.book.calls number) ∙ number_changed g a.book.calls number ∙ none_mapped g (numbered a.book.calls number) e, refl, refl)
 timed_none number a (Some slot) e none = absurd (let no : ⊥ = (cc) in no)
 
 timed_other : (number k : ℕ) (a : StateSeen) (o : Option CallSlot) → (k ≡ number → ⊥) → numbered (step.timers_moved_to number o a).book.calls k ≡ numbered a.book.calls k
@@ -347,8 +368,8 @@ timed_other number k a o off =
     let g : CallSlot → CallSlot = with_timers (due_at o) (deadline_of o) in ap (λ (l : List CallSlot). numbered l k) (put_slot g a.book.calls number) ∙ number_other g a.book.calls number k off
 
 -- and it is followed: `v` is the channel with the book behind what the call did
-pub turned_followed : (number : ℕ) (f : Stepped → Stepped) (acts : List CallAct) (s v : StateSeen) → v.book.moment ≡ s.book.moment → v.deadlines ≡ s.deadlines → v.shut ≡ s.shut → v.unconfigured ≡ s.unconfigured → waiters v ≡ waiters s → IsActed number f s.book.calls v.book.calls → AsksEnded number acts v.book.calls → Turned number f s (step.followed number acts v)
-turned_followed number f acts s v moment late shut unconfigured waiting h asks =
+pub turned_followed : (number : ℕ) (f : Stepped → Stepped) (acts : List CallAct) (s v : StateSeen) → v.book.moment ≡ s.book.moment → v.deadlines ≡ s.deadlines → v.dues ≡ s.dues → v.shut ≡ s.shut → v.unconfigured ≡ s.unconfigured → waiters v ≡ waiters s → IsActed number f s.book.calls v.book.calls → AsksEnded number acts v.book.calls → Turned number f s (step.followed number acts v)
+turned_followed number f acts s v moment late ontime shut unconfigured waiting h asks =
     let a : StateSeen = step.acts_done number acts v in
     let b : IsAside v a = acts_aside number acts v in
     let back : (all : Bool) (k : ℕ) → In (0, k) (waiting_in all s) → In (0, k) (waiting_in all v) = λ all k i. subst (λ (l : List (ℕ × ℕ)). In (0, k) l) (sym (same_waiting all s v waiting)) i in
@@ -364,42 +385,42 @@ turned_followed number f acts s v moment late shut unconfigured waiting h asks =
       none = λ e.
           let gone : o ≡ None = ap (λ (l : List CallSlot). numbered l number) b.calls ∙ h.none e in
           let none = timed_none number a o refl gone in
-          (none.0, none.1 ∙ b.deadlines ∙ late);
+          (none.0, none.1 ∙ b.deadlines ∙ late, none.2 ∙ b.dues ∙ ontime);
       own = λ slot e.
           let x : OwnActed number f v.book.calls slot = h.own slot e in
-          timed_own number f s a slot x.after x.before x.same (b.deadlines ∙ late) (ap (λ (l : List CallSlot). numbered l number) b.calls ∙ x.there) x.call_is x.kept
+          timed_own number f s a slot x.after x.before x.same (b.deadlines ∙ late) (b.dues ∙ ontime) (ap (λ (l : List CallSlot). numbered l number) b.calls ∙ x.there) x.call_is x.kept x.still
           (λ all i none. acts_stay all number (0, number) acts v (not_asked (has_end acts) x.after.call.ended (asks x.after x.there) none) (back all number i));
     }
 
 -- a call acts, with the tokens that it is lent, or only looks at them
-pub turned_acted : (number : ℕ) (f : Stepped → Stepped) → EndsEnded f → (s t : StateSeen) → t.deadlines ≡ s.deadlines → t.shut ≡ s.shut → t.unconfigured ≡ s.unconfigured → waiters t ≡ waiters s → Turned number f s (step.with_book (book_acted f number s.book) number t)
-turned_acted number f ends s t late shut unconfigured waiting =
+pub turned_acted : (number : ℕ) (f : Stepped → Stepped) → EndsEnded f → (s t : StateSeen) → t.deadlines ≡ s.deadlines → t.dues ≡ s.dues → t.shut ≡ s.shut → t.unconfigured ≡ s.unconfigured → waiters t ≡ waiters s → Turned number f s (step.with_book (book_acted f number s.book) number t)
+turned_acted number f ends s t late ontime shut unconfigured waiting =
     let b : BookActs = book_acted f number s.book in
     let v : StateSeen = record t { book = b.book } in
     let tokens : Option Bucket = tokens_in s.book.buckets (bucket_at (slot_at s.book number)) in
-    turned_followed number f b.acts s v refl late shut unconfigured waiting (is_acted f s.book.calls number s.book.ledger tokens) (asks_ended f ends s.book.calls number s.book.ledger tokens)
+    turned_followed number f b.acts s v refl late ontime shut unconfigured waiting (is_acted f s.book.calls number s.book.ledger tokens) (asks_ended f ends s.book.calls number s.book.ledger tokens)
 
 pub turned_asked : (number : ℕ) (f : Stepped → Stepped) → EndsEnded f → (s : StateSeen) → Turned number f s (step.call_asked f number s)
 turned_asked number f ends s =
     let b : BookActs = book_asked f number s.book in
     let v : StateSeen = record s { book = b.book } in
     let tokens : Option Bucket = tokens_in s.book.buckets (bucket_at (slot_at s.book number)) in
-    turned_followed number f b.acts s v refl refl refl refl refl (is_acted f s.book.calls number s.book.ledger tokens) (asks_ended f ends s.book.calls number s.book.ledger tokens)
+    turned_followed number f b.acts s v refl refl refl refl refl refl (is_acted f s.book.calls number s.book.ledger tokens) (asks_ended f ends s.book.calls number s.book.ledger tokens)
 
-pub turned_placed : (row : ℕ) (at : Placed) (number : ℕ) (s t : StateSeen) → t.deadlines ≡ s.deadlines → t.shut ≡ s.shut → t.unconfigured ≡ s.unconfigured → waiters t ≡ waiters s → Turned number (call.placed_at row at) s (step.with_book (book_placed row at number s.book) number t)
-turned_placed row at number s t late shut unconfigured waiting =
+pub turned_placed : (row : ℕ) (at : Placed) (number : ℕ) (s t : StateSeen) → t.deadlines ≡ s.deadlines → t.dues ≡ s.dues → t.shut ≡ s.shut → t.unconfigured ≡ s.unconfigured → waiters t ≡ waiters s → Turned number (call.placed_at row at) s (step.with_book (book_placed row at number s.book) number t)
+turned_placed row at number s t late ontime shut unconfigured waiting =
     let b : BookActs = book_placed row at number s.book in
     let v : StateSeen = record t { book = b.book } in
-    turned_followed number (call.placed_at row at) b.acts s v refl late shut unconfigured waiting (is_acted (call.placed_at row at) s.book.calls number s.book.ledger None) (asks_ended (call.placed_at row at) (ends_placed row at) s.book.calls number s.book.ledger None)
+    turned_followed number (call.placed_at row at) b.acts s v refl late ontime shut unconfigured waiting (is_acted (call.placed_at row at) s.book.calls number s.book.ledger None) (asks_ended (call.placed_at row at) (ends_placed row at) s.book.calls number s.book.ledger None)
 
 -- the configuration: the call gets its bucket first
-bucket_acted : (number : ℕ) (f : Stepped → Stepped) (g : CallSlot → CallSlot) (calls after : List CallSlot) → ((slot : CallSlot) → (g slot).call ≡ slot.call) → ((slot : CallSlot) → (g slot).deadline ≡ slot.deadline) → IsActed number f (changed_at g calls number) after → IsActed number f calls after
-bucket_acted number f g calls after same kept h = record {
+bucket_acted : (number : ℕ) (f : Stepped → Stepped) (g : CallSlot → CallSlot) (calls after : List CallSlot) → ((slot : CallSlot) → (g slot).call ≡ slot.call) → ((slot : CallSlot) → (g slot).deadline ≡ slot.deadline) → ((slot : CallSlot) → (g slot).due ≡ slot.due) → IsActed number f (changed_at g calls number) after → IsActed number f calls after
+bucket_acted number f g calls after same kept still h = record {
   others = λ k off. h.others k off ∙ number_other g calls number k off;
   none = λ e. h.none (number_changed g calls number ∙ none_mapped g (numbered calls number) e);
   own = λ slot e.
       let x : OwnActed number f after (g slot) = h.own (g slot) (number_changed g calls number ∙ ap (λ (o : Option CallSlot). option_map g o) e) in
-      record { before = x.before; same = x.same ∙ same slot; after = x.after; there = x.there; call_is = x.call_is; kept = x.kept ∙ kept slot };
+      record { before = x.before; same = x.same ∙ same slot; after = x.after; there = x.there; call_is = x.call_is; kept = x.kept ∙ kept slot; still = x.still ∙ still slot };
 }
 
 pub turned_configured : (chosen : Chosen) (number : ℕ) (s : StateSeen) → Turned number (call.configured chosen s.book.moment) s (step.with_book (book_configured chosen number s.book) number s)
@@ -410,4 +431,4 @@ turned_configured chosen number s =
     let v : StateSeen = record s { book = b.book } in
     let first : IsActed number f (bucket_set number s.book) b.book.calls = is_acted f (bucket_set number s.book) number s.book.ledger None in
     let at : IsActed number f (changed_at g s.book.calls number) b.book.calls = subst (λ (l : List CallSlot). IsActed number f l b.book.calls) (put_slot g s.book.calls number) first in
-    turned_followed number f b.acts s v refl refl refl refl refl (bucket_acted number f g s.book.calls b.book.calls (λ slot. refl) (λ slot. refl) at) (asks_ended f (ends_configured chosen s.book.moment) (bucket_set number s.book) number s.book.ledger None)
+    turned_followed number f b.acts s v refl refl refl refl refl refl (bucket_acted number f g s.book.calls b.book.calls (λ slot. refl) (λ slot. refl) (λ slot. refl) at) (asks_ended f (ends_configured chosen s.book.moment) (bucket_set number s.book) number s.book.ledger None)

@@ -64,7 +64,7 @@ module _ (inbox : InboxLaws) (k m : ℕ) where
   joining : Joins View
   joining = record {
     joined = λ s t u first second e. (let f = first e in let g = second f.0 in (g.0, untimed_on (call_at k s) (call_at k t) (call_at k u) f.1 g.1));
-    beside = λ s t calls moment deadlines shut unconfigured waiting e. (moment ∙ e, subst (λ (l : List CallSlot). Untimed (call_at k s) (call_in (numbered l k))) (sym calls) (untimed_at (call_at k s)));
+    beside = λ s t calls moment deadlines dues shut unconfigured waiting e. (moment ∙ e, subst (λ (l : List CallSlot). Untimed (call_at k s) (call_in (numbered l k))) (sym calls) (untimed_at (call_at k s)));
   }
 
   untimed : (s : StateSeen) → s.book.moment ≡ m → Untimed (call_at k s) (call_at k (overdue_ended s))

@@ -109,7 +109,7 @@ module _ (k : ℕ) (P : Option CallState → Option CallState → Type 0) (at : 
     pub views : ((a b : CallState) → IsLike a b → P (Some a) (Some b)) → ((row : ℕ) (at : Placed) (x : Stepped) → P (Some x.call) (Some (call.placed_at row at x).call)) → Turns Viewed
     views like placed = record {
       joined = λ s t u first second e. (let f = first e in let g = second f.0 in (g.0, on (call_at k s) (call_at k t) (call_at k u) f.1 g.1));
-      beside = λ s t calls moment deadlines shut unconfigured waiting e. (moment ∙ e, subst (λ (l : List CallSlot). P (call_at k s) (call_in (numbered l k))) (sym calls) (at (call_at k s)));
-      touched = λ number s t h calm. touch_view like number s t h;
+      beside = λ s t calls moment deadlines dues shut unconfigured waiting e. (moment ∙ e, subst (λ (l : List CallSlot). P (call_at k s) (call_in (numbered l k))) (sym calls) (at (call_at k s)));
+      touched = λ number s t h calm due. touch_view like number s t h;
       placed = λ row at number s t h e. (h.moment ∙ e, turn_by number (call.placed_at row at) s t h (λ here x. placed row at x) (cases_eq k number));
     }

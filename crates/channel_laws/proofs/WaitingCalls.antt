@@ -152,13 +152,13 @@ module _ (all : Bool) where
   pub waiting : (k : ℕ) → Turns (Waits k)
   waiting k = record {
     joined = waits_on k;
-    beside = λ s t calls moment deadlines shut unconfigured same c is w. record {
+    beside = λ s t calls moment deadlines dues shut unconfigured same c is w. record {
       before = c;
       is = sym (ap (λ (l : List CallSlot). call_in (numbered l k)) calls) ∙ is;
       waiting = w;
       stays = λ i. subst (λ (l : List (ℕ × ℕ)). In (0, k) l) (sym (same_waiting all s t same)) i;
     };
-    touched = λ number s t h calm. touched_by k number s t h (cases_eq k number);
+    touched = λ number s t h calm due. touched_by k number s t h (cases_eq k number);
     placed = λ row at number s t h. turned_waits k number (call.placed_at row at) s t h (keeps_placed row at);
   }
 
@@ -183,7 +183,7 @@ module _ (all : Bool) where
   waits_event k event.Shutdown s old = (λ number u v h. turned_waits k number (call.closed_by ends.Shut u.book.moment) u v h (keeps_closed ends.Shut u.book.moment), at_rest k s (record s { shut = true }) refl refl)
   waits_event k (event.Resolved addresses text) s old = λ u. at_rest k u _ refl refl
   waits_event k event.ResolveFailed s old = at_rest k s _ refl refl
-  waits_event k (event.Take number) s old = λ t h. touched_by k number s t h (cases_eq k number)
+  waits_event k (event.Take number) s old = λ t h due. touched_by k number s t h (cases_eq k number)
   waits_event k e s old = tt
 
   pub waits_left : (k : ℕ) (e : Event) (s t : StateSeen) (r : Reply) → IsOld e → AnswersBy (refusal_of e s) e s t r → Waits k s t
@@ -222,8 +222,8 @@ module _ (all : Bool) where
   pub sorting : Turns Sorts
   sorting = record {
     joined = λ s t u first second h. second (first h);
-    beside = λ s t calls moment deadlines shut unconfigured same h. subst Sorted (sym (same_waiting all s t same)) h;
-    touched = λ number s t h calm i. subst Sorted (sym (same_waiting all s t h.waiting)) i;
+    beside = λ s t calls moment deadlines dues shut unconfigured same h. subst Sorted (sym (same_waiting all s t same)) h;
+    touched = λ number s t h calm due i. subst Sorted (sym (same_waiting all s t h.waiting)) i;
     placed = λ row at number s t h. h.sorted all;
   }
 
@@ -236,7 +236,7 @@ module _ (all : Bool) where
   sorts_event event.Shutdown s = (λ number u v h. h.sorted all, λ h. h)
   sorts_event (event.Resolved addresses text) s = λ u h. h
   sorts_event event.ResolveFailed s = λ h. h
-  sorts_event (event.Take number) s = λ t h i. subst Sorted (sym (same_waiting all s t h.waiting)) i
+  sorts_event (event.Take number) s = λ t h due i. subst Sorted (sym (same_waiting all s t h.waiting)) i
   sorts_event e s = tt
 
   pub sorts_found : (s : StateSeen) → Sorts s (overdue_ended s)
@@ -249,6 +249,8 @@ module _ (all : Bool) where
   rounds_ends k = record {
     made = λ number u v h. turned_waits k number (call.made_due u.book.moment) u v h (keeps_due u.book.moment);
     failed = λ row number word u v h. turned_waits k number (call.pick_failed row u.book.moment word) u v h (keeps_ended_at row pick_end u.book.moment word);
+    taken = λ dues u. at_rest k u _ refl refl;
+    forgotten = λ number u v h calm. touched_by k number u v h (cases_eq k number);
   }
 
   pub rounds_wait : (k : ℕ) (s : StateSeen) → Waits k s (rounds settling.most s)
@@ -259,7 +261,7 @@ module _ (all : Bool) where
 
 -- the list of those that do not wait for ready, behind the settling
 pub sorts_settled : (s : StateSeen) → Sorts false s (settling.settled s)
-sorts_settled s = settle (Sorts false) (sorting false) (record { made = λ number u v h. h.sorted false; failed = λ row number word u v h. h.sorted false }) (λ u bare impatient sorted fewer. sorted) s (λ some chosen number u v h. h.sorted false) (λ none lacking number u v h. h.sorted false)
+sorts_settled s = settle (Sorts false) (sorting false) (record { made = λ number u v h. h.sorted false; failed = λ row number word u v h. h.sorted false; taken = λ dues u h. h; forgotten = λ number u v h calm i. subst Sorted (sym (same_waiting false u v h.waiting)) i }) (λ u bare impatient sorted fewer. sorted) s (λ some chosen number u v h. h.sorted false) (λ none lacking number u v h. h.sorted false)
 
 -- once no configuration is to be had, each call of the list ends
 kept_some : (m : ℕ) (a b : Option CallState) → Kept m a b → is_some (end_in a) ≡ true → is_some (end_in b) ≡ true

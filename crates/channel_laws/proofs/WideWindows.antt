@@ -57,7 +57,7 @@ window_says : (w : Wire) (f : FrameSeen) (seen : ℕ) (o : Option (ℕ × LiveSt
 window_says w f seen None is = inl refl
 window_says w f seen (Some x) is = found_error w f seen x is
 
-if_not : {X : Type 0} (b : Bool) (x y : X) → b ≡ false → (if b then x else y) ≡ y
+pub if_not : {X : Type 0} (b : Bool) (x y : X) → b ≡ false → (if b then x else y) ≡ y
 if_not true x y e = absurd (let no : ⊥ = (cc) in no)
 if_not false x y e = refl
 
@@ -80,7 +80,7 @@ plain_says w f seen kind =
     if_not (f.kind == data_type) _ _ (other_kind f window_update_type data_type kind refl) ∙ if_not (f.kind == rst_stream_type) _ _ (other_kind f window_update_type rst_stream_type kind refl) ∙ if_not (f.kind == settings_type) _ _ (other_kind f window_update_type settings_type kind refl)
     ∙ if_not (f.kind == ping_type) _ _ (other_kind f window_update_type ping_type kind refl) ∙ if_not (f.kind == goaway_type) _ _ (other_kind f window_update_type goaway_type kind refl) ∙ if_so (f.kind == window_update_type) _ _ kind
 
-applied_says : (w : Wire) (f : FrameSeen) (seen : ℕ) → (f.kind == window_update_type) ≡ true → applied w f seen ≡ Ok (update_told w f seen)
+pub applied_says : (w : Wire) (f : FrameSeen) (seen : ℕ) → (f.kind == window_update_type) ≡ true → applied w f seen ≡ Ok (update_told w f seen)
 applied_says w f seen kind =
     if_not (f.kind == headers_type) _ _ (other_kind f window_update_type headers_type kind refl) ∙ if_not (f.kind == continuation_type) _ _ (other_kind f window_update_type continuation_type kind refl) ∙ ap (λ (t : Told). Ok t) (plain_says w f seen kind)
 

@@ -1,6 +1,6 @@
 -- The attempts of each call, as the rows of a ledger show them (gRFC A6, "Retry Policy", "Hedging Policy", "Maximum Number of
--- Retries", "Pushback" and "Transparent Retries").
-use Rattle.std.specs.Prelude.{◌≡◌, ◌≤◌, ℕ, Some, IfSome, List, length}
+-- Retries", "Pushback" and "Transparent Retries"; gRPC, "Service Config in gRPC").
+use Rattle.std.specs.Prelude.{◌≡◌, ◌≤◌, ◌<◌, ℕ, Some, None, IfSome, List, length}
 use Rattle.std.specs.List.{AllByRecursion}
 use Rattle.grpc_base.specs.Requests.{RequestSeen}
 use Rattle.grpc_base.specs.declared.event.Entry.{Entry}
@@ -15,6 +15,7 @@ use Rattle.call_core.specs.Parts.{plan_of}
 use Rattle.call_core.specs.Reasons.{Reason}
 use Rattle.link_laws.specs.Configurations.{chosen_at, request_in}
 use Rattle.channel_core.specs.Tables.{numbered}
+use Rattle.channel_laws.specs.RowsBehind.{rows_by}
 
 -- a row was due, was placed and ended in this order
 pub record IsOrdered (row : Row) : Type 0 where
@@ -39,6 +40,8 @@ pub record HasAttempts (entries : List Entry) (rows : List Row) (call : ℕ) (se
   -- that the server can't have seen
   pub reasons : (place : ℕ) (row : Row) → IsRowOf call rows place row → Reason plan call rows place row row.kind
   pub order : (place : ℕ) (row : Row) → IsRowOf call rows place row → IsOrdered row
+  -- and a call that never got its configuration has no attempt, no transparent retry among them
+  pub unconfigured : seen.configured ≡ None → (place : ℕ) (row : Row) → IsRowOf call rows place row → ⊥
 
 -- a row is one of these calls
 pub record IsOfCall (calls : ℕ) (row : Row) : Type 0 where
@@ -48,3 +51,9 @@ pub record IsOfCall (calls : ℕ) (row : Row) : Type 0 where
 pub record AreAttempts (entries : List Entry) (ledger : Ledger) : Type 0 where
   pub owned : AllByRecursion (IsOfCall (length ledger.calls)) ledger.rows
   pub each : (call : ℕ) (seen : CallSeen) → numbered ledger.calls call ≡ Some seen → HasAttempts entries ledger.rows call seen
+
+-- no attempt is made before its call has its configuration: behind each entry, from that of its Begin on, by which it had not got one, it has none
+abbrev pub NoneIsEarly : List Entry → Ledger → Type 0
+NoneIsEarly entries ledger =
+    (call entry place : ℕ) (seen : CallSeen) (row : Row) → numbered ledger.calls call ≡ Some seen → seen.begun ≤ entry → entry ≤ length entries
+    → ((configured : ℕ) → seen.configured ≡ Some configured → entry < configured) → IsRowOf call (rows_by entry ledger) place row → ⊥

@@ -1,5 +1,5 @@
 -- A Cancel that is done ends its call, in its own entry.
-use Rattle.std.specs.Prelude.{◌≡◌, ℕ, Some, List}
+use Rattle.std.specs.Prelude.{◌≡◌, ◌≤◌, ℕ, Some, List}
 use Rattle.grpc_base.specs.declared.event.EndCause.{EndCause}
 use Rattle.grpc_base.specs.declared.event.EndCause.TheVariants as ending
 use Rattle.grpc_base.specs.declared.event.Entry.{Entry}
@@ -18,6 +18,13 @@ pub record EndsIn (calls : List CallSeen) (call entry : ℕ) (cause : EndCause) 
   pub is : seen.end ≡ Some end
   pub entry_is : end.entry ≡ entry
   pub cause_is : end.cause ≡ cause
+
+-- a call has ended by this entry, and if it did in this one, for such a cause
+pub record HasEndedFor (May : EndCause → Type 0) (seen : CallSeen) (entry : ℕ) : Type 0 where
+  pub end : CallEnd
+  pub is : seen.end ≡ Some end
+  pub by : end.entry ≤ entry
+  pub cause : end.entry ≡ entry → May end.cause
 
 abbrev pub AreCancelled : List Entry → Ledger → Type 0
 AreCancelled entries ledger = (entry : ℕ) (e : Entry) (call : ℕ) → numbered entries entry ≡ Some e → e.event ≡ event.Cancel call → e.reply ≡ reply.Done → EndsIn ledger.calls call entry ending.Cancelled

@@ -9,13 +9,12 @@ use Rattle.grpc_base.specs.declared.event.Reply.{Reply}
 use Rattle.grpc_base.specs.declared.event.Reply.TheVariants as reply
 use Rattle.grpc_base.specs.declared.fields.Field.{Field}
 use Rattle.attempt_ledger.specs.Journals.{accepted, received}
-use Rattle.attempt_ledger.specs.declared.ledger.CallEnd.{CallEnd}
-use Rattle.attempt_ledger.specs.declared.ledger.CallSeen.{CallSeen}
 use Rattle.attempt_ledger.specs.declared.ledger.Ledger.{Ledger}
 use Rattle.attempt_ledger.specs.declared.row.Placed.{Placed}
 use Rattle.attempt_ledger.specs.declared.row.Row.{Row}
 use Rattle.grpc_frame.specs.Messages.{framed, framed_all}
 use Rattle.call_core.specs.Commitments.{IsRowOf}
+use Rattle.channel_laws.specs.Cancels.{EndsIn}
 use Rattle.channel_laws.specs.EndCauses.{is_arrival}
 use Rattle.channel_laws.specs.Response.{response_on}
 use Rattle.channel_laws.specs.ResponseLimits.{IsCallLimit}
@@ -49,16 +48,6 @@ pub record BringsHead (entries : List Entry) (ledger : Ledger) (call entry : ℕ
   pub meta : List Field
   pub head : (response_on limit stream (received at.link past ++ piece)).head ≡ Some meta
 
--- bytes come, and in the same entry the call ends for a too long response
-pub record EndsByBytes (calls : List CallSeen) (call entry : ℕ) (e : Event) : Type 0 where
-  pub arrives : is_arrival e ≡ true
-  pub seen : CallSeen
-  pub there : numbered calls call ≡ Some seen
-  pub end : CallEnd
-  pub is : seen.end ≡ Some end
-  pub cause : end.cause ≡ ending.Response
-  pub at : end.entry ≡ entry
-
 -- a message of the call is accepted, and with it all that were accepted, each with five bytes before it, come to more than 262,144 bytes
 pub record Overflows (call : ℕ) (past : List Entry) (e : Event) (r : Reply) : Type 0 where
   pub message : List ℕ
@@ -66,19 +55,10 @@ pub record Overflows (call : ℕ) (past : List Entry) (e : Event) (r : Reply) : 
   pub done : r ≡ reply.Done
   pub over : 262144 < length (framed_all (accepted call past)) + length (framed message)
 
--- the call ends by its row in this entry
-pub record EndsByRowIn (calls : List CallSeen) (call entry : ℕ) : Type 0 where
-  pub seen : CallSeen
-  pub there : numbered calls call ≡ Some seen
-  pub end : CallEnd
-  pub is : seen.end ≡ Some end
-  pub cause : end.cause ≡ ending.Row
-  pub at : end.entry ≡ entry
-
--- Bytes bring the head of a response; or a message overflows what a call holds for the attempts to come; or an attempt ends the call. Of bytes
--- by which the call ends at once, for a too long response, it is not said that they bring its head.
+-- Bytes bring the head of a response; or bytes come, and in the same entry the call ends for a too long response, of which it is not said that they bring its
+-- head; or a message overflows what a call holds for the attempts to come; or the call ends by its row in this entry
 abbrev pub CanCommit : List Entry → Ledger → ℕ → ℕ → List Entry → Entry → Type 0
-CanCommit entries ledger call entry past e = BringsHead entries ledger call entry past e.event e.reply ⊎ (EndsByBytes ledger.calls call entry e.event ⊎ (Overflows call past e.event e.reply ⊎ EndsByRowIn ledger.calls call entry))
+CanCommit entries ledger call entry past e = BringsHead entries ledger call entry past e.event e.reply ⊎ (((is_arrival e.event ≡ true) × EndsIn ledger.calls call entry ending.Response) ⊎ (Overflows call past e.event e.reply ⊎ EndsIn ledger.calls call entry ending.Row))
 
 -- the entries before one
 abbrev pub entries_before : ℕ → List Entry → List Entry

@@ -1,5 +1,5 @@
--- Each head of a response commits its call, in the entry that brings it (gRFC A6, "When Retries are Valid").
-use Rattle.std.specs.Prelude.{◌≡◌, ◌<◌, ◌≤◌, ℕ, Some, List, ◌++◌, length, take}
+-- Each head of a response commits its call to the attempt whose response this is, in the entry that brings it (gRFC A6, "When Retries are Valid").
+use Rattle.std.specs.Prelude.{◌≡◌, ◌<◌, ℕ, Some, List, take}
 use Rattle.grpc_base.specs.declared.event.Entry.{Entry}
 use Rattle.grpc_base.specs.declared.fields.Field.{Field}
 use Rattle.attempt_ledger.specs.Journals.{received}
@@ -9,13 +9,12 @@ use Rattle.attempt_ledger.specs.declared.row.Row.{Row}
 use Rattle.attempt_ledger.specs.declared.row.RowCause.TheVariants as cause
 use Rattle.attempt_ledger.specs.declared.row.RowEnd.{RowEnd}
 use Rattle.call_core.specs.Commitments.{IsRowOf}
+use Rattle.call_core.specs.RowLicenses.{IsStampedBy}
 use Rattle.h2_frame.specs.Frames.{FrameSeen}
-use Rattle.h2_frame.specs.Readings.{frames_of}
-use Rattle.link_laws.specs.Reads.{bytes_in}
-use Rattle.channel_laws.specs.Deliveries.{IsCommittedBy}
 use Rattle.channel_laws.specs.EndEntries.{IsGoneBy}
 use Rattle.channel_laws.specs.Response.{response_in, response_on}
 use Rattle.channel_laws.specs.ResponseLimits.{IsCallLimit}
+use Rattle.channel_laws.specs.SeenFrames.{WereSeen}
 
 -- an attempt of the call goes on behind this entry: it has not ended by it, and its link is not gone by it (which `gone_links` has of each attempt that has
 -- not ended, as far as 32 bits count the links, and 64 bits the attempts). With the bytes that came on the link in the entries up to it the response on the
@@ -51,17 +50,14 @@ pub record HadHead (entries : List Entry) (ledger : Ledger) (call : ℕ) (end : 
   pub has : row.stream ≡ Some stream
   pub limit : ℕ
   pub limit_is : IsCallLimit entries ledger call limit
-  -- as far as 64 bits count the bytes of the link
-  pub few : length (received at.link entries) ≤ 18446744073709551615
   pub frames : List FrameSeen
-  pub more : List FrameSeen
-  pub front : frames_of (received at.link entries) ≡ frames ++ more
-  pub seen : end.seen ≡ bytes_in frames
+  pub saw : WereSeen entries at.link frames end
   pub meta : List Field
   pub head : (response_in limit stream frames).head ≡ Some meta
 
 pub record CommitByHeads (entries : List Entry) (ledger : Ledger) : Type 0 where
-  -- while an attempt goes on that has a head, its call is committed, by the entry that brought this head
-  pub going : (call entry : ℕ) → HasHead entries ledger call entry → IsCommittedBy ledger.rows call entry
-  -- and where an attempt ended that had one, its call is committed by the entry of this end, also where the head came in this very entry
-  pub last : (call : ℕ) (end : RowEnd) → HadHead entries ledger call end → IsCommittedBy ledger.rows call end.entry
+  -- while an attempt goes on that has a head, its call is committed to it, by the entry that brought this head
+  pub going : (call entry : ℕ) (had : HasHead entries ledger call entry) → IsStampedBy entry had.row
+  -- and where an attempt ended that had one, its call is committed to it by the entry of this end, also where the head came in this very entry. So an
+  -- attempt that was cut for another one had no head by what was seen of it
+  pub last : (call : ℕ) (end : RowEnd) (had : HadHead entries ledger call end) → IsStampedBy end.entry had.row

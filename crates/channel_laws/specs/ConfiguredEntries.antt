@@ -1,10 +1,11 @@
 -- In which entry a call gets its configuration (gRPC, "Service Config in gRPC").
-use Rattle.std.specs.Prelude.{◌≡◌, ◌≤◌, ◌⊎◌, ℕ, ◌-◌, true, is_some, Some, None, List, length, take}
+use Rattle.std.specs.Prelude.{◌≡◌, ◌≤◌, ◌⊎◌, ℕ, true, is_some, Some, None, List, length, take}
 use Rattle.grpc_base.specs.declared.event.EndCause.TheVariants as ending
 use Rattle.grpc_base.specs.declared.event.Entry.{Entry}
 use Rattle.attempt_ledger.specs.declared.ledger.CallEnd.{CallEnd}
 use Rattle.attempt_ledger.specs.declared.ledger.CallSeen.{CallSeen}
 use Rattle.attempt_ledger.specs.declared.ledger.Ledger.{Ledger}
+use Rattle.channel_laws.specs.CommitEntries.{entries_before}
 use Rattle.link_laws.specs.Configurations.{held_after}
 use Rattle.channel_core.specs.Tables.{numbered}
 
@@ -19,7 +20,7 @@ pub record IsConfiguredIn (entries : List Entry) (seen : CallSeen) (entry : ℕ)
 -- this is the first entry from the Begin on by which a valid config had come: that of the Begin, or nothing was held behind the entry before (a config
 -- that is held is never lost)
 abbrev pub IsFirstHeld : List Entry → CallSeen → ℕ → Type 0
-IsFirstHeld entries seen entry = (entry ≡ seen.begun) ⊎ (held_after (take (entry - 1) entries) ≡ None)
+IsFirstHeld entries seen entry = (entry ≡ seen.begun) ⊎ (held_after (entries_before entry entries) ≡ None)
 
 pub record AreConfigured (entries : List Entry) (ledger : Ledger) : Type 0 where
   -- each call that has a configuration got it so

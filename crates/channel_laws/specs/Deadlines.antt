@@ -10,6 +10,7 @@ use Rattle.attempt_ledger.specs.declared.ledger.Ledger.{Ledger}
 use Rattle.call_core.specs.Parts.{deadline_of}
 use Rattle.link_laws.specs.Configurations.{chosen_at, request_by}
 use Rattle.channel_core.specs.Tables.{numbered}
+use Rattle.channel_laws.specs.Cancels.{HasEndedFor}
 
 -- the entry in which a call got its configuration, if that is before this one
 abbrev pub configured_before : ℕ → Option ℕ → Option ℕ
@@ -40,11 +41,8 @@ pub record IsOverdue (entries : List Entry) (seen : CallSeen) (entry : ℕ) : Ty
   pub passed : deadline ≤ at.moment
 
 -- it has ended by this entry, and if it did in this one, by its deadline
-pub record EndsInTime (seen : CallSeen) (entry : ℕ) : Type 0 where
-  pub end : CallEnd
-  pub is : seen.end ≡ Some end
-  pub by : end.entry ≤ entry
-  pub cause : end.entry ≡ entry → end.cause ≡ ending.Deadline
+abbrev pub EndsInTime : CallSeen → ℕ → Type 0
+EndsInTime seen entry = HasEndedFor (λ cause. cause ≡ ending.Deadline) seen entry
 
 pub record AreTimely (entries : List Entry) (ledger : Ledger) : Type 0 where
   -- a call that ended by its deadline has one, which had come by the entry of the end

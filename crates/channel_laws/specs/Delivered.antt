@@ -1,6 +1,6 @@
 -- What applications take of the responses to their calls: of each call nothing, or the head of the response to one attempt, to which the call
 -- is committed, and then, in order, a front of its messages (gRPC over HTTP/2, "Responses" and "Length-Prefixed-Message"; gRFC A6, "When Retries are Valid").
-use Rattle.std.specs.Prelude.{◌≡◌, ◌⊎◌, ℕ, Some, List, [], ◌∷◌, ◌++◌, map, take}
+use Rattle.std.specs.Prelude.{◌≡◌, ◌⊎◌, ℕ, ◌+◌, Some, List, [], ◌∷◌, ◌++◌, length, map, take}
 use Rattle.grpc_base.specs.declared.event.Entry.{Entry}
 use Rattle.grpc_base.specs.declared.event.Reply.{Reply}
 use Rattle.grpc_base.specs.declared.event.Reply.TheVariants as reply
@@ -10,7 +10,7 @@ use Rattle.attempt_ledger.specs.declared.ledger.Ledger.{Ledger}
 use Rattle.attempt_ledger.specs.declared.row.Placed.{Placed}
 use Rattle.attempt_ledger.specs.declared.row.Row.{Row}
 use Rattle.grpc_frame.specs.Messages.{messages_of}
-use Rattle.link_laws.specs.Commitments.{IsCommittedRow}
+use Rattle.channel_laws.specs.Deliveries.{IsCommittedBefore}
 use Rattle.channel_laws.specs.Response.{response_on}
 use Rattle.channel_laws.specs.ResponseLimits.{IsCallLimit}
 
@@ -22,11 +22,13 @@ before_end (reply.Message octets ∷ replies) = reply.Message octets ∷ before_
 before_end (reply.End code text meta cause ∷ replies) = []
 before_end (r ∷ replies) = before_end replies
 
--- the head of the response on the stream of one attempt, to which the call is committed, and behind it a front of its messages
+-- the head of the response on the stream of one attempt, the last one to which the call was committed by these entries, and behind it a front of its
+-- messages
 pub record AreOfOne (entries : List Entry) (ledger : Ledger) (call : ℕ) (told : List Reply) : Type 0 where
   pub place : ℕ
   pub row : Row
-  pub is : IsCommittedRow ledger.rows call place row
+  -- it was committed by then, and no transparent retry of it had taken the commitment over
+  pub is : IsCommittedBefore ledger.rows call (length entries + 1) place row
   pub at : Placed
   pub placed : row.placed ≡ Some at
   pub stream : ℕ

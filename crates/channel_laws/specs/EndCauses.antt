@@ -14,7 +14,7 @@ use Rattle.attempt_ledger.specs.declared.ledger.CallSeen.{CallSeen}
 use Rattle.attempt_ledger.specs.declared.ledger.Ledger.{Ledger}
 use Rattle.attempt_ledger.specs.declared.row.Row.{Row}
 use Rattle.attempt_ledger.specs.declared.row.RowEnd.{RowEnd}
-use Rattle.channel_laws.specs.Cancels.{EndsIn}
+use Rattle.channel_laws.specs.Cancels.{EndsIn, HasEndedFor}
 use Rattle.link_laws.specs.Commitments.{IsCommittedRow}
 use Rattle.channel_core.specs.Tables.{numbered}
 
@@ -32,11 +32,8 @@ CanEndBy call e r ending.Response = (is_arrival e ≡ true) × (r ≡ reply.Done
 CanEndBy call e r cause = Unit {0}
 
 -- it has ended by the entry of a Shutdown, and if it did in this one, by the Shutdown or by a deadline that came with it
-pub record IsShutBy (seen : CallSeen) (entry : ℕ) : Type 0 where
-  pub end : CallEnd
-  pub is : seen.end ≡ Some end
-  pub by : end.entry ≤ entry
-  pub cause : end.entry ≡ entry → (end.cause ≡ ending.Shut) ⊎ (end.cause ≡ ending.Deadline)
+abbrev pub IsShutBy : CallSeen → ℕ → Type 0
+IsShutBy seen entry = HasEndedFor (λ cause. (cause ≡ ending.Shut) ⊎ (cause ≡ ending.Deadline)) seen entry
 
 -- the last row to which the call is committed: no transparent retry follows it
 pub record IsLastCommitted (rows : List Row) (call place : ℕ) (row : Row) : Type 0 where

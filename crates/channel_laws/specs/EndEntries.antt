@@ -1,7 +1,9 @@
 -- In which entry each attempt ends, by the cause of its end, how much of its link was seen by then, and what the end tells (gRPC over HTTP/2,
 -- "Responses" and "Errors"; RFC 9113, sections 4.1, 5.4, 6.4, 6.8 and 6.9).
-use Rattle.std.specs.Prelude.{◌≡◌, ◌≤◌, ◌<◌, ◌⊎◌, ℕ, ◌+◌, true, false, Some, None, List, [], ◌∷◌, ◌++◌, length}
+use Rattle.std.specs.Prelude.{◌≡◌, ◌≤◌, ◌<◌, ◌⊎◌, ℕ, ◌+◌, ◌==◌, Bool, true, false, Some, None, List, [], ◌∷◌, ◌++◌, is_some, length}
+use Rattle.std.specs.List.{list_any}
 use Rattle.grpc_base.specs.declared.code.Code.TheVariants as code
+use Rattle.grpc_base.specs.declared.event.EndCause.{EndCause}
 use Rattle.grpc_base.specs.declared.event.EndCause.TheVariants as ending
 use Rattle.grpc_base.specs.declared.event.Entry.{Entry}
 use Rattle.grpc_base.specs.declared.event.Event.TheVariants as event
@@ -19,7 +21,7 @@ use Rattle.grpc_base.specs.declared.fields.Field.{Field}
 use Rattle.h2_frame.specs.Frames.{FrameSeen}
 use Rattle.h2_frame.specs.Numbers.{goaway_type, window_update_type}
 use Rattle.h2_frame.specs.Payloads.{increment}
-use Rattle.h2_frame.specs.Readings.{frames_of}
+use Rattle.h2_frame.specs.Readings.{fault_of, frames_of, rest_of}
 use Rattle.link_laws.specs.Reads.{bytes_in}
 use Rattle.channel_laws.specs.Cancels.{EndsIn}
 use Rattle.call_core.specs.Commitments.{IsRowOf}
@@ -52,12 +54,14 @@ pub record IsReadBy (ledger : Ledger) (link : ℕ) (entries : List Entry) (read 
   pub read_is : read ≡ bytes_in frames
   pub all : (more ≡ []) ⊎ WasAllRead ledger link (length entries) read
 
--- an attempt lost its link: the link was lost in this entry, or bytes came on it by which it is gone; and all that was read by the entry was seen,
--- which is all that was ever read of it
+-- an attempt lost its link: the link was lost in this entry, or bytes came on it that broke it; it is gone by the entry, and all that was read by then
+-- was seen, which is all that was ever read of it
 pub record IsLostIn (ledger : Ledger) (link : ℕ) (before : List Entry) (at : Entry) (end : RowEnd) : Type 0 where
   pub event_is : (at.event ≡ event.LinkLost link) ⊎ ((piece : List ℕ) × (at.event ≡ event.Arrived link piece))
   pub reply_is : at.reply ≡ reply.Done
   pub read : IsReadBy ledger link (before ++ at ∷ []) end.seen
+  -- bytes broke it: a frame is left behind those that were read, or what follows all of them is at fault (which rule that breaks, says the law of breaks)
+  pub broke : (piece : List ℕ) → at.event ≡ event.Arrived link piece → read.more ≡ [] → fault_of (rest_of (received link (before ++ at ∷ []))) ≡ None → ⊥
   pub gone : IsGoneBy ledger link (length before + 1)
   pub all : gone.seen.read ≡ end.seen
 
@@ -85,8 +89,8 @@ pub record IsResponseEnd (limit : ℕ) (row : Row) (frames : List FrameSeen) (fr
 abbrev pub IsTooWide : List FrameSeen → List FrameSeen → FrameSeen → Type 0
 IsTooWide out past f = 2147483647 + used_on f.stream out < initial_size past + raised f.stream past + increment f.payload
 
--- by WINDOW_UPDATE on its stream, of which the response had no end yet, and no message above the limit: with it the window is above the largest, by the frames of which the bytes
--- that were sent before the entry consist (there is such a list, by the law of bodies, and one alone)
+-- by WINDOW_UPDATE on its stream, of which the response had no end yet, and no message above the limit: with it the window is above the largest, by the
+-- frames of which the bytes that were sent before the entry consist (there is such a list, by the law of bodies, and one alone)
 pub record IsWindowEnd (octets : List ℕ) (limit : ℕ) (row : Row) (frames : List FrameSeen) (frame : FrameSeen) (end : RowEnd) : Type 0 where
   pub stream : ℕ
   pub has : row.stream ≡ Some stream
@@ -97,14 +101,18 @@ pub record IsWindowEnd (octets : List ℕ) (limit : ℕ) (row : Row) (frames : L
   pub wide : (out : List FrameSeen) → IsTextOf octets out → IsTooWide out frames frame
   pub is : IsSameEnd (bare_end code.Internal cause.Framing false end.seen) end
 
--- by GOAWAY, as an attempt that was not sent. That it has no stream is not said here
-pub record IsUnsentEnd (frame : FrameSeen) (end : RowEnd) : Type 0 where
+abbrev pub is_goaway : FrameSeen → Bool
+is_goaway f = f.kind == goaway_type
+
+-- by GOAWAY, the first one that came on the link, as an attempt that was not sent. (`EndKinds.antt` says that it has no stream)
+pub record IsUnsentEnd (frames : List FrameSeen) (frame : FrameSeen) (end : RowEnd) : Type 0 where
   pub kind : frame.kind ≡ goaway_type
+  pub first : list_any is_goaway frames ≡ false
   pub is : IsSameEnd (bare_end code.Unavailable cause.Unsent true end.seen) end
 
 -- a frame ended an attempt as one of these
 abbrev pub IsEndBy : List ℕ → ℕ → Row → List FrameSeen → FrameSeen → RowEnd → Type 0
-IsEndBy octets limit row frames frame end = IsResponseEnd limit row frames frame end ⊎ (IsWindowEnd octets limit row frames frame end ⊎ IsUnsentEnd frame end)
+IsEndBy octets limit row frames frame end = IsResponseEnd limit row frames frame end ⊎ (IsWindowEnd octets limit row frames frame end ⊎ IsUnsentEnd frames frame end)
 
 -- with a frame the response on the stream of an attempt has a head, and had none with the frames before it
 pub record IsHeadBy (limit : ℕ) (row : Row) (frames : List FrameSeen) (frame : FrameSeen) : Type 0 where
@@ -121,39 +129,84 @@ pub record IsLargeBy (limit : ℕ) (row : Row) (frames : List FrameSeen) (frame 
   pub none : (messages_of limit (response_in limit stream frames).data_).fault ≡ None
   pub large : IsTooLarge limit (response_in limit stream (frames ++ frame ∷ []))
 
--- a frame brought something for an attempt of a call on a link, where these bytes were sent on the link before: the head of its response, a message
--- above the call's limit, or an end of the attempt
-pub record IsBrought (entries : List Entry) (ledger : Ledger) (call link : ℕ) (octets : List ℕ) (frames : List FrameSeen) (frame : FrameSeen) : Type 0 where
-  pub place : ℕ
-  pub row : Row
-  pub is : IsRowOf call ledger.rows place row
-  pub placed : Placed
-  pub placed_is : row.placed ≡ Some placed
-  pub on : placed.link ≡ link
+-- with the limit of the attempt's call
+pub record IsWithLimit (By : ℕ → Row → List FrameSeen → FrameSeen → Type 0) (entries : List Entry) (ledger : Ledger) (row : Row) (frames : List FrameSeen) (frame : FrameSeen) : Type 0 where
   pub limit : ℕ
-  pub limit_is : IsCallLimit entries ledger call limit
-  pub brings : IsHeadBy limit row frames frame ⊎ (IsLargeBy limit row frames frame ⊎ ((end : RowEnd) × IsEndBy octets limit row frames frame end))
+  pub limit_is : IsCallLimit entries ledger row.call limit
+  pub by : By limit row frames frame
 
--- so many bytes of a link were read up to the end of a frame that a piece brought behind some entries, and this frame brought something for an attempt
--- of the call on this link
-pub record IsFrameOf (entries : List Entry) (ledger : Ledger) (call link : ℕ) (before : List Entry) (piece : List ℕ) (read : ℕ) : Type 0 where
+-- so many bytes of a link were read up to the end of a frame that a piece brought behind some entries; with it, and the frames before it, `By` is so
+pub record IsUpTo (By : List FrameSeen → FrameSeen → Type 0) (link : ℕ) (before : List Entry) (piece : List ℕ) (read : ℕ) : Type 0 where
   pub now : List FrameSeen
   pub frame : FrameSeen
   pub more : List FrameSeen
   pub frames : frames_of (received link before ++ piece) ≡ ((frames_of (received link before) ++ now) ++ frame ∷ []) ++ more
   pub read_is : read ≡ bytes_in ((frames_of (received link before) ++ now) ++ frame ∷ [])
-  pub brought : IsBrought entries ledger call link (sent link before) (frames_of (received link before) ++ now) frame
+  pub by : By (frames_of (received link before) ++ now) frame
 
--- the client gave an attempt of a call up, of whose link so many bytes were seen
-pub record IsCutIn (entries : List Entry) (ledger : Ledger) (call link : ℕ) (before : List Entry) (at : Entry) (seen : ℕ) : Type 0 where
+-- a row on a link to which the call was committed in this entry, of another attempt than that of this number
+pub record IsCommittedOn (rows : List Row) (call number link entry place : ℕ) (row : Row) : Type 0 where
+  pub is : IsRowOf call rows place row
+  pub other : row.number ≡ number → ⊥
+  pub committed : row.committed ≡ Some entry
+  pub placed : Placed
+  pub placed_is : row.placed ≡ Some placed
+  pub on : placed.link ≡ link
+
+-- so much was read of the link up to the end of the frame with which the response to such a row has its head
+pub record IsUpToHead (entries : List Entry) (ledger : Ledger) (call number link : ℕ) (before : List Entry) (piece : List ℕ) (read : ℕ) : Type 0 where
+  pub place : ℕ
+  pub row : Row
+  pub is : IsCommittedOn ledger.rows call number link (length before + 1) place row
+  pub at : IsUpTo (λ frames frame. IsWithLimit IsHeadBy entries ledger row frames frame) link before piece read
+
+-- so much was seen of such a row, which ended in this entry, and was not given up
+pub record IsUpToEnd (ledger : Ledger) (call number link entry read : ℕ) : Type 0 where
+  pub place : ℕ
+  pub row : Row
+  pub is : IsCommittedOn ledger.rows call number link entry place row
+  pub end : RowEnd
+  pub ended : row.ended ≡ Some end
+  pub now : end.entry ≡ entry
+  pub own : end.cause ≡ cause.Cut → ⊥
+  pub seen : end.seen ≡ read
+
+-- so much was read of the link up to the end of the frame with which the response to this row, to which the call is committed, has a message above the limit
+pub record IsUpToLarge (entries : List Entry) (ledger : Ledger) (row : Row) (link : ℕ) (before : List Entry) (piece : List ℕ) (read : ℕ) : Type 0 where
+  pub committed : is_some row.committed ≡ true
+  pub at : IsUpTo (λ frames frame. IsWithLimit IsLargeBy entries ledger row frames frame) link before piece read
+
+-- the call was committed in this entry to a row whose pick failed in it
+pub record IsByPick (ledger : Ledger) (call entry : ℕ) : Type 0 where
+  pub place : ℕ
+  pub row : Row
+  pub is : IsRowOf call ledger.rows place row
+  pub committed : row.committed ≡ Some entry
+  pub end : RowEnd
+  pub ended : row.ended ≡ Some end
+  pub now : end.entry ≡ entry
+  pub pick : end.cause ≡ cause.Pick
+
+-- or it ended in this entry, not by a row
+abbrev pub EndsOtherwise : Ledger → ℕ → ℕ → Type 0
+EndsOtherwise ledger call entry = (why : EndCause) × (EndsIn ledger.calls call entry why × (why ≡ ending.Row → ⊥))
+
+-- so much was read of the link by the entry, where this is so
+pub record IsUpToAll (ledger : Ledger) (call link : ℕ) (before : List Entry) (at : Entry) (seen : ℕ) : Type 0 where
+  pub read : IsReadBy ledger link (before ++ at ∷ []) seen
+  pub why : IsByPick ledger call (length before + 1) ⊎ EndsOtherwise ledger call (length before + 1)
+
+-- the client gave an attempt up, of whose link so many bytes were seen
+pub record IsCutIn (entries : List Entry) (ledger : Ledger) (row : Row) (link : ℕ) (before : List Entry) (at : Entry) (seen : ℕ) : Type 0 where
   -- where the call ended by its deadline in the entry: what the entries before had read
-  pub timed : EndsIn ledger.calls call (length before + 1) ending.Deadline → IsReadBy ledger link before seen
+  pub timed : EndsIn ledger.calls row.call (length before + 1) ending.Deadline → IsReadBy ledger link before seen
   -- where the entry brought no bytes on the link: the same
   pub beside : ((piece : List ℕ) → at.event ≡ event.Arrived link piece → at.reply ≡ reply.Done → ⊥) → IsReadBy ledger link before seen
-  -- where it did, and the call did not end by its deadline: up to the end of a frame that it brought and that brought something for an attempt of the
-  -- call on the link, or, as where the link broke or the settling cut it, all that was read by the entry
-  pub comes : (piece : List ℕ) → at.event ≡ event.Arrived link piece → at.reply ≡ reply.Done → (EndsIn ledger.calls call (length before + 1) ending.Deadline → ⊥)
-      → IsFrameOf entries ledger call link before piece seen ⊎ IsReadBy ledger link (before ++ at ∷ []) seen
+  -- where it did, and the call did not end by its deadline: up to the frame that brought the head of the response to a row of another attempt on the link, to
+  -- which the call was committed in this entry; or as much as was seen of such a row, which ended in this entry; or up to that of a message above
+  -- the limit for this row; or all that was read by the entry, where the call was committed in it to a row whose pick failed, or ended in it otherwise
+  pub comes : (piece : List ℕ) → at.event ≡ event.Arrived link piece → at.reply ≡ reply.Done → (EndsIn ledger.calls row.call (length before + 1) ending.Deadline → ⊥)
+      → IsUpToHead entries ledger row.call row.number link before piece seen ⊎ (IsUpToEnd ledger row.call row.number link (length before + 1) seen ⊎ (IsUpToLarge entries ledger row link before piece seen ⊎ IsUpToAll ledger row.call link before at seen))
 
 -- a frame ended an attempt: the entry brought it on the attempt's link, all bytes up to its end were seen, and the attempt ended as it told
 pub record IsToldIn (entries : List Entry) (ledger : Ledger) (row : Row) (link : ℕ) (before : List Entry) (at : Entry) (end : RowEnd) : Type 0 where
@@ -183,11 +236,11 @@ pub record IsEndedOn (By : Ledger → ℕ → List Entry → Entry → RowEnd �
   -- as far as 64 bits count the bytes of the link
   pub by : length (received placed.link entries) ≤ 18446744073709551615 → By ledger placed.link before at end
 
--- by its cause. Of an attempt whose pick failed nothing is said, not even that it has no link; one that was not sent ends by the loss of its link or by
--- GOAWAY. Why the client gave one up is not said
+-- by its cause. Of an attempt whose pick failed nothing is said here (`FailedPicks.antt` says that it was never placed); one that was not sent ends by the
+-- loss of its link or by GOAWAY. (`CutReasons.antt` says why the client gave one up)
 abbrev pub IsEndedBy : RowCause → List Entry → Ledger → Row → RowEnd → Type 0
 IsEndedBy cause.Pick entries ledger row end = Unit {0}
-IsEndedBy cause.Cut entries ledger row end = IsEndedOn (λ l link before at e. IsCutIn entries l row.call link before at e.seen) entries ledger row end
+IsEndedBy cause.Cut entries ledger row end = IsEndedOn (λ l link before at e. IsCutIn entries l row link before at e.seen) entries ledger row end
 IsEndedBy cause.Lost entries ledger row end = IsEndedOn IsLostIn entries ledger row end
 IsEndedBy cause.Unsent entries ledger row end = IsEndedOn (λ l link before at e. IsLostIn l link before at e ⊎ IsToldIn entries l row link before at e) entries ledger row end
 IsEndedBy cause.Status entries ledger row end = IsEndedOn (λ l link before at e. IsToldIn entries l row link before at e) entries ledger row end

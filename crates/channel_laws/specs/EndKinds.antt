@@ -18,7 +18,7 @@ is_of_sent cause.Unsent = false
 is_of_sent why = true
 
 -- an attempt that ended by one of these has a stream, and one that ended as not sent has none, as far as 64 bits count the bytes that came on its link.
--- (That one whose pick failed was never placed is not said here.)
+-- (`FailedPicks.antt` says that one whose pick failed was never placed.)
 pub record AreEndedApart (entries : List Entry) (ledger : Ledger) : Type 0 where
   pub sent : (place : ℕ) (row : Row) (at : Placed) (end : RowEnd) → numbered ledger.rows place ≡ Some row → row.placed ≡ Some at → row.ended ≡ Some end → is_of_sent end.cause ≡ true → length (received at.link entries) ≤ 18446744073709551615 → is_some row.stream ≡ true
   pub unsent : (place : ℕ) (row : Row) (at : Placed) (end : RowEnd) → numbered ledger.rows place ≡ Some row → row.placed ≡ Some at → row.ended ≡ Some end → end.cause ≡ cause.Unsent → length (received at.link entries) ≤ 18446744073709551615 → row.stream ≡ None

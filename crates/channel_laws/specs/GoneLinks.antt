@@ -5,8 +5,8 @@ use Rattle.attempt_ledger.specs.declared.ledger.Ledger.{Ledger}
 use Rattle.attempt_ledger.specs.declared.ledger.LinkSeen.{LinkSeen}
 use Rattle.attempt_ledger.specs.declared.row.Placed.{Placed}
 use Rattle.attempt_ledger.specs.declared.row.Row.{Row}
-use Rattle.attempt_ledger.specs.declared.row.RowEnd.{RowEnd}
 use Rattle.channel_core.specs.Tables.{numbered}
+use Rattle.link_laws.specs.Commitments.{EndedBy}
 
 -- an attempt was placed on a link that went in an entry
 pub record IsOnGone (ledger : Ledger) (at : Placed) (gone : ℕ) : Type 0 where
@@ -14,14 +14,8 @@ pub record IsOnGone (ledger : Ledger) (at : Placed) (gone : ℕ) : Type 0 where
   pub there : numbered ledger.links at.link ≡ Some link
   pub is : link.gone ≡ Some gone
 
--- an attempt has ended by an entry
-pub record IsOverBy (row : Row) (entry : ℕ) : Type 0 where
-  pub end : RowEnd
-  pub is : row.ended ≡ Some end
-  pub by : end.entry ≤ entry
-
 pub record AreOverOnGone (ledger : Ledger) : Type 0 where
   -- an attempt on a link that is gone was placed there before the entry in which the link went, as far as 32 bits count the links
   pub before : length ledger.links ≤ 4294967295 → (place : ℕ) (row : Row) (at : Placed) (gone : ℕ) → numbered ledger.rows place ≡ Some row → row.placed ≡ Some at → IsOnGone ledger at gone → at.entry < gone
   -- and has ended by it, as far as 64 bits count the attempts
-  pub over : length ledger.links ≤ 4294967295 → length ledger.rows ≤ 18446744073709551615 → (place : ℕ) (row : Row) (at : Placed) (gone : ℕ) → numbered ledger.rows place ≡ Some row → row.placed ≡ Some at → IsOnGone ledger at gone → IsOverBy row gone
+  pub over : length ledger.links ≤ 4294967295 → length ledger.rows ≤ 18446744073709551615 → (place : ℕ) (row : Row) (at : Placed) (gone : ℕ) → numbered ledger.rows place ≡ Some row → row.placed ≡ Some at → IsOnGone ledger at gone → EndedBy gone row.ended

@@ -11,7 +11,6 @@ use Rattle.attempt_ledger.specs.declared.ledger.Ledger.{Ledger}
 use Rattle.attempt_ledger.specs.declared.row.Placed.{Placed}
 use Rattle.attempt_ledger.specs.declared.row.Row.{Row}
 use Rattle.grpc_frame.specs.Messages.{messages_of}
-use Rattle.call_core.specs.Rows.{row_in}
 use Rattle.channel_laws.specs.EndCauses.{IsLastCommitted}
 use Rattle.channel_laws.specs.EndEntries.{IsGoneBy}
 use Rattle.channel_laws.specs.Response.{response_on}
@@ -20,8 +19,8 @@ use Rattle.channel_core.specs.Tables.{numbered}
 use Rattle.link_laws.specs.Commitments.{EndedBy, IsCommittedRow}
 
 -- in this entry bytes came on the link of a row to which the call is committed, and were taken. Read with the limit of the call, the response on the
--- row's stream has a message above this limit with them; with what had come before, it had no message at fault. At which frame of these bytes the call
--- ended is not said
+-- row's stream has a message above this limit with them; with what had come before, it had no message at fault. (At which frame of these bytes
+-- the call ended is said by what its row saw)
 pub record EndsByLarge (entries : List Entry) (ledger : Ledger) (call entry : ℕ) : Type 0 where
   pub place : ℕ
   pub row : Row
@@ -68,7 +67,7 @@ pub record AreTooLarge (entries : List Entry) (ledger : Ledger) : Type 0 where
   -- a call ends by a too long response only so
   pub each : (call : ℕ) (seen : CallSeen) (end : CallEnd) → numbered ledger.calls call ≡ Some seen → seen.end ≡ Some end → end.cause ≡ ending.Response → EndsByLarge entries ledger call end.entry
   -- an attempt with such a message has ended by then
-  pub rows : (place entry : ℕ) (row : Row) → row_in ledger.rows place ≡ Some row → HasLarge entries ledger row entry → EndedBy entry row.ended
+  pub rows : (place entry : ℕ) (row : Row) → numbered ledger.rows place ≡ Some row → HasLarge entries ledger row entry → EndedBy entry row.ended
   -- and so has its call, where this is the last attempt to which it is committed, and it was by then. So a call that had not ended before ends in the
   -- entry that brings such a message: by it, or by another cause, of which its own law says exactly where it ends calls. (No end that came on the stream with
   -- this message or behind it ends the attempt: so the law of the ends of attempts says.)

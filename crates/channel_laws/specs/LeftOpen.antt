@@ -1,7 +1,6 @@
 -- Attempts that lost their links or were given up: the responses on their streams had not ended (gRPC over HTTP/2, "Responses"; RFC 9113, section 5.1).
-use Rattle.std.specs.Prelude.{◌≡◌, ◌≤◌, ◌<◌, ℕ, Some, List, [], ◌∷◌, ◌++◌, length}
+use Rattle.std.specs.Prelude.{◌≡◌, ◌<◌, ℕ, Some, List, [], ◌∷◌, ◌++◌}
 use Rattle.grpc_base.specs.declared.event.Entry.{Entry}
-use Rattle.attempt_ledger.specs.Journals.{received}
 use Rattle.attempt_ledger.specs.declared.ledger.Ledger.{Ledger}
 use Rattle.attempt_ledger.specs.declared.row.Placed.{Placed}
 use Rattle.attempt_ledger.specs.declared.row.Row.{Row}
@@ -9,12 +8,11 @@ use Rattle.attempt_ledger.specs.declared.row.RowCause.{RowCause}
 use Rattle.attempt_ledger.specs.declared.row.RowCause.TheVariants as cause
 use Rattle.attempt_ledger.specs.declared.row.RowEnd.{RowEnd}
 use Rattle.h2_frame.specs.Frames.{FrameSeen}
-use Rattle.h2_frame.specs.Readings.{frames_of}
 use Rattle.channel_core.specs.Tables.{numbered}
 use Rattle.channel_laws.specs.EndEntries.{IsGoneBy}
 use Rattle.channel_laws.specs.Response.{response_in}
+use Rattle.channel_laws.specs.SeenFrames.{WereSeen}
 use Rattle.channel_laws.specs.Unended.{IsOpenResponse}
-use Rattle.link_laws.specs.Reads.{bytes_in}
 
 -- an attempt with this stream ended by this cause, and up to its end these first frames of its link were seen
 pub record EndedBehind (entries : List Entry) (ledger : Ledger) (why : RowCause) (row : Row) (stream : ℕ) (frames : List FrameSeen) : Type 0 where
@@ -29,11 +27,7 @@ pub record EndedBehind (entries : List Entry) (ledger : Ledger) (why : RowCause)
   -- where the client gave it up, its link was not gone by an entry before (with `gone_links` it never was, as far as 32 bits count the links, and 64 bits
   -- the attempts)
   pub stands : why ≡ cause.Cut → (entry : ℕ) → entry < end.entry → IsGoneBy ledger at.link entry → ⊥
-  -- as far as 64 bits count the bytes of the link
-  pub few : length (received at.link entries) ≤ 18446744073709551615
-  pub more : List FrameSeen
-  pub front : frames_of (received at.link entries) ≡ frames ++ more
-  pub seen : end.seen ≡ bytes_in frames
+  pub saw : WereSeen entries at.link frames end
 
 pub record AreLeftOpen (entries : List Entry) (ledger : Ledger) : Type 0 where
   -- an attempt that lost its link: by all frames that were seen of it, its response is open

@@ -15,7 +15,7 @@ use Rattle.h2_frame.specs.Frames.{FrameSeen}
 use Rattle.h2_frame.specs.Readings.{frames_of}
 use Rattle.h2_link.specs.LinkErrors.{settings_of}
 use Rattle.channel_core.specs.Tables.{numbered}
-use Rattle.channel_laws.specs.GoneLinks.{IsOverBy}
+use Rattle.link_laws.specs.Commitments.{EndedBy}
 use Rattle.link_laws.specs.FrameRules.{KeepsRules, lifts}
 use Rattle.link_laws.specs.Reads.{bytes_in}
 use Rattle.link_laws.specs.StreamRows.{IsTextOf}
@@ -43,7 +43,7 @@ pub record IsLeftAt (read : ℕ) (end : RowEnd) : Type 0 where
 
 -- an attempt that was placed on a link, has this stream, and had not ended before the frame at which the link broke in an entry: it ended in no entry
 -- before, and where it ended in this one, its link was lost, or it was cut, when all that is read of the link was seen. (Not said here: that a cut did not
--- come by the last frame before, and that no attempt with a stream ends by a pick that failed.)
+-- come by the last frame before.)
 pub record IsOfAttempt (ledger : Ledger) (link stream entry read : ℕ) : Type 0 where
   pub place : ℕ
   pub row : Row
@@ -53,9 +53,9 @@ pub record IsOfAttempt (ledger : Ledger) (link stream entry read : ℕ) : Type 0
   pub on : placed.link ≡ link
   pub has : row.stream ≡ Some stream
   pub late : (end : RowEnd) → row.ended ≡ Some end → entry ≤ end.entry
-  pub seen : (end : RowEnd) → row.ended ≡ Some end → end.entry ≡ entry → (end.cause ≡ cause.Pick → ⊥) → IsLeftAt read end
+  pub seen : (end : RowEnd) → row.ended ≡ Some end → end.entry ≡ entry → IsLeftAt read end
   -- and it has ended by this entry, as far as 32 bits count the links and 64 the attempts
-  pub over : length ledger.links ≤ 4294967295 → length ledger.rows ≤ 18446744073709551615 → IsOverBy row entry
+  pub over : length ledger.links ≤ 4294967295 → length ledger.rows ≤ 18446744073709551615 → EndedBy entry row.ended
 
 -- SETTINGS lift the window of the stream of such an attempt above the largest, by the frames that were sent and those that came before
 pub record LiftsAttempt (ledger : Ledger) (link entry read : ℕ) (out past : List FrameSeen) (f : FrameSeen) : Type 0 where
@@ -65,7 +65,7 @@ pub record LiftsAttempt (ledger : Ledger) (link entry read : ℕ) (out past : Li
 
 -- where the first frame that is not read of a link keeps the rules, by the frames that were sent before the entry that brought it and those that came
 -- before it, so that by the law of breaks it lifts a window, it is such SETTINGS. (That SETTINGS which are applied lift no window of an attempt that had
--- not ended is not said.)
+-- not ended is said by the law of narrow windows.)
 pub record AreLifted (entries : List Entry) (ledger : Ledger) : Type 0 where
   pub each : (number : ℕ) (link : LinkSeen) → numbered ledger.links number ≡ Some link → length (received number entries) ≤ 18446744073709551615 → (stop : IsStop entries number link.read) → (out : List FrameSeen) → IsTextOf (sent number stop.before) out
       → KeepsRules out (frames_of (received number stop.before) ++ stop.now) stop.frame → LiftsAttempt ledger number (length stop.before + 1) link.read out (frames_of (received number stop.before) ++ stop.now) stop.frame

@@ -13,6 +13,7 @@ use Rattle.attempt_ledger.specs.declared.ledger.Ledger.{Ledger}
 use Rattle.call_core.specs.Parts.{waits_for}
 use Rattle.link_laws.specs.Configurations.{held_after, request_in}
 use Rattle.channel_core.specs.Tables.{numbered}
+use Rattle.channel_laws.specs.Cancels.{HasEndedFor}
 
 -- the resolver failed, or brought a config that is not valid
 abbrev pub has_no_config : Event → Reply → Bool
@@ -32,7 +33,7 @@ pub record HasFailed (entries : List Entry) (entry : ℕ) : Type 0 where
   pub by : at ≤ entry
 
 -- no valid config had come by this entry, though the resolver had failed or brought an invalid one, and the call never got one
-pub record IsBare (entries : List Entry) (seen : CallSeen) (entry : ℕ) : Type 0 where
+pub record IsUnconfigured (entries : List Entry) (seen : CallSeen) (entry : ℕ) : Type 0 where
   pub held : held_after (take entry entries) ≡ None
   pub configured : seen.configured ≡ None
   pub failed : HasFailed entries entry
@@ -53,16 +54,13 @@ pub record LacksConfig (entries : List Entry) (seen : CallSeen) (entry : ℕ) : 
   pub hasty : IsHasty entries seen
 
 -- it has ended by this entry, and if it did in this one, for want of a configuration or by a deadline that came with it
-pub record EndsBare (seen : CallSeen) (entry : ℕ) : Type 0 where
-  pub end : CallEnd
-  pub is : seen.end ≡ Some end
-  pub by : end.entry ≤ entry
-  pub cause : end.entry ≡ entry → (end.cause ≡ ending.NoConfig) ⊎ (end.cause ≡ ending.Deadline)
+abbrev pub EndsUnconfigured : CallSeen → ℕ → Type 0
+EndsUnconfigured seen entry = HasEndedFor (λ cause. (cause ≡ ending.NoConfig) ⊎ (cause ≡ ending.Deadline)) seen entry
 
-pub record AreBare (entries : List Entry) (ledger : Ledger) : Type 0 where
+pub record AreUnconfigured (entries : List Entry) (ledger : Ledger) : Type 0 where
   -- a call ends for want of a configuration only where there is none
-  pub each : (call : ℕ) (seen : CallSeen) (end : CallEnd) → numbered ledger.calls call ≡ Some seen → seen.end ≡ Some end → end.cause ≡ ending.NoConfig → IsBare entries seen end.entry
+  pub each : (call : ℕ) (seen : CallSeen) (end : CallEnd) → numbered ledger.calls call ≡ Some seen → seen.end ≡ Some end → end.cause ≡ ending.NoConfig → IsUnconfigured entries seen end.entry
   -- and only if it does not wait until the channel is ready (of calls below the greatest number of 32 bits)
   pub hasty : (call : ℕ) (seen : CallSeen) (end : CallEnd) → call < 4294967295 → numbered ledger.calls call ≡ Some seen → seen.end ≡ Some end → end.cause ≡ ending.NoConfig → IsHasty entries seen
   -- and no call outlives this: of those whose numbers 32 bits can count each has ended by an entry at which none is to be had
-  pub all : (call entry : ℕ) (seen : CallSeen) → call ≤ 4294967295 → numbered ledger.calls call ≡ Some seen → LacksConfig entries seen entry → EndsBare seen entry
+  pub all : (call entry : ℕ) (seen : CallSeen) → call ≤ 4294967295 → numbered ledger.calls call ≡ Some seen → LacksConfig entries seen entry → EndsUnconfigured seen entry

@@ -19,10 +19,10 @@ use Rattle.attempt_ledger.specs.declared.ledger.LinkSeen.{LinkSeen}
 use Rattle.attempt_ledger.specs.declared.row.Placed.{Placed}
 use Rattle.attempt_ledger.specs.declared.row.Row.{Row}
 use Rattle.grpc_frame.specs.Messages.{messages_of}
-use Rattle.call_core.specs.Commitments.{IsRowOf}
 use Rattle.channel_laws.specs.Cancels.{EndsIn}
 use Rattle.channel_laws.specs.CommitEntries.{entries_before}
 use Rattle.channel_laws.specs.Delivered.{before_end}
+pub use Rattle.channel_laws.specs.Deliveries.{IsCommittedBefore}
 use Rattle.channel_laws.specs.EndCauses.{is_arrival}
 use Rattle.channel_laws.specs.Response.{Response, response_on}
 use Rattle.channel_laws.specs.ResponseLimits.{IsCallLimit}
@@ -36,17 +36,9 @@ items_by (Some meta) messages = reply.Head meta ∷ map (λ (octets : List ℕ).
 abbrev pub items_of : ℕ → Response → List Reply
 items_of limit r = items_by r.head (messages_of limit r.data_).whole
 
--- the last row to which a call was committed before an entry
-pub record IsCommittedBefore (rows : List Row) (call entry place : ℕ) (row : Row) : Type 0 where
-  pub is : IsRowOf call rows place row
-  pub stamp : ℕ
-  pub committed : row.committed ≡ Some stamp
-  pub before : stamp < entry
-  pub last : (other at : ℕ) (next : Row) → IsRowOf call rows other next → next.committed ≡ Some at → at < entry → other ≤ place
-
 -- a link was not gone before an entry
-abbrev pub IsUpTo : Ledger → ℕ → ℕ → Type 0
-IsUpTo ledger link entry = (seen : LinkSeen) → numbered ledger.links link ≡ Some seen → IfSome seen.gone (λ gone. entry ≤ gone)
+abbrev pub StandsBefore : Ledger → ℕ → ℕ → Type 0
+StandsBefore ledger link entry = (seen : LinkSeen) → numbered ledger.links link ≡ Some seen → IfSome seen.gone (λ gone. entry ≤ gone)
 
 -- these are all items of the response on a stream, as far as it had come by these entries, read with the limit of the call's configuration
 pub record AreAllOn (took : List Reply) (entries : List Entry) (ledger : Ledger) (call link stream : ℕ) : Type 0 where
@@ -64,7 +56,7 @@ pub record AreAllBefore (took : List Reply) (entries : List Entry) (ledger : Led
   pub unsent : (place : ℕ) (row : Row) → IsCommittedBefore ledger.rows call entry place row → row.stream ≡ None → took ≡ []
   -- of one that was committed to a row with a stream, on a link that was not gone, all that had come on the stream (as far as 32 bits count the links, and
   -- 64 bits the attempts, no such link was: by `unended` the row had not ended, and `gone_links` has that each row on a link that is gone has ended by then)
-  pub all : (place : ℕ) (row : Row) (at : Placed) (stream : ℕ) → IsCommittedBefore ledger.rows call entry place row → row.placed ≡ Some at → row.stream ≡ Some stream → IsUpTo ledger at.link entry → AreAllOn took entries ledger call at.link stream
+  pub all : (place : ℕ) (row : Row) (at : Placed) (stream : ℕ) → IsCommittedBefore ledger.rows call entry place row → row.placed ≡ Some at → row.stream ≡ Some stream → StandsBefore ledger at.link entry → AreAllOn took entries ledger call at.link stream
 
 -- and they were taken by these entries
 abbrev pub IsAllTaken : List Entry → Ledger → ℕ → ℕ → ℕ → Type 0

@@ -1,4 +1,4 @@
--- What a Take is told: the next item of its call, or that nothing is there yet; or it is refused, since no such call was begun, or since its end was
+-- What a Take is told: the next item of its call, or that nothing is there yet; or it is refused, exactly where no such call was begun, or its end was
 -- taken before.
 use Rattle.std.specs.Prelude.{◌≡◌, ◌≤◌, ◌<◌, ◌⊎◌, ℕ, Bool, true, false, Some, List}
 use Rattle.grpc_base.specs.declared.event.Entry.{Entry}
@@ -36,9 +36,10 @@ pub record WasEndTaken (entries : List Entry) (call entry : ℕ) : Type 0 where
   pub takes : e.event ≡ event.Take call
   pub told : tells_end e.reply ≡ true
 
+-- refused are exactly Takes of calls that were not begun, and of calls whose end was taken
 abbrev pub IsTakeReply : List Entry → Ledger → ℕ → ℕ → Reply → Type 0
 IsTakeReply entries ledger call entry r =
-    (tells_next r ≡ true)
+    ((tells_next r ≡ true) × ((IsUnknown ledger call entry → ⊥) × (WasEndTaken entries call entry → ⊥)))
     ⊎ (((r ≡ reply.Refused refusal.NoSuchCall) × IsUnknown ledger call entry) ⊎ ((r ≡ reply.Refused refusal.CallEnded) × WasEndTaken entries call entry))
 
 abbrev pub AreTakesTold : List Entry → Ledger → Type 0

@@ -11,8 +11,9 @@ use call_core::{
     committed_calls_make_no_attempt, ended_calls_stay, live_rows_stand, messages_come_in_order,
     outstanding_rows_are_live, rows_are_chained, rows_are_in_order, rows_have_reasons,
     rows_keep_hedging, rows_keep_numbering, rows_keep_retries, rows_keep_throttling,
-    takes_leave_rows, tokens_count_ends,
+    rows_keep_transparent_retries, takes_leave_rows, tokens_count_ends,
 };
+use lb_policy::laws_of_the_table;
 
 /// A law for proofs: a step changes the ledger only as one entry can, and journal and ledger of a channel are lawful whatever events
 /// it was given. The call does nothing.
@@ -38,4 +39,6 @@ pub fn channels_are_lawful()
     tokens_count_ends();
     rows_keep_throttling();
     rows_keep_retries();
+    rows_keep_transparent_retries();
+    laws_of_the_table();
 }

@@ -2,5 +2,7 @@
 #![tactic(auto)]
 
 mod laws;
+mod steps;
 
 pub use laws::channels_are_lawful;
+pub use steps::step;

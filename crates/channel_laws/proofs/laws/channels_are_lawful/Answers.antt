@@ -188,5 +188,17 @@ returns c = record {
     heard = c.calls_are_kept.ensures.heard;
     made = c.calls_are_kept.ensures.made;
     idle = c.committed_calls_make_no_attempt.ensures;
-  });
+  }) (record {
+    law = c.rows_keep_transparent_retries.ensures.law;
+    begun = c.rows_keep_transparent_retries.ensures.begun;
+    elsewhere = c.rows_keep_transparent_retries.ensures.elsewhere;
+    configured = c.rows_keep_transparent_retries.ensures.configured;
+    sent = c.rows_keep_transparent_retries.ensures.sent;
+    closed = c.rows_keep_transparent_retries.ensures.closed;
+    timed_out = c.rows_keep_transparent_retries.ensures.timed_out;
+    placed = c.rows_keep_transparent_retries.ensures.placed;
+    failed = c.rows_keep_transparent_retries.ensures.failed;
+    heard = c.rows_keep_transparent_retries.ensures.heard;
+    made = c.rows_keep_transparent_retries.ensures.made;
+  }) c.laws_of_the_table.ensures.picks;
 }
