@@ -6,9 +6,10 @@ use Rattle.gate_io.specs.Outside.{AppendsFront}
 use Rattle.script_text.proofs.Passing.{AppendsFront-none}
 use Rattle.channel_top.specs.Load.{FillsLoad, IsLoadDone, IsLoadText, RefusesLoad}
 use Rattle.channel_top.specs.Modes.{FillsIn, IsDoneIn, IsOutput, IsOutputIn, RefusesIn}
-use Rattle.channel_top.specs.Live.{IsLawfulLiveText}
+use Rattle.channel_top.specs.Live.{EndsFullLawfully, IsLawfulLiveText, IsLivedLawfully}
 use Rattle.live_mode.specs.declared.settings.LiveSettings.{LiveSettings}
-use Rattle.channel_top.specs.Top.{IsReplayText}
+use Rattle.channel_top.specs.Migrate.{IsMigrateText}
+use Rattle.channel_top.specs.Top.{EndsFull, IsDone, IsReplayText}
 use Rattle.channel_top.specs.Words.{Runs}
 use Rattle.channel_top.specs.declared.words.Mode.{Mode}
 use Rattle.channel_top.specs.declared.words.Mode.TheVariants as mode
@@ -36,8 +37,18 @@ output_of kinds (mode.Live settings) words left left' runs text (inl (inr full))
 output_of kinds (mode.Live settings) words left left' runs text (inr fault) = inr (inr (inl (mode.Live settings, runs, fault)))
 
 -- the output of the mode `replay` is that of its mode
+pub replay_done : (kinds : KindsSeen) (m : Mode) (left left' : Option (List ℕ)) → m ≡ mode.Replay → (text : List ℕ) → IsDone left left' text → IsDoneIn kinds m left left' text
+replay_done kinds m left left' is text done = subst (λ (x : Mode). IsDoneIn kinds x left left' text) (sym is) done
+
+pub replay_full : (m : Mode) (left left' : Option (List ℕ)) → m ≡ mode.Replay → (text : List ℕ) → EndsFull left left' text → FillsIn m left left' text
+replay_full m left left' is text full = subst (λ (x : Mode). FillsIn x left left' text) (sym is) full
+
 pub replay_output : (kinds : KindsSeen) (m : Mode) (left left' : Option (List ℕ)) → m ≡ mode.Replay → (text : List ℕ) → IsReplayText left left' text → IsOutputIn kinds m left left' text
 replay_output kinds m left left' is text told = subst (λ (x : Mode). IsOutputIn kinds x left left' text) (sym is) told
+
+-- so is that of the mode `migrate`
+pub migrate_output : (kinds : KindsSeen) (m : Mode) (left left' : Option (List ℕ)) → m ≡ mode.Migrate → (text : List ℕ) → IsMigrateText left left' text → IsOutputIn kinds m left left' text
+migrate_output kinds m left left' is text told = subst (λ (x : Mode). IsOutputIn kinds x left left' text) (sym is) told
 
 -- what the mode `load` writes is that of its mode
 pub load_output : (kinds : KindsSeen) (m : Mode) (load : Load) (left left' : Option (List ℕ)) → m ≡ mode.Load load → left' ≡ left → (text : List ℕ) → IsLoadText kinds load text → IsOutputIn kinds m left left' text
@@ -55,3 +66,9 @@ load_full m load left left' is same text full = subst (λ (x : Mode). FillsIn x 
 -- the output of the mode `live` is that of its mode
 pub live_output : (kinds : KindsSeen) (m : Mode) (settings : LiveSettings) (left left' : Option (List ℕ)) → m ≡ mode.Live settings → (text : List ℕ) → IsLawfulLiveText left left' text → IsOutputIn kinds m left left' text
 live_output kinds m settings left left' is text told = subst (λ (x : Mode). IsOutputIn kinds x left left' text) (sym is) told
+
+pub live_done : (kinds : KindsSeen) (m : Mode) (settings : LiveSettings) (left left' : Option (List ℕ)) → m ≡ mode.Live settings → (text : List ℕ) → IsLivedLawfully left left' text → IsDoneIn kinds m left left' text
+live_done kinds m settings left left' is text done = subst (λ (x : Mode). IsDoneIn kinds x left left' text) (sym is) done
+
+pub live_full : (m : Mode) (settings : LiveSettings) (left left' : Option (List ℕ)) → m ≡ mode.Live settings → (text : List ℕ) → EndsFullLawfully left left' text → FillsIn m left left' text
+live_full m settings left left' is text full = subst (λ (x : Mode). FillsIn x left left' text) (sym is) full

@@ -1,8 +1,14 @@
 use Rattle.std.proofs.Common.{map, refl}
 use Rattle.policy_rack.specs.Kinds.{kinds_of}
 use Rattle.session_text.proofs.WrittenLaws.{all_as, front_as, some_as}
-use Rattle.channel_top.proofs.WrittenLaws.{live_output, load_done, load_full, load_output, load_refused, replay_output}
+use Rattle.channel_top.proofs.WrittenLaws.{live_done, live_full, live_output, load_done, load_full, load_output, load_refused, migrate_output, replay_done, replay_full, replay_output}
 use Rattle.channel_top.proofs.top.run_mode.Goals as goal
+
+pub returns-in-Replay-clause-done : goal.returns-in-Replay-clause-done
+returns-in-Replay-clause-done g c = λ zero. all_as _ _ _ _ (replay_done _ c.args.mode _ _ c.in-Replay.is) (c.run_replay.ensures.done zero)
+
+pub returns-in-Replay-clause-full : goal.returns-in-Replay-clause-full
+returns-in-Replay-clause-full g c = λ seven. all_as _ _ _ _ (replay_full c.args.mode _ _ c.in-Replay.is) (c.run_replay.ensures.full seven)
 
 pub returns-in-Replay-clause-writing : goal.returns-in-Replay-clause-writing
 returns-in-Replay-clause-writing g c = λ five. (
@@ -13,6 +19,10 @@ returns-in-Replay-clause-writing g c = λ five. (
 pub returns-in-Replay-clause-memory : goal.returns-in-Replay-clause-memory
 returns-in-Replay-clause-memory g c = λ six.
     some_as _ _ _ _ (replay_output _ c.args.mode _ _ c.in-Replay.is) (c.run_replay.ensures.memory six)
+
+pub returns-in-Migrate-clause-memory : goal.returns-in-Migrate-clause-memory
+returns-in-Migrate-clause-memory g c = λ six.
+    some_as _ _ _ _ (migrate_output _ c.args.mode _ _ c.in-Migrate.is) (c.run_migrate.ensures.memory six)
 
 pub returns-in-Load-clause-done : goal.returns-in-Load-clause-done
 returns-in-Load-clause-done g c = λ zero. all_as _ _ _ _ (load_done _ c.args.mode c.in-Load.load _ _ c.in-Load.is refl) (c.run_load.ensures.done zero)
@@ -32,6 +42,12 @@ returns-in-Load-clause-memory g c = λ six.
 
 pub returns-in-Load-clause-full : goal.returns-in-Load-clause-full
 returns-in-Load-clause-full g c = λ seven. all_as _ _ _ _ (load_full c.args.mode c.in-Load.load _ _ c.in-Load.is refl) (c.run_load.ensures.full seven)
+
+pub returns-in-Live-clause-done : goal.returns-in-Live-clause-done
+returns-in-Live-clause-done g c = λ zero. all_as _ _ _ _ (live_done _ c.args.mode c.in-Live.settings _ _ c.in-Live.is) (c.run_lawfully.ensures.done zero)
+
+pub returns-in-Live-clause-full : goal.returns-in-Live-clause-full
+returns-in-Live-clause-full g c = λ seven. all_as _ _ _ _ (live_full c.args.mode c.in-Live.settings _ _ c.in-Live.is) (c.run_lawfully.ensures.full seven)
 
 pub returns-in-Live-clause-writing : goal.returns-in-Live-clause-writing
 returns-in-Live-clause-writing g c = λ five. (
