@@ -1,0 +1,108 @@
+"""What the runners of tests/runners share: where the program lies, which tests are asked for, the count, and the line of a failure."""
+import os
+import sys
+import traceback
+
+TOP = os.path.dirname(os.path.dirname(os.path.dirname(os.path.abspath(__file__))))
+PROGRAM = os.path.abspath(os.environ.get("PROGRAM") or os.path.join(TOP, "crates", "grpcc", "out", "grpcc"))
+LONGEST = 300
+MOST_NAMES = 12
+
+
+def is_built():
+    """Whether there is a program to try."""
+    return os.access(PROGRAM, os.X_OK)
+
+
+def shown(value):
+    """A value for a message: in part where it is long."""
+    text = value.decode("utf-8", "backslashreplace") if isinstance(value, bytes) else value
+    text = repr(text)
+    return text if len(text) <= LONGEST else f"{text[: LONGEST // 2]}..{text[-LONGEST // 4 :]} ({len(text)} characters)"
+
+
+def lines_of(text):
+    """The lines of a text, each with its end, and what comes after the last."""
+    return text.splitlines(keepends=True)
+
+
+def difference(came, want):
+    """Says where two values differ first: the line of a text, the element of a list, or what a key names."""
+    if type(came) is type(want) and isinstance(came, (str, bytes)):
+        ours, theirs = lines_of(came), lines_of(want)
+        at = next((n for n, (one, other) in enumerate(zip(ours, theirs)) if one != other), min(len(ours), len(theirs)))
+        got, expected = (shown(it[at]) if at < len(it) else "no such line" for it in (ours, theirs))
+        place = f"line {at + 1}: " if max(len(ours), len(theirs)) > 1 else ""
+        return f"{place}expected {expected}, got {got}"
+    if type(came) is type(want) and isinstance(came, (tuple, list)) and len(came) == len(want):
+        at = next(n for n, (one, other) in enumerate(zip(came, want)) if one != other)
+        return f"value {at + 1}: {difference(came[at], want[at])}"
+    if type(came) is type(want) is dict and came.keys() == want.keys():
+        key = next(it for it in want if came[it] != want[it])
+        return f"{key}: {difference(came[key], want[key])}"
+    return f"expected {shown(want)}, got {shown(came)}"
+
+
+CASES = []
+
+
+def case(name):
+    """Marks a function as the test of this name; it is called with what `run_cases` is given."""
+    return lambda function: CASES.append((name, function)) or function
+
+
+def run_cases(count, *given):
+    """Runs the marked functions that are asked for, if there is a program, and gives the status."""
+    for name, function in CASES:
+        if count.asks_for(name):
+            if not is_built():
+                count.skip("the program is not built")
+                break
+            try:
+                function(*given)
+            except Exception as error:  # (the tests after it still run)
+                at = traceback.extract_tb(error.__traceback__)[-1]
+                count.count(name, f"{type(error).__name__}: {error} ({os.path.basename(at.filename)}:{at.lineno})", "a test that runs to its end")
+    return count.end()
+
+
+class Checks:
+    """The tests of one runner, called as KIND [PART OF A NAME] or KIND --list."""
+
+    def __init__(self, words=None):
+        words = sys.argv[1:] if words is None else words
+        self.is_list = words[:1] == ["--list"]
+        self.part = "" if self.is_list or not words else words[0]
+        self.names, self.asked, self.passed, self.failed = [], 0, 0, 0
+
+    def asks_for(self, name):
+        """Whether the test of this name is to run."""
+        self.names.append(name)
+        if self.is_list:
+            print(name)
+            return False
+        self.asked += self.part in name
+        return self.part in name
+
+    def count(self, name, came, want):
+        """Counts a comparison, and says of one that fails where it differs first."""
+        if came == want:
+            self.passed += 1
+        else:
+            self.failed += 1
+            print(f"failed: {name}: {difference(came, want)}", flush=True)
+
+    def skip(self, why):
+        """Says of what cannot run here why it does not."""
+        print(f"skipped: {why}", flush=True)
+
+    def end(self):
+        """Writes the last line, and gives the status: 1 where a test failed, 2 where none has such a name, 3 where none ran."""
+        if self.is_list:
+            return 0
+        if self.names and not self.asked:
+            few = ", ".join(self.names[:MOST_NAMES]) + (", .." if len(self.names) > MOST_NAMES else "")
+            print(f"no test has {self.part!r} in its name; there are {len(self.names)}: {few}", file=sys.stderr)
+            return 2
+        print(f"{self.passed} passed, {self.failed} failed")
+        return 1 if self.failed else 0 if self.passed else 3
