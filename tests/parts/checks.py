@@ -51,11 +51,11 @@ def case(name):
     return lambda function: CASES.append((name, function)) or function
 
 
-def run_cases(count, *given):
-    """Runs the marked functions that are asked for, if there is a program, and gives the status."""
+def run_cases(count, *given, needs_program=True):
+    """Runs the marked functions that are asked for, if the program that they need is there, and gives the status."""
     for name, function in CASES:
         if count.asks_for(name):
-            if not is_built():
+            if needs_program and not is_built():
                 count.skip("the program is not built")
                 break
             try:
