@@ -27,7 +27,7 @@ asks_for() {
 # A line of a file for a message, in part where it is long.
 line_of() {
   local line
-  [ "$2" -gt "$(($(wc -l <"$1") + 1))" ] && echo "no such line" && return
+  [ "$2" -gt "$(awk 'END { print NR }' "$1")" ] && echo "no such line" && return
   line=$(sed -n "$2p" "$1" | tr -d '\0')
   [ "${#line}" -gt 300 ] && line="${line:0:150}..${line: -75} (${#line} characters)"
   echo "'$line'"
