@@ -74,7 +74,7 @@ class Attempts:
         self.is_changed = True
         if kind != "transparent":
             call.sent, call.newest, call.placed, call.forced = call.sent + 1, row, None, None
-        self.note("AttemptDue", row)
+        self.note("AttemptMade", row)
         return row
 
     def withhold(self, call, due):

@@ -61,7 +61,7 @@ def overview_lines(channel, width):
     calls = sorted(channel.calls, key=lambda call: rank(channel, call))
     longest = max(call_time(channel, call) for call in calls)
     unit = unit_for(longest)
-    most = max(16, width // 3)
+    most = max(16, (width or 120) // 3)
     rows = [[str(call.number), call_end_name(call), str(len(call.rows)), in_unit(call_time(channel, call), unit), short_path(call.path, most),
              why_of(channel, call).clause] for call in calls]
     return lines + [""] + table(rows, ["call", "end", "attempts", unit[0], "path", "why"], (0, 2, 3), width)

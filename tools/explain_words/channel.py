@@ -24,7 +24,7 @@ class Channel(Attempts, Policies, Reading):
         self.current = self.pending = self.answered = None
         self.by_address, self.queue, self.fresh, self.served_state = {}, {}, [], None
         self.dues, self.timers, self.deadlines, self.unconfigured = [], [], [], {}
-        self.resets, self.touched, self.is_changed, self.whole = [], set(), False, None
+        self.resets, self.touched, self.is_changed, self.whole = [], set(), True, None
         self.entry = self.moment = self.word = self.drawn = 0
         self.first_moment = None
         self.moments, self.log = [], {} if has_log else None
@@ -49,7 +49,9 @@ class Channel(Attempts, Policies, Reading):
                 self.end_by_deadline()
             if reply.startswith("refused"):
                 self.note("EventRefused", name, int(reply[8:]))
-            elif name != "tick":
+            elif name == "tick":
+                self.note("EventAnswered", name, reply)
+            else:
                 getattr(self, "on_" + name)(fields, reply)
                 if self.resets:
                     self.flush_resets()
@@ -84,7 +86,6 @@ class Channel(Attempts, Policies, Reading):
         state = self.state()
         if not self.states or self.states[-1][1] != state:
             self.states.append((Stamp(self.entry, self.moment), state))
-            self.note("ChannelState", state)
 
     def state(self):
         if self.shut:
@@ -156,8 +157,9 @@ class Channel(Attempts, Policies, Reading):
         call, size = self.call_of(fields[0]), 0 if fields[1] == "-" else len(fields[1]) // 2
         if reply != "done":
             call.full = Stamp(self.entry, self.moment)
-            self.note("SendFull", call)
+            self.note("EventAnswered", "send", reply)
         elif call.configured and size > call.request:
+            self.note("EventAnswered", "send", reply)
             call.too_long = (Stamp(self.entry, self.moment), "request", size)
             self.end_call(call, "request")
         else:
@@ -172,7 +174,7 @@ class Channel(Attempts, Policies, Reading):
     def on_finish(self, fields, reply):
         call = self.call_of(fields[0])
         call.finished = self.entry
-        self.note("CallFinished", call)
+        self.note("RequestFinished", call)
 
     def on_take(self, fields, reply):
         call = self.call_of(fields[0])
@@ -182,17 +184,21 @@ class Channel(Attempts, Policies, Reading):
                 self.fault(f"the take says that the call ended with {code} ({cause}), and by the rules it "
                            + (f"ended with {call.end_code()} ({call.end.cause})" if call.end else "is open"))
             call.taken_end = self.entry
-        elif reply != "notyet":
+        elif reply == "notyet":
+            self.note("EventAnswered", "take", reply)
+            return
+        else:
             call.taken += 1
-        self.note("Taken", call, reply.split(" ", 1)[0])
+        self.note("ItemTaken", call, reply.split(" ", 1)[0])
 
     def on_cancel(self, fields, reply):
+        self.note("EventAnswered", "cancel", reply)
         self.end_call(self.call_of(fields[0]), "cancelled")
 
     def on_shutdown(self, fields, reply):
+        self.note("ChannelShuts")
         if not self.shut:
             self.shut = Stamp(self.entry, self.moment)
-            self.note("ChannelShut")
             for call in self.calls:
                 if call.end is None:
                     self.end_call(call, "shut")
@@ -200,6 +206,7 @@ class Channel(Attempts, Policies, Reading):
             self.unconfigured = {}
             for generation in self.live():
                 self.retire(generation)
+                self.note("PolicyRetired", generation)
             self.current = self.pending = None
             self.drop_unlisted()
             self.is_changed = True
@@ -215,7 +222,7 @@ class Channel(Attempts, Policies, Reading):
                 self.hold(Config() if fields[1] == "-" else read_config(bytes.fromhex(fields[1])))
             except ConfigFault as fault:
                 self.fault(f"its config has a fault, and its reply is 'done': {fault}")
-        self.note("ResolverAnswers", addresses, reply)
+        self.note("ConfigRead", reply)
         self.take_result(addresses)
 
     def hold(self, config):
@@ -230,7 +237,7 @@ class Channel(Attempts, Policies, Reading):
     def on_unresolved(self, fields, reply):
         self.answered, self.is_changed = True, True
         self.results.append((Stamp(self.entry, self.moment), "unresolved"))
-        self.note("ResolverFails")
+        self.note("ResolutionFailed")
 
     def sub_of(self, number):
         if not 1 <= int(number) <= len(self.subs):
@@ -239,6 +246,7 @@ class Channel(Attempts, Policies, Reading):
 
     def on_dial(self, fields, reply):
         if reply == "notyet":
+            self.note("EventAnswered", "dial", reply)
             return
         _, number, address, until = reply.split(" ")
         sub = self.sub_of(number)
@@ -250,7 +258,7 @@ class Channel(Attempts, Policies, Reading):
             self.fault(f"the dial ends at {sub.until}, and not at {until}")
         heappush(self.timers, (sub.until, sub.number))
         sub.tries.append([Stamp(self.entry, self.moment), sub.dials, None])
-        self.note("DialBegins", sub)
+        self.note("DialTaken", sub, sub.again, sub.until)
 
     def on_up(self, fields, reply):
         sub = self.sub_of(fields[0])
@@ -267,7 +275,7 @@ class Channel(Attempts, Policies, Reading):
         if sub.again is None:
             self.fault(f"subchannel {sub.number} was not dialled")
         sub.tries[-1][2] = Stamp(self.entry, self.moment, "failed")
-        self.fail_sub(sub, "the dial failed")
+        self.fail_sub(sub, "the dial failed", "DialFails")
 
     # ---- links
 
@@ -280,6 +288,7 @@ class Channel(Attempts, Policies, Reading):
         link = self.link_of(fields[0])
         piece = bytes.fromhex(fields[1])
         link.bytes_in += len(piece)
+        self.note("BytesArrive", link, len(piece))
         self.read_piece(link, piece)
 
     def on_lost(self, fields, reply):
@@ -290,11 +299,12 @@ class Channel(Attempts, Policies, Reading):
         self.is_changed = True
 
     def on_drain(self, fields, reply):
+        self.note("EventAnswered", "drain", "octets")
         if reply != "octets -":
             self.write_piece(self.link_of(fields[0]), bytes.fromhex(reply[7:]))
 
     def on_ping(self, fields, reply):
-        self.note("PingAsked", self.link_of(fields[0]))
+        self.note("PingQueued", self.link_of(fields[0]))
 
     # ---- the rows
 

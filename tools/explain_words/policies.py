@@ -22,7 +22,7 @@ class Policies:
 
     # ---- subchannels
 
-    def set_state(self, sub, state, why):
+    def set_state(self, sub, state, why, action):
         sub.state = state
         sub.states.append((Stamp(self.entry, self.moment), state, why))
         self.is_changed = True
@@ -35,18 +35,18 @@ class Policies:
                     generation.failed.discard(sub.number)
         if state == FAILURE:
             heappush(self.timers, (sub.again, sub.number))
-        self.note("SubchannelState", sub, state, why)
+        self.note(action, sub, state)
 
-    def fail_sub(self, sub, why):
+    def fail_sub(self, sub, why, action):
         sub.until = sub.link = None
-        self.set_state(sub, FAILURE, why)
+        self.set_state(sub, FAILURE, why, action)
 
     def sub_down(self, link, why):
         """The link of a subchannel went, or is going."""
         sub = link.sub
         if sub.link is link:
             sub.link = sub.until = None
-            self.set_state(sub, IDLE if sub.state == READY else FAILURE, why)
+            self.set_state(sub, IDLE if sub.state == READY else FAILURE, why, "LinkDown")
 
     def clock(self):
         """Dials that took too long, and backoffs that are over, by number."""
@@ -59,9 +59,9 @@ class Policies:
                 if sub.link:
                     sub.link.over = Stamp(self.entry, self.moment, "timeout")
                     self.touched.add(sub.link)
-                self.fail_sub(sub, "the dial was not ready in time")
+                self.fail_sub(sub, "it was not READY in time", "ConnectTimesOut")
             if sub.state == FAILURE and sub.again <= self.moment:
-                self.set_state(sub, IDLE, "its backoff is over")
+                self.set_state(sub, IDLE, "its backoff is over", "BackoffEnds")
 
     # ---- generations
 
@@ -113,7 +113,6 @@ class Policies:
 
     def retire(self, generation):
         generation.retired = Stamp(self.entry, self.moment)
-        self.note("PolicyRetired", generation)
 
     def take_result(self, addresses):
         """A result of the resolver, read by the kind of the config in force."""
@@ -122,6 +121,7 @@ class Policies:
         kind = self.configs[-1][0].kind
         if self.pending and self.pending.kind != kind:
             self.retire(self.pending)
+            self.note("PolicyRetired", self.pending)
             self.pending = None
         if not any(generation.kind == kind for generation in self.live()):
             self.begin_generation(kind)
@@ -134,7 +134,7 @@ class Policies:
                 sub = Sub(len(self.subs) + 1, address, Stamp(self.entry, self.moment))
                 self.subs.append(sub)
                 self.by_address[address] = sub
-                self.note("AddressAdded", sub)
+                self.note("SubchannelAdded", sub)
                 for generation in self.live():
                     generation.state = None
         self.is_changed = True
@@ -153,7 +153,7 @@ class Policies:
         before, generation.addresses, generation.state = generation.failed, addresses, None
         generation.failed = {sub.number for sub in self.view(generation)
                              if sub.state == FAILURE or (sub.number in before and sub.state != READY)}
-        self.note("AddressesTaken", generation)
+        self.note("AddressesGiven", generation, addresses)
 
     def drop_unlisted(self):
         listed = {address for generation in self.live() for address in generation.addresses}
@@ -163,7 +163,7 @@ class Policies:
                 if sub.link:
                     self.touched.add(sub.link)
                 sub.link = sub.until = None
-                self.set_state(sub, SHUTDOWN, "no policy has its address any more")
+                self.set_state(sub, SHUTDOWN, "no policy has its address any more", "SubchannelShut")
 
     def take_over(self):
         """A pending policy takes over once it is READY or has failed, or the current one is not READY."""
@@ -179,7 +179,7 @@ class Policies:
     def connect_wished(self):
         wished = {sub for generation in self.live() for sub in self.wished(generation) if sub.state == IDLE}
         if wished:
-            self.set_state(min(wished, key=lambda sub: sub.number), CONNECTING, "the policy wishes it connected")
+            self.set_state(min(wished, key=lambda sub: sub.number), CONNECTING, "the policy wishes it connected", "SubchannelConnects")
         return bool(wished)
 
     # ---- picks
@@ -201,9 +201,11 @@ class Policies:
         if state == READY:
             sub = self.picked(generation)
             generation.turns += 1
+            self.note("PickRequested", row, generation, sub)
             self.place(row, generation, sub)
         else:
             generation.turns += 1
+            self.note("PickRequested", row, generation, None)
             self.end_row(row, 14, "pick")
             self.flush_resets()
 

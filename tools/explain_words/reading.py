@@ -129,7 +129,7 @@ class Reading:
 
     def break_link(self, link, code):
         link.over = Stamp(self.entry, self.moment, f"broken {code}")
-        self.note("LinkBroken", link, code)
+        self.note("LinkBreaks", link, code)
         self.link_over(link)
         self.flush_resets()
 
@@ -145,7 +145,7 @@ class Reading:
                     self.flush_resets()
 
     def read_frame(self, link, kind, flags, stream, payload):
-        self.note("FrameRead", link, kind, stream)
+        self.note("FrameRead", link, kind, stream, len(payload))
         if kind == SETTINGS:
             if not flags & ACK:
                 self.read_settings(link, payload)
@@ -177,7 +177,7 @@ class Reading:
             link.settings = Stamp(self.entry, self.moment)
         if sub.link is link and sub.state == CONNECTING:
             sub.dials, sub.until = 0, None
-            self.set_state(sub, READY, "the server's SETTINGS came")
+            self.set_state(sub, READY, "the server's SETTINGS came", "SettingsArrive")
 
     def read_goaway(self, link, payload):
         last, code = int.from_bytes(payload[:4], "big") & MOST_WINDOW, int.from_bytes(payload[4:8], "big")
@@ -185,7 +185,6 @@ class Reading:
         if is_first:
             link.goaway = (Stamp(self.entry, self.moment), last, code, payload[8:])
         self.touched.add(link)
-        self.note("LinkRetires", link)
         self.sub_down(link, "its link is retiring (GOAWAY)")
         for place in sorted(link.rows):
             row = link.rows.get(place)
@@ -234,7 +233,6 @@ class Reading:
             self.end_row(row, block.http_code(), "http", block, detail=block.status)
             return
         row.head = Stamp(self.entry, self.moment)
-        self.note("ResponseBegins", row)
         if row.call.committed is None and row.call.end is None:
             self.commit(row, "head")
 
@@ -290,7 +288,7 @@ class Reading:
             length, kind, flags = int.from_bytes(data[at : at + 3], "big"), data[at + 3], data[at + 4]
             stream = int.from_bytes(data[at + 5 : at + 9], "big")
             link.frames_out[kind if kind < 10 else 10] += 1
-            self.note("FrameWritten", link, kind, stream)
+            self.note("FrameWritten", link, kind, stream, length)
             if kind == HEADERS:
                 self.write_headers(link, stream)
             elif kind == DATA:
@@ -311,7 +309,6 @@ class Reading:
         row.stream, row.sent, link.opened = stream, Stamp(self.entry, self.moment), stream
         link.streams[stream] = row
         link.most_seen = max(link.most_seen, len(link.streams))
-        self.note("RequestSent", row)
 
 
 def pairs_of(payload):

@@ -56,7 +56,7 @@ class Report:
         self.is_full = lines[last] == FULL
         last -= 1 if self.is_full else 0
         if last < 1 or not lines[last].startswith("end "):
-            raise Fault(len(lines), cut_words(lines))
+            raise foreign_or_cut(lines)
         if not END.fullmatch(lines[last]):
             raise Fault(last + 1, "the last line of a report is 'end <entries> <calls> <rows> <links>'")
         self.end_line = last + 1
@@ -85,14 +85,14 @@ def channel_line(line):
     return int(found.group(1)), found.group(2)
 
 
-def cut_words(lines):
-    """What is to say of a file whose last line is not the last of a report."""
+def foreign_or_cut(lines):
+    """The fault of a file whose last line is not the last of a report."""
     body = lines[1:]
-    if not any(" = " in line for line in body[:20]):
+    if body and not any(" = " in line for line in body[:20]):
         if any(line.startswith(("call ", "config ")) for line in body[:20]):
-            return "it is a live script; './grpcc live' runs it and writes the report"
-        return "it is a script, without replies; './grpcc replay' runs it and writes the report"
-    return "the report is cut off here; its last line is 'end <entries> <calls> <rows> <links>'"
+            return Fault(2, "a live script stands here; './grpcc live' runs it and writes the report")
+        return Fault(2, "an event without a reply: it is a script; './grpcc replay' runs it and writes the report")
+    return Fault(len(lines), "the report is cut off here; its last line is 'end <entries> <calls> <rows> <links>'")
 
 
 def counts_words(lines, last, entries, rows):
