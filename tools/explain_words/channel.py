@@ -288,7 +288,9 @@ class Channel(Attempts, Policies, Reading):
         link = self.link_of(fields[0])
         piece = bytes.fromhex(fields[1])
         link.bytes_in += len(piece)
-        self.note("BytesArrive", link, len(piece))
+        if self.log is not None:
+            self.note("BytesArrive", link, len(piece))
+            link.pieces.append(self.entry)
         self.read_piece(link, piece)
 
     def on_lost(self, fields, reply):
@@ -301,7 +303,10 @@ class Channel(Attempts, Policies, Reading):
     def on_drain(self, fields, reply):
         self.note("EventAnswered", "drain", "octets")
         if reply != "octets -":
-            self.write_piece(self.link_of(fields[0]), bytes.fromhex(reply[7:]))
+            link = self.link_of(fields[0])
+            if self.log is not None:
+                link.pieces.append(-self.entry)
+            self.write_piece(link, bytes.fromhex(reply[7:]))
 
     def on_ping(self, fields, reply):
         self.note("PingQueued", self.link_of(fields[0]))

@@ -96,7 +96,7 @@ class Link:
     """One connection."""
 
     __slots__ = ("number", "sub", "up", "rest", "read", "settings", "goaway", "over", "gone", "rows", "waiting", "streams", "opened", "room",
-                 "initial", "most", "block", "blocks", "bytes_in", "bytes_out", "frames_in", "frames_out", "out_preface", "most_seen")
+                 "initial", "most", "block", "blocks", "bytes_in", "bytes_out", "frames_in", "frames_out", "out_preface", "most_seen", "pieces")
 
     def __init__(self, number, sub, up):
         self.number, self.sub, self.up = number, sub, up
@@ -107,6 +107,7 @@ class Link:
         self.bytes_in = self.bytes_out = self.most_seen = 0
         self.frames_in, self.frames_out = [0] * 11, [0] * 11
         self.out_preface = False
+        self.pieces = []        # the entries with bytes, read (above 0) and written (below 0), where a log is kept
 
 
 class Sub:
