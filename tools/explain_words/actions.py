@@ -1,6 +1,7 @@
 """What happened within each entry, in order, by the names of the session's actions (docs/DEFINITIONS.md where it has them)."""
 
-from .names import CODES, ERRORS, FRAMES, REFUSALS, duration, name_in, short
+from .calls import after_begin
+from .names import CODES, ERRORS, FRAMES, REFUSALS, name_in, short
 from .steps import came
 from .why import attempt_name
 from .wire import Wire, entry_text
@@ -95,6 +96,5 @@ def action_lines(channel, call, first, last):
             actions = [action for action in actions if concerns(action, call)]
         if entry < first or (call and not actions):
             continue
-        at = duration(channel.moments[entry - 1] - channel.first_moment)
-        yield f"line {report.line_of_entry(entry)}  +{at}  {entry_text(parts)}"
+        yield f"line {report.line_of_entry(entry)}  {after_begin(channel.moments[entry - 1] - channel.first_moment)}  {entry_text(parts)}"
         yield from (f"    {action_words(action)}" for action in actions)

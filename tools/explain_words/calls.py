@@ -1,6 +1,8 @@
 """The calls of a session as a table, and one call whole."""
 
-from .names import CODES, code_name, count, duration, in_unit, quoted, short, text_of, tokens, unit_for, wrapped
+import textwrap
+
+from .names import CODES, code_name, count, duration, in_unit, quoted, tokens, unit_for, wrapped
 from .steps import came, policy_words, source_words, steps_of, throttle_words
 from .why import why_of
 from .wire import words_of_entries
@@ -43,13 +45,15 @@ def summary(channel):
 
 
 def table(rows, heads, rights, width=None):
-    """Columns with two spaces between; the last one is cut to the width."""
+    """Columns with two spaces between; the last one goes on in further lines where it passes the width."""
     sizes = [max([len(head)] + [len(row[place]) for row in rows]) for place, head in enumerate(heads[:-1])]
+    left = sum(sizes) + 2 * len(sizes)
     lines = []
     for row in [heads] + rows:
         cells = [cell.rjust(size) if place in rights else cell.ljust(size) for place, (cell, size) in enumerate(zip(row, sizes))]
-        line = "  ".join(cells + [row[-1]])
-        lines.append((short(line, width) if width else line).rstrip())
+        last = textwrap.wrap(row[-1], max(width - left, 24), break_long_words=False) or [""] if width else [row[-1]]
+        lines.append("  ".join(cells + [last[0]]).rstrip())
+        lines += [" " * left + more for more in last[1:]]
     return lines
 
 
@@ -111,6 +115,11 @@ def attempt_table(channel, call, width):
     return ["  " + line for line in table(rows, heads, (1, 2, 3), width - 2)]
 
 
+def after_begin(time):
+    """A time since a call's begin: +50 ms, -100 ms."""
+    return f"{'-' if time < 0 else '+'}{duration(abs(time)) if time else '0'}"
+
+
 def step_lines(channel, call, why, width):
     """The steps with their lines, and these lines in words."""
     steps = steps_of(channel, call)
@@ -122,7 +131,7 @@ def step_lines(channel, call, why, width):
     found = words_of_entries(channel.report, set(wanted))
     lines += ["", "  lines of the report"]
     for entry in wanted:
-        moment = f"+{duration(channel.moments[entry - 1] - call.moment)}" if channel.moments[entry - 1] >= call.moment else f"-{duration(call.moment - channel.moments[entry - 1])}"
+        moment = after_begin(channel.moments[entry - 1] - call.moment)
         lines += wrapped(f"{moment}  {found[entry]}", " " * (12 + size), width, f"    line {line_of(entry):>{size}}  ")
     for row in call.rows:
         line = channel.report.line_of_row(row.place)

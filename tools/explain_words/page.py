@@ -84,5 +84,7 @@ def page_text(channel, call, part, by_entry):
         "lanes": [lane_item(channel, lane, call) for lane in lanes_of(channel, call)],
         "entries": packed(entry_items(channel)), "rows": packed([row_item(channel, row) for row in channel.rows]),
         "calls": packed([call_item(channel, one) for one in channel.calls])}
-    text = json.dumps(data, ensure_ascii=False, separators=(",", ":")).replace("</", "<\\/")
+    text = json.dumps(data, separators=(",", ":"))
+    for letter in "<>&":        # so that the page is well formed both as HTML and as XML
+        text = text.replace(letter, f"\\u{ord(letter):04x}")
     return read_part("page.html").replace("/*STYLE*/", read_part("page.css")).replace("/*SCRIPT*/", read_part("page.js")).replace("/*DATA*/", text)

@@ -75,7 +75,7 @@ def retry_words(call, row):
     before, plan = last_ended(call, row), call.plan
     end = before.end
     left = f", {tokens(end.tokens)} of {tokens(call.run.start)} tokens are left, more than half" if call.run else ""
-    words = f"{CODES[end.code]} is among the retryableStatusCodes, {before.number} of {plan.attempts} attempts are made{left}: attempt {row.number} is due "
+    words = f"{CODES[end.code]} is among the retryableStatusCodes, {before.number} of {plan.attempts} attempts {'is' if before.number == 1 else 'are'} made{left}: attempt {row.number} is due "
     if end.pushback is not None:
         return words + f"{end.pushback} ms later, as the server asked (grpc-retry-pushback-ms)"
     return words + f"{duration(end.wait)} later, drawn from {duration(end.cap - end.cap // 5)} to {duration(end.cap + end.cap // 5)} (backoff {duration(end.cap)})"
@@ -89,16 +89,20 @@ def hedge_words(call, row):
         if other.end.pushback not in (None, "stop") and other.end.moment + other.end.pushback * 10**6 == row.due:
             return f"{name} is due {other.end.pushback} ms after the end of {attempt_name(other)}, as the server asked (grpc-retry-pushback-ms)"
         if other.end.pushback is None and other.end.moment == row.due and other.end.code in call.codes:
-            return f"{attempt_name(other)} ended with {CODES[other.end.code]}, which is non-fatal, so {name} is due at once"
-    return f"{name} is due, the hedgingDelay of {duration(call.plan.delay)} after attempt {row.number - 1} was placed"
+            return f"{CODES[other.end.code]} of {attempt_name(other)} is among the nonFatalStatusCodes, so {name} is due at once"
+    if call.plan.delay == 0:
+        return f"{name} is due as soon as attempt {row.number - 1} was placed, since there is no hedgingDelay"
+    return f"{name} is due, {duration(call.plan.delay)} (hedgingDelay) after attempt {row.number - 1} was placed"
 
 
 def row_steps(channel, call, row):
     steps = []
-    if row.committed:
+    if row.committed and row.committed.cause != "final":
         steps.append((row.committed.entry, commit_words(call, row)))
     if row.end and row.end.cause != "cut":
         steps.append((row.end.entry, f"{attempt_name(row)} ends: {came(row)}"))
+        if row.committed and row.committed.cause == "final":
+            steps.append((row.committed.entry, commit_words(call, row)))
     elif row.end and row.end.entry != getattr(call.committed and call.committed.committed, "entry", None):
         steps.append((row.end.entry, f"{attempt_name(row)} is cut"))
     return steps
@@ -108,7 +112,7 @@ def commit_words(call, row):
     cut = [other for other in others_cut(call, row) if other.end.entry == row.committed.entry]
     rest = f", and {attempt_names(cut)} {'is' if len(cut) == 1 else 'are'} cut" if cut else ""
     how = {"head": "the head of {} comes, so the call is committed to it", "overflow": "the messages pass 262,144 bytes, so the call is committed to {}, which was sent furthest",
-           "handed": "the call was committed before, and goes on with {}", "final": "the end of {} is the call's"}[row.committed.cause]
+           "handed": "the call was committed before, and goes on with {}", "final": "that is the call's end"}[row.committed.cause]
     return how.format(attempt_name(row)) + rest
 
 

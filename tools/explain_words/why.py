@@ -118,6 +118,8 @@ def failed_why(channel, call):
     what, entries = by_what(row), [row.end.entry]
     if row.end.cause == "pick":
         what, entries = no_server_words(channel, call, row)
+    elif row.end.is_unseen and call.is_refusal_followed:
+        what += "; such an attempt is made again transparently once a call, and that was done"
     key, clause, rule, more = no_further(call, row)
     if row.end.cause == "pick" and key == "no-policy":
         return Why("no-server", "no server reached: the channel was in TRANSIENT_FAILURE", what, entries)
@@ -139,7 +141,7 @@ def no_further(call, row):
         return committed_rule(call, row, how)
     if plan is None:
         where = no_policy_words(call)
-        return "no-policy", "no retry policy", f"{where}, so the answer of the one attempt is the call's", []
+        return "no-policy", "no retry policy", f"{where}, so the end of its one attempt is the call's", []
     if end.code not in plan.codes:
         field = "retryableStatusCodes" if plan.kind == "retry" else "nonFatalStatusCodes"
         verb = "is not retried" if plan.kind == "retry" else "is fatal to a hedged call"
@@ -150,7 +152,7 @@ def no_further(call, row):
 def committed_rule(call, row, how):
     at = [row.committed.entry]
     if call.plan is None:
-        return "no-policy", "no retry policy", f"{no_policy_words(call)}, so the answer of the one attempt is the call's", []
+        return "no-policy", "no retry policy", f"{no_policy_words(call)}, so the end of its one attempt is the call's", []
     if how == "head":
         return "committed", "its head had come: committed", f"its head had come before, which commits the call to it ({A6}): no other attempt is made", at
     return "committed", "committed by its buffer", ("its messages had passed the 262,144 bytes that are kept for further attempts, which commits the call "
@@ -195,7 +197,7 @@ def hedged_rule(call, row):
 
 # ---- no server reached, and calls that waited
 
-def dials_words(channel, entry):
+def dials_words(channel, call, entry):
     """What became of each subchannel up to an entry: its last failure since it was READY, else its state."""
     words, entries = [], []
     for sub in (sub for sub in channel.subs if sub.states[0][0].entry <= entry):
@@ -205,7 +207,7 @@ def dials_words(channel, entry):
         failure = last_failure(sub, entry)
         if failure:
             now = "" if state == FAILURE else f", and is {state} now"
-            words.append(f"{sub.address}: {failure[2]} at +{since(channel, failure[0])}{now}")
+            words.append(f"{sub.address}: {failure[2]} {since(call, failure[0])}{now}")
             entries.append(failure[0].entry)
         else:
             words.append(f"{sub.address} is {state} ({why})")
@@ -221,8 +223,10 @@ def last_failure(sub, entry):
     return None
 
 
-def since(channel, stamp):
-    return duration(stamp.moment - channel.first_moment)
+def since(call, stamp):
+    """When something was, by the call's begin."""
+    time = stamp.moment - call.moment
+    return "as the call began" if time == 0 else f"{duration(abs(time))} {'after' if time > 0 else 'before'} the call began"
 
 
 def state_at(sub, entry):
@@ -231,7 +235,7 @@ def state_at(sub, entry):
 
 
 def no_server_words(channel, call, row):
-    words, entries = dials_words(channel, row.end.entry)
+    words, entries = dials_words(channel, call, row.end.entry)
     where = "; ".join(words[:4]) if words else "the resolver gave no address"
     more = f"; {len(words) - 4} more" if len(words) > 4 else ""
     seen = "no server ever saw it" if not any(other.sent for other in call.rows) else "this attempt reached no server"
@@ -242,52 +246,52 @@ def no_server_words(channel, call, row):
 def waited_for(channel, call):
     """What a call was waiting for when something outside ended it (or at the end of the session), with entries."""
     entry = call.end.entry if call.end else channel.report.entries
+    waits, has = ("waited", "had") if call.end else ("waits", "has")
     if call.configured is None:
         if not channel.results or channel.results[0][0].entry > entry:
-            return "it waited for the resolver, which had not answered", []
-        return "it waited for a valid service config, and the resolver gave none", [channel.results[-1][0].entry]
+            return f"it {waits} for the resolver, which {has} not answered", []
+        return f"it {waits} for a valid service config, and the resolver gave none", [channel.results[-1][0].entry]
     running = [row for row in call.rows if row.placed and (row.end is None or (row.end.cause == "cut" and row.end.entry == entry))]
     if running:
-        return running_words(call, running)
+        return running_words(call, running, waits, has)
     queued = [row for row in call.rows if row.placed is None and row.end is None]
     if queued and (call.committed is None or call.committed in queued):
-        return queued_words(channel, call, queued[-1], entry)
+        return queued_words(channel, call, queued[-1], entry, waits)
     last = call.last_counted
-    if last and call.end is None and channel.next_due(call) is not None:
-        return f"{attempt_name(last)} had ended with {CODES[last.end.code]}, and the next one is due {duration(channel.next_due(call) - last.end.moment)} after it", [last.end.entry]
-    if last and last.end.wait is not None or (last and last.end.pushback not in (None, "stop")):
-        wait = last.end.wait if last.end.pushback is None else last.end.pushback * 10**6
-        return f"{attempt_name(last)} had ended with {CODES[last.end.code]}, and the next one was due {duration(wait)} after it", [last.end.entry]
-    return "no attempt was running", []
+    if last is None:
+        return "no attempt was running", []
+    due = channel.next_due(call) if call.end is None else None
+    wait = due - last.end.moment if due is not None else last.end.pushback * 10**6 if last.end.pushback not in (None, "stop") else last.end.wait
+    then = f", and the next one {'is' if call.end is None else 'was'} due {duration(wait)} after it" if wait is not None else ""
+    return f"{attempt_name(last)} {has} ended with {CODES[last.end.code]}{then}", [last.end.entry]
 
 
-def running_words(call, rows):
+def running_words(call, rows, waits, has):
     words, entries = [], []
     for row in rows:
         if row.sent is None:
             most = row.link.most
-            full = most is not None and len(row.link.streams) >= most
-            why = f"its server allows {count(most, 'stream')} at a time" if most is not None and (full or row.link.most_seen >= most) else "its request was not sent yet"
-            words.append(f"{attempt_name(row)} waited on link {row.link.number}: {why}")
+            why = f"its server allows {count(most, 'stream')} at a time" if most is not None and row.link.most_seen >= most else f"its request {'was' if call.end else 'is'} not sent yet"
+            words.append(f"{attempt_name(row)} {waits} on link {row.link.number}: {why}")
             entries.append(row.placed.entry)
         elif row.head is None:
             rest = " (not all of its request was sent)" if row.written < call.accepted else ""
-            words.append(f"{attempt_name(row)} waited for its answer{rest}")
+            words.append(f"{attempt_name(row)} {waits} for its answer{rest}")
             entries.append(row.sent.entry)
         else:
-            words.append(f"{attempt_name(row)} had its head and {count(row.messages, 'message')}, and no end")
+            words.append(f"{attempt_name(row)} {has} its head and {count(row.messages, 'message')}, and no end")
             entries.append(row.head.entry)
-    unfinished = "" if call.finished or any(row.sent is None for row in rows) else "; the application had not finished its request"
+    unfinished = "" if call.finished or any(row.sent is None for row in rows) else f"; the application {has} not finished its request"
     return listed(words) + unfinished, entries
 
 
-def queued_words(channel, call, row, entry):
+def queued_words(channel, call, row, entry, waits):
     states = [(stamp, state) for stamp, state in channel.states if stamp.entry < entry] or channel.states[:1]
     stamp, state = states[-1]
-    words, entries = dials_words(channel, entry)
+    words, entries = dials_words(channel, call, entry)
     why = ", and it waits for ready" if call.waits and state == FAILURE else ""
     where = f" ({'; '.join(words[:3])})" if words else " (the resolver gave no address)"
-    return f"{attempt_name(row)} waited for a link: the channel was {state}{why}{where}", [stamp.entry] + entries[:3]
+    return f"{attempt_name(row)} {waits} for a link: the channel {'was' if call.end else 'is'} {state}{why}{where}", [stamp.entry] + entries[:3]
 
 
 def open_why(channel, call):
