@@ -4,6 +4,7 @@ use Rattle.std.specs.Prelude.{bytes_eq, is_some, slice_get, option_map, unwrap_o
 use Rattle.std.specs.List.{list_any, position_from}
 use Rattle.std.proofs.lemmas.Bool.{false≢true}
 use Rattle.std.proofs.lemmas.List.{drop_all}
+use Rattle.std.proofs.lemmas.Slice.Eq.{bytes_eq-Decides}
 use Rattle.h2_hpack.specs.Encoding.{index_where, is_at, same_name, same_pair}
 use Rattle.grpc_base.specs.declared.fields.Field.{Field}
 use Rattle.h2_hpack.specs.StaticTable.{static_table}
@@ -213,3 +214,106 @@ u_behind = lacking 117 (drop 58 static_table) (omega arith) behind_u
 
 pub none_past_all : (test : Field → Bool) → list_any test (drop 61 static_table) ≡ false
 none_past_all test = ap (list_any test) (nothing_left 61 (omega arith))
+
+-- the same by the first two letters
+begins_with_both : (name : List ℕ) (first second : ℕ) → get_or name 0 0 ≡ first → get_or name 1 0 ≡ second → 0 < first → 0 < second → (rest : List ℕ) × (name ≡ first ∷ second ∷ rest)
+begins_with_both [] first second is then_is some some_too = absurd (omega (arith, is, some))
+begins_with_both (x ∷ []) first second is then_is some some_too = absurd (omega (arith, then_is, some_too))
+begins_with_both (x ∷ y ∷ xs) first second is then_is some some_too = (xs, ap (λ l. l ∷ y ∷ xs) is ∙ ap (λ l. first ∷ l ∷ xs) then_is)
+
+abbrev pub LacksBoth : ℕ → ℕ → List Field → Type 0
+LacksBoth first second xs = (name : List ℕ) → get_or name 0 0 ≡ first → get_or name 1 0 ≡ second → list_any (same_name name) xs ≡ false
+
+lacking_both : (first second : ℕ) (xs : List Field) → 0 < first → 0 < second → ((rest : List ℕ) → list_any (same_name (first ∷ second ∷ rest)) xs ≡ false) → LacksBoth first second xs
+lacking_both first second xs some some_too none name is then_is =
+    let begun = begins_with_both name first second is then_is some some_too in
+    ap (λ l. list_any (same_name l) xs) begun.1 ∙ none begun.0
+
+colon_a_behind_rest : (rest : List ℕ) → list_any (same_name (58 ∷ 97 ∷ rest)) (drop 1 static_table) ≡ false
+unfolding static_table
+colon_a_behind_rest rest = refl
+
+pub colon_a_behind : LacksBoth 58 97 (drop 1 static_table)
+colon_a_behind = lacking_both 58 97 (drop 1 static_table) (omega arith) (omega arith) colon_a_behind_rest
+
+colon_m_before_rest : (rest : List ℕ) → list_any (same_name (58 ∷ 109 ∷ rest)) (take 1 static_table) ≡ false
+unfolding static_table
+colon_m_before_rest rest = refl
+
+pub colon_m_before : LacksBoth 58 109 (take 1 static_table)
+colon_m_before = lacking_both 58 109 (take 1 static_table) (omega arith) (omega arith) colon_m_before_rest
+
+colon_m_behind_rest : (rest : List ℕ) → list_any (same_name (58 ∷ 109 ∷ rest)) (drop 3 static_table) ≡ false
+unfolding static_table
+colon_m_behind_rest rest = refl
+
+pub colon_m_behind : LacksBoth 58 109 (drop 3 static_table)
+colon_m_behind = lacking_both 58 109 (drop 3 static_table) (omega arith) (omega arith) colon_m_behind_rest
+
+colon_p_before_rest : (rest : List ℕ) → list_any (same_name (58 ∷ 112 ∷ rest)) (take 3 static_table) ≡ false
+unfolding static_table
+colon_p_before_rest rest = refl
+
+pub colon_p_before : LacksBoth 58 112 (take 3 static_table)
+colon_p_before = lacking_both 58 112 (take 3 static_table) (omega arith) (omega arith) colon_p_before_rest
+
+colon_p_behind_rest : (rest : List ℕ) → list_any (same_name (58 ∷ 112 ∷ rest)) (drop 5 static_table) ≡ false
+unfolding static_table
+colon_p_behind_rest rest = refl
+
+pub colon_p_behind : LacksBoth 58 112 (drop 5 static_table)
+colon_p_behind = lacking_both 58 112 (drop 5 static_table) (omega arith) (omega arith) colon_p_behind_rest
+
+colon_s_before_rest : (rest : List ℕ) → list_any (same_name (58 ∷ 115 ∷ rest)) (take 5 static_table) ≡ false
+unfolding static_table
+colon_s_before_rest rest = refl
+
+pub colon_s_before : LacksBoth 58 115 (take 5 static_table)
+colon_s_before = lacking_both 58 115 (take 5 static_table) (omega arith) (omega arith) colon_s_before_rest
+
+colon_s_behind_rest : (rest : List ℕ) → list_any (same_name (58 ∷ 115 ∷ rest)) (drop 14 static_table) ≡ false
+unfolding static_table
+colon_s_behind_rest rest = refl
+
+pub colon_s_behind : LacksBoth 58 115 (drop 14 static_table)
+colon_s_behind = lacking_both 58 115 (drop 14 static_table) (omega arith) (omega arith) colon_s_behind_rest
+
+without_x : (rest : List ℕ) → list_any (same_name (120 ∷ rest)) static_table ≡ false
+unfolding static_table
+without_x rest = refl
+
+pub x_nowhere : Lacks 120 static_table
+x_nowhere = lacking 120 static_table (omega arith) without_x
+
+-- the bytes of "content-type"
+abbrev pub content_type : List ℕ
+content_type = 99 ∷ 111 ∷ 110 ∷ 116 ∷ 101 ∷ 110 ∷ 116 ∷ 45 ∷ 116 ∷ 121 ∷ 112 ∷ 101 ∷ []
+
+content_type_first : list_any (same_name content_type) (take 30 static_table) ≡ false
+unfolding static_table
+content_type_first = refl
+
+content_type_last : list_any (same_name content_type) (drop 31 static_table) ≡ false
+unfolding static_table
+content_type_last = refl
+
+pub content_type_before : (name : List ℕ) → bytes_eq name content_type ≡ true → list_any (same_name name) (take 30 static_table) ≡ false
+content_type_before name is = ap (λ l. list_any (same_name l) (take 30 static_table)) ((bytes_eq-Decides name content_type).0 is) ∙ content_type_first
+
+pub content_type_behind : (name : List ℕ) → bytes_eq name content_type ≡ true → list_any (same_name name) (drop 31 static_table) ≡ false
+content_type_behind name is = ap (λ l. list_any (same_name l) (drop 31 static_table)) ((bytes_eq-Decides name content_type).0 is) ∙ content_type_last
+
+pub c_none_before : (name : List ℕ) → get_or name 0 0 ≡ 99 → list_any (same_name name) (take 23 static_table) ≡ false
+c_none_before name is = c_before name is
+
+pub c_none_behind : (name : List ℕ) → get_or name 0 0 ≡ 99 → list_any (same_name name) (drop 32 static_table) ≡ false
+c_none_behind name is = c_behind name is
+
+-- an entry that has the name has the pair where it has the value
+pub paired : (name value : List ℕ) (entry : Field) (o : Option Field) → Some entry ≡ o → unwrap_or (option_map (same_name name) o) false ≡ true → unwrap_or (option_map (same_pair name value) o) false ≡ bytes_eq entry.value value
+paired name value entry None is so = absurd (cc is)
+paired name value entry (Some other) is so = ap (λ b. b && bytes_eq other.value value) so ∙ ap (λ (o : Option Field). bytes_eq (unwrap_or o entry).value value) (sym is)
+
+pub unpaired : (name : List ℕ) (o : Option Field) → None ≡ o → unwrap_or (option_map (same_name name) o) false ≡ true → false ≡ true
+unpaired name None is so = so
+unpaired name (Some entry) is so = absurd (cc is)

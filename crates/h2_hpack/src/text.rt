@@ -16,20 +16,25 @@ struct RawString<'a> {
     rest: &'a [u8],
 }
 
-/// Texts that most blocks of gRPC have, and which are so not copied.
-static FREQUENT: [&str; 5] = ["application/grpc", "trailers", "te", "grpc-status", "0"];
+/// The text of a length that most blocks of gRPC have, and which is so not copied.
+fn frequent_of(len: usize) -> Option<&'static [u8]> {
+    match len {
+        1 => Some(b"0"),
+        2 => Some(b"te"),
+        8 => Some(b"trailers"),
+        11 => Some(b"grpc-status"),
+        16 => Some(b"application/grpc"),
+        _ => None,
+    }
+}
 
 /// These bytes as a text that lives as long as the program, where it is a frequent one.
 #[tactic(auto, using(crate::proofs::TextLemmas::same_text))]
 fn frequent(bytes: &[u8]) -> Option<&'static [u8]>
     ensures { IfSome result (λ text. text.now ≡ bytes.now) }
 {
-    for text in &FREQUENT {
-        if text.as_bytes() == bytes {
-            return Some(text.as_bytes());
-        }
-    }
-    None
+    let text = frequent_of(bytes.len())?;
+    if text == bytes { Some(text) } else { None }
 }
 
 /// The text at the front of some bytes, where it is a frequent one that is spelled plainly, and what follows it.

@@ -1,18 +1,9 @@
 use Rattle.h2_hpack.specs.Encoding.{same_name}
-use Rattle.h2_hpack.proofs.LookupLemmas.{c_before, c_behind, colon_behind, g_nowhere, none_past_all, t_before, t_behind, u_before, u_behind}
+use Rattle.h2_hpack.proofs.LookupLemmas.{g_nowhere, none_past_all, t_before, t_behind, u_before, u_behind, x_nowhere}
 use Rattle.h2_hpack.proofs.lookup.places_of.Goals as goal
 
 pub returns-in_default-clause-behind : goal.returns-in_default-clause-behind
 returns-in_default-clause-behind c = none_past_all (same_name c.args.name.now)
-
-pub returns-in-58-clause-behind : goal.returns-in-58-clause-behind
-returns-in-58-clause-behind c = colon_behind c.args.name.now c.in-58.is
-
-pub returns-in-99-clause-before : goal.returns-in-99-clause-before
-returns-in-99-clause-before c = c_before c.args.name.now c.in-99.is
-
-pub returns-in-99-clause-behind : goal.returns-in-99-clause-behind
-returns-in-99-clause-behind c = c_behind c.args.name.now c.in-99.is
 
 pub returns-in-103-clause-behind : goal.returns-in-103-clause-behind
 returns-in-103-clause-behind c = g_nowhere c.args.name.now c.in-103.is
@@ -28,6 +19,9 @@ returns-in-117-clause-before c = u_before c.args.name.now c.in-117.is
 
 pub returns-in-117-clause-behind : goal.returns-in-117-clause-behind
 returns-in-117-clause-behind c = u_behind c.args.name.now c.in-117.is
+
+pub returns-in-120-clause-behind : goal.returns-in-120-clause-behind
+returns-in-120-clause-behind c = x_nowhere c.args.name.now c.in-120.is
 
 pub returns-in_default-first-clause-behind : goal.returns-in_default-first-clause-behind
 returns-in_default-first-clause-behind c = none_past_all (same_name c.args.name.now)
