@@ -14,7 +14,6 @@ use Rattle.grpc_base.specs.declared.code.Code.{Code}
 use Rattle.grpc_base.specs.declared.plan.CallPlan.{CallPlan}
 use Rattle.grpc_base.specs.declared.plan.Pushback.{Pushback}
 use Rattle.grpc_base.specs.declared.plan.RetryPolicy.{RetryPolicy}
-use Rattle.json_text.specs.Order.{placed}
 use Rattle.session_actions.specs.Attempts.{counts_by, is_counted, is_of, is_outstanding, is_queued}
 use Rattle.session_actions.specs.Configs.{plan_of}
 use Rattle.session_actions.specs.Tokens.{allows_attempt}
@@ -55,7 +54,7 @@ retry_due p n e = option_map_or (λ millis. millis_after e millis) (delay_of e.p
 
 -- nothing happened yet
 abbrev pub no_due : DueState
-no_due = record { sent = 0; newest = None; placed = None; forced = None; stopped = true }
+no_due = record { newest = None; placed = None; forced = None; stopped = true }
 
 -- a counted end of a hedged call: a pushback sets the next attempt or forbids it; without one it is made now, if the tokens allow it
 abbrev pub hedge_forced : Pushback → Bool → RowEnd → DueState → DueState
@@ -82,7 +81,7 @@ due_after_end c s d a e =
 abbrev pub due_after_making : DueState → Attempt → DueState
 due_after_making d a =
     if is_transparent a.row.kind then d
-    else record d { sent = d.sent + 1; newest = Some a.place; placed = None; forced = None }
+    else record d { newest = Some a.place; placed = None; forced = None }
 
 abbrev pub due_after_mark : Call → Seen → MarkKind → ℕ → DueState → DueState
 due_after_mark c s mark.Configured moment d = record d { forced = Some moment; stopped = false }
@@ -97,21 +96,22 @@ due_after_mark c s mark.Closed moment d = record d { stopped = true }
 abbrev pub due_state : Call → Seen → DueState
 due_state c s = fold (λ d m. due_after_mark c s m.what m.moment d) no_due c.marks
 
+-- how many attempts were made; transparent retries are none
+abbrev pub attempts_made : Call → Seen → ℕ
+attempts_made c s = count_by (λ a. is_of c a && not (is_transparent a.row.kind)) s.attempts
+
 -- the moment at which the next attempt is due, if any: the one that an end set, or for a hedge the delay after the newest attempt was placed
 abbrev pub hedge_due : CallPlan → DueState → Option ℕ
 hedge_due (plan.Hedge p) d = option_map (λ placed. placed + p.delay) d.placed
 hedge_due _ d = None
 
-abbrev pub due_by : CallPlan → DueState → Option ℕ
-due_by p d = if d.stopped || nat_le (most_attempts p) d.sent then None else option_or d.forced (hedge_due p d)
+abbrev pub due_by : CallPlan → ℕ → DueState → Option ℕ
+due_by p made d = if d.stopped || nat_le (most_attempts p) made then None else option_or d.forced (hedge_due p d)
 
 abbrev pub next_due : Call → Seen → Option ℕ
-next_due c s = due_by (plan_of c s) (due_state c s)
+next_due c s = due_by (plan_of c s) (attempts_made c s) (due_state c s)
 
--- the number and the kind of the next attempt
-abbrev pub attempts_made : Call → Seen → ℕ
-attempts_made c s = count_by (λ a. is_of c a && not (is_transparent a.row.kind)) s.attempts
-
+-- the kind of the next attempt
 abbrev pub kind_of_next : Call → Seen → RowKind
 kind_of_next c s = unwrap_or (kind_by_number (plan_of c s) (attempts_made c s + 1)) kind.First
 

@@ -6,7 +6,6 @@ use Rattle.grpc_base.specs.Posts.{event_bytes}
 use Rattle.grpc_base.specs.declared.event.Entry.{Entry}
 use Rattle.grpc_base.specs.declared.event.Event.{Event}
 use Rattle.grpc_base.specs.declared.event.Reply.{Reply}
-use Rattle.json_text.specs.Decimals.{most}
 use Rattle.session_actions.specs.Words.{last_of}
 use Rattle.session_actions.specs.declared.entry.OpenEntry.{OpenEntry}
 use Rattle.session_actions.specs.declared.entry.Turn.{Turn}
@@ -36,7 +35,7 @@ given_bytes (reply.Octets octets) = length octets
 given_bytes _ = 0
 
 abbrev pub entry_bytes : Event → Reply → ℕ
-entry_bytes (event.Drain link most) r = 64 + given_bytes r
+entry_bytes (event.Drain link given) r = 64 + given_bytes r
 entry_bytes e r = event_bytes e
 
 abbrev pub journal_bytes : List Entry → ℕ

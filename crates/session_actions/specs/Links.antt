@@ -2,7 +2,6 @@
 use Rattle.std.specs.List.{list_any}
 use Rattle.std.specs.Option.{option_map_or}
 use Rattle.std.specs.Prelude.{Bool, List, None, Option, Some, [], filter_map, if◌then◌else◌, nat_lt, not, option_and_then, true, unwrap_or, ℕ, ◌&&◌, ◌++◌, ◌==◌, ◌||◌}
-use Rattle.attempt_ledger.specs.Journals.{sent}
 use Rattle.h2_frame.specs.Frames.{FrameSeen, has_flag}
 use Rattle.h2_frame.specs.Numbers.{ack_flag, data_type, end_stream_flag, goaway_type, settings_type}
 use Rattle.h2_frame.specs.Payloads.{settings_in}

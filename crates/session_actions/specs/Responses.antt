@@ -4,7 +4,7 @@ use Rattle.std.specs.Char.{is_ascii_digit}
 use Rattle.std.specs.List.{list_all, starts_with}
 use Rattle.std.specs.Option.{option_map_or}
 use Rattle.std.specs.Prelude.{Bool, List, None, Option, Some, [], codes, false, fold, if◌then◌else◌, is_none, is_some, length, nat_eq, nat_le, nat_lt, slice_get, true, ℕ, ◌&&◌, ◌++◌, ◌+◌, ◌==◌, ◌||◌, ◌∷◌}
-use Rattle.attempt_ledger.specs.Journals.{by, sent}
+use Rattle.attempt_ledger.specs.Journals.{by}
 use Rattle.attempt_ledger.specs.Throttling.{is_success}
 use Rattle.attempt_ledger.specs.declared.row.RowCause.{RowCause}
 use Rattle.config_values.specs.Values.{size}

@@ -1,6 +1,6 @@
 -- Throttling: tokens that failures take and successes give back, in thousandths (gRFC A6, "Throttling Retry Attempts and Hedged RPCs").
 use Rattle.std.specs.Option.{option_map_or}
-use Rattle.std.specs.Prelude.{Bool, Option, Some, fold, if◌then◌else◌, min, option_and_then, option_map, ℕ, ◌+◌, ◌-◌, ◌||◌}
+use Rattle.std.specs.Prelude.{Bool, None, Option, Some, fold, if◌then◌else◌, min, option_and_then, option_map, ℕ, ◌+◌, ◌-◌, ◌||◌}
 use Rattle.attempt_ledger.specs.Ends.{is_above, is_stop}
 use Rattle.attempt_ledger.specs.Throttling.{codes_of, is_success}
 use Rattle.attempt_ledger.specs.declared.row.RowEnd.{RowEnd}

@@ -1,6 +1,6 @@
 -- Words on lists and options. The things of a session are numbered from 1.
 use Rattle.std.specs.Option.{option_map_or, option_or}
-use Rattle.std.specs.Prelude.{Bool, List, None, Option, Some, [], false, if◌then◌else◌, length, min, pred, slice_get, slice_set, suc, ℕ, ◌==◌, ◌∷◌}
+use Rattle.std.specs.Prelude.{Bool, List, None, Option, Some, [], false, if◌then◌else◌, length, min, pred, slice_get, slice_set, suc, zero, ℕ, ◌==◌, ◌∷◌}
 
 -- the thing of a number
 abbrev pub numbered : {X : Type 0} → List X → ℕ → Option X

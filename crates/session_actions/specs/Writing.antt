@@ -2,7 +2,6 @@
 use Rattle.std.specs.List.{list_any}
 use Rattle.std.specs.Option.{option_map_or, option_or}
 use Rattle.std.specs.Prelude.{Bool, List, None, Option, Some, [], count_by, drop, false, filter, if◌then◌else◌, is_none, is_some, length, map, min, nat_le, nat_lt, not, option_and_then, option_map, slice_get, take, true, ℕ, ◌&&◌, ◌*◌, ◌++◌, ◌+◌, ◌-◌, ◌==◌, ◌||◌, ◌∷◌}
-use Rattle.attempt_ledger.specs.Journals.{sent}
 use Rattle.grpc_base.specs.declared.event.Event.{Event}
 use Rattle.grpc_base.specs.declared.event.Reply.{Reply}
 use Rattle.grpc_frame.specs.Messages.{framed_all}

@@ -1,6 +1,6 @@
 // A call of the application.
 use attempt_ledger::CallEnd;
-use grpc_base::{Items, Octets, Request};
+use grpc_base::{Items, Moment, Octets, Request};
 
 /// What happened to a call.
 #[derive(Clone, Copy, Debug, PartialEq, Eq)]
@@ -19,11 +19,11 @@ pub enum MarkKind {
     Closed,
 }
 
-/// What happened to a call, and when, in nanoseconds.
+/// What happened to a call, and when.
 #[derive(Clone, Copy, Debug, PartialEq, Eq)]
 pub struct Mark {
     pub what: MarkKind,
-    pub moment: u64,
+    pub moment: Moment,
 }
 
 /// A call. Calls are numbered from 1.
@@ -33,7 +33,7 @@ pub struct Call {
     pub request: Request,
     /// The entry and the moment of its begin.
     pub begun: u64,
-    pub begun_at: u64,
+    pub begun_at: Moment,
     /// The messages that were accepted.
     pub messages: Items<Octets>,
     /// Whether no further message comes.
