@@ -1,0 +1,15 @@
+// When the next attempt of a call is due.
+use grpc_base::Moment;
+
+/// What the marks of a call say of its next attempt.
+#[derive(Clone, Copy, Debug, PartialEq, Eq)]
+pub struct DueState {
+    /// The place of the row of the newest attempt; transparent retries are none.
+    pub newest: Option<u64>,
+    /// The moment at which that row was placed.
+    pub placed: Option<Moment>,
+    /// The moment to which an end, or the configuration, sets the next attempt.
+    pub forced: Option<u64>,
+    /// Whether no further attempt is made.
+    pub stopped: bool,
+}

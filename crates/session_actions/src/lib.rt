@@ -1,0 +1,27 @@
+// A session as one list of actions: what may be looked at (plain history) and the actions themselves, as data. What each action
+// needs and adds, and which one is next, stands in specs/.
+#![tactic(auto)]
+
+mod action;
+mod attempt;
+mod call;
+mod config;
+mod due;
+mod entry;
+mod link;
+mod policy;
+mod response;
+mod seen;
+mod subchannel;
+
+pub use action::{Action, CommitCause};
+pub use attempt::Attempt;
+pub use call::{Call, Mark, MarkKind};
+pub use config::{HeldConfig, ThrottleRun};
+pub use due::DueState;
+pub use entry::{OpenEntry, Stage, Turn};
+pub use link::{Block, Link, LinkOver, NextRead, OpenBlock, ReadFrame, Sent, Traffic, WireFrame};
+pub use policy::PolicyUse;
+pub use response::{Response, Told};
+pub use seen::{PolicyKind, Seen, Setup};
+pub use subchannel::Subchannel;

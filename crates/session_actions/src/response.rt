@@ -1,0 +1,36 @@
+// The response on a stream, and how it ends an attempt.
+use attempt_ledger::RowCause;
+use grpc_base::{Code, Items, Metadata, Octets, Pushback, Text};
+
+/// What the end of an attempt says.
+#[derive(Debug, Drop)]
+pub struct Told {
+    pub code: Code,
+    pub text: Text,
+    pub meta: Metadata,
+    pub pushback: Pushback,
+    /// Whether the server cannot have processed the request.
+    pub unseen: bool,
+    pub cause: RowCause,
+    /// The code with which the client resets the stream; None where the peer did.
+    pub reset: Option<u32>,
+}
+
+/// What came on a stream so far, and what bears on its send window.
+#[derive(Debug, Drop)]
+pub struct Response {
+    /// The metadata of its head.
+    pub head: Option<Metadata>,
+    /// Its whole messages, and the bytes behind them.
+    pub messages: Items<Octets>,
+    pub rest: Text,
+    /// Whether the next message is longer than the limit of its call.
+    pub large: bool,
+    pub end: Option<Told>,
+    /// Whether the peer's END_STREAM was taken.
+    pub closes: bool,
+    /// The initial size of the stream's send window, what WINDOW_UPDATE added to it, and what DATA used of it.
+    pub initial: u64,
+    pub raised: u64,
+    pub used: u64,
+}

@@ -1,0 +1,42 @@
+// All that has happened: plain history, with no cursor, window, queue or timer in it.
+use crate::{Attempt, Call, HeldConfig, Link, OpenEntry, PolicyUse, Subchannel, ThrottleRun};
+use attempt_ledger::Ask;
+use grpc_base::{Entry, Items, Kind, Text};
+
+/// A policy that the channel was given, with the width of its tiers (1 where it has none).
+#[derive(Clone, Copy, Debug, PartialEq, Eq)]
+pub struct PolicyKind {
+    pub kind: Kind,
+    pub width: u64,
+}
+
+/// What a channel is made with.
+#[derive(Debug, Drop)]
+pub struct Setup {
+    pub authority: Text,
+    pub policies: Items<PolicyKind>,
+}
+
+/// What has happened so far.
+#[derive(Debug, Drop)]
+pub struct Seen {
+    pub setup: Setup,
+    /// The journal.
+    pub entries: Items<Entry>,
+    /// The entry that is being made.
+    pub current: Option<OpenEntry>,
+    pub calls: Items<Call>,
+    pub attempts: Items<Attempt>,
+    pub asks: Items<Ask>,
+    pub policies: Items<PolicyUse>,
+    pub subs: Items<Subchannel>,
+    pub links: Items<Link>,
+    pub configs: Items<HeldConfig>,
+    pub runs: Items<ThrottleRun>,
+    /// Whether the resolver has answered, with whatever.
+    pub answered: bool,
+    /// Whether a resolution is wanted: the resolver has not answered since the last trouble.
+    pub wants: bool,
+    /// Whether the channel was shut down.
+    pub shut: bool,
+}
