@@ -13,12 +13,9 @@ use std::thread::Threads;
 const FRONT: &str =
     "channel 1 ipv4:127.0.0.1:50051\n0 0 resolved 127.0.0.1:50051 -\n0 0 dial\n0 0 up 1\n0 0 drain 1 65536\n1 0 arrived 1 000000040000000000\n2 0 begin /a.B/C - - -\n2 0 send 1 6869\n2 0 finish 1\n3 0 drain 1 65536\n";
 
-/// The answer with the status 0, and with the status `xx`.
+/// The answer with the status 0.
 const OK: &str =
     "4 0 arrived 1 00003b01050000000100073a73746174757303323030000c636f6e74656e742d74797065106170706c69636174696f6e2f67727063000b677270632d7374617475730130\n";
-
-const ODD: &str =
-    "4 0 arrived 1 00003c01050000000100073a73746174757303323030000c636f6e74656e742d74797065106170706c69636174696f6e2f67727063000b677270632d737461747573027878\n";
 
 const TAKE: &str = "4 0 take 1\n";
 
@@ -58,76 +55,13 @@ fn of_parts(word: &'static str, a: &'static str, b: &'static str, c: &'static st
     }
 }
 
-/// What a whole script is answered.
-fn expect<R: Threads + Wait + Sync + Abort>(
-    rt: &R,
-    alloc: Global,
-    case: Case,
-    status: u8,
-    text: &str,
-) -> Result<(), Fail> {
-    let (told, report) = answer(rt, alloc, &case)?;
-    assert_eq!(rt; told, status);
-    assert_eq!(rt; report.taken(), text.as_bytes());
-    Ok(())
-}
-
-#[test]
-fn each_fault_is_told_in_one_line(rt: HostRuntime) -> Result<(), Fail> {
-    let alloc = rt.alloc();
-    let first = "channel 1 ipv4:127.0.0.1:50051\n";
-    expect(&rt, alloc, of_parts("replay", "", "", ""), 0, "")?;
-    expect(&rt, alloc, of_parts("play", "", "", ""), 2, "fault words\n")?;
-    expect(
-        &rt,
-        alloc,
-        of_parts("replay", first, "0 0 dance\n", ""),
-        3,
-        "fault line 2 cause 5\n",
-    )?;
-    expect(
-        &rt,
-        alloc,
-        of_parts("replay", first, "7 9 tick\n", ""),
-        0,
-        "channel 2 ipv4:127.0.0.1:50051\n7 9 tick = done\nend 1 0 0 0\n",
-    )
-}
-
-#[test]
-fn a_status_that_is_no_number_is_unknown(rt: HostRuntime) -> Result<(), Fail> {
-    let (status, report) = answer(&rt, rt.alloc(), &of_parts("replay", FRONT, ODD, TAKE))?;
-    assert_eq!(rt; status, 0);
-    let want =
-        b"4 0 take 1 = end 2 - - row\nrow 1 1 first 2 6 1 1 1 1 10 2 - 78 status 10 - -\nend 11 1 1 1\n".as_slice();
-    assert!(rt; report.taken().ends_with(want));
-    Ok(())
-}
-
 /// A report of one call, as version 1 has it, and its script in version 2.
 const OLD_REPORT: &str =
     "channel 1 ipv4:127.0.0.1:50051\n0 0 resolved 127.0.0.1:50051 - = done\n0 0 dial = dial 1 127.0.0.1:50051 20000000000\n4 0 take 1 = end 0 - - row\nrow 1 1 first 2 6 1 1 1 1 10 0 - 77 status 10\nend 11 1 1 1\n";
 
-const NEW_SCRIPT: &str =
-    "channel 2 ipv4:127.0.0.1:50051\n0 0 resolved 127.0.0.1:50051 -\n0 0 dial\n4 0 take 1\n";
-
 #[test]
-fn a_report_is_migrated(rt: HostRuntime) -> Result<(), Fail> {
+fn a_report_that_is_not_read_whole_is_not_migrated(rt: HostRuntime) -> Result<(), Fail> {
     let alloc = rt.alloc();
-    let line = "channel 2 dns:localhost\n";
-    let written = "channel 2 dns:localhost\n3 9 tick\n";
-    for (a, b, c, status, text) in [
-        ("", "", "", 0, ""),
-        (OLD_REPORT, "", "", 0, NEW_SCRIPT),
-        (NEW_SCRIPT, "", "", 0, NEW_SCRIPT),
-        (line, "3 9 tick = done\n", "fault x\n", 0, written),
-        (line, "", "", 0, line),
-        (OLD_REPORT, TAKE, "", 3, "fault line 7 cause 5\n"),
-        (line, "0 0 dial\n", "end", 3, "fault line 3 cause 3\n"),
-        ("row 1\n", "", "", 3, "fault line 1 cause 1\n"),
-    ] {
-        expect(&rt, alloc, of_parts("migrate", a, b, c), status, text)?;
-    }
     let mut read = of_parts("migrate", OLD_REPORT, "", "");
     read.piece = 64;
     read.failed_read = 2;

@@ -2,15 +2,9 @@
 #![tactic(auto)]
 
 #[cfg(test)]
-mod channel_core_tests;
-#[cfg(test)]
 mod channel_top_config_tests;
 #[cfg(test)]
-mod channel_top_script_tests;
-#[cfg(test)]
 mod channel_top_tests;
-#[cfg(test)]
-mod live_tests;
 #[cfg(test)]
 mod load_tests;
 #[cfg(test)]

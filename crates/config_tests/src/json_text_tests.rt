@@ -4,21 +4,8 @@ use json_text::{Json, milli, nanos, read_json};
 use std::alloc::Global;
 use std::test::Fail;
 
-/// The bytes of a text in which `%` and two hexadecimal digits stand for a byte.
-pub fn bytes_of(alloc: Global, text: &str) -> Result<Vec<u8>, Fail> {
-    let mut bytes = Vec::new(alloc);
-    let mut pieces = text.split('%');
-    bytes.extend_from_slice(pieces.next().ok_or("a piece")?.as_bytes())?;
-    for piece in pieces {
-        let digits = piece.get(..2).ok_or("two digits")?;
-        bytes.push(u8::from_str_radix(digits, 16)?)?;
-        bytes.extend_from_slice(piece.get(2..).ok_or("two digits")?.as_bytes())?;
-    }
-    Ok(bytes)
-}
-
 /// The number of the fault and its place, and 0 for none.
-pub fn tells(alloc: Global, text: &[u8]) -> (u64, u64) {
+fn tells(alloc: Global, text: &[u8]) -> (u64, u64) {
     match read_json(alloc, text) {
         Ok(_) => (0, 0),
         Err(JsonFault::Syntax { at }) => (1, at),
@@ -36,67 +23,6 @@ fn read(alloc: Global, text: &[u8]) -> Result<Json, Fail> {
         Ok(value) => Ok(value),
         Err(_) => Err("a fault".into()),
     }
-}
-
-/// Each line a string as a text spells it, and as it is read: each escape, and each boundary of UTF-8.
-static STRINGS: &str = r#""\"" "
-"\\" \
-"\/" /
-"\b" %08
-"\f" %0c
-"\n" %0a
-"\r" %0d
-"\t" %09
-"\u0000" %00
-"\u0041\u00e9\u20AC" A%c3%a9%e2%82%ac
-"\u00fF\uAbCd" %c3%bf%ea%af%8d
-"\ud7ff\ue000\uffff" %ed%9f%bf%ee%80%80%ef%bf%bf
-"\ud83d\ude00" %f0%9f%98%80
-"\ud800\udc00\udbff\udfff" %f0%90%80%80%f4%8f%bf%bf
-"\ud800\ud800\udc00" %ef%bf%bd%f0%90%80%80
-"\ud800x\udc00" %ef%bf%bdx%ef%bf%bd
-"\udc00\ud800" %ef%bf%bd%ef%bf%bd
-"\ud800\n" %ef%bf%bd%0a
-"\ud800\u0041" %ef%bf%bdA
-"!~%7f" !~%7f
-"%c2%80%df%bf" %c2%80%df%bf
-"%e0%a0%80%e0%bf%bf" %e0%a0%80%e0%bf%bf
-"%e1%80%80%ec%bf%bf" %e1%80%80%ec%bf%bf
-"%ed%80%80%ed%9f%bf" %ed%80%80%ed%9f%bf
-"%ee%80%80%ef%bf%bf" %ee%80%80%ef%bf%bf
-"%f0%90%80%80%f0%bf%bf%bf" %f0%90%80%80%f0%bf%bf%bf
-"%f1%80%80%80%f3%bf%bf%bf" %f1%80%80%80%f3%bf%bf%bf
-"%f4%80%80%80%f4%8f%bf%bf" %f4%80%80%80%f4%8f%bf%bf"#;
-
-#[test]
-fn reads_each_escape_and_each_length_of_a_character(rt: HostRuntime) -> Result<(), Fail> {
-    let alloc = rt.alloc();
-    for line in STRINGS.lines() {
-        let (string, want) = line.split_once(' ').ok_or("a line")?;
-        let text = format!(in alloc; "{{\"a\":{string}}}")?;
-        let value = read(alloc, &bytes_of(alloc, text.as_str())?)?;
-        let characters = value.member(b"a").and_then(Json::as_str).ok_or("a string")?;
-        assert_eq!(rt; characters, bytes_of(alloc, want)?.as_slice(), "{line}");
-    }
-    Ok(())
-}
-
-/// A text with each kind of value, blank, escape and character.
-static WHOLE: &str =
-    r#"%20%0a{%09"a" :%0d[true, false ,null,-0,0,12,-0.50,"$%c2%a2%e2%82%ac%f0%90%8d%88\"\\\/\b\f\n\r\t\u00e9\uABcd\ud83d\ude00\ud800x",[ ],{ },[[1],{"":{}}]],"\u0062":{"":10.25}}"#;
-
-#[test]
-fn is_cut_off_at_each_prefix(rt: HostRuntime) -> Result<(), Fail> {
-    let text = bytes_of(rt.alloc(), WHOLE)?;
-    for len in 0..text.len() {
-        assert_eq!(rt;
-            tells(rt.alloc(), &text[..len]),
-            (1, len as u64),
-            "at {len}"
-        );
-    }
-    assert_eq!(rt; tells(rt.alloc(), &text), (0, 0));
-    Ok(())
 }
 
 /// Each accessor, of each kind of value.
@@ -132,29 +58,6 @@ fn takes_values_apart(rt: HostRuntime) -> Result<(), Fail> {
         );
     }
     assert!(rt; value.member(b"b").is_none() && values[3].member(b"x").is_none());
-    Ok(())
-}
-
-#[test]
-fn keeps_the_limits(rt: HostRuntime) -> Result<(), Fail> {
-    assert_eq!(rt; tells(rt.alloc(), b""), (1, 0));
-    let mut long = b"{}".to_vec(rt.alloc())?;
-    long.resize(65536, b' ')?;
-    assert_eq!(rt; tells(rt.alloc(), &long), (0, 0));
-    long.push(b'x')?;
-    assert_eq!(rt; tells(rt.alloc(), &long), (5, 65536));
-    Ok(())
-}
-
-/// One string takes all of the bytes that a text may have.
-#[test]
-fn reads_the_longest_string(rt: HostRuntime) -> Result<(), Fail> {
-    let mut text = b"{\"a\":\"".to_vec(rt.alloc())?;
-    text.resize(65534, b'x')?;
-    text.extend_from_slice(b"\"}")?;
-    let value = read(rt.alloc(), &text)?;
-    let characters = value.member(b"a").and_then(Json::as_str).ok_or("a string")?;
-    assert_eq!(rt; characters, &text[6..65534]);
     Ok(())
 }
 

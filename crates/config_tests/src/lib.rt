@@ -4,8 +4,6 @@
 #[cfg(test)]
 mod config_values_tests;
 #[cfg(test)]
-mod json_text_faults_tests;
-#[cfg(test)]
 mod json_text_tests;
 #[cfg(test)]
 mod resolver_core_tests;
