@@ -50,7 +50,7 @@ def written(status, out, error):
 def run_unproved(given):
     """Runs the program without its proof, and gives its status."""
     proof.need_toolchain()
-    proof.say("compiles the program without its proof, in a minute or more, and runs it once: nothing is promised of this run")
+    proof.say("compiles the program without its proof, in a few minutes, and runs it once: nothing is promised of this run")
     run = subprocess.Popen(["rt", "try", "--", *given], cwd=os.path.join(proof.TOP, "crates", "grpcc"), stderr=subprocess.PIPE)
     try:
         said = run.stderr.read()
@@ -87,7 +87,7 @@ def run(given):
     try:
         return main(given)
     except Ended as ended:
-        proof.say(NOTE)
+        proof.say("interrupted" if given[:1] == ["--unproved"] else NOTE)
         return 128 + ended.number
     except proof.Failed as failed:
         proof.say(str(failed))

@@ -171,7 +171,8 @@ class Progress:
             return
         self.told = now
         left = self.left - (now - self.changed)
-        line = f"{len(self.done)} of {len(self.estimate.needs)} crates proved after {int(now - self.begun) // 60} min {int(now - self.begun) % 60} s, {in_words(left)} left"
+        after = f"{int(now - self.begun) // 60} min {int(now - self.begun) % 60} s"
+        line = f"{len(self.done)} of {len(self.estimate.needs)} crates proved after {after}, {in_words(left)} left"
         if self.is_terminal:
             print(f"\r\033[Kgrpcc: {line}", end="", file=sys.stderr, flush=True)
         else:
@@ -266,8 +267,9 @@ def build(crates, words):
     need_disk()
     sweep()
     progress = Progress({name: needs for name, (_, needs) in crates.items()})
-    say(f"the program is not built from these files: proving it, {len(crates)} crates, {in_words(progress.whole)} on {processors()} processors")
-    say(f"for a first look without the proof, in a minute or more: ./grpcc --unproved {' '.join(words)}")
+    time_here = f"{in_words(progress.whole)} on {processors()} processors"
+    say(f"the program is not built from these files: proving it, {len(crates)} crates, {time_here}")
+    say(f"for a first look without the proof, in a few minutes: ./grpcc --unproved {' '.join(words)}")
     with tempfile.TemporaryDirectory(prefix=f"{PREFIX}{os.getpid()}-") as room:
         copy, begun = os.path.join(room, "repository"), time.time()
         os.mkdir(copy)

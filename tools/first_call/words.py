@@ -21,7 +21,7 @@ MODES = {
 # Options that stand beside another one alone.
 BESIDE = {"keepalive-timeout": "keepalive"}
 HELP = """The program is not built yet. The first call that has work for it proves and builds it; that takes {time} here.
-For a first look without the proof, in a minute or more: ./grpcc --unproved MODE < INPUT
+For a first look without the proof, in a few minutes: ./grpcc --unproved MODE < INPUT
 
 Modes:
   replay   reads a script, runs it and writes the report
