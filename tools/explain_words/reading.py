@@ -230,7 +230,8 @@ class Reading:
 
     def read_head(self, row, block):
         if block.status != 200 or not block.is_grpc:
-            self.end_row(row, block.http_code(), "http", block, detail=block.status)
+            why = f"{block.status}, of another content-type than application/grpc" if block.status == 200 else block.status
+            self.end_row(row, block.http_code(), "http", block, detail=why)
             return
         row.head = Stamp(self.entry, self.moment)
         if row.call.committed is None and row.call.end is None:
@@ -248,7 +249,7 @@ class Reading:
         elif fault:
             self.end_row(row, 13, "framing", detail="a message with a flag other than 0 (compressed)")
         elif row.is_closed:
-            self.end_row(row, 2, "http", detail=200)
+            self.end_row(row, 2, "http", detail="200, and the stream ended without trailers")
 
     def read_messages(self, row, data):
         """Counts the whole messages; "flag" or "large" at the first fault."""

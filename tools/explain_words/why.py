@@ -96,8 +96,9 @@ def answered_why(call):
     if cut:
         names = attempt_names(cut)
         how = "its head came first" if row.committed.cause == "head" else "its answer came first"
-        return Why("won", f"{attempt_name(row)} won, {names} cut", f"{attempt_name(row)} won: {how}, so the call was committed to it ({A6}) and "
-                   f"{names} {'was' if len(cut) == 1 else 'were'} cut", entries)
+        when = duration(row.committed.moment - call.moment)
+        return Why("won", f"{attempt_name(row)} won after {when}, {names} cut", f"{attempt_name(row)} won: {how}, so the call was committed to it ({A6}) and "
+                   f"{names} {'was' if len(cut) == 1 else 'were'} cut, {when} after the call began", entries)
     if row.number == 1 and row.kind != "transparent":
         return Why("answered", "the first attempt was answered OK", None, entries)
     return Why("answered", f"{attempt_name(row)} was answered OK", None, entries)
