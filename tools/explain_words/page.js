@@ -281,7 +281,7 @@ function find(text) {
 
 function legend() {
   const named = [["call", "call"], ["queue", "waits for a link"], ["placed", "on a link, not sent"], ["sent", "waits for the answer"], ["answer", "the response comes"], ["wait", "backoff or hedging delay"]];
-  const marks = [["ok", "OK"], ["failed", "failed"], ["cut", "cut by the client"], ["commit", "committed"], ["goaway", "GOAWAY"]];
+  const marks = [["ok", "OK"], ["failed", "failed, lost"], ["cut", "cut by the client"], ["commit", "committed"], ["goaway", "GOAWAY"]];
   const states = ["IDLE", "CONNECTING", "READY", "TRANSIENT_FAILURE", "SHUTDOWN"].map((state) => ["state-" + state, state]);
   for (const [kind, words] of named.concat(states)) byId("legend").append(sample(make("rect", { width: 12, height: 10, y: 1, fill: data.colours[kind], stroke: kind === "call" ? "#c3c9d0" : "none" }), words));
   for (const [kind, words] of marks) byId("legend").append(sample(markShape(kind, 6, 6), words));
@@ -300,4 +300,8 @@ if (data.isPart && count > 1) {
   view = [Math.max(0, at[0] - margin), Math.min(1, at[1] + margin)];
 }
 draw();
-if (/^#[ecr]\d+$/.test(location.hash)) show(location.hash.slice(1));
+if (/^#[ecr]\d+$/.test(location.hash)) {
+  const ref = location.hash.slice(1), at = lanes.findIndex((lane) => lane[3] === ref || lane[4].some((item) => item[7] === ref));
+  if (at > 0) byId("lanes").scrollTop = Math.max(0, tops[at] - 60);
+  show(ref);
+}

@@ -1,6 +1,6 @@
 """Why a call ended as it did: the rule that decided, in the terms of gRFC A6, with the entries that show it."""
 
-from .names import CODES, ERRORS, code_name, count, duration, listed, name_in, ordinal, tokens
+from .names import CODES, ERRORS, count, duration, listed, name_in, ordinal, tokens
 from .session import FAILURE, READY
 
 A6 = "gRFC A6"
