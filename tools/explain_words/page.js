@@ -19,7 +19,8 @@ function share(entry, moment) {
   return ((value - first) / (last - first) - view[0]) / (view[1] - view[0]);
 }
 const valueAt = (part) => { const [first, last] = range(); return first + (view[0] + part * (view[1] - view[0])) * (last - first); };
-const plotWidth = () => Math.max(200, byId("lanes").clientWidth - LABEL - AFTER);
+let width = 800;        // of the lanes, measured once for each drawing
+const plotWidth = () => width;
 const place = (entry, moment) => LABEL + share(entry, moment) * plotWidth();
 function timeWords(time) {
   if (!time) return "0";
@@ -54,6 +55,7 @@ function make(name, attributes, text) {
 }
 function ask() { if (!isAsked) { isAsked = true; requestAnimationFrame(() => { isAsked = false; draw(); }); } }
 function draw() {
+  width = Math.max(200, byId("lanes").clientWidth - LABEL - AFTER);
   const area = byId("lanes"), plot = byId("plot"), height = area.clientHeight, from = area.scrollTop;
   byId("room").style.height = tops[lanes.length] + "px";
   plot.setAttribute("height", Math.min(height, tops[lanes.length]));
@@ -67,7 +69,7 @@ function draw() {
   byId("by-entry").className = byEntry ? "on" : "";
 }
 function drawAxis(height, parts) {
-  const axis = byId("axis"), width = plotWidth(), low = valueAt(0), high = valueAt(1), step = roundStep((high - low) / (width / 110)), words = [];
+  const axis = byId("axis"), low = valueAt(0), high = valueAt(1), step = roundStep((high - low) / (width / 110)), words = [];
   for (let value = Math.ceil(low / step) * step; value <= high; value += step) {
     const x = LABEL + ((value - low) / (high - low)) * width;
     words.push(make("text", { x, y: 16, "text-anchor": "middle" }, byEntry ? String(value) : timeWords(value)));
