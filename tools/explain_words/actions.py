@@ -34,7 +34,7 @@ def picked_words(row, generation, sub):
 
 
 WORDS = {
-    "EventRefused": lambda name, number: f"refused: {REFUSALS[number]}",
+    "EventRefused": lambda name, number: REFUSALS[number],
     "EventAnswered": lambda name, reply: {"octets": "the bytes that may be sent", "notyet": "nothing is there yet"}.get(reply, reply),
     "CallBegins": lambda call: f"call {call.number} {call.path}",
     "MessageAccepted": lambda call, size: f"call {call.number}, {size:,} bytes",

@@ -1,7 +1,6 @@
 """A service config for people: what it says of a path, and what is read in it but surely not meant."""
 
 import difflib
-import json
 import re
 import sys
 

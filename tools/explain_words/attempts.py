@@ -47,7 +47,10 @@ class Attempts:
 
     def make_due(self):
         """Makes the attempts that are due, by call number; a hedge that the tokens forbid is withheld for good."""
-        did, ready, dues = False, set(), self.dues
+        dues = self.dues
+        if not dues or dues[0][0] > self.moment:
+            return False
+        did, ready = False, set()
         while True:
             while dues and dues[0][0] <= self.moment:
                 ready.add(heappop(dues)[1])
@@ -93,9 +96,10 @@ class Attempts:
         row.committed = Stamp(self.entry, self.moment, why)
         call.committed, call.is_stopped = row, True
         self.note("CallCommitted", row)
-        for other in call.rows:
-            if other.number != row.number:
-                self.drop_or_cut(other)
+        if len(call.rows) > 1:
+            for other in call.rows:
+                if other.number != row.number:
+                    self.drop_or_cut(other)
 
     def drop_or_cut(self, row):
         if row.is_outstanding:

@@ -1,6 +1,5 @@
 """Header blocks (RFC 7541) of one direction of a link, decoded once each, and what gRPC reads in their fields."""
 
-import base64
 import re
 
 from script_words.hpack import STATIC, BadBlock, huffman_decode, read_integer
@@ -9,7 +8,6 @@ from .names import printable
 
 MOST_TABLE, MOST_LIST = 4096, 16384
 HTTP_CODES = {400: 13, 401: 16, 403: 7, 404: 12, 429: 14, 502: 14, 503: 14, 504: 14}
-HIDDEN = (b"content-type", b"grpc-status", b"grpc-message", b"grpc-encoding", b"grpc-accept-encoding", b"grpc-retry-pushback-ms")
 
 
 class BlockFault(Exception):
@@ -162,17 +160,3 @@ class Blocks:
         while self.size > self.most:
             name, value = self.table.pop()
             self.size -= len(name) + len(value) + 32
-
-
-def shown_fields(block):
-    """The fields as an application sees them, as pairs of texts."""
-    return [(name.decode("latin-1"), value_text(name, value)) for name, value in block.fields if not name.startswith(b":") and name not in HIDDEN]
-
-
-def value_text(name, value):
-    if not name.endswith(b"-bin"):
-        return printable(value)
-    try:
-        return base64.b64decode(value + b"=" * (-len(value) % 4)).hex()
-    except ValueError:
-        return printable(value)

@@ -41,7 +41,8 @@ def summary(channel):
                                                                          ("transparent", "transparent retry", "transparent retries")) if kinds.get(kind)]
     span = end_of_session(channel) - (channel.first_moment or 0)
     return (f"{count(len(channel.calls), 'call')}{': ' + words if words else ''}; {count(len(channel.rows), 'attempt')}"
-            f"{' (' + ', '.join(more) + ')' if more else ''} on {count(len(channel.links), 'link')}; {count(channel.report.entries, 'entry', 'entries')}, {duration(span)}")
+            f"{' (' + ', '.join(more) + ')' if more else ''} on {count(len(channel.links), 'link')}; {count(channel.report.entries, 'entry', 'entries')}, {duration(span)}"
+            f"{'; the session was full then' if channel.report.is_full else ''}")
 
 
 def table(rows, heads, rights, width=None):
@@ -128,7 +129,8 @@ def step_lines(channel, call, why, width):
     for entry, words in steps:
         lines += wrapped(words, " " * (12 + size), width, f"    line {line_of(entry):>{size}}  ")
     wanted = sorted({entry for entry, _ in steps} | set(why.entries))
-    found = words_of_entries(channel.report, set(wanted))
+    streams = {(row.link.number, row.stream) for row in call.rows if row.stream}
+    found = words_of_entries(channel.report, set(wanted), streams)
     lines += ["", "  lines of the report"]
     for entry in wanted:
         moment = after_begin(channel.moments[entry - 1] - call.moment)

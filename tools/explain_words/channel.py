@@ -24,7 +24,7 @@ class Channel(Attempts, Policies, Reading):
         self.current = self.pending = self.answered = None
         self.by_address, self.queue, self.fresh, self.served_state = {}, {}, [], None
         self.dues, self.timers, self.deadlines, self.unconfigured = [], [], [], {}
-        self.resets, self.touched, self.is_changed, self.whole = [], set(), True, None
+        self.resets, self.touched, self.is_changed, self.is_net_changed, self.whole = [], set(), True, True, None
         self.entry = self.moment = self.word = self.drawn = 0
         self.first_moment = None
         self.moments, self.log = [], {} if has_log else None
@@ -40,25 +40,30 @@ class Channel(Attempts, Policies, Reading):
     # ---- the entries
 
     def run(self):
+        handlers = {name[3:]: getattr(self, name) for name in dir(self) if name.startswith("on_")}
+        add_moment, deadlines, dues, timers = self.moments.append, self.deadlines, self.dues, self.timers
         for number, moment, word, name, fields, reply in entries_of(self.report):
-            if self.first_moment is None:
-                self.first_moment = moment
-            self.moments.append(moment)
+            add_moment(moment)
             self.entry, self.moment, self.word, self.drawn = number, moment, word, 0
-            if self.deadlines and self.deadlines[0][0] <= moment:
+            if deadlines and deadlines[0][0] <= moment:
                 self.end_by_deadline()
-            if reply.startswith("refused"):
+            if reply[0] == "r":
                 self.note("EventRefused", name, int(reply[8:]))
-            elif name == "tick":
-                self.note("EventAnswered", name, reply)
             else:
-                getattr(self, "on_" + name)(fields, reply)
+                try:
+                    handlers[name](fields, reply)
+                except ValueError:
+                    self.fault("its bytes have an odd digit")
                 if self.resets:
                     self.flush_resets()
-            if self.is_changed or (self.dues and self.dues[0][0] <= moment) or (self.timers and self.timers[0][0] <= moment):
+            if self.is_changed or (dues and dues[0][0] <= moment) or (timers and timers[0][0] <= moment):
                 self.settle()
+        self.first_moment = self.moments[0] if self.moments else None
         self.test_rows()
         return self
+
+    def on_tick(self, fields, reply):
+        self.note("EventAnswered", "tick", reply)
 
     def end_by_deadline(self):
         """Before the event: calls whose deadline has come, the earliest first."""
@@ -71,21 +76,21 @@ class Channel(Attempts, Policies, Reading):
 
     def settle(self):
         """After the event: dials and backoffs, policies, calls without a configuration, attempts that are due, picks."""
-        self.clock()
-        while self.take_over() or self.connect_wished():
+        if self.timers and self.timers[0][0] <= self.moment:
+            self.clock()
+        while self.is_net_changed and (self.take_over() or self.connect_wished()):
             pass
         if self.unconfigured:
             self.configure_calls()
-        while True:
+        while (self.dues and self.dues[0][0] <= self.moment) or self.fresh or self.is_net_changed:
             has_made, has_served = self.make_due(), self.serve()
             if not has_made and not has_served:
                 break
         if self.touched:
             self.stamp_gone()
-        self.is_changed = False
-        state = self.state()
-        if not self.states or self.states[-1][1] != state:
-            self.states.append((Stamp(self.entry, self.moment), state))
+        if self.is_net_changed and (not self.states or self.states[-1][1] != self.state()):
+            self.states.append((Stamp(self.entry, self.moment), self.state()))
+        self.is_changed = self.is_net_changed = False
 
     def state(self):
         if self.shut:
@@ -113,7 +118,8 @@ class Channel(Attempts, Policies, Reading):
         self.unconfigured[call.number] = call
         self.is_changed = True
         self.note("CallBegins", call)
-        self.set_deadline(call)
+        if timeout is not None:
+            self.set_deadline(call)
 
     def set_deadline(self, call):
         times = [time for time in (call.timeout, call.method and call.method.timeout) if time is not None]
@@ -137,8 +143,12 @@ class Channel(Attempts, Policies, Reading):
         call.method, call.name = config.choose(call.path)
         if call.wait == "-":
             call.waits = bool(call.method.wait)
-        call.request, call.response = (min(4194304, limit if limit is not None else 4194304) for limit in (call.method.request, call.method.response))
-        self.set_deadline(call)
+        if call.method.request is not None:
+            call.request = min(call.request, call.method.request)
+        if call.method.response is not None:
+            call.response = min(call.response, call.method.response)
+        if call.method.timeout is not None:
+            self.set_deadline(call)
         call.forced, call.is_stopped = self.moment, False
         self.note("CallConfigured", call)
         self.schedule(call)
@@ -154,7 +164,7 @@ class Channel(Attempts, Policies, Reading):
         return self.calls[int(number) - 1]
 
     def on_send(self, fields, reply):
-        call, size = self.call_of(fields[0]), 0 if fields[1] == "-" else len(fields[1]) // 2
+        call, size = self.call_of(fields[0]), 0 if fields[1] == "-" else len(bytes.fromhex(fields[1]))
         if reply != "done":
             call.full = Stamp(self.entry, self.moment)
             self.note("EventAnswered", "send", reply)
@@ -189,6 +199,8 @@ class Channel(Attempts, Policies, Reading):
             return
         else:
             call.taken += 1
+            if len(reply) % 2 and reply.startswith("message ") and reply != "message -":
+                raise ValueError
         self.note("ItemTaken", call, reply.split(" ", 1)[0])
 
     def on_cancel(self, fields, reply):
@@ -209,12 +221,12 @@ class Channel(Attempts, Policies, Reading):
                 self.note("PolicyRetired", generation)
             self.current = self.pending = None
             self.drop_unlisted()
-            self.is_changed = True
+            self.is_changed = self.is_net_changed = True
 
     # ---- resolver and subchannels
 
     def on_resolved(self, fields, reply):
-        self.answered, self.is_changed = True, True
+        self.answered = self.is_changed = self.is_net_changed = True
         self.results.append((Stamp(self.entry, self.moment), reply))
         addresses = () if fields[0] == "-" else tuple(fields[0].split(","))
         if reply == "done":
@@ -235,7 +247,7 @@ class Channel(Attempts, Policies, Reading):
         self.configs.append((config, run))
 
     def on_unresolved(self, fields, reply):
-        self.answered, self.is_changed = True, True
+        self.answered = self.is_changed = self.is_net_changed = True
         self.results.append((Stamp(self.entry, self.moment), "unresolved"))
         self.note("ResolutionFailed")
 

@@ -121,6 +121,9 @@ def explain(plain, options):
         plain = ["-"] + plain
     if not plain or len(plain) > 2:
         raise Usage("one report, and perhaps one call")
+    part = [word for word in ("--from", "--to", "--by-entry") if word in options]
+    if part and not any(word in options for word in ("--actions", "--timeline", "--svg", "--html")):
+        raise Usage(f"{part[0]} goes with --actions, --timeline, --svg or --html")
     width, cut = width_of(options)
     channel = follow(plain[0], has_log="--actions" in options or "--html" in options)
     call = call_in(channel, plain[1]) if len(plain) > 1 else None

@@ -65,9 +65,15 @@ class Config:
     kind: str = "pick_first"
     names: dict = field(default_factory=dict)
     throttle: object = None
+    chosen: dict = field(default_factory=dict)
 
     def choose(self, path):
         """The entry for a call's path and the name that it goes by: the method's, else the service's, else the default."""
+        if path not in self.chosen:
+            self.chosen[path] = self.choice(path)
+        return self.chosen[path]
+
+    def choice(self, path):
         service, method = path[1:].split("/") if path.count("/") == 2 else ("", "")
         for name in ((service, method), (service, ""), ("", "")):
             if name in self.names:

@@ -1,7 +1,5 @@
 """What a timeline shows, as lanes with bars and marks: the text, the picture and the page draw the same ones."""
 
-from bisect import bisect_left
-
 from .names import CODES, ERRORS, duration, name_in, tokens
 from .steps import came
 from .why import attempt_name, why_of
@@ -241,9 +239,6 @@ class Scale:
         unit = next(((name, size) for name, size in (("s", 10**9), ("ms", 10**6), ("µs", 10**3)) if step * 10 >= size), ("ns", 1))
         begin = -(-(self.start - self.origin) // step) * step
         return [(self.share(0, self.origin + time), tick_words(time, unit)) for time in range(begin, self.stop - self.origin + 1, step)]
-
-    def entry_at(self, moment):
-        return bisect_left(self.moments, moment) + 1
 
 
 def tick_words(time, unit):

@@ -19,7 +19,8 @@ function share(entry, moment) {
   return ((value - first) / (last - first) - view[0]) / (view[1] - view[0]);
 }
 const valueAt = (part) => { const [first, last] = range(); return first + (view[0] + part * (view[1] - view[0])) * (last - first); };
-const plotWidth = () => Math.max(200, byId("lanes").clientWidth - LABEL - AFTER);
+let width = 800;        // of the lanes, measured once for each drawing
+const plotWidth = () => width;
 const place = (entry, moment) => LABEL + share(entry, moment) * plotWidth();
 function timeWords(time) {
   if (!time) return "0";
@@ -54,6 +55,7 @@ function make(name, attributes, text) {
 }
 function ask() { if (!isAsked) { isAsked = true; requestAnimationFrame(() => { isAsked = false; draw(); }); } }
 function draw() {
+  width = Math.max(200, byId("lanes").clientWidth - LABEL - AFTER);
   const area = byId("lanes"), plot = byId("plot"), height = area.clientHeight, from = area.scrollTop;
   byId("room").style.height = tops[lanes.length] + "px";
   plot.setAttribute("height", Math.min(height, tops[lanes.length]));
@@ -67,7 +69,7 @@ function draw() {
   byId("by-entry").className = byEntry ? "on" : "";
 }
 function drawAxis(height, parts) {
-  const axis = byId("axis"), width = plotWidth(), low = valueAt(0), high = valueAt(1), step = roundStep((high - low) / (width / 110)), words = [];
+  const axis = byId("axis"), low = valueAt(0), high = valueAt(1), step = roundStep((high - low) / (width / 110)), words = [];
   for (let value = Math.ceil(low / step) * step; value <= high; value += step) {
     const x = LABEL + ((value - low) / (high - low)) * width;
     words.push(make("text", { x, y: 16, "text-anchor": "middle" }, byEntry ? String(value) : timeWords(value)));
@@ -281,7 +283,7 @@ function find(text) {
 
 function legend() {
   const named = [["call", "call"], ["queue", "waits for a link"], ["placed", "on a link, not sent"], ["sent", "waits for the answer"], ["answer", "the response comes"], ["wait", "backoff or hedging delay"]];
-  const marks = [["ok", "OK"], ["failed", "failed"], ["cut", "cut by the client"], ["commit", "committed"], ["goaway", "GOAWAY"]];
+  const marks = [["ok", "OK"], ["failed", "failed, lost"], ["cut", "cut by the client"], ["commit", "committed"], ["goaway", "GOAWAY"]];
   const states = ["IDLE", "CONNECTING", "READY", "TRANSIENT_FAILURE", "SHUTDOWN"].map((state) => ["state-" + state, state]);
   for (const [kind, words] of named.concat(states)) byId("legend").append(sample(make("rect", { width: 12, height: 10, y: 1, fill: data.colours[kind], stroke: kind === "call" ? "#c3c9d0" : "none" }), words));
   for (const [kind, words] of marks) byId("legend").append(sample(markShape(kind, 6, 6), words));
@@ -300,4 +302,8 @@ if (data.isPart && count > 1) {
   view = [Math.max(0, at[0] - margin), Math.min(1, at[1] + margin)];
 }
 draw();
-if (/^#[ecr]\d+$/.test(location.hash)) show(location.hash.slice(1));
+if (/^#[ecr]\d+$/.test(location.hash)) {
+  const ref = location.hash.slice(1), at = lanes.findIndex((lane) => lane[3] === ref || lane[4].some((item) => item[7] === ref));
+  if (at > 0) byId("lanes").scrollTop = Math.max(0, tops[at] - 60);
+  show(ref);
+}

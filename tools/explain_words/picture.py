@@ -8,6 +8,7 @@ from .names import count, duration, short
 
 LABEL, PLOT, AFTER, MARGIN = 232, 640, 300, 14
 TOP, ROW, TOKENS = 58, 20, 44
+TALL = 700      # from here on the axis stands below the lanes, too
 COLOURS = {
     "state-IDLE": "#cfd4da", "state-CONNECTING": "#f0c649", "state-READY": "#86c08a", "state-TRANSIENT_FAILURE": "#dc7b70", "state-SHUTDOWN": "#5d646b",
     "pending": "#f0c649", "current": "#b9c7dc", "link-up": "#f0c649", "link-ready": "#86c08a", "link-retiring": "#c9b38c",
@@ -19,8 +20,8 @@ MARK_COLOURS = {"ok": GOOD, "failed": BAD, "lost": BAD, "goaway": "#8a5a00", "cu
                 "deadline": BAD}
 LEGEND = (("state-IDLE", "IDLE", ""), ("state-CONNECTING", "CONNECTING", ""), ("state-READY", "READY", ""), ("state-TRANSIENT_FAILURE", "TRANSIENT_FAILURE", ""),
           ("state-SHUTDOWN", "SHUTDOWN", ""), ("call", "call", ""), ("queue", "waits for a link", ""), ("placed", "on a link, not sent", ""), ("sent", "waits for the answer", ""),
-          ("answer", "the response comes", ""), ("wait", "backoff or hedging delay", "line"), ("ok", "OK", "mark"), ("failed", "failed", "mark"),
-          ("cut", "cut by the client", "mark"), ("commit", "committed", "mark"), ("goaway", "GOAWAY", "mark"), ("lost", "link lost", "mark"))
+          ("answer", "the response comes", ""), ("wait", "backoff or hedging delay", "line"), ("ok", "OK", "mark"), ("failed", "failed, lost", "mark"),
+          ("cut", "cut by the client", "mark"), ("commit", "committed", "mark"), ("goaway", "GOAWAY", "mark"))
 
 
 def number(value):
@@ -86,7 +87,9 @@ class Drawing:
         for share, words in self.scale.ticks(8):
             x = self.x(share)
             self.lines.append(f'<path d="M{number(x)} {TOP - 6}V{number(bottom)}" stroke="#dde1e6"/>')
-            self.lines.append(f'<text x="{number(x)}" y="{TOP - 12}" class="t">{escape(words)}</text>')
+            for y in (TOP - 12, bottom + 12) if bottom > TALL else (TOP - 12,):
+                self.lines.append(f'<text x="{number(x)}" y="{number(y)}" class="t">{escape(words)}</text>')
+        return 16 if bottom > TALL else 0
 
     def legend(self):
         """Below the lanes: what the colours and marks are."""
@@ -128,9 +131,10 @@ def svg_text(channel, call, part, by_entry):
     scale = scale_of(channel, call, part, by_entry)
     drawing = Drawing(scale)
     lanes = [lane for lane in lanes_of(channel, call) if any(scale.is_seen(item) for item in lane.items)]
-    drawing.axis(TOP + sum(TOKENS if lane.group == "tokens" else ROW for lane in lanes))
+    below = drawing.axis(TOP + sum(TOKENS if lane.group == "tokens" else ROW for lane in lanes))
     for lane in lanes:
         drawing.lane(lane, lane_label(lane, call))
+    drawing.top += below
     drawing.legend()
     width, height = LABEL + PLOT + AFTER + MARGIN, drawing.top
     head = [f'<svg xmlns="http://www.w3.org/2000/svg" width="{width}" height="{number(height)}" viewBox="0 0 {width} {number(height)}" '

@@ -25,7 +25,7 @@ class Policies:
     def set_state(self, sub, state, why, action):
         sub.state = state
         sub.states.append((Stamp(self.entry, self.moment), state, why))
-        self.is_changed = True
+        self.is_changed = self.is_net_changed = True
         for generation in self.live():
             if sub.address in generation.addresses:
                 generation.state = None
@@ -137,7 +137,7 @@ class Policies:
                 self.note("SubchannelAdded", sub)
                 for generation in self.live():
                     generation.state = None
-        self.is_changed = True
+        self.is_changed = self.is_net_changed = True
 
     def begin_generation(self, kind):
         generation = Generation(len(self.generations) + 1, kind, Stamp(self.entry, self.moment))
@@ -187,8 +187,12 @@ class Policies:
     def serve(self):
         """Asks the current policy for the attempts that wait, where it is READY, or has failed and the call does not wait for ready."""
         state = self.state_of(self.current) if self.current else None
+        if state == self.served_state and not self.fresh:
+            return False
         rows = self.queue.values() if state != self.served_state else self.fresh
-        rows = sorted(rows, key=lambda row: (row.call.number, row.place)) if state in (READY, FAILURE) else []
+        rows = list(rows) if state in (READY, FAILURE) else []
+        if len(rows) > 1:
+            rows.sort(key=lambda row: (row.call.number, row.place))
         self.served_state, self.fresh, did = state, [], False
         for row in rows:
             if row.place in self.queue and (state == READY or not row.call.waits):

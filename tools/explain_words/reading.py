@@ -1,11 +1,14 @@
 """Frames of a link as the client reads and writes them (RFC 9113): windows, link errors, and the response on each stream."""
 
+import struct
+
 from .blocks import BlockFault, Blocks
 from .session import CONNECTING, READY, Stamp
 
 DATA, HEADERS, PRIORITY, RST_STREAM, SETTINGS, PUSH_PROMISE, PING, GOAWAY, WINDOW_UPDATE, CONTINUATION = range(10)
 END_STREAM, ACK, END_HEADERS, PADDED, HAS_PRIORITY = 0x1, 0x1, 0x4, 0x8, 0x20
 MOST_FRAME, MOST_WINDOW, MOST_BLOCK = 16384, (1 << 31) - 1, 65536
+HEAD = struct.Struct(">BHBBI").unpack_from      # the length in two parts, the kind, the flags, the stream
 PREFACE = b"PRI * HTTP/2.0\r\n\r\nSM\r\n\r\n"
 RESET_CODES = {7: 14, 8: 1, 11: 8, 12: 7, 0: 13, 1: 13, 2: 13, 3: 13, 4: 13, 6: 13, 9: 13, 10: 13}
 LENGTHS = {PING: 8, WINDOW_UPDATE: 4, RST_STREAM: 4, PRIORITY: 5}
@@ -70,15 +73,16 @@ class Reading:
                 if fault:
                     self.break_link(link, fault)
                 break
-            length, kind, flags = int.from_bytes(data[at : at + 3], "big"), data[at + 3], data[at + 4]
-            stream = int.from_bytes(data[at + 5 : at + 9], "big") & MOST_WINDOW
-            fault = head_fault(length, kind, flags, stream)
+            high, length, kind, flags, stream = HEAD(data, at)
+            length, stream = high << 16 | length, stream & MOST_WINDOW
+            fault = head_fault(length, kind, flags, stream) if kind > 1 or not stream or flags & (PADDED | HAS_PRIORITY) or length > MOST_FRAME else None
             if not fault and kind < 2 and flags & PADDED and count - at > 9 and data[at + 9] > length - fields_before(kind, flags):
                 fault = 1
             if not fault and count - at < 9 + length:
                 break
             payload = data[at + 9 : at + 9 + length]
-            fault = fault or self.frame_fault(link, kind, flags, stream, payload)
+            if fault or kind or link.block or link.settings is None or not stream & 1 or stream > link.opened:
+                fault = fault or self.frame_fault(link, kind, flags, stream, payload)
             if fault:
                 self.break_link(link, fault)
                 break
@@ -146,23 +150,23 @@ class Reading:
 
     def read_frame(self, link, kind, flags, stream, payload):
         self.note("FrameRead", link, kind, stream, len(payload))
-        if kind == SETTINGS:
-            if not flags & ACK:
-                self.read_settings(link, payload)
-        elif kind == GOAWAY:
-            self.read_goaway(link, payload)
-        elif kind in (HEADERS, CONTINUATION):
+        if kind in (HEADERS, CONTINUATION):
             if self.whole is not None:
                 (stream, is_end, _), link.block, block, self.whole = link.block, None, self.whole, None
                 row = link.streams.get(stream)
                 if row:
                     self.read_block(row, block, is_end)
-        elif kind == WINDOW_UPDATE and not stream:
-            link.room += int.from_bytes(payload, "big") & MOST_WINDOW
-        elif kind in (DATA, RST_STREAM, WINDOW_UPDATE):
+        elif kind == DATA or (stream and kind in (RST_STREAM, WINDOW_UPDATE)):
             row = link.streams.get(stream)
             if row:
                 self.read_on_stream(row, kind, flags, payload)
+        elif kind == WINDOW_UPDATE:
+            link.room += int.from_bytes(payload, "big") & MOST_WINDOW
+        elif kind == SETTINGS:
+            if not flags & ACK:
+                self.read_settings(link, payload)
+        elif kind == GOAWAY:
+            self.read_goaway(link, payload)
         if self.resets:
             self.flush_resets()
 
@@ -230,7 +234,8 @@ class Reading:
 
     def read_head(self, row, block):
         if block.status != 200 or not block.is_grpc:
-            self.end_row(row, block.http_code(), "http", block, detail=block.status)
+            why = f"{block.status}, of another content-type than application/grpc" if block.status == 200 else block.status
+            self.end_row(row, block.http_code(), "http", block, detail=why)
             return
         row.head = Stamp(self.entry, self.moment)
         if row.call.committed is None and row.call.end is None:
@@ -248,7 +253,7 @@ class Reading:
         elif fault:
             self.end_row(row, 13, "framing", detail="a message with a flag other than 0 (compressed)")
         elif row.is_closed:
-            self.end_row(row, 2, "http", detail=200)
+            self.end_row(row, 2, "http", detail="200, and the stream ended without trailers")
 
     def read_messages(self, row, data):
         """Counts the whole messages; "flag" or "large" at the first fault."""
@@ -285,8 +290,8 @@ class Reading:
         if not link.out_preface and data.startswith(PREFACE):
             link.out_preface, at = True, len(PREFACE)
         while at + 9 <= count:
-            length, kind, flags = int.from_bytes(data[at : at + 3], "big"), data[at + 3], data[at + 4]
-            stream = int.from_bytes(data[at + 5 : at + 9], "big")
+            high, length, kind, flags, stream = HEAD(data, at)
+            length |= high << 16
             link.frames_out[kind if kind < 10 else 10] += 1
             self.note("FrameWritten", link, kind, stream, length)
             if kind == HEADERS:

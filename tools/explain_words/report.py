@@ -3,7 +3,7 @@
 import re
 
 NUMBER = r"(?:0|[1-9][0-9]*)"
-HEX = r"(?:[0-9a-f]{2})+"
+HEX = "[0-9a-f]+"           # that the digits are even is tested where the bytes are read
 PATH = r"/[!-.0-~]+/[!-.0-~]+"
 META = r"(?:-|[!#-+.-9;-~-]+:(?:[0-9a-f]{2})*(?:,[!#-+.-9;-~-]+:(?:[0-9a-f]{2})*)*)"
 TEXT = r"(?:[!-$&-~]|%[0-9A-F]{2})+"

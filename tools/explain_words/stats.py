@@ -3,7 +3,7 @@
 import json
 
 from .calls import call_end_name, call_time, end_of_session, short_path, summary, table
-from .names import CODES, FRAMES, count, duration, in_unit, tokens, unit_for
+from .names import CODES, FRAMES, duration, in_unit, tokens, unit_for
 
 PARTS = ("connection", "pick", "server", "retry")
 QUANTILES = ((50, "median"), (90, "90th"), (99, "99th"), (100, "greatest"))

@@ -1,7 +1,7 @@
 """What happened to one call, step by step, each with the entry that shows it."""
 
 from .names import CODES, count, duration, tokens
-from .why import attempt_name, attempt_names, codes_words, others_cut, short_what, why_of
+from .why import attempt_name, attempt_names, codes_words, others_cut, short_what
 
 
 def steps_of(channel, call):
@@ -77,7 +77,7 @@ def retry_words(call, row):
     left = f", {tokens(end.tokens)} of {tokens(call.run.start)} tokens are left, more than half" if call.run else ""
     words = f"{CODES[end.code]} is among the retryableStatusCodes, {before.number} of {plan.attempts} attempts {'is' if before.number == 1 else 'are'} made{left}: attempt {row.number} is due "
     if end.pushback is not None:
-        return words + f"{end.pushback} ms later, as the server asked (grpc-retry-pushback-ms)"
+        return words + (f"{end.pushback} ms later" if end.pushback else "at once") + ", as the server asked (grpc-retry-pushback-ms)"
     return words + f"{duration(end.wait)} later, drawn from {duration(end.cap - end.cap // 5)} to {duration(end.cap + end.cap // 5)} (backoff {duration(end.cap)})"
 
 

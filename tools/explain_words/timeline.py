@@ -37,10 +37,11 @@ def drawn(lane, scale, width):
 def axis_lines(scale, label, width):
     """The ticks' words and their strokes."""
     ticks = scale.ticks(max(2, width // 12))
-    words, strokes = [" "] * (width + 12), [" "] * width
+    words, strokes = [" "] * width, [" "] * width
     for share, text in ticks:
         at = min(width - 1, max(0, round(share * (width - 1))))
         strokes[at] = "|"
+        at = max(0, min(at, width - len(text)))
         if all(cell == " " for cell in words[max(0, at - 1) : at + len(text) + 1]):
             words[at : at + len(text)] = text
     return [" " * label + "".join(words).rstrip(), " " * label + "".join(strokes).rstrip()]

@@ -1,7 +1,7 @@
 """Why a call ended as it did: the rule that decided, in the terms of gRFC A6, with the entries that show it."""
 
-from .names import CODES, ERRORS, code_name, count, duration, listed, name_in, ordinal, tokens
-from .session import FAILURE, READY
+from .names import CODES, ERRORS, count, duration, listed, name_in, ordinal, tokens
+from .session import CONNECTING, FAILURE, READY
 
 A6 = "gRFC A6"
 
@@ -48,15 +48,15 @@ def why_of(channel, call):
         return answered_why(call) if call.committed.end.code == 0 else failed_why(channel, call)
     at = [call.end.entry]
     if cause == "deadline":
-        what, entries = waited_for(channel, call)
+        clause, what, entries = waited_for(channel, call)
         limit = duration(call.deadline - call.moment)
-        return Why("deadline", f"deadline of {limit}; {what}", f"the deadline of {limit} ({deadline_source(call)}) came while {what}", entries + at)
+        return Why("deadline", f"deadline of {limit}; {clause}", f"the deadline of {limit} ({deadline_source(call)}) came while {what}", entries + at)
     if cause == "cancelled":
-        what, entries = waited_for(channel, call)
-        return Why("cancelled", f"cancelled by the application; {what}", f"the application cancelled the call while {what}", entries + at)
+        clause, what, entries = waited_for(channel, call)
+        return Why("cancelled", f"cancelled by the application; {clause}", f"the application cancelled the call while {what}", entries + at)
     if cause == "shut":
-        what, entries = waited_for(channel, call)
-        return Why("shut", f"the channel was shut down; {what}", f"the channel was shut down while {what}", entries + at)
+        clause, what, entries = waited_for(channel, call)
+        return Why("shut", f"the channel was shut down; {clause}", f"the channel was shut down while {what}", entries + at)
     if cause == "noconfig":
         return noconfig_why(channel, call)
     return too_long_why(call, cause)
@@ -96,8 +96,9 @@ def answered_why(call):
     if cut:
         names = attempt_names(cut)
         how = "its head came first" if row.committed.cause == "head" else "its answer came first"
-        return Why("won", f"{attempt_name(row)} won, {names} cut", f"{attempt_name(row)} won: {how}, so the call was committed to it ({A6}) and "
-                   f"{names} {'was' if len(cut) == 1 else 'were'} cut", entries)
+        when = duration(row.committed.moment - call.moment)
+        return Why("won", f"{attempt_name(row)} won after {when}, {names} cut", f"{attempt_name(row)} won: {how}, so the call was committed to it ({A6}) and "
+                   f"{names} {'was' if len(cut) == 1 else 'were'} cut, {when} after the call began", entries)
     if row.number == 1 and row.kind != "transparent":
         return Why("answered", "the first attempt was answered OK", None, entries)
     return Why("answered", f"{attempt_name(row)} was answered OK", None, entries)
@@ -210,9 +211,20 @@ def dials_words(channel, call, entry):
             words.append(f"{sub.address}: {failure[2]} {since(call, failure[0])}{now}")
             entries.append(failure[0].entry)
         else:
-            words.append(f"{sub.address} is {state} ({why})")
+            words.append(f"{sub.address} {connecting_words(call, sub, stamp, entry) if state == CONNECTING else f'is {state} ({why})'}")
             entries.append(stamp.entry)
     return words, entries
+
+
+def connecting_words(call, sub, stamp, entry):
+    """How far a subchannel is that connects."""
+    tries = [item for item in sub.tries if stamp.entry <= item[0].entry <= entry]
+    if not tries:
+        return "waits to be dialled"
+    begun, _, result = tries[-1]
+    if result and result.entry <= entry:
+        return f"was connected {since(call, result)}, and its server has sent no SETTINGS yet"
+    return f"is being dialled, since {since(call, begun)}"
 
 
 def last_failure(sub, entry):
@@ -244,26 +256,30 @@ def no_server_words(channel, call, row):
 
 
 def waited_for(channel, call):
-    """What a call was waiting for when something outside ended it (or at the end of the session), with entries."""
+    """What a call was waiting for when something outside ended it (or at the end of the session): a clause, words, and entries."""
     entry = call.end.entry if call.end else channel.report.entries
     waits, has = ("waited", "had") if call.end else ("waits", "has")
     if call.configured is None:
         if not channel.results or channel.results[0][0].entry > entry:
-            return f"it {waits} for the resolver, which {has} not answered", []
-        return f"it {waits} for a valid service config, and the resolver gave none", [channel.results[-1][0].entry]
+            words = f"it {waits} for the resolver, which {has} not answered"
+            return words, words, []
+        words = f"it {waits} for a valid service config, and the resolver gave none"
+        return words, words, [channel.results[-1][0].entry]
     running = [row for row in call.rows if row.placed and (row.end is None or (row.end.cause == "cut" and row.end.entry == entry))]
     if running:
-        return running_words(call, running, waits, has)
+        words, entries = running_words(call, running, waits, has)
+        return words, words, entries
     queued = [row for row in call.rows if row.placed is None and row.end is None]
     if queued and (call.committed is None or call.committed in queued):
         return queued_words(channel, call, queued[-1], entry, waits)
     last = call.last_counted
     if last is None:
-        return "no attempt was running", []
+        return "no attempt was running", "no attempt was running", []
     due = channel.next_due(call) if call.end is None else None
     wait = due - last.end.moment if due is not None else last.end.pushback * 10**6 if last.end.pushback not in (None, "stop") else last.end.wait
     then = f", and the next one {'is' if call.end is None else 'was'} due {duration(wait)} after it" if wait is not None else ""
-    return f"{attempt_name(last)} {has} ended with {CODES[last.end.code]}{then}", [last.end.entry]
+    words = f"{attempt_name(last)} {has} ended with {CODES[last.end.code]}{then}"
+    return words, words, [last.end.entry]
 
 
 def running_words(call, rows, waits, has):
@@ -288,15 +304,14 @@ def running_words(call, rows, waits, has):
 def queued_words(channel, call, row, entry, waits):
     states = [(stamp, state) for stamp, state in channel.states if stamp.entry < entry] or channel.states[:1]
     stamp, state = states[-1]
-    words, entries = dials_words(channel, call, entry)
+    words, entries = dials_words(channel, call, entry - 1 if call.end else entry)
     why = ", and it waits for ready" if call.waits and state == FAILURE else ""
     where = f" ({'; '.join(words[:3])})" if words else " (the resolver gave no address)"
-    return f"{attempt_name(row)} {waits} for a link: the channel {'was' if call.end else 'is'} {state}{why}{where}", [stamp.entry] + entries[:3]
+    clause = f"{attempt_name(row)} {waits} for a link: the channel {'was' if call.end else 'is'} {state}{why}"
+    return clause, clause + where, [stamp.entry] + entries[:3]
 
 
 def open_why(channel, call):
-    what, entries = waited_for(channel, call)
+    clause, what, entries = waited_for(channel, call)
     limit = "no deadline: without an answer it waits for ever" if call.deadline is None else f"its deadline is {duration(call.deadline - call.moment)}"
-    if call.committed and call.committed.end:
-        what = "its attempt ended"
-    return Why("open", f"open: {what}", f"the session ends with the call open: {what} ({limit})", entries)
+    return Why("open", f"open: {clause}", f"the session ends with the call open: {what} ({limit})", entries)

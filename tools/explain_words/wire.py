@@ -1,7 +1,9 @@
 """The lines of a report in words: bytes as frames, messages as texts, configs as JSON."""
 
+import re
+
 from .blocks import BlockFault, Blocks
-from .names import ERRORS, FRAMES, SETTINGS, name_in, printable, quoted, short, text_of
+from .names import ERRORS, FRAMES, SETTINGS, duration, name_in, printable, quoted, short, text_of
 from .reading import END_HEADERS, END_STREAM, PADDED, PREFACE, pairs_of, unpadded
 from .report import EVENTS, OPENING
 
@@ -145,7 +147,7 @@ class Wire:
 def event_words(name, fields):
     if name == "begin":
         path, wait, timeout, meta = fields
-        words = [path] + ([f"wait for ready: {wait}"] if wait != "-" else []) + ([f"timeout {timeout} ns"] if timeout != "-" else [])
+        words = [path] + ([f"wait for ready: {wait}"] if wait != "-" else []) + ([f"timeout {duration(int(timeout))}"] if timeout != "-" else [])
         return "begin " + ", ".join(words + ([meta_words(meta)] if meta != "-" else []))
     if name == "send":
         return f"send {fields[0]} {message_words(fields[1])}"
@@ -173,15 +175,30 @@ def entry_text(parts):
     return event + (": " + " ".join(frames) if frames else "") + (f" = {reply}" if reply else "")
 
 
-def words_of_entries(report, wanted):
-    """The entries that are wanted, in words, by their numbers. Entries before them are read for the tables of their links alone."""
+def of_streams(parts, link, streams):
+    """The parts of an entry with the frames of these streams, SETTINGS and GOAWAY; the others are counted."""
+    event, frames, reply = parts
+    own = [words for words in frames if is_of(words, link, streams)]
+    others = len(frames) - len(own)
+    return event, own + ([f"({others} other frame{'s' * (others > 1)})"] if others else []), reply
+
+
+def is_of(words, link, streams):
+    found = re.match(r"[A-Z_ ]+\{stream (\d+)", words)
+    return (link, int(found.group(1))) in streams if found else not words.startswith(("WINDOW_UPDATE", "PING"))
+
+
+def words_of_entries(report, wanted, streams=None):
+    """The entries that are wanted, in words, by their numbers; their frames perhaps on these streams alone, as (link, stream).
+    Entries before them are read for the tables of their links alone."""
     wire, found = Wire(), {}
     links = {line.split(" ", 4)[3] for line in (report.lines[entry] for entry in wanted) if line.split(" ", 3)[2] in ("arrived", "drain")}
     last = max(wanted, default=0)
     for entry in range(1, last + 1):
         line = report.lines[entry]
         if entry in wanted:
-            found[entry] = entry_text(wire.entry(line))
+            parts = wire.entry(line)
+            found[entry] = entry_text(of_streams(parts, int(line.split(" ", 4)[3]), streams) if streams is not None and parts[1] else parts)
         elif links:
             parts = line.split(" ", 4)
             if parts[2] in ("arrived", "drain") and parts[3] in links:
