@@ -16,6 +16,7 @@ mod steady;
 mod tcp;
 mod tcp_dialer;
 mod whole;
+mod wire;
 mod world;
 
 pub use clock::{Clock, ListClock};

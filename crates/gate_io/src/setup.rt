@@ -81,7 +81,7 @@ impl<R: Net<Stream = TcpStream> + time::Clock + Copy + Drop> TcpWorld<R> {
     pub fn new(rt: R, alloc: Global) -> Result<TcpWorld<R>, NoMemory> {
         let mut dialers = Vec::new(alloc);
         while dialers.len() < DIALERS {
-            dialers.push(TcpDialer::new(rt))?;
+            dialers.push(TcpDialer::new(rt, alloc))?;
         }
         Ok(TcpWorld {
             clock: StdClock::new(rt),

@@ -1,94 +1,74 @@
 // Links over TCP, the trusted edge: they tell no bytes and count faults and quiet reads.
 ghost use Rattle.std.specs.Prelude.{◌≡◌, ◌<◌, ◌≤◌, ℕ, None, Some, IfSome, length, false, true};
-ghost use Rattle.gate_io.specs.declared.tcp.Received.{Received};
-ghost use Rattle.gate_io.specs.declared.tcp.Received.TheVariants as received;
+ghost use Rattle.gate_io.specs.declared.wire.Received.TheVariants as received;
 
-use crate::standard::{TRIES, write_some};
+use crate::wire::{Received, Wire};
 use crate::{LinkIn, LinkOut, LinkRead, Pause, WriteAnswer};
+use std::alloc::Global;
 use std::io;
-use std::io::{ErrorKind, Read};
-use std::net::{Shutdown, TcpStream};
-use std::time::Duration;
+use std::net::TcpStream;
+use std::sync::{Arc, Mutex};
 
-/// How many milliseconds a write waits for a peer that takes nothing before it fails: as long as gRPC's keepalive waits
-/// for an answer where nothing else is set.
-const WRITE_WAIT: u64 = 20_000;
-
-/// What comes over a TCP connection. A read waits at most 5 ms, and less where it is told so.
-#[derive(Debug, Drop)]
+/// What comes over a TCP connection. A read waits at most 5 ms, and less where it is told so; it is quiet as long as the connection does
+/// not stand yet, and fails where it can't be made.
+#[derive(Drop)]
 pub struct TcpIn {
-    stream: TcpStream,
+    wire: Arc<Mutex<Wire>>,
     /// How long a read waits.
     pause: Pause,
     faults: u64,
     quiet: u64,
 }
 
-/// What goes over a TCP connection. A write waits at most 20 s for a peer that takes nothing. Whoever reads the same
-/// connection does so in the same thread: a read that is not to wait changes for its time how writes wait too.
-#[derive(Debug, Drop)]
+/// What goes over a TCP connection. A write over one that was dialled does not wait: what the peer does not take at once is held, and goes
+/// out in later reads and writes; only one that finds 16,777,216 bytes held waits, for at most 20 s, as each write over a connection does
+/// that was accepted. Whoever reads the same connection does so in the same thread.
+#[derive(Drop)]
 pub struct TcpOut {
-    stream: TcpStream,
+    wire: Arc<Mutex<Wire>>,
     closed: bool,
     faults: u64,
 }
 
-/// Both ends of a connection: small frames are sent at once, and neither reads nor writes wait without end.
-pub(crate) fn link_over(stream: TcpStream) -> io::Result<(TcpIn, TcpOut)> {
-    stream.set_nodelay(true)?;
-    stream.set_read_timeout(Pause::Long.time())?;
-    stream.set_write_timeout(Some(Duration::from_millis(WRITE_WAIT)))?;
+/// Both ends of a connection that was accepted, and waits, or of one that was dialled. Small frames are sent at once.
+pub(crate) fn link_over(
+    alloc: Global,
+    stream: TcpStream,
+    waits: bool,
+) -> io::Result<(TcpIn, TcpOut)> {
+    let wire = Arc::new(alloc, Mutex::new(Wire::new(alloc, stream, waits)?))?;
     let input = TcpIn {
-        stream: stream.try_clone()?,
+        wire: wire.clone()?,
         pause: Pause::Long,
         faults: 0,
         quiet: 0,
     };
     let output = TcpOut {
-        stream,
+        wire,
         closed: false,
         faults: 0,
     };
     Ok((input, output))
 }
 
-/// What one read of a stream gave.
-#[derive(Clone, Copy, Debug)]
-enum Received {
-    Count(usize),
-    Quiet,
-    Failed,
-}
-
-/// One read, made again where a signal interrupted it.
-fn receive(stream: &mut TcpStream, buf: &mut [u8]) -> Received
+/// One read of a connection. It is quiet where another thread has it.
+fn receive(wire: &Mutex<Wire>, pause: Pause, buf: &mut [u8]) -> Received
     ensures { (n : ℕ) → result ≡ received.Count n → n ≤ length buf.new }
 {
-    for _ in 0..TRIES {
-        match stream.read(buf) {
-            Ok(count) if count <= buf.len() => return Received::Count(count),
-            Ok(_) => return Received::Failed,
-            Err(error) => match error.kind() {
-                ErrorKind::Interrupted => {}
-                ErrorKind::WouldBlock | ErrorKind::TimedOut => return Received::Quiet,
-                _ => return Received::Failed,
-            },
-        }
+    match wire.try_lock() {
+        Some(mut wire) => wire.receive(pause, buf),
+        None => Received::Quiet,
     }
-    Received::Failed
 }
 
-/// One read that waits for nothing.
-fn receive_now(stream: &mut TcpStream, buf: &mut [u8]) -> Received
-    ensures { (n : ℕ) → result ≡ received.Count n → n ≤ length buf.new }
+/// Some of a piece that a connection takes.
+fn take(wire: &Mutex<Wire>, piece: &[u8]) -> Option<usize>
+    requires { 0 < length piece.now }
+    ensures { IfSome result (λ n. (0 < n) × (n ≤ length piece.now)) }
 {
-    if stream.set_nonblocking(true).is_err() {
-        return Received::Failed;
-    }
-    let got = receive(stream, buf);
-    match stream.set_nonblocking(false) {
-        Ok(()) => got,
-        Err(_) => Received::Failed,
+    match wire.try_lock() {
+        Some(mut wire) => wire.take(piece),
+        None => None,
     }
 }
 
@@ -100,11 +80,7 @@ impl LinkIn for TcpIn {
     ghost quiet = { λ l. l.quiet };
 
     fn read(&mut self, buf: &mut [u8]) -> LinkRead {
-        let got = match self.pause {
-            Pause::None => receive_now(&mut self.stream, buf),
-            Pause::Brief | Pause::Short | Pause::Long => receive(&mut self.stream, buf),
-        };
-        match got {
+        match receive(&self.wire, self.pause, buf) {
             Received::Count(0) => LinkRead::End,
             Received::Count(count) => LinkRead::Got(count),
             Received::Quiet => {
@@ -122,13 +98,11 @@ impl LinkIn for TcpIn {
         if pause == self.pause {
             return;
         }
-        let told = match pause.time() {
-            Some(time) => self.stream.set_read_timeout(Some(time)),
-            None => Ok(()),
-        };
         // Where it cannot be told, reads wait as before.
-        if told.is_ok() {
-            self.pause = pause;
+        if let Some(wire) = self.wire.try_lock() {
+            if wire.wait_at_most(pause) {
+                self.pause = pause;
+            }
         }
     }
 }
@@ -141,7 +115,7 @@ impl LinkOut for TcpOut {
     ghost closed = { λ l. l.closed };
 
     fn write(&mut self, piece: &[u8]) -> WriteAnswer {
-        match write_some(&mut self.stream, piece) {
+        match take(&self.wire, piece) {
             Some(count) => WriteAnswer::Took(count),
             None => {
                 self.faults = self.faults.saturating_add(1);
@@ -152,7 +126,8 @@ impl LinkOut for TcpOut {
 
     fn close(&mut self) {
         self.closed = true;
-        // A connection that is gone already cannot be shut down again.
-        let _ = self.stream.shutdown(Shutdown::Both);
+        if let Some(mut wire) = self.wire.try_lock() {
+            wire.close();
+        }
     }
 }

@@ -6,33 +6,38 @@ use crate::std_clock::nanos_now;
 use crate::tcp::link_over;
 use crate::{Dialed, Dialer, Listener, TcpIn, TcpOut};
 use grpc_base::Address;
+use std::alloc::Global;
 use std::io::ErrorKind;
 use std::net::{Ipv4Addr, Net, SocketAddr, SocketAddrV4, TcpListener, TcpStream};
-use std::time::Duration;
 use std::{io, time};
 
-/// Dials over TCP.
+/// Dials over TCP. A dial gives its link at once, and connects after that: the reads of the link are quiet until the connection stands,
+/// and fail where it can't be made.
 #[derive(Drop)]
 pub struct TcpDialer<R> {
     rt: R,
+    alloc: Global,
     faults: u64,
 }
 
 impl<R: Net<Stream = TcpStream> + time::Clock> TcpDialer<R> {
     /// A dialer of this runtime.
-    pub fn new(rt: R) -> TcpDialer<R> {
-        TcpDialer { rt, faults: 0 }
+    pub fn new(rt: R, alloc: Global) -> TcpDialer<R> {
+        TcpDialer {
+            rt,
+            alloc,
+            faults: 0,
+        }
     }
 
-    /// A connection to an address by the moment `until`.
+    /// A connection to an address that begins before the moment `until`.
     fn connect(&self, to: Address, until: u64) -> io::Result<(TcpIn, TcpOut)> {
-        let left = until.saturating_sub(nanos_now(&self.rt));
-        if left == 0 {
+        if until <= nanos_now(&self.rt) {
             return Err(io::Error::from(ErrorKind::TimedOut));
         }
         let addr = SocketAddr::V4(SocketAddrV4::new(Ipv4Addr::from_bits(to.ip), to.port));
-        let stream = TcpStream::connect_timeout(&self.rt, &addr, Duration::from_nanos(left))?;
-        link_over(stream)
+        let stream = mio::net::TcpStream::connect(&self.rt, addr)?;
+        link_over(self.alloc, TcpStream::from(stream), false)
     }
 }
 
@@ -60,15 +65,17 @@ impl<R: Net<Stream = TcpStream> + time::Clock + Send + Drop> Dialer for TcpDiale
 #[derive(Drop)]
 pub struct TcpListen<R> {
     rt: R,
+    alloc: Global,
     listener: Option<TcpListener>,
     faults: u64,
 }
 
 impl<R: Net<Stream = TcpStream, Listener = TcpListener>> TcpListen<R> {
     /// A listener of this runtime that is not open yet.
-    pub fn new(rt: R) -> TcpListen<R> {
+    pub fn new(rt: R, alloc: Global) -> TcpListen<R> {
         TcpListen {
             rt,
+            alloc,
             listener: None,
             faults: 0,
         }
@@ -88,7 +95,7 @@ impl<R: Net<Stream = TcpStream, Listener = TcpListener>> TcpListen<R> {
         };
         for _ in 0..TRIES {
             match listener.accept() {
-                Ok((stream, _)) => return link_over(stream),
+                Ok((stream, _)) => return link_over(self.alloc, stream, true),
                 Err(error) => match error.kind() {
                     ErrorKind::ConnectionAborted | ErrorKind::Interrupted => {}
                     _ => return Err(error),

@@ -1,5 +1,6 @@
 // A listener that says on standard error that it listens.
 use gate_io::{Dialed, Listener, TcpIn, TcpListen, TcpOut};
+use std::alloc::Global;
 use std::net::{Net, TcpListener, TcpStream};
 
 /// A listener over TCP that says `listening <port>` on standard error once it is open, so that what calls it can wait for that.
@@ -11,10 +12,10 @@ pub struct Announced<R> {
 
 impl<R: Net<Stream = TcpStream, Listener = TcpListener> + Copy> Announced<R> {
     /// A listener of this runtime that is not open yet.
-    pub fn new(rt: R) -> Announced<R> {
+    pub fn new(rt: R, alloc: Global) -> Announced<R> {
         Announced {
             rt,
-            listener: TcpListen::new(rt),
+            listener: TcpListen::new(rt, alloc),
         }
     }
 }
