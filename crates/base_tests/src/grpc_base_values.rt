@@ -1,9 +1,8 @@
 // The plain data once each, with values from the public documents, and at the greatest input.
 use grpc_base::{
-    Address, AddressList, AnswerLine, AnswerPart, Code, CodeSet, ConfigFault, Conn, Duration,
-    Entry, Event, Items, JsonFault, Kind, KindSet, ListFull, MessageLimit, MetaFault, Metadata,
-    Moment, NoMemory, Octets, Refusal, Reply, Request, RequestFault, ServerScript, Text,
-    append_decimal, first_piece, is_path, names_of_path, read_number, split_at_byte,
+    Address, AddressList, Code, CodeSet, ConfigFault, Conn, Duration, Entry, Event, Items,
+    JsonFault, Kind, KindSet, ListFull, MessageLimit, MetaFault, Metadata, Moment, NoMemory,
+    Octets, Refusal, Reply, Request, Text, first_piece, is_path, split_at_byte,
 };
 use std::alloc::Global;
 use std::test::Fail;
@@ -84,73 +83,11 @@ fn an_address_list_takes_64_and_no_repeat(rt: HostRuntime) {
 }
 
 #[test]
-fn addresses_and_numbers_are_written(rt: HostRuntime) -> Result<(), Fail> {
-    let cases: [(u32, u16, &[u8]); 3] = [
-        (0x7f00_0001, 50_051, b"127.0.0.1:50051"),
-        (0, 0, b"0.0.0.0:0"),
-        (0xffff_ffff, 65_535, b"255.255.255.255:65535"),
-    ];
-    for (ip, port, want) in cases {
-        let mut out = Vec::new(rt.alloc());
-        Address { ip, port }.append_to(&mut out)?;
-        assert!(rt; out.as_slice() == want, "{want:?}");
-    }
-    let mut digits = Vec::new(rt.alloc());
-    append_decimal(&mut digits, 18_446_744_073_709_551_615)?;
-    assert_eq!(rt;
-        read_number(digits.as_slice()),
-        Some(18_446_744_073_709_551_615)
-    );
-    assert_eq!(rt; read_number(b"007"), Some(7));
-    assert_eq!(rt; read_number(b"18446744073709551616"), None);
-    assert_eq!(rt; read_number(b""), None);
-    assert_eq!(rt; read_number(b"+7"), None);
-    Ok(())
-}
-
-#[test]
 fn texts_are_parted_at_a_byte(rt: HostRuntime) {
     assert!(rt; split_at_byte(b"a=b=c", b'=') == Some((b"a".as_slice(), b"b=c".as_slice())));
     assert!(rt; split_at_byte(b"abc", b'=').is_none());
     assert!(rt; first_piece(b"a,,b", b',') == (b"a".as_slice(), Some(b",b".as_slice())));
     assert!(rt; first_piece(b"ab", b',') == (b"ab".as_slice(), None));
-}
-
-fn refusal(alloc: Global, path: &[u8], timeout: Option<u64>) -> Option<RequestFault> {
-    let Ok(path) = Text::of_slice(alloc, path) else {
-        return None;
-    };
-    match Request::new(path, Metadata::new(alloc), None, timeout) {
-        Ok(_) => None,
-        Err(fault) => Some(fault),
-    }
-}
-
-#[test]
-fn a_request_is_refused_by_its_path_first(rt: HostRuntime) {
-    let late = Some(1_000_000_000_000_000_001);
-    let cases: [(&[u8], Option<u64>, Option<RequestFault>); 10] = [
-        (b"/a.B/C", None, None),
-        (b"/a/b", Some(1_000_000_000_000_000_000), None),
-        (b"/a/b", late, Some(RequestFault::BadTimeout)),
-        (b"/a/", late, Some(RequestFault::BadPath)),
-        (b"//b", None, Some(RequestFault::BadPath)),
-        (b"a/b", None, Some(RequestFault::BadPath)),
-        (b"a/b/c", None, Some(RequestFault::BadPath)),
-        (b"/a/b/c", None, Some(RequestFault::BadPath)),
-        (b"/a /b", None, Some(RequestFault::BadPath)),
-        (b"", None, Some(RequestFault::BadPath)),
-    ];
-    for (path, timeout, want) in cases {
-        assert!(rt; refusal(rt.alloc(), path, timeout) == want, "{path:?}");
-        assert_eq!(rt;
-            is_path(path),
-            want != Some(RequestFault::BadPath),
-            "{path:?}"
-        );
-    }
-    let names = names_of_path(b"/grpc.health.v1.Health/Check");
-    assert!(rt; names == Some((b"grpc.health.v1.Health".as_slice(), b"Check".as_slice())));
 }
 
 /// A path of so many bytes.
@@ -237,53 +174,6 @@ fn replies_are_copied_whole(rt: HostRuntime) -> Result<(), Fail> {
         fault: JsonFault::TooLong,
     };
     assert!(rt; fault != json);
-    Ok(())
-}
-
-/// A script of one path whose answers have these numbers and parts, `m` for a message of one byte.
-fn script(alloc: Global, answers: &[(u32, &[u8])]) -> Result<ServerScript, NoMemory> {
-    let mut script = ServerScript {
-        answers: Items::new(alloc),
-    };
-    for (n, letters) in answers {
-        let mut parts = Items::new(alloc);
-        for letter in *letters {
-            let part = match *letter {
-                b'h' => AnswerPart::Head,
-                b'm' => AnswerPart::Message(Octets::of_static(b"x")),
-                b'p' => AnswerPart::Pushback(Text::of_slice(alloc, b"-1")?),
-                b',' => AnswerPart::Pushback(Text::of_slice(alloc, b"1,2")?),
-                b's' => AnswerPart::Status(14),
-                b'r' => AnswerPart::Reset(8),
-                b'w' => AnswerPart::Hold(2),
-                _ => AnswerPart::Goaway,
-            };
-            parts.push(part)?;
-        }
-        let path = Text::of_slice(alloc, b"/a.B/C")?;
-        script.answers.push(AnswerLine { path, n: *n, parts })?;
-    }
-    Ok(script)
-}
-
-#[test]
-fn a_server_script_keeps_its_rules(rt: HostRuntime) -> Result<(), Fail> {
-    let cases: [(&[(u32, &[u8])], bool); 10] = [
-        (&[], true),
-        (&[(1, b"whmmps"), (2, b"hr")], true),
-        (&[(1, b"hmsgg")], true),
-        (&[(1, b"h")], true),
-        (&[(0, b"s")], false),
-        (&[(2, b"s")], false),
-        (&[(1, b"s"), (1, b"s")], false),
-        (&[(1, b"")], false),
-        (&[(1, b"hsm")], false),
-        (&[(1, b"h,s")], false),
-    ];
-    for (answers, want) in cases {
-        let script = script(rt.alloc(), answers)?;
-        assert_eq!(rt; script.is_valid(), want, "{answers:?}");
-    }
     Ok(())
 }
 

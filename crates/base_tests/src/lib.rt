@@ -4,8 +4,6 @@
 #[cfg(test)]
 mod attempt_ledger_tests;
 #[cfg(test)]
-mod check_rows_tests;
-#[cfg(test)]
 mod gate_io_tests;
 #[cfg(test)]
 mod gate_link_tests;

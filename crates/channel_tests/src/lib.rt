@@ -1,4 +1,4 @@
-// Tests of the public calls of the channel: its core, the slow programs of its definitions and laws, and the top call.
+// Tests of the public calls of the channel: the slow programs of its definitions and laws, and the top call.
 #![tactic(auto)]
 
 #[cfg(test)]

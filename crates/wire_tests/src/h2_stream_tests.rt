@@ -1,32 +1,7 @@
-//! Worked values of RFC 9113 and each row of the table of errors that a stream shows by itself.
+//! Worked values of RFC 9113.
 
 use h2_stream::{Stream, StreamFault, StreamState};
 use std::test::Fail;
-
-/// What a peer sends.
-#[derive(Drop)]
-enum Frame {
-    Headers(bool),
-    Data(u32, bool),
-    WindowUpdate(u32),
-}
-
-#[derive(Drop)]
-struct Case {
-    name: &'static str,
-    before: &'static [Frame],
-    frame: Frame,
-    answer: Result<(), StreamFault>,
-    state: StreamState,
-}
-
-fn hand_over(stream: &mut Stream, frame: &Frame) -> Result<(), StreamFault> {
-    match frame {
-        Frame::Headers(end) => stream.on_headers(*end),
-        Frame::Data(len, end) => stream.on_data(*len, *end),
-        Frame::WindowUpdate(by) => stream.on_window(*by),
-    }
-}
 
 #[test]
 fn a_negative_window_is_made_up_before_more_is_sent(rt: HostRuntime) -> Result<(), Fail> {
@@ -47,103 +22,6 @@ fn a_negative_window_is_made_up_before_more_is_sent(rt: HostRuntime) -> Result<(
     assert_eq!(rt; stream.may_send(), 0);
     stream.on_window(7)?;
     assert_eq!(rt; stream.may_send(), 7);
-    Ok(())
-}
-
-#[test]
-fn each_row_of_the_table_of_errors_is_told(rt: HostRuntime) -> Result<(), Fail> {
-    let cases = [
-        Case {
-            name: "DATA before a head",
-            before: &[],
-            frame: Frame::Data(0, true),
-            answer: Err(StreamFault::Stream(1)),
-            state: StreamState::Open,
-        },
-        Case {
-            name: "DATA before a head and beyond the window",
-            before: &[],
-            frame: Frame::Data(101, false),
-            answer: Err(StreamFault::Stream(1)),
-            state: StreamState::Open,
-        },
-        Case {
-            name: "a second block without END_STREAM",
-            before: &[Frame::Headers(false), Frame::Data(5, false)],
-            frame: Frame::Headers(false),
-            answer: Err(StreamFault::Stream(1)),
-            state: StreamState::Open,
-        },
-        Case {
-            name: "trailers",
-            before: &[Frame::Headers(false), Frame::Data(5, false)],
-            frame: Frame::Headers(true),
-            answer: Ok(()),
-            state: StreamState::HalfClosedRemote,
-        },
-        Case {
-            name: "DATA up to the receive window",
-            before: &[Frame::Headers(false), Frame::Data(60, false)],
-            frame: Frame::Data(40, true),
-            answer: Ok(()),
-            state: StreamState::HalfClosedRemote,
-        },
-        Case {
-            name: "DATA beyond the receive window",
-            before: &[Frame::Headers(false), Frame::Data(60, false)],
-            frame: Frame::Data(41, true),
-            answer: Err(StreamFault::Stream(3)),
-            state: StreamState::Open,
-        },
-        Case {
-            name: "WINDOW_UPDATE of 0",
-            before: &[],
-            frame: Frame::WindowUpdate(0),
-            answer: Err(StreamFault::Stream(1)),
-            state: StreamState::Open,
-        },
-        Case {
-            name: "a send window above 2^31-1",
-            before: &[Frame::WindowUpdate(2147483547)],
-            frame: Frame::WindowUpdate(1),
-            answer: Err(StreamFault::Stream(3)),
-            state: StreamState::Open,
-        },
-        Case {
-            name: "a block after the trailers",
-            before: &[Frame::Headers(false), Frame::Headers(true)],
-            frame: Frame::Headers(false),
-            answer: Ok(()),
-            state: StreamState::HalfClosedRemote,
-        },
-        Case {
-            name: "DATA after END_STREAM",
-            before: &[Frame::Headers(true)],
-            frame: Frame::Data(4294967295, false),
-            answer: Ok(()),
-            state: StreamState::HalfClosedRemote,
-        },
-        Case {
-            name: "WINDOW_UPDATE of 0 after END_STREAM",
-            before: &[Frame::Headers(true)],
-            frame: Frame::WindowUpdate(0),
-            answer: Err(StreamFault::Stream(1)),
-            state: StreamState::HalfClosedRemote,
-        },
-    ];
-    for case in &cases {
-        let mut stream = Stream::new(100, 100);
-        for frame in case.before {
-            hand_over(&mut stream, frame)?;
-        }
-        assert_eq!(rt;
-            hand_over(&mut stream, &case.frame),
-            case.answer,
-            "{}",
-            case.name
-        );
-        assert_eq!(rt; stream.state(), case.state, "{}", case.name);
-    }
     Ok(())
 }
 
