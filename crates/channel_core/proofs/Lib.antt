@@ -9,6 +9,7 @@ pub mod Feeds
 pub mod Going
 pub mod GoingSteps
 pub mod Hearing
+pub mod Idling
 pub mod LookLaws
 pub mod OwnRows
 pub mod Places

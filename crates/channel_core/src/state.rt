@@ -146,12 +146,24 @@ impl<P: Balancer> State<P> {
         self.drawn = 0;
     }
 
-    /// Ends the calls whose deadline has come, the earliest first.
-    #[tactic(auto, unfolding(crate::specs::Steps::overdue_ended))]
+    /// Ends the calls whose deadline has come, the earliest first. Mostly there is none.
+    #[tactic(auto, using(crate::proofs::Idling::none_overdue))]
     fn end_overdue(&mut self) -> Result<(), NoMemory>
         ensures { OnOk result (self.new ≡ steps.overdue_ended self.old) }
     {
-        let calls = take_due(self.alloc, &mut self.deadlines, self.book.moment.nanos())?;
+        let moment = self.book.moment.nanos();
+        let Some(_) = self.deadlines.first_due(moment) else {
+            return Ok(());
+        };
+        self.end_each(moment)
+    }
+
+    #[tactic(auto, unfolding(crate::specs::Steps::overdue_ended))]
+    fn end_each(&mut self, moment: u64) -> Result<(), NoMemory>
+        requires { moment ≡ self.old.book.moment }
+        ensures { OnOk result (self.new ≡ steps.overdue_ended self.old) }
+    {
+        let calls = take_due(self.alloc, &mut self.deadlines, moment)?;
         self.end_all(calls)
     }
 

@@ -85,9 +85,19 @@ impl<P: Balancer> State<P> {
         Ok(())
     }
 
-    /// Calls without a configuration get one or end, by their numbers.
-    #[tactic(auto, unfolding(crate::specs::Steps::bare_served))]
+    /// Calls without a configuration get one or end, by their numbers. Mostly there is none.
+    #[tactic(auto, using(crate::proofs::Idling::none_bare))]
     fn serve_bare(&mut self) -> Result<(), NoMemory>
+        ensures { OnOk result (self.new ≡ steps.bare_served self.old) }
+    {
+        match (self.bare.next(), self.impatient.next()) {
+            (None, None) => Ok(()),
+            _ => self.serve_each_bare(),
+        }
+    }
+
+    #[tactic(auto, unfolding(crate::specs::Steps::bare_served))]
+    fn serve_each_bare(&mut self) -> Result<(), NoMemory>
         ensures { OnOk result (self.new ≡ steps.bare_served self.old) }
     {
         if self.held.is_some() {
@@ -156,11 +166,24 @@ impl<P: Balancer> State<P> {
         Ok(either(made, served))
     }
 
+    #[tactic(auto, using(crate::proofs::Idling::nothing_made))]
     fn make_due(&mut self) -> Result<bool, NoMemory>
         ensures state { OnOk result (self.new ≡ (steps.round_made self.old).state) }
         ensures moved { IfOk result (λ moved. moved ≡ (steps.round_made self.old).moved) }
     {
-        let calls = take_due(self.alloc, &mut self.dues, self.book.moment.nanos())?;
+        let moment = self.book.moment.nanos();
+        let Some(_) = self.dues.first_due(moment) else {
+            return Ok(false);
+        };
+        self.make_each(moment)
+    }
+
+    fn make_each(&mut self, moment: u64) -> Result<bool, NoMemory>
+        requires { moment ≡ self.old.book.moment }
+        ensures state { OnOk result (self.new ≡ (steps.round_made self.old).state) }
+        ensures moved { IfOk result (λ moved. moved ≡ (steps.round_made self.old).moved) }
+    {
+        let calls = take_due(self.alloc, &mut self.dues, moment)?;
         self.forget_all(calls.as_slice());
         let ready = sort_calls(self.alloc, calls.as_slice())?;
         let made = 0 < ready.len();

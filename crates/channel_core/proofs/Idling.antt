@@ -1,0 +1,51 @@
+-- Where nothing is due, nothing happens.
+use Rattle.std.proofs.Common.{◌≡◌, ℕ, Bool, true, false, List, [], ◌∷◌, Option, Some, None, ap, refl, sym}
+use Rattle.std.specs.Prelude.{if◌then◌else◌, is_some, nat_le}
+use Rattle.picker_gate.specs.Pairs.{first_due, next_moment}
+use Rattle.channel_core.specs.States.{StateSeen}
+use Rattle.channel_core.specs.Steps.{all_configured, all_unconfigured, bare_served, overdue_ended, round_made}
+use Rattle.channel_core.specs.Timing.{due_keys, later}
+
+-- the first timer is not due
+not_due : (t : ℕ × ℕ) (ts rest : List (ℕ × ℕ)) (keys : List ℕ) (due : Bool) → ◌≡◌ {A = Option (ℕ × ℕ)} None (if due then Some t else None) → ((if due then t.1 ∷ keys else []) ≡ []) × ((if due then rest else t ∷ ts) ≡ t ∷ ts)
+not_due t ts rest keys true h = absurd (cc h)
+not_due t ts rest keys false h = (refl, refl)
+
+none_due : (moment : ℕ) (timers : List (ℕ × ℕ)) → None ≡ first_due timers moment → (due_keys moment timers ≡ []) × (later moment timers ≡ timers)
+none_due moment [] h = (refl, refl)
+none_due moment (t ∷ ts) h = not_due t ts (later moment ts) (due_keys moment ts) (nat_le t.0 moment) h
+
+pub nothing_made : (s : StateSeen) → None ≡ first_due s.dues s.book.moment → round_made s ≡ record { state = s; moved = false }
+nothing_made s h =
+    let none = none_due s.book.moment s.dues h in
+    rw (none.0, none.1) refl
+
+pub none_overdue : (s : StateSeen) → None ≡ first_due s.deadlines s.book.moment → overdue_ended s ≡ s
+unfolding overdue_ended
+none_overdue s h =
+    let none = none_due s.book.moment s.deadlines h in
+    rw (none.0, none.1) refl
+
+no_timer : (timers : List (ℕ × ℕ)) → None ≡ next_moment timers → timers ≡ []
+no_timer [] h = refl
+no_timer (t ∷ ts) h = absurd (cc h)
+
+none_of : (moment : ℕ) (timers : List (ℕ × ℕ)) → timers ≡ [] → (due_keys moment timers ≡ []) × (later moment timers ≡ timers)
+none_of moment [] h = (refl, refl)
+none_of moment (t ∷ ts) h = absurd (cc h)
+
+served_if : (held unconfigured : Bool) (s : StateSeen) → s.bare ≡ [] → s.impatient ≡ [] →
+    (if held then all_configured (due_keys 0 s.bare) (record s { bare = later 0 s.bare; impatient = [] })
+    else if unconfigured then all_unconfigured (due_keys 0 s.impatient) (record s { impatient = later 0 s.impatient })
+    else s) ≡ s
+served_if true unconfigured s bare impatient =
+    let none = none_of 0 s.bare bare in
+    rw (none.0, none.1) (ap (λ timers. record s { impatient = timers }) (sym impatient))
+served_if false true s bare impatient =
+    let none = none_of 0 s.impatient impatient in
+    rw (none.0, none.1) refl
+served_if false false s bare impatient = refl
+
+pub none_bare : (s : StateSeen) → None ≡ next_moment s.bare → None ≡ next_moment s.impatient → bare_served s ≡ s
+unfolding bare_served
+none_bare s bare impatient = served_if (is_some s.held) s.unconfigured s (no_timer s.bare bare) (no_timer s.impatient impatient)
