@@ -1,18 +1,13 @@
 // What a run that ended says for people.
-use crate::command::say_words;
-use crate::config::{say_config, say_warnings};
-use crate::mode::Mode;
+use crate::answer::warn_answers;
+use crate::command::{mode_of, say_words};
+use crate::config::{say_config, warn_config};
+use crate::finding::Finding;
+use crate::lines::say_line;
 use crate::remembered::Remembered;
-use crate::script::say_line;
-use crate::sentence::Part::{Number, Text};
-use crate::sentence::say;
-use crate::told::{Told, told_by};
-use grpc_base::NoMemory;
+use crate::words::Words;
+use grpc_base::{NoMemory, read_number, split_at_byte};
 use std::alloc::Global;
-
-/// What is said where a listener failed.
-const UNHEARD: &str =
-    "error: the port cannot be listened at, or a link was not accepted; nothing was written\n";
 
 /// Why a read or a write failed.
 #[derive(Clone, Copy, Debug, PartialEq, Eq)]
@@ -46,64 +41,84 @@ pub struct Ended<'a> {
 ///
 /// | Status | Text |
 /// |---|---|
-/// | 0 | of `config` the warnings, else nothing |
+/// | 0 | of `config` the warnings; that a script or a report was empty |
 /// | 2 | what is wrong with the words |
 /// | 3 | what is wrong with the line or the config, and what would be right |
 /// | 4 to 8 | a sentence; nothing where the reader of the output has gone |
 pub fn explain(alloc: Global, ended: &Ended<'_>) -> Result<Vec<u8>, NoMemory> {
-    let mut out = Vec::new(alloc);
-    match ended.status {
-        0 => say_done(alloc, &mut out, ended)?,
-        2 => say_words(&mut out, ended.words, ended.are_text)?,
-        3 => say_fault(alloc, &mut out, ended)?,
-        4 => say_unread(&mut out, ended)?,
-        5 => say_unwritten(&mut out, ended.write)?,
-        6 => say(&mut out, &[Text("error: out of memory\n")])?,
-        7 => say_full(&mut out)?,
-        8 => say(&mut out, &[Text(UNHEARD)])?,
+    let mut out = Words::new(alloc);
+    let sentence: &[u8] = match ended.status {
+        0 => {
+            say_done(alloc, &mut out, ended);
+            b""
+        }
+        2 => {
+            say_words(&mut out, ended.words, ended.are_text);
+            b""
+        }
+        3 => {
+            say_fault(alloc, &mut out, ended);
+            b""
+        }
+        4 => unread(ended),
+        5 => unwritten(ended.write),
+        6 => b"memory",
+        7 => b"session",
+        8 => b"unheard",
+        _ => b"",
+    };
+    if !sentence.is_empty() {
+        let finding = Finding::of(sentence).counted(ended.input.bytes());
+        out.line(b"error:", &finding);
+    }
+    out.done()
+}
+
+/// The warnings about a server script that was read to its end.
+pub fn warn(alloc: Global, input: &Remembered) -> Result<Vec<u8>, NoMemory> {
+    let mut out = Words::new(alloc);
+    warn_answers(&mut out, input.front());
+    out.done()
+}
+
+fn say_done(alloc: Global, out: &mut Words, ended: &Ended<'_>) {
+    match mode_of(ended.words) {
+        b"config" => warn_config(alloc, out, ended.input.front()),
+        b"replay" | b"migrate" if ended.input.bytes() == 0 && ended.words.len() == 1 => {
+            out.line(b"warning:", &Finding::of(b"no-input"));
+        }
         _ => {}
     }
-    Ok(out)
 }
 
-fn say_done(alloc: Global, out: &mut Vec<u8>, ended: &Ended<'_>) -> Result<(), NoMemory> {
-    match Mode::of_words(ended.words) {
-        Some(Mode::Config) => say_warnings(alloc, out, ended.input.front()),
-        _ => Ok(()),
+fn say_fault(alloc: Global, out: &mut Words, ended: &Ended<'_>) {
+    let (line, _rest) = split_at_byte(ended.output, b'\n').unwrap_or((b"", b""));
+    if let Some(rest) = line.strip_prefix(b"fault line ")
+        && let Some((number, rest)) = split_at_byte(rest, b' ')
+        && let Some(number) = read_number(number)
+        && let Some(cause) = rest.strip_prefix(b"cause ")
+    {
+        say_line(alloc, out, mode_of(ended.words), ended.input, number, cause);
+    }
+    if let Some(rest) = line.strip_prefix(b"fault config ")
+        && let Some((fault, detail)) = split_at_byte(rest, b' ')
+    {
+        say_config(alloc, out, ended.input.front(), fault, detail);
     }
 }
 
-fn say_fault(alloc: Global, out: &mut Vec<u8>, ended: &Ended<'_>) -> Result<(), NoMemory> {
-    let Some(mode) = Mode::of_words(ended.words) else {
-        return Ok(());
-    };
-    match told_by(ended.output) {
-        Some(Told::Line(bad)) => say_line(alloc, out, mode, ended.input, bad),
-        Some(Told::Config(fault)) => say_config(alloc, out, ended.input.front(), fault),
-        None => Ok(()),
+fn unread(ended: &Ended<'_>) -> &'static [u8] {
+    match ended.read {
+        Some(Failure::Directory) => b"directory",
+        _ if ended.input.bytes() == 0 => b"closed",
+        _ => b"unread",
     }
 }
 
-fn say_unread(out: &mut Vec<u8>, ended: &Ended<'_>) -> Result<(), NoMemory> {
-    if ended.read == Some(Failure::Directory) {
-        return say(out, &[Text("error: standard input is a directory\n")]);
+fn unwritten(write: Option<Failure>) -> &'static [u8] {
+    match write {
+        Some(Failure::Gone) => b"",
+        Some(Failure::Full) => b"full",
+        _ => b"unwritten",
     }
-    let count = Number(ended.input.bytes());
-    let bytes = Text(" bytes of standard input; nothing was written\n");
-    say(out, &[Text("error: a read failed after "), count, bytes])
-}
-
-fn say_unwritten(out: &mut Vec<u8>, write: Option<Failure>) -> Result<(), NoMemory> {
-    let text = match write {
-        Some(Failure::Gone) => return Ok(()),
-        Some(Failure::Full) => "error: no space is left for standard output, which is cut off\n",
-        _ => "error: a write to standard output failed, which is cut off\n",
-    };
-    say(out, &[Text(text)])
-}
-
-fn say_full(out: &mut Vec<u8>) -> Result<(), NoMemory> {
-    let text =
-        "error: the session is full: it has 1048576 entries or 268435456 bytes at most; the report has the events before\n";
-    say(out, &[Text(text)])
 }

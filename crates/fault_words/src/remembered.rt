@@ -1,12 +1,7 @@
 // What is remembered of an input, so that a fault in it can be shown.
-use crate::sentence::front_of;
-use grpc_base::NoMemory;
 use grpc_base::limits::CONFIG_BYTES;
 use std::alloc::Global;
 use std::mem::swap;
-
-/// How many bytes of a script's front are remembered.
-const FRONT: usize = 4_096;
 
 /// How many bytes of its end are remembered at least.
 const LAST: usize = 32_768;
@@ -15,8 +10,6 @@ const LAST: usize = 32_768;
 #[derive(Debug, Drop)]
 pub struct Remembered {
     front: Vec<u8>,
-    /// How many bytes the front has at most.
-    most: usize,
     /// The bytes before `last` that are remembered.
     before: Vec<u8>,
     last: Vec<u8>,
@@ -27,21 +20,25 @@ pub struct Remembered {
     lost: bool,
 }
 
+/// A line, as far as it is remembered.
+#[derive(Clone, Copy)]
+pub struct Line<'a> {
+    /// Its number, from 1.
+    pub number: u64,
+    pub text: &'a [u8],
+    /// Whether its beginning is there.
+    pub begins: bool,
+    /// Whether its end is there.
+    pub ends: bool,
+    /// Whether a line feed ends it.
+    pub is_fed: bool,
+}
+
 impl Remembered {
-    /// Nothing was read yet of a script: its front and its last bytes will be remembered.
-    pub fn of_script(alloc: Global) -> Remembered {
-        Remembered::of_front(alloc, FRONT)
-    }
-
-    /// Nothing was read yet of a config: all of it will be remembered, up to the limit of configs.
-    pub fn of_config(alloc: Global) -> Remembered {
-        Remembered::of_front(alloc, CONFIG_BYTES)
-    }
-
-    fn of_front(alloc: Global, most: usize) -> Remembered {
+    /// Nothing was read yet.
+    pub fn new(alloc: Global) -> Remembered {
         Remembered {
             front: Vec::new(alloc),
-            most,
             before: Vec::new(alloc),
             last: Vec::new(alloc),
             feeds: 0,
@@ -55,38 +52,37 @@ impl Remembered {
         let feeds = piece.iter().filter(|b| **b == b'\n').count();
         self.feeds = self.feeds.saturating_add(feeds as u64);
         self.bytes = self.bytes.saturating_add(piece.len() as u64);
-        if self.keep(piece).is_err() {
-            self.lost = true;
-        }
-    }
-
-    fn keep(&mut self, piece: &[u8]) -> Result<(), NoMemory> {
-        let room = self.most.saturating_sub(self.front.len());
-        self.front.extend_from_slice(front_of(piece, room))?;
+        let room = CONFIG_BYTES.saturating_sub(self.front.len());
+        let front = piece.get(0..room).unwrap_or(piece);
         if self.last.len() >= LAST {
             swap(&mut self.before, &mut self.last);
             self.last.clear();
         }
-        self.last.extend_from_slice(piece)?;
-        Ok(())
+        if self.front.extend_from_slice(front).is_err()
+            || self.last.extend_from_slice(piece).is_err()
+        {
+            self.lost = true;
+        }
     }
 
-    /// The front; nothing where memory was wanting.
+    /// The first bytes, all of a config.
     pub fn front(&self) -> &[u8] {
         if self.lost {
-            return &[];
+            return b"";
         }
         self.front.as_slice()
     }
 
-    /// The last bytes; nothing where memory was wanting.
-    pub fn end(&self, alloc: Global) -> Result<Vec<u8>, NoMemory> {
+    /// The last bytes.
+    pub fn end(&self, alloc: Global) -> Vec<u8> {
         let mut end = Vec::new(alloc);
-        if !self.lost {
-            end.extend_from_slice(self.before.as_slice())?;
-            end.extend_from_slice(self.last.as_slice())?;
+        if self.lost
+            || end.extend_from_slice(self.before.as_slice()).is_err()
+            || end.extend_from_slice(self.last.as_slice()).is_err()
+        {
+            end.clear();
         }
-        Ok(end)
+        end
     }
 
     /// How many bytes were read.
@@ -94,13 +90,49 @@ impl Remembered {
         self.bytes
     }
 
-    /// How many line feeds were read.
-    pub fn feeds(&self) -> u64 {
-        self.feeds
+    /// The line of a number, where some of it is remembered: whole if possible, else its beginning, else its end.
+    pub fn line<'a>(&'a self, end: &'a [u8], number: u64) -> Option<Line<'a>> {
+        let feeds = end.iter().filter(|b| **b == b'\n').count();
+        let first = self.feeds.saturating_sub(feeds as u64).saturating_add(1);
+        let mut last = line_in(end, number, first);
+        if let Some(line) = last {
+            let begins = number != first || end.len() as u64 == self.bytes;
+            last = Some(Line { begins, ..line });
+            if begins {
+                return last;
+            }
+        }
+        match line_in(self.front(), number, 1) {
+            Some(line) => Some(Line {
+                ends: line.is_fed,
+                ..line
+            }),
+            None => last,
+        }
     }
+}
 
-    /// Whether this count of bytes is all that was read.
-    pub fn is_whole(&self, count: usize) -> bool {
-        count as u64 == self.bytes
+/// The line of a number in a text that begins with the line of number `first`.
+fn line_in(text: &[u8], number: u64, first: u64) -> Option<Line<'_>> {
+    let mut found: Option<Line<'_>> = None;
+    let mut at = first;
+    for text in text.split(|b| *b == b'\n') {
+        if let Some(line) = found {
+            return Some(Line {
+                is_fed: true,
+                ..line
+            });
+        }
+        if at == number {
+            found = Some(Line {
+                number,
+                text,
+                begins: true,
+                ends: true,
+                is_fed: false,
+            });
+        }
+        at = at.saturating_add(1);
     }
+    found
 }
