@@ -159,7 +159,7 @@ fn a_dial_that_nobody_answers_fails(rt: HostRuntime) -> Result<(), Fail> {
     assert!(rt; matches!(dialer.dial(to, now), Dialed::Failed));
     drop(listener);
     // The system may say at once that nobody listens; else the first read fails.
-    if let Dialed::Open(mut input, _) = dialer.dial(to, now + FIVE_SECONDS) {
+    if let Dialed::Open(mut input, _output) = dialer.dial(to, now + FIVE_SECONDS) {
         assert_eq!(rt; input.read(&mut [0u8; 8]), LinkRead::Failed);
     }
     Ok(())

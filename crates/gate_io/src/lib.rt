@@ -4,6 +4,7 @@
 mod clock;
 mod copied;
 mod draws;
+mod lately;
 mod link;
 mod memory;
 mod memory_dialer;

@@ -3,11 +3,13 @@ ghost use Rattle.std.specs.Prelude.{◌≡◌, length};
 ghost use Rattle.rand_core.specs.Pcg32Seed.{pcg32_seed};
 ghost use Rattle.rand_pcg.specs.Pcg.{pcg64_of_seed};
 
+use crate::lately::Lately;
 use crate::{Clock, Dialer, Draws, ListClock, MemDialer, PcgDraws, StdClock, TcpDialer};
 use grpc_base::NoMemory;
 use std::alloc::Global;
 use std::marker::Model;
 use std::net::{Net, TcpStream};
+use std::sync::{Arc, Mutex};
 use std::time;
 
 /// How many dialers a world over TCP has.
@@ -79,9 +81,10 @@ pub struct TcpWorld<R> {
 impl<R: Net<Stream = TcpStream> + time::Clock + Copy + Drop> TcpWorld<R> {
     /// The world of this runtime.
     pub fn new(rt: R, alloc: Global) -> Result<TcpWorld<R>, NoMemory> {
+        let lately = Arc::new(alloc, Mutex::new(Lately::new(alloc)))?;
         let mut dialers = Vec::new(alloc);
         while dialers.len() < DIALERS {
-            dialers.push(TcpDialer::new(rt, alloc))?;
+            dialers.push(TcpDialer::beside(rt, alloc, lately.clone()?))?;
         }
         Ok(TcpWorld {
             clock: StdClock::new(rt),

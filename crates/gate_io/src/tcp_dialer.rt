@@ -1,6 +1,7 @@
 // A dialer and a listener over TCP.
 ghost use Rattle.std.specs.Prelude.{◌≡◌, None, Some, true, false};
 
+use crate::lately::Lately;
 use crate::standard::TRIES;
 use crate::std_clock::nanos_now;
 use crate::tcp::link_over;
@@ -9,6 +10,7 @@ use grpc_base::Address;
 use std::alloc::Global;
 use std::io::ErrorKind;
 use std::net::{Ipv4Addr, Net, SocketAddr, SocketAddrV4, TcpListener, TcpStream};
+use std::sync::{Arc, Mutex};
 use std::{io, time};
 
 /// Dials over TCP. A dial gives its link at once, and connects after that: the reads of the link are quiet until the connection stands,
@@ -17,6 +19,7 @@ use std::{io, time};
 pub struct TcpDialer<R> {
     rt: R,
     alloc: Global,
+    lately: Option<Arc<Mutex<Lately>>>,
     faults: u64,
 }
 
@@ -26,13 +29,37 @@ impl<R: Net<Stream = TcpStream> + time::Clock> TcpDialer<R> {
         TcpDialer {
             rt,
             alloc,
+            lately: None,
             faults: 0,
+        }
+    }
+
+    /// One of several dialers, which know together what was dialled: a dial that nobody answered to its end is followed by one that fails at
+    /// once. So an address that answers nothing is seen to fail, and the next one gets its turn.
+    pub(crate) fn beside(rt: R, alloc: Global, lately: Arc<Mutex<Lately>>) -> TcpDialer<R> {
+        TcpDialer {
+            rt,
+            alloc,
+            lately: Some(lately),
+            faults: 0,
+        }
+    }
+
+    /// Whether a dial is not to be made now.
+    fn is_too_soon(&self, to: Address, until: u64, now: u64) -> bool {
+        let Some(lately) = &self.lately else {
+            return false;
+        };
+        match lately.try_lock() {
+            Some(mut lately) => lately.is_too_soon(to, until, now),
+            None => false,
         }
     }
 
     /// A connection to an address that begins before the moment `until`.
     fn connect(&self, to: Address, until: u64) -> io::Result<(TcpIn, TcpOut)> {
-        if until <= nanos_now(&self.rt) {
+        let now = nanos_now(&self.rt);
+        if until <= now || self.is_too_soon(to, until, now) {
             return Err(io::Error::from(ErrorKind::TimedOut));
         }
         let addr = SocketAddr::V4(SocketAddrV4::new(Ipv4Addr::from_bits(to.ip), to.port));
