@@ -91,7 +91,7 @@ where
     if !boxes_ready(&boxes) {
         return Ok(NO_MEMORY);
     }
-    let mut listener = Announced::new(*rt);
+    let mut listener = Announced::new(*rt, alloc);
     Ok(run_channel(
         rt,
         alloc,
