@@ -1,7 +1,9 @@
 """Frames (RFC 9113, section 4) as words, as HEADERS{stream 1, end, :status 200}, and back to their bytes."""
 
+import re
+
 from .hpack import BadBlock, Table, Written, client_form, read_block
-from .words import BadWords, bytes_of, data_of, from_hex, hex_or_quoted, quote, word_of
+from .words import BadWords, bytes_of, data_of, from_hex, hex_or_quoted, tokens_of, word_of
 
 KINDS = ["DATA", "HEADERS", "PRIORITY", "RST_STREAM", "SETTINGS", "PUSH_PROMISE", "PING", "GOAWAY", "WINDOW_UPDATE", "CONTINUATION"]
 SETTINGS = ["", "HEADER_TABLE_SIZE", "ENABLE_PUSH", "MAX_CONCURRENT_STREAMS", "INITIAL_WINDOW_SIZE", "MAX_FRAME_SIZE", "MAX_HEADER_LIST_SIZE"]
@@ -14,10 +16,6 @@ ON_STREAM_0 = ("SETTINGS", "PING", "GOAWAY")
 
 def name_in(names, number):
     return names[number] if number < len(names) and names[number] else str(number)
-
-
-def number_in(names, word):
-    return names.index(word) if word in names else int(word)
 
 
 def frame_of(kind, flags, stream, payload):
@@ -147,29 +145,49 @@ def exact_words(frame, fields=None):
     return frame.data.hex()
 
 
+def number_of(word, most=2**32 - 1):
+    """The number that a word says."""
+    if not re.fullmatch(r"0|[1-9][0-9]*", word) or int(word) > most:
+        raise BadWords(f"'{word}' is not a number up to {most}")
+    return int(word)
+
+
+def read_how(words):
+    """How a field is written, from the words in its brackets: its form, the index of its name, and what is packed."""
+    form, rest = words[0] if words else "", words[1:]
+    if form == "index" and len(rest) == 1:
+        return "index", number_of(rest[0]), ""
+    if form not in ("add", "plain", "never") or rest[:1] not in (["new"], ["name"]):
+        raise BadWords(f"[{' '.join(words)}] says no form of a field; forms: index <n>, add, plain or never, each with new or name <n>, size <n>")
+    index = 0
+    if rest[0] == "name":
+        index = number_of(rest[1]) if len(rest) > 1 else 0
+        rest = rest[1:]
+    packed = rest[2] if rest[1:2] == ["packed"] and len(rest) == 3 else "" if len(rest) == 1 else None
+    if packed not in ("", "n", "v", "nv"):
+        raise BadWords(f"[{' '.join(words)}]: after the name stands nothing, or packed n, packed v or packed nv")
+    return form, index, packed
+
+
 def read_field(words):
     """The bytes of a field that is written so."""
-    how = words.pop()[1:-1].split() if words[-1].startswith("[") else []
-    if how[:1] == ["size"]:
-        return Written("size", int(how[1])).write()
+    how = words[-1][1:-1].split() if words[-1].startswith("[") else None
+    words = words if how is None else words[:-1]
+    if how is not None and how[:1] == ["size"] and len(how) == 2 and not words:
+        return Written("size", number_of(how[1])).write()
     if len(words) != 2:
-        raise BadWords(f"a field is a name and a value: {' '.join(words)}")
+        raise BadWords(f"a field is a name and a value, each in quotes where it has spaces: {' '.join(words)}")
     name, value = map(bytes_of, words)
-    if not how:
+    if how is None:
         return client_form(name, value).write()
-    if how[0] == "index":
-        return Written("index", int(how[1])).write()
-    packed = how[how.index("packed") + 1] if "packed" in how else ""
-    index = int(how[how.index("name") + 1]) if "name" in how else 0
-    return Written(how[0], index, name, value, "n" in packed, "v" in packed).write()
+    form, index, packed = read_how(how)
+    return Written(form, index, name, value, "n" in packed, "v" in packed).write()
 
 
 def items_of(text):
     """The name of a frame and its items, each a list of words."""
-    from .words import tokens_of
-
     name, *rest = tokens_of(text)
-    if not name.endswith("{") or rest[-1:] != ["}"]:
+    if not name.endswith("{") or rest[-1:] != ["}"] or "}" in rest[:-1]:
         raise BadWords(f"no frame: {text}")
     items = [[]]
     for token in rest[:-1]:
@@ -177,71 +195,115 @@ def items_of(text):
             items.append([])
         else:
             items[-1].append(token)
-    return name[:-1], [item for item in items if item]
+    if items == [[]]:
+        return name[:-1], []
+    if [] in items:
+        raise BadWords("nothing stands between two commas, or beside a bracket")
+    return name[:-1], items
 
 
-def take_pairs(items, names):
-    """Takes the leading items that have these names off a list."""
+# The leading items of each kind of frame: those that stand alone, and those that take a number with its greatest one.
+ALONE = {"DATA": ("end",), "HEADERS": ("end", "more", "exclusive"), "CONTINUATION": ("more",), "PRIORITY": ("exclusive",), "SETTINGS": ("ack",),
+         "PING": ("ack",)}
+NUMBERED = {"DATA": ("pad",), "HEADERS": ("pad", "dep", "weight"), "PRIORITY": ("dep", "weight"), "GOAWAY": ("last",),
+            "FRAME": ("type", "flags")}
+MOST = {"stream": 2**32 - 1, "pad": 255, "dep": 2**31 - 1, "weight": 256, "last": 2**32 - 1, "type": 255, "flags": 255}
+
+
+def take_pairs(name, items):
+    """Takes the leading items that a kind of frame has off a list."""
     taken = {}
-    while items and items[0][0] in names and len(items[0]) <= 2 and items[0][0] not in taken:
-        word = items.pop(0)
-        taken[word[0]] = word[1] if len(word) > 1 else ""
+    while items:
+        word, *rest = items[0]
+        is_alone = word in ALONE.get(name, ()) and not rest
+        is_numbered = word in ("stream", *NUMBERED.get(name, ())) and len(rest) == 1
+        if word in taken or not (is_alone or is_numbered):
+            break
+        taken[word] = number_of(rest[0], MOST[word]) if is_numbered else 1
+        items.pop(0)
     return taken
 
 
 def priority_of(taken):
-    number = int(taken["dep"]) | (0x80000000 if "exclusive" in taken else 0)
-    return number.to_bytes(4, "big") + bytes([int(taken["weight"]) - 1])
+    if "dep" not in taken or taken.get("weight", 0) < 1:
+        raise BadWords("a priority takes dep <n> and weight <1..256>")
+    return (taken["dep"] | (0x80000000 if "exclusive" in taken else 0)).to_bytes(4, "big") + bytes([taken["weight"] - 1])
+
+
+def alone(name, items, least=1, most=1):
+    """Items of one word each, so many of them."""
+    if not least <= len(items) <= most or any(len(item) != 1 for item in items):
+        raise BadWords(f"{name} takes other items; docs/FORMATS.md has them")
+    return [item[0] for item in items]
+
+
+def code_of(word):
+    return (ERRORS.index(word) if word in ERRORS else number_of(word)).to_bytes(4, "big")
+
+
+def data_item(item):
+    if len(item) == 2 and item[0] == "message":
+        message = data_of(item[1])
+        return b"\0" + len(message).to_bytes(4, "big") + message
+    return data_of(alone("DATA", [item])[0])
+
+
+def block_item(item):
+    return from_hex(item[1]) if item[0] == "block" and len(item) == 2 else read_field(item)
+
+
+def setting_item(item):
+    if len(item) != 2:
+        raise BadWords(f"a setting is a name and a number: {' '.join(item)}")
+    key = SETTINGS.index(item[0]) if item[0] in SETTINGS[1:] else number_of(item[0], 65_535)
+    return key.to_bytes(2, "big") + number_of(item[1]).to_bytes(4, "big")
 
 
 def payload_of(name, taken, items):
     """The flags that the items bring along, and the payload."""
     if name == "DATA":
-        body = b""
-        for item in items:
-            if item[0] == "message":
-                message = data_of(item[1]) if item[1] != '""' else b""
-                body += b"\0" + len(message).to_bytes(4, "big") + message
-            else:
-                body += data_of(item[0])
-        return 0, body
+        return 0, b"".join(map(data_item, items))
     if name in ("HEADERS", "CONTINUATION"):
-        front = priority_of(taken) if "dep" in taken else b""
+        front = priority_of(taken) if taken.keys() & {"dep", "weight", "exclusive"} else b""
         flags = (PRIORITY if front else 0) | (0 if "more" in taken else END_HEADERS)
-        block = b"".join(from_hex(item[1]) if item[0] == "block" else read_field(item) for item in items)
-        return flags, front + block
+        return flags, front + b"".join(map(block_item, items))
     if name == "PRIORITY":
+        alone(name, items, 0, 0)
         return 0, priority_of(taken)
     if name == "RST_STREAM":
-        return 0, number_in(ERRORS, items[0][0]).to_bytes(4, "big")
+        return 0, code_of(alone(name, items)[0])
     if name == "SETTINGS":
-        return 0, b"".join(number_in(SETTINGS, key).to_bytes(2, "big") + int(value).to_bytes(4, "big") for key, value in items)
+        return 0, b"".join(map(setting_item, items))
     if name == "PING":
-        return 0, from_hex(items[0][0])
+        return 0, from_hex(alone(name, items)[0])
     if name == "GOAWAY":
-        debug = data_of(items[1][0]) if len(items) > 1 else b""
-        return 0, int(taken["last"]).to_bytes(4, "big") + number_in(ERRORS, items[0][0]).to_bytes(4, "big") + debug
+        code, *debug = alone(name, items, 1, 2)
+        if "last" not in taken:
+            raise BadWords("a GOAWAY takes last <n>, and then an error code")
+        return 0, taken["last"].to_bytes(4, "big") + code_of(code) + b"".join(map(data_of, debug))
     if name == "WINDOW_UPDATE":
-        return 0, int(items[0][0]).to_bytes(4, "big")
-    raise BadWords(f"no frame has the name {name}")
+        return 0, number_of(alone(name, items)[0]).to_bytes(4, "big")
+    raise BadWords(f"no frame has the name {name}; frames: {' '.join(KINDS)} FRAME")
 
 
 def parse_frame(text):
     """The bytes of a frame that is written in words."""
     name, items = items_of(text)
+    taken = take_pairs(name, items)
     if name == "FRAME":
-        taken = take_pairs(items, ("type", "flags", "stream"))
-        payload = from_hex(items[0][0]) if items else b""
-        return frame_of(int(taken["type"]), int(taken["flags"]), int(taken["stream"]), payload)
-    taken = take_pairs(items, ("stream", "end", "ack", "more", "pad", "dep", "weight", "exclusive", "last"))
+        if not {"type", "flags", "stream"} <= taken.keys():
+            raise BadWords("a FRAME takes type <n>, flags <n> and stream <n>, and then its payload in hex")
+        payload = b"".join(map(from_hex, alone(name, items, 0, 1)))
+        return frame_of(taken["type"], taken["flags"], taken["stream"], payload)
     flags, payload = payload_of(name, taken, items)
     flags |= (END if "end" in taken else 0) | (ACK if "ack" in taken else 0)
     if "pad" in taken:
-        count = int(taken["pad"])
-        flags, payload = flags | PADDED, bytes([count]) + payload + bytes(count)
-    if name not in KINDS:
-        raise BadWords(f"no frame has the name {name}")
-    return frame_of(KINDS.index(name), flags, int(taken.get("stream", 0)), payload)
+        flags, payload = flags | PADDED, bytes([taken["pad"]]) + payload + bytes(taken["pad"])
+    if len(payload) >= 2**24:
+        raise BadWords("a payload of more than 16777215 bytes")
+    if "stream" not in taken and name not in ON_STREAM_0 and name != "WINDOW_UPDATE":
+        raise BadWords(f"a {name} takes stream <n>")
+    return frame_of(KINDS.index(name), flags, taken.get("stream", 0), payload)
 
 
 class Reader:
