@@ -51,7 +51,7 @@ def swap(old, new):
     return lambda text: text.replace(old, new, 1)
 
 
-# Files that are no whole report: a name, the change of a good one (examples/retry-with-pushback), and the place that has to be told.
+# Files that are no whole report: a name, the change of a good one (examples/retry-with-pushback), and the place that has to be named.
 FOREIGN = [
     ("no bytes", lambda text: "", "line 1: the file is empty"),
     ("another text", lambda text: "# A page\n\nof words\n", "line 1: no report begins so"),

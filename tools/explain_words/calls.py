@@ -106,11 +106,12 @@ def call_lines(channel, call, width):
 
 def attempt_table(channel, call, width):
     unit = unit_for(max(call_time(channel, call), 1))
+    has_several = len({row.sub.address for row in channel.rows if row.sub}) > 1
     heads = [f"attempt, {unit[0]}", "due", "sent", "end", "link/stream", "tokens", "what came"]
     rows = []
     for row in call.rows:
         at = lambda stamp: in_unit(stamp.moment - call.moment, unit) if stamp else "-"  # noqa: E731
-        where = f"{row.link.number}/{row.stream or '-'}" if row.link else "-"
+        where = f"{row.link.number}/{row.stream or '-'}" + (f" {row.sub.address}" if has_several else "") if row.link else "-"
         left = tokens(row.end.tokens) if row.end and row.end.tokens is not None else "-"
         rows.append([f"{row.number} {row.kind}", in_unit(row.due - call.moment, unit), at(row.sent), at(row.end), where, left, came(row)])
     return ["  " + line for line in table(rows, heads, (1, 2, 3), width - 2)]

@@ -1,5 +1,5 @@
 """A session followed by its rules from its report alone: each entry's event, what follows of it, and at the end each row as the report
-has it. Where the rules give something else than the report, the report is damaged, and that is told with the line."""
+has it. Where the rules give something else than the report, the report is damaged, and the line is named."""
 
 from heapq import heappop, heappush
 
@@ -330,13 +330,13 @@ class Channel(Attempts, Policies, Reading):
         count = 18 if self.report.version == 2 else 16
         for place, line in enumerate(self.report.row_lines(), 1):
             at = self.report.line_of_row(place)
-            told = line.split(" ")
-            if not ROW.fullmatch(line) or len(told) != count:
+            given = line.split(" ")
+            if not ROW.fullmatch(line) or len(given) != count:
                 raise Fault(at, f"it is no row: a row of version {self.report.version} has {count} fields")
             if place > len(self.rows):
                 raise Fault(at, f"the events above give {len(self.rows)} rows")
             own = self.rows[place - 1].columns()
-            for name, one, other in zip(COLUMNS, told, own):
+            for name, one, other in zip(COLUMNS, given, own):
                 if one != other:
                     raise Fault(at, f"its {name} is {one}; the events above give {other}")
         last = self.report.end_line

@@ -185,7 +185,7 @@ def main(words, help_text):
     try:
         return run(words)
     except Usage as fault:
-        print(f"error: {fault}\ntools/explain --help tells what it takes", file=sys.stderr)
+        print(f"error: {fault}\ntools/explain --help says what it takes", file=sys.stderr)
         return 2
     except BrokenPipeError:
         os.dup2(os.open(os.devnull, os.O_WRONLY), sys.stdout.fileno())

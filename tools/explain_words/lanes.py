@@ -159,6 +159,9 @@ def call_lanes(channel, call):
         lane = head if row is call.rows[0] else Lane(f"{name} · {row.number} {row.kind}", "attempt", ref=f"c{call.number}")
         fill_attempt(channel, lane, call, row, end)
         lanes.append(lane)
+    if call.withheld:
+        stamp, _, left = call.withheld
+        lanes[-1].mark("withheld", at(stamp), f"the next hedge was due, and throttling withheld it: {tokens(left)} of {tokens(call.run.start)} tokens", f"e{stamp.entry}")
     return lanes
 
 

@@ -133,7 +133,10 @@ function markShape(kind, x, y) {
   if (kind === "failed" || kind === "lost") return make("path", { d: cross + `M${x - 4} ${y - 4}L${x + 4} ${y + 4}`, stroke: colour, "stroke-width": 2.4 });
   if (kind === "cut") return make("path", { d: cross, stroke: colour, "stroke-width": 2.4 });
   if (["send", "dial", "deadline", "result"].includes(kind)) return make("path", { d: `M${x} ${y - 6}V${y + 6}`, stroke: colour, "stroke-width": kind === "deadline" ? 2.4 : 1.6 });
-  if (kind === "commit" || kind === "goaway") return make("path", { d: `M${x} ${y - 5}L${x + 5} ${y}L${x} ${y + 5}L${x - 5} ${y}Z`, fill: colour });
+  if (["commit", "goaway", "withheld"].includes(kind)) {
+    const isOpen = kind === "withheld";
+    return make("path", { d: `M${x} ${y - 5}L${x + 5} ${y}L${x} ${y + 5}L${x - 5} ${y}Z`, fill: isOpen ? "#fff" : colour, stroke: isOpen ? colour : "none", "stroke-width": 1.6 });
+  }
   return make("circle", { cx: x, cy: y, r: 4.2, fill: kind === "open" ? "#fff" : colour, stroke: colour });
 }
 function drawPieces(pieces, top, height, parts) {
@@ -283,7 +286,7 @@ function find(text) {
 
 function legend() {
   const named = [["call", "call"], ["queue", "waits for a link"], ["placed", "on a link, not sent"], ["sent", "waits for the answer"], ["answer", "the response comes"], ["wait", "backoff or hedging delay"]];
-  const marks = [["ok", "OK"], ["failed", "failed, lost"], ["cut", "cut by the client"], ["commit", "committed"], ["goaway", "GOAWAY"]];
+  const marks = [["ok", "OK"], ["failed", "failed, lost"], ["cut", "cut by the client"], ["commit", "committed"], ["withheld", "hedge withheld"], ["goaway", "GOAWAY"]];
   const states = ["IDLE", "CONNECTING", "READY", "TRANSIENT_FAILURE", "SHUTDOWN"].map((state) => ["state-" + state, state]);
   for (const [kind, words] of named.concat(states)) byId("legend").append(sample(make("rect", { width: 12, height: 10, y: 1, fill: data.colours[kind], stroke: kind === "call" ? "#c3c9d0" : "none" }), words));
   for (const [kind, words] of marks) byId("legend").append(sample(markShape(kind, 6, 6), words));

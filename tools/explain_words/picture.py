@@ -17,11 +17,11 @@ COLOURS = {
 }
 INK, SOFT, GOOD, BAD, CUT = "#1f2429", "#6a727a", "#1d7a34", "#b3261e", "#70777e"
 MARK_COLOURS = {"ok": GOOD, "failed": BAD, "lost": BAD, "goaway": "#8a5a00", "cut": CUT, "open": SOFT, "dial": INK, "result": INK, "send": INK, "commit": "#5b2a86",
-                "deadline": BAD}
+                "deadline": BAD, "withheld": BAD}
 LEGEND = (("state-IDLE", "IDLE", ""), ("state-CONNECTING", "CONNECTING", ""), ("state-READY", "READY", ""), ("state-TRANSIENT_FAILURE", "TRANSIENT_FAILURE", ""),
           ("state-SHUTDOWN", "SHUTDOWN", ""), ("call", "call", ""), ("queue", "waits for a link", ""), ("placed", "on a link, not sent", ""), ("sent", "waits for the answer", ""),
           ("answer", "the response comes", ""), ("wait", "backoff or hedging delay", "line"), ("ok", "OK", "mark"), ("failed", "failed, lost", "mark"),
-          ("cut", "cut by the client", "mark"), ("commit", "committed", "mark"), ("goaway", "GOAWAY", "mark"))
+          ("cut", "cut by the client", "mark"), ("commit", "committed", "mark"), ("withheld", "hedge withheld", "mark"), ("goaway", "GOAWAY", "mark"))
 
 
 def number(value):
@@ -38,8 +38,9 @@ def mark_shape(kind, x, y):
     if kind in ("send", "dial", "deadline", "result"):
         width = 1.6 if kind != "deadline" else 2.4
         return f'<path d="M{x0} {number(y - 6)}V{number(y + 6)}" stroke="{colour}" stroke-width="{width}"/>'
-    if kind in ("commit", "goaway"):
-        return f'<path d="M{x0} {number(y - 5)}L{number(x + 5)} {y0}L{x0} {number(y + 5)}L{number(x - 5)} {y0}Z" fill="{colour}"/>'
+    if kind in ("commit", "goaway", "withheld"):
+        fill = f'fill="{colour}"' if kind != "withheld" else f'fill="#fff" stroke="{colour}" stroke-width="1.6"'
+        return f'<path d="M{x0} {number(y - 5)}L{number(x + 5)} {y0}L{x0} {number(y + 5)}L{number(x - 5)} {y0}Z" {fill}/>'
     fill = "#fff" if kind == "open" else colour
     return f'<circle cx="{x0}" cy="{y0}" r="4.2" fill="{fill}" stroke="{colour}"/>'
 

@@ -1,4 +1,4 @@
-"""The lines of a report, tested one by one: what is no line of one is told with its place, and nothing is guessed."""
+"""The lines of a report, tested one by one: what is no line of one is named by its place, and nothing is guessed."""
 
 import re
 

@@ -3,7 +3,7 @@
 import json
 
 from .calls import call_end_name, call_time, end_of_session, short_path, summary, table
-from .names import CODES, FRAMES, duration, in_unit, tokens, unit_for
+from .names import CODES, FRAMES, count, duration, in_unit, tokens, unit_for
 
 PARTS = ("connection", "pick", "server", "retry")
 QUANTILES = ((50, "median"), (90, "90th"), (99, "99th"), (100, "greatest"))
@@ -53,7 +53,7 @@ def retry_reasons(channel):
     for row in channel.rows:
         if row.kind == "retry":
             before = next(other for other in row.call.rows if other.number == row.number - 1 and other.end and other.end.is_counted)
-            reasons.append(CODES[before.end.code] + (", pushback" if before.end.pushback is not None else ""))
+            reasons.append(CODES[before.end.code] + (" with a pushback" if before.end.pushback is not None else ""))
     return counted(reasons)
 
 
@@ -149,10 +149,10 @@ def stats_lines(channel, as_json=False):
     lines = [summary(channel), ""]
     hedges, kinds = figures["hedges"], figures["attempts"]["by_kind"]
     facts = [("calls", counts_words(figures["calls"]["by_end"])), ("ended by", counts_words(figures["calls"]["by_cause"])),
-             ("attempts", counts_words(kinds)), ("a call", ", ".join(f"{many} of {number}" for number, many in figures["attempts"]["a_call"].items()) or "none"),
+             ("attempts", counts_words(kinds)), ("a call", "; ".join(f"{count(int(number), 'attempt')}: {count(many, 'call')}" for number, many in figures["attempts"]["a_call"].items()) or "none"),
              ("ends", counts_words(figures["attempts"]["by_cause"]))]
     if figures["retries_by_reason"]:
-        facts.append(("retries", "after " + counts_words(figures["retries_by_reason"])))
+        facts.append(("retries", ", ".join(f"{number:,} after {reason}" for reason, number in figures["retries_by_reason"].items())))
     if hedges["made"] or hedges["withheld"]:
         facts.append(("hedges", f"{hedges['made']:,} made, {hedges['won']:,} won, {hedges['withheld']:,} withheld by throttling"))
     facts.append(("cuts", f"{figures['cuts']:,}"))

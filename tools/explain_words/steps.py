@@ -61,8 +61,9 @@ def made_steps(channel, call, row):
     elif row.kind == "hedge":
         steps.append((row.made.entry, hedge_words(call, row)))
     if row.placed and row.placed.entry != row.made.entry:
-        steps.append((row.placed.entry, f"{attempt_name(row)} is placed on link {row.link.number} ({row.sub.address}), {duration(row.placed.moment - row.made.moment)} after it was due: "
-                      "before that the channel had no link for it"))
+        wait = row.placed.moment - row.made.moment
+        when = f", {duration(wait)} after it was due: before that the channel had no link for it" if wait else ", as soon as the channel had a link for it"
+        steps.append((row.placed.entry, f"{attempt_name(row)} is placed on link {row.link.number} ({row.sub.address}){when}"))
     return steps
 
 

@@ -8,9 +8,9 @@ from .steps import came
 BARS = {"state-IDLE": ".", "state-CONNECTING": "~", "state-READY": "=", "state-TRANSIENT_FAILURE": "!", "state-SHUTDOWN": "#", "pending": "~", "current": "=",
         "link-up": "~", "link-ready": "=", "link-retiring": "-", "call": " ", "queue": ".", "placed": ":", "sent": "=", "answer": "+", "wait": "-", "delay": "-",
         "above": "=", "below": "!"}
-MARKS = {"result": "r", "failed": "!", "dial": "d", "goaway": "G", "lost": "X", "send": ">", "commit": "c", "ok": "*", "cut": "x", "open": "?", "deadline": "D"}
+MARKS = {"result": "r", "failed": "!", "dial": "d", "goaway": "G", "lost": "X", "send": ">", "commit": "c", "ok": "*", "cut": "x", "open": "?", "deadline": "D", "withheld": "w"}
 CALL_LEGEND = ("- wait before it  . waits for a link  : on a link, not sent  > sent  = waits for the answer  + the response comes  c committed  "
-               "* answered OK  ! failed  x cut by the client  ? open  D deadline")
+               "* answered OK  ! failed  x cut by the client  ? open  w a hedge withheld  D deadline")
 LEGEND = (("channel, subchannels: . IDLE  ~ CONNECTING  = READY  ! TRANSIENT_FAILURE  # SHUTDOWN  r the resolver answers  d dial  ! the dial failed", {"channel", "sub"}),
           ("links: ~ before SETTINGS  = in use  - retiring  G GOAWAY  X lost or broken", {"link"}),
           ("tokens: = more than half  ! not more than half: no retry or hedge", {"tokens"}),
