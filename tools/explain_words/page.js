@@ -222,8 +222,16 @@ async function show(ref) {
   byId("lines").replaceChildren(...parts);
   byId("details").hidden = false;
   byId("before").hidden = byId("after").hidden = ref[0] !== "e";
+  byId("fit").hidden = ref[0] === "e";
   history.replaceState(null, "", "#" + ref);
   ask();
+}
+function fit() {
+  const items = lanes.flatMap((lane) => (lane[4].some((item) => item[7] === chosen) ? lane[4] : [])), [first, last] = range();
+  if (!items.length) return;
+  const part = byEntry ? [2, 4] : [3, 5], ends = [Math.min(...items.map((item) => item[part[0]])), Math.max(...items.map((item) => item[part[1]]))];
+  const [from, to] = ends.map((value) => (value - first) / (last - first)), margin = Math.max((to - from) / 8, 1e-9);
+  setView(from - margin, to + margin);
 }
 function step(by) { if (chosenEntry) show("e" + Math.min(count, Math.max(1, chosenEntry + by))); }
 function close() { byId("details").hidden = true; chosen = chosenEntry = null; ask(); }
@@ -263,10 +271,11 @@ byId("all").onclick = () => setView(0, 1);
 byId("before").onclick = () => step(-1);
 byId("after").onclick = () => step(1);
 byId("close").onclick = close;
+byId("fit").onclick = fit;
 addEventListener("keydown", (event) => {
   if (event.target.tagName === "INPUT") return;
   const size = view[1] - view[0];
-  const keys = { "+": () => zoom(0.5), "-": () => zoom(2), 0: () => setView(0, 1), Escape: close,
+  const keys = { "+": () => zoom(0.5), "-": () => zoom(2), 0: () => setView(0, 1), f: fit, Escape: close,
     ArrowLeft: () => (chosenEntry ? step(-1) : setView(view[0] - size / 5, view[1] - size / 5)), ArrowRight: () => (chosenEntry ? step(1) : setView(view[0] + size / 5, view[1] + size / 5)) };
   if (keys[event.key] && !event.ctrlKey && !event.metaKey) { keys[event.key](); event.preventDefault(); }
 });
