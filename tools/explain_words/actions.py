@@ -4,7 +4,7 @@ from .calls import after_begin
 from .names import CODES, ERRORS, FRAMES, REFUSALS, name_in, short
 from .steps import came
 from .why import attempt_name
-from .wire import Wire, entry_text
+from .wire import Wire, entry_text, of_streams
 
 COMMITS = {"head": "its head came", "overflow": "the messages passed 262,144 bytes", "final": "its end is the call's", "handed": "the call was committed before it"}
 
@@ -89,10 +89,12 @@ def concerns(action, call):
 def action_lines(channel, call, first, last):
     """Each entry from `first` to `last` with its actions; of one call, those entries and actions that concern it."""
     wire, report = Wire(), channel.report
+    streams = {(row.link.number, row.stream) for row in call.rows if row.stream} if call else None
     for entry in range(1, last + 1):
         parts = wire.entry(report.lines[entry])
         actions = channel.log.get(entry, ())
         if call:
+            parts = of_streams(parts, int(report.lines[entry].split(" ", 4)[3]), streams) if parts[1] else parts
             actions = [action for action in actions if concerns(action, call)]
         if entry < first or (call and not actions):
             continue

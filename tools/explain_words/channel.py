@@ -159,9 +159,10 @@ class Channel(Attempts, Policies, Reading):
             call.too_long = None
 
     def call_of(self, number):
-        if not 1 <= int(number) <= len(self.calls):
+        number = int(number)
+        if not 1 <= number <= len(self.calls):
             self.fault(f"no call {number} was begun")
-        return self.calls[int(number) - 1]
+        return self.calls[number - 1]
 
     def on_send(self, fields, reply):
         call, size = self.call_of(fields[0]), 0 if fields[1] == "-" else len(bytes.fromhex(fields[1]))
