@@ -97,6 +97,8 @@ def call_lines(channel, call, width):
     lines = [f"call {call.number}  {call.path}"]
     facts = [("end", end_line(channel, call)), ("time", f"{duration(call_time(channel, call))}{limit}"),
              ("policy", policy_words(call) + (f" ({source})" if source else "")), ("throttle", throttle_words(call.run))]
+    if call.waits:
+        facts.append(("waits", "for ready" + ("" if call.wait == "yes" else ", by its config")))
     for name, words in facts:
         lines += wrapped(words, " " * 12, width, f"  {name:<10}")
     lines += [""] + attempt_table(channel, call, width) if call.rows else []

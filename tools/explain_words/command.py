@@ -129,7 +129,7 @@ def explain(plain, options):
     call = call_in(channel, plain[1]) if len(plain) > 1 else None
     if "--stats" in options or "--json" in options:
         from .stats import stats_lines
-        return say(stats_lines(channel, "--json" in options))
+        return say(stats_lines(channel, "--json" in options, width))
     if "--svg" in options or "--html" in options:
         return write_pictures(channel, call, options)
     if "--timeline" in options:
@@ -150,7 +150,7 @@ def write_pictures(channel, call, options):
         if option in options:
             text = text_of(channel, call, entries_in(channel, options), "--by-entry" in options)
             if options[option] == "-":
-                sys.stdout.write(text)
+                sys.stdout.buffer.write(text.encode())
                 continue
             try:
                 with open(options[option], "w", encoding="utf-8") as file:
@@ -182,6 +182,7 @@ def main(words, help_text):
     if not words:
         print(help_text, file=sys.stderr)
         return 2
+    sys.stdout.reconfigure(errors="replace")        # where a terminal has no µ
     try:
         return run(words)
     except Usage as fault:

@@ -3,7 +3,7 @@
 import json
 
 from .calls import call_end_name, call_time, end_of_session, short_path, summary, table
-from .names import CODES, FRAMES, count, duration, in_unit, tokens, unit_for
+from .names import CODES, FRAMES, count, duration, in_unit, tokens, unit_for, wrapped
 
 PARTS = ("connection", "pick", "server", "retry")
 QUANTILES = ((50, "median"), (90, "90th"), (99, "99th"), (100, "greatest"))
@@ -92,8 +92,10 @@ def figures_of(channel):
     slowest = sorted(calls, key=lambda call: (-call_time(channel, call), call.number))[:10]
     return {
         "entries": channel.report.entries, "span": end_of_session(channel) - (channel.first_moment or 0),
-        "calls": {"all": len(calls), "by_end": counted(map(call_end_name, calls)), "by_cause": counted(call.end.cause if call.end else "open" for call in calls)},
+        "calls": {"all": len(calls), "by_end": counted(map(call_end_name, calls)), "by_cause": counted(call.end.cause if call.end else "open" for call in calls),
+                  "by_end_and_cause": counted(f"{call_end_name(call)} ({call.end.cause})" if call.end else "open" for call in calls)},
         "attempts": {"all": len(rows), "by_kind": counted(row.kind for row in rows), "by_cause": counted(row.end.cause if row.end else "open" for row in rows),
+                     "by_code_and_cause": counted(f"{CODES[row.end.code]} ({row.end.cause})" if row.end else "open" for row in rows),
                      "a_call": {str(key): value for key, value in sorted(counted(len(call.rows) for call in calls).items())}},
         "retries_by_reason": retry_reasons(channel), "hedges": hedge_figures(channel), "cuts": sum(row.end is not None and row.end.cause == "cut" for row in rows),
         "tokens": token_figures(channel),
@@ -142,15 +144,14 @@ def slow_lines(figures):
     return ["", "the slowest calls"] + ["  " + line for line in table(rows, heads, (0, 2, 3, 4, 5, 6))]
 
 
-def stats_lines(channel, as_json=False):
+def stats_lines(channel, as_json, width):
     figures = figures_of(channel)
     if as_json:
         return [json.dumps(figures, indent=1)]
     lines = [summary(channel), ""]
     hedges, kinds = figures["hedges"], figures["attempts"]["by_kind"]
-    facts = [("calls", counts_words(figures["calls"]["by_end"])), ("ended by", counts_words(figures["calls"]["by_cause"])),
-             ("attempts", counts_words(kinds)), ("a call", "; ".join(f"{count(int(number), 'attempt')}: {count(many, 'call')}" for number, many in figures["attempts"]["a_call"].items()) or "none"),
-             ("ends", counts_words(figures["attempts"]["by_cause"]))]
+    facts = [("calls", counts_words(figures["calls"]["by_end_and_cause"])), ("attempts", counts_words(kinds)), ("a call", "; ".join(f"{count(int(number), 'attempt')}: {count(many, 'call')}" for number, many in figures["attempts"]["a_call"].items()) or "none"),
+             ("ends", counts_words(figures["attempts"]["by_code_and_cause"]))]
     if figures["retries_by_reason"]:
         facts.append(("retries", ", ".join(f"{number:,} after {reason}" for reason, number in figures["retries_by_reason"].items())))
     if hedges["made"] or hedges["withheld"]:
@@ -158,5 +159,6 @@ def stats_lines(channel, as_json=False):
     facts.append(("cuts", f"{figures['cuts']:,}"))
     for run in figures["tokens"]:
         facts.append(("tokens", f"{tokens(run['at_first'])} at first, {tokens(run['least'])} at least (line {run['line_of_least']}), {tokens(run['at_last'])} at last"))
-    lines += [f"  {name:<10}{words}" for name, words in facts]
+    for name, words in facts:
+        lines += wrapped(words, " " * 12, width, f"  {name:<10}")
     return lines + latency_lines(figures) + link_lines(figures) + slow_lines(figures)
