@@ -103,7 +103,7 @@ class Channel(Attempts, Policies, Reading):
         for link in self.touched:
             is_leaving = link.goaway or link.sub.state == SHUTDOWN
             if link.gone is None and (link.over or (is_leaving and not link.rows)):
-                link.gone = Stamp(self.entry, self.moment, link.over.cause if link.over else "retired")
+                link.gone = Stamp(self.entry, self.moment, link.over.cause if link.over else "GOAWAY" if link.goaway else "shut")
         self.touched = set()
 
     # ---- calls

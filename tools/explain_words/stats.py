@@ -47,6 +47,13 @@ def parts_of(channel, call):
     return parts
 
 
+def row_end(row):
+    """How an attempt ended, by code and cause."""
+    if row.end:
+        return f"{CODES[row.end.code]} ({row.end.cause})"
+    return "never placed" if row.placed is None and row.call.end else "open"
+
+
 def retry_reasons(channel):
     """Why further attempts were made: the code of the end before, a pushback, or the hedging delay."""
     reasons = []
@@ -94,8 +101,8 @@ def figures_of(channel):
         "entries": channel.report.entries, "span": end_of_session(channel) - (channel.first_moment or 0),
         "calls": {"all": len(calls), "by_end": counted(map(call_end_name, calls)), "by_cause": counted(call.end.cause if call.end else "open" for call in calls),
                   "by_end_and_cause": counted(f"{call_end_name(call)} ({call.end.cause})" if call.end else "open" for call in calls)},
-        "attempts": {"all": len(rows), "by_kind": counted(row.kind for row in rows), "by_cause": counted(row.end.cause if row.end else "open" for row in rows),
-                     "by_code_and_cause": counted(f"{CODES[row.end.code]} ({row.end.cause})" if row.end else "open" for row in rows),
+        "attempts": {"all": len(rows), "by_kind": counted(row.kind for row in rows), "by_cause": counted(row.end.cause if row.end else row_end(row) for row in rows),
+                     "by_code_and_cause": counted(map(row_end, rows)),
                      "a_call": {str(key): value for key, value in sorted(counted(len(call.rows) for call in calls).items())}},
         "retries_by_reason": retry_reasons(channel), "hedges": hedge_figures(channel), "cuts": sum(row.end is not None and row.end.cause == "cut" for row in rows),
         "tokens": token_figures(channel),
