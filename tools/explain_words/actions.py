@@ -6,7 +6,12 @@ from .steps import came
 from .why import attempt_name
 from .wire import Wire, entry_text, of_streams
 
-COMMITS = {"head": "its head came", "overflow": "the messages passed 262,144 bytes", "final": "its end is the call's", "handed": "the call was committed before it"}
+COMMITS = {
+    "head": "its head came",
+    "overflow": "the messages passed 262,144 bytes",
+    "final": "its end is the call's",
+    "handed": "the call was committed before it",
+}
 
 
 def call_row(row):
@@ -43,7 +48,8 @@ WORDS = {
     "CallEnds": lambda call: f"call {call.number}: {CODES[call.end_code()]} ({call.end.cause})",
     "ConfigRead": lambda reply: "valid" if reply == "done" else f"it has a fault: {reply}",
     "ResolutionFailed": lambda: "",
-    "CallConfigured": lambda call: f"call {call.number}, by config {call.config}" + (f", methodConfig[{call.method.place}]" if call.name is not None else ", no entry is for it"),
+    "CallConfigured": lambda call: f"call {call.number}, by config {call.config}"
+    + (f", methodConfig[{call.method.place}]" if call.name is not None else ", no entry is for it"),
     "AttemptMade": made_words,
     "HedgeWithheld": lambda call: f"call {call.number}: not more than half of the tokens are left",
     "PickRequested": picked_words,
@@ -66,11 +72,15 @@ WORDS = {
     "SettingsArrive": lambda sub, state: f"subchannel {sub.number}, {sub.address}: {state}",
     "LinkDown": lambda sub, state: f"subchannel {sub.number}, {sub.address}: {state}",
     "BytesArrive": lambda link, size: f"link {link.number}, {size:,} bytes",
-    "FrameRead": lambda link, kind, stream, size: f"link {link.number}: {frame_name(kind)}" + (f", stream {stream}" if stream else "") + f", {size:,} bytes",
+    "FrameRead": lambda link, kind, stream, size: f"link {link.number}: {frame_name(kind)}"
+    + (f", stream {stream}" if stream else "")
+    + f", {size:,} bytes",
     "LinkBreaks": lambda link, code: f"link {link.number}: {name_in(ERRORS, code)}",
     "LinkLost": lambda link: f"link {link.number}",
     "PingQueued": lambda link: f"link {link.number}",
-    "FrameWritten": lambda link, kind, stream, size: f"link {link.number}: {frame_name(kind)}" + (f", stream {stream}" if stream else "") + f", {size:,} bytes",
+    "FrameWritten": lambda link, kind, stream, size: f"link {link.number}: {frame_name(kind)}"
+    + (f", stream {stream}" if stream else "")
+    + f", {size:,} bytes",
     "ChannelShuts": lambda: "",
 }
 

@@ -10,8 +10,26 @@ from .reading import Reading
 from .report import ROW, Fault, entries_of
 from .session import CONNECTING, FAILURE, IDLE, SHUTDOWN, Call, Link, Run, Stamp
 
-COLUMNS = ["row", "call", "number", "kind", "due", "placed", "generation", "sub", "link", "stream", "ended", "code", "pushback", "seen", "cause",
-           "committed", "tokens", "word"]
+COLUMNS = [
+    "row",
+    "call",
+    "number",
+    "kind",
+    "due",
+    "placed",
+    "generation",
+    "sub",
+    "link",
+    "stream",
+    "ended",
+    "code",
+    "pushback",
+    "seen",
+    "cause",
+    "committed",
+    "tokens",
+    "word",
+]
 
 
 class Channel(Attempts, Policies, Reading):
@@ -180,7 +198,9 @@ class Channel(Attempts, Policies, Reading):
                 call.too_long = (max(size, call.too_long[0] if call.too_long else 0),)
             if call.committed is None and call.accepted > MOST_UNCOMMITTED:
                 rows = [row for row in call.rows if row.is_outstanding]
-                self.commit(min(rows, key=lambda row: (-row.written, row.number)), "overflow") if rows else self.fault("no attempt had room for it")
+                self.commit(min(rows, key=lambda row: (-row.written, row.number)), "overflow") if rows else self.fault(
+                    "no attempt had room for it"
+                )
 
     def on_finish(self, fields, reply):
         call = self.call_of(fields[0])
@@ -192,8 +212,10 @@ class Channel(Attempts, Policies, Reading):
         if reply.startswith("end "):
             _, code, _, _, cause = reply.split(" ")
             if call.end is None or (int(code), cause) != (call.end_code(), call.end.cause):
-                self.fault(f"the take says that the call ended with {code} ({cause}), and by the rules it "
-                           + (f"ended with {call.end_code()} ({call.end.cause})" if call.end else "is open"))
+                self.fault(
+                    f"the take says that the call ended with {code} ({cause}), and by the rules it "
+                    + (f"ended with {call.end_code()} ({call.end.cause})" if call.end else "is open")
+                )
             call.taken_end = self.entry
         elif reply == "notyet":
             self.note("EventAnswered", "take", reply)
