@@ -214,6 +214,11 @@ async function rowNodes(place) {
   return [`${title}, attempt ${name}`, own.concat([node("h2", "its call")], parts)];
 }
 async function show(ref) {
+  if (!("DecompressionStream" in window)) {
+    byId("lines").textContent = "This browser cannot open compressed pieces (DecompressionStream); a newer one can.";
+    byId("details").hidden = false;
+    return;
+  }
   const number = Number(ref.slice(1));
   chosen = ref;
   chosenEntry = ref[0] === "e" ? number : null;

@@ -202,6 +202,10 @@ def no_policy_words(call):
     return f"its entry (methodConfig[{call.method.place}]) has neither a retryPolicy nor a hedgingPolicy"
 
 
+def left_words(call, count_now):
+    return f"{tokens(count_now)} of {tokens(call.run.start)} tokens left"
+
+
 def throttle_rule(call, count_now):
     return (
         f"{tokens(count_now)} of {tokens(call.run.start)} tokens were left, and more than half ({tokens(call.run.start // 2)}) are needed"
@@ -227,7 +231,7 @@ def retried_rule(call, row):
         )
     return (
         "throttled",
-        "throttled",
+        f"throttled, {left_words(call, end.tokens)}",
         f"the policy allows {plan.attempts} attempts, but throttling forbade another one: {throttle_rule(call, end.tokens)}",
         [],
     )
@@ -242,7 +246,7 @@ def hedged_rule(call, row):
         stamp, _, left = call.withheld
         return (
             "throttled",
-            "throttled",
+            f"throttled, {left_words(call, left)}",
             f"the policy allows {plan.attempts} attempts, but throttling withheld the {ordinal(made + 1)}: {throttle_rule(call, left)}",
             [stamp.entry],
         )
@@ -265,7 +269,7 @@ def hedged_rule(call, row):
         )
     return (
         "throttled",
-        "throttled",
+        f"throttled, {left_words(call, end.tokens)}",
         f"the policy allows {plan.attempts} attempts, but throttling forbade another one: {throttle_rule(call, end.tokens)}",
         [],
     )
