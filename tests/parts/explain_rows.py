@@ -9,6 +9,7 @@ WORKED = [(f"tests/worked/{name}", words, parts) for name, words, parts in [
     ("nine-attempts-are-cut-down-to-five", "1", ["up to 5 attempts", "the server answered UNAVAILABLE; the policy allows 5 attempts and this was the last", "5 retry"]),
     ("tokens-at-half-stop-a-retry", "1", ["the policy allows 3 attempts and this was the last", "9 of 10 tokens are left, more than half", "8 of 10 tokens are left, more than half"]),
     ("tokens-at-half-stop-a-retry", "2", ["6 of 10 tokens are left, more than half", "throttling forbade another one: 5 of 10 tokens were left, and more than half (5) are needed"]),
+    ("a-failure-that-crosses-the-half", "", ["3 UNAVAILABLE 1 1.0 /a.B/C UNAVAILABLE; throttled, 5 of 10 tokens left", "throttled, 4.1 of 10 tokens left"]),
     ("a-failure-that-crosses-the-half", "5", ["throttling forbade another one: 4.1 of 10 tokens were left, and more than half (5) are needed",
                                                "10 tokens, 0.1 back for each success; no retry or hedge at 5 or below"]),
     ("tokens-after-a-success", "2", ["1 first", "8.546", "the first attempt was answered OK"]),
@@ -51,7 +52,7 @@ def swap(old, new):
     return lambda text: text.replace(old, new, 1)
 
 
-# Files that are no whole report: a name, the change of a good one (examples/retry-with-pushback), and the place that has to be told.
+# Files that are no whole report: a name, the change of a good one (examples/retry-with-pushback), and the place that has to be named.
 FOREIGN = [
     ("no bytes", lambda text: "", "line 1: the file is empty"),
     ("another text", lambda text: "# A page\n\nof words\n", "line 1: no report begins so"),

@@ -8,9 +8,44 @@ TOP = os.path.dirname(os.path.dirname(os.path.dirname(os.path.abspath(__file__))
 sys.path.insert(0, os.path.join(TOP, "tools"))
 from script_words.frames import Reader  # noqa: E402
 
-NAMES = ["call", "number", "kind", "due", "placed", "generation", "sub", "link", "stream", "ended", "code", "pushback", "seen", "cause", "committed", "tokens", "word"]
-CODES = ["OK", "CANCELLED", "UNKNOWN", "INVALID_ARGUMENT", "DEADLINE_EXCEEDED", "NOT_FOUND", "ALREADY_EXISTS", "PERMISSION_DENIED", "RESOURCE_EXHAUSTED",
-         "FAILED_PRECONDITION", "ABORTED", "OUT_OF_RANGE", "UNIMPLEMENTED", "INTERNAL", "UNAVAILABLE", "DATA_LOSS", "UNAUTHENTICATED"]
+NAMES = [
+    "call",
+    "number",
+    "kind",
+    "due",
+    "placed",
+    "generation",
+    "sub",
+    "link",
+    "stream",
+    "ended",
+    "code",
+    "pushback",
+    "seen",
+    "cause",
+    "committed",
+    "tokens",
+    "word",
+]
+CODES = [
+    "OK",
+    "CANCELLED",
+    "UNKNOWN",
+    "INVALID_ARGUMENT",
+    "DEADLINE_EXCEEDED",
+    "NOT_FOUND",
+    "ALREADY_EXISTS",
+    "PERMISSION_DENIED",
+    "RESOURCE_EXHAUSTED",
+    "FAILED_PRECONDITION",
+    "ABORTED",
+    "OUT_OF_RANGE",
+    "UNIMPLEMENTED",
+    "INTERNAL",
+    "UNAVAILABLE",
+    "DATA_LOSS",
+    "UNAUTHENTICATED",
+]
 
 
 def columns_of(text):
@@ -62,7 +97,12 @@ def heads_of(events):
                 ended.add((link, frame.stream))
             fields = fields[1] if isinstance(fields, tuple) else fields
             pairs = {field.name: field.value for field in fields or [] if field.form != "size"}
-            if fields and not frame.flags & 1 and pairs.get(b":status") == b"200" and re.fullmatch(rb"application/grpc([+;].*)?", pairs.get(b"content-type", b"")):
+            if (
+                fields
+                and not frame.flags & 1
+                and pairs.get(b":status") == b"200"
+                and re.fullmatch(rb"application/grpc([+;].*)?", pairs.get(b"content-type", b""))
+            ):
                 found.setdefault((link, str(frame.stream)), entry)
     return found
 

@@ -4,9 +4,14 @@ from .calls import after_begin
 from .names import CODES, ERRORS, FRAMES, REFUSALS, name_in, short
 from .steps import came
 from .why import attempt_name
-from .wire import Wire, entry_text
+from .wire import Wire, entry_text, of_streams
 
-COMMITS = {"head": "its head came", "overflow": "the messages passed 262,144 bytes", "final": "its end is the call's", "handed": "the call was committed before it"}
+COMMITS = {
+    "head": "its head came",
+    "overflow": "the messages passed 262,144 bytes",
+    "final": "its end is the call's",
+    "handed": "the call was committed before it",
+}
 
 
 def call_row(row):
@@ -43,7 +48,8 @@ WORDS = {
     "CallEnds": lambda call: f"call {call.number}: {CODES[call.end_code()]} ({call.end.cause})",
     "ConfigRead": lambda reply: "valid" if reply == "done" else f"it has a fault: {reply}",
     "ResolutionFailed": lambda: "",
-    "CallConfigured": lambda call: f"call {call.number}, by config {call.config}" + (f", methodConfig[{call.method.place}]" if call.name is not None else ", no entry is for it"),
+    "CallConfigured": lambda call: f"call {call.number}, by config {call.config}"
+    + (f", methodConfig[{call.method.place}]" if call.name is not None else ", no entry is for it"),
     "AttemptMade": made_words,
     "HedgeWithheld": lambda call: f"call {call.number}: not more than half of the tokens are left",
     "PickRequested": picked_words,
@@ -66,11 +72,15 @@ WORDS = {
     "SettingsArrive": lambda sub, state: f"subchannel {sub.number}, {sub.address}: {state}",
     "LinkDown": lambda sub, state: f"subchannel {sub.number}, {sub.address}: {state}",
     "BytesArrive": lambda link, size: f"link {link.number}, {size:,} bytes",
-    "FrameRead": lambda link, kind, stream, size: f"link {link.number}: {frame_name(kind)}" + (f", stream {stream}" if stream else "") + f", {size:,} bytes",
+    "FrameRead": lambda link, kind, stream, size: f"link {link.number}: {frame_name(kind)}"
+    + (f", stream {stream}" if stream else "")
+    + f", {size:,} bytes",
     "LinkBreaks": lambda link, code: f"link {link.number}: {name_in(ERRORS, code)}",
     "LinkLost": lambda link: f"link {link.number}",
     "PingQueued": lambda link: f"link {link.number}",
-    "FrameWritten": lambda link, kind, stream, size: f"link {link.number}: {frame_name(kind)}" + (f", stream {stream}" if stream else "") + f", {size:,} bytes",
+    "FrameWritten": lambda link, kind, stream, size: f"link {link.number}: {frame_name(kind)}"
+    + (f", stream {stream}" if stream else "")
+    + f", {size:,} bytes",
     "ChannelShuts": lambda: "",
 }
 
@@ -89,10 +99,12 @@ def concerns(action, call):
 def action_lines(channel, call, first, last):
     """Each entry from `first` to `last` with its actions; of one call, those entries and actions that concern it."""
     wire, report = Wire(), channel.report
+    streams = {(row.link.number, row.stream) for row in call.rows if row.stream} if call else None
     for entry in range(1, last + 1):
         parts = wire.entry(report.lines[entry])
         actions = channel.log.get(entry, ())
         if call:
+            parts = of_streams(parts, int(report.lines[entry].split(" ", 4)[3]), streams) if parts[1] else parts
             actions = [action for action in actions if concerns(action, call)]
         if entry < first or (call and not actions):
             continue

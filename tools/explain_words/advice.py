@@ -11,7 +11,15 @@ from .why import codes_words
 
 FIELDS = {
     "": ("loadBalancingConfig", "loadBalancingPolicy", "methodConfig", "retryThrottling"),
-    "methodConfig": ("name", "waitForReady", "timeout", "maxRequestMessageBytes", "maxResponseMessageBytes", "retryPolicy", "hedgingPolicy"),
+    "methodConfig": (
+        "name",
+        "waitForReady",
+        "timeout",
+        "maxRequestMessageBytes",
+        "maxResponseMessageBytes",
+        "retryPolicy",
+        "hedgingPolicy",
+    ),
     "name": ("service", "method"),
     "retryPolicy": ("maxAttempts", "initialBackoff", "maxBackoff", "backoffMultiplier", "retryableStatusCodes"),
     "hedgingPolicy": ("maxAttempts", "hedgingDelay", "nonFatalStatusCodes"),
@@ -81,7 +89,9 @@ def name_warnings(name, path):
         yield f'{path}.method: "{method}" {how}: no call has it ({method.strip("/").split("/")[-1]}?)'
     for key, text in (("service", service), ("method", method)):
         if text != text.strip() or text == "*":
-            yield f'{path}.{key}: "{text}" is taken word by word: no call has it' + (" (leave the field out for all)" if text == "*" else "")
+            yield f'{path}.{key}: "{text}" is taken word by word: no call has it' + (
+                " (leave the field out for all)" if text == "*" else ""
+            )
 
 
 def plan_warnings(entry, key, path):
@@ -122,13 +132,23 @@ def plan_lines(method):
         return [("attempts", "one: neither a retryPolicy nor a hedgingPolicy")]
     if plan.kind == "hedge":
         rest = f"goes on after {codes_words(plan.codes)}" if plan.codes else "each code is fatal"
-        times = ", ".join("at once" if number == 0 or not plan.delay else f"at {duration(number * plan.delay)}" for number in range(plan.attempts))
-        return [("hedge", f"up to {plan.attempts} attempts, {rest}"), ("sent", times + (", or as soon as one before it ends so" if plan.codes and plan.delay else ""))]
+        times = ", ".join(
+            "at once" if number == 0 or not plan.delay else f"at {duration(number * plan.delay)}" for number in range(plan.attempts)
+        )
+        return [
+            ("hedge", f"up to {plan.attempts} attempts, {rest}"),
+            ("sent", times + (", or as soon as one before it ends so" if plan.codes and plan.delay else "")),
+        ]
     caps = [capped(plan, number) for number in range(1, plan.attempts)]
     worst = sum(cap + cap // 5 for cap in caps)
-    return [("retry", f"up to {plan.attempts} attempts, on {codes_words(plan.codes)}"),
-            ("waits", ", ".join(range_words(plan, number) for number in range(1, plan.attempts)) + f"   (backoff at most {duration(plan.longest)})"),
-            ("at worst", f"{duration(worst)} of waits, where the server asks for none (grpc-retry-pushback-ms)")]
+    return [
+        ("retry", f"up to {plan.attempts} attempts, on {codes_words(plan.codes)}"),
+        (
+            "waits",
+            ", ".join(range_words(plan, number) for number in range(1, plan.attempts)) + f"   (backoff at most {duration(plan.longest)})",
+        ),
+        ("at worst", f"{duration(worst)} of waits, where the server asks for none (grpc-retry-pushback-ms)"),
+    ]
 
 
 def advice_lines(config, path):
@@ -140,10 +160,23 @@ def advice_lines(config, path):
         how = f"method {name[0]}/{name[1]}" if name[1] else f"service {name[0]}" if name[0] else "the default"
         lines = [f"{path}  by methodConfig[{method.place}] ({how})"]
     facts = plan_lines(method)
-    facts.append(("deadline", duration(method.timeout) + ", or the application's where that is shorter" if method.timeout is not None
-                  else "none but the application's: a call that no server answers waits for ever"))
+    facts.append(
+        (
+            "deadline",
+            duration(method.timeout) + ", or the application's where that is shorter"
+            if method.timeout is not None
+            else "none but the application's: a call that no server answers waits for ever",
+        )
+    )
     if method.wait is not None:
-        facts.append(("waits for", "ready, unless the application says otherwise" if method.wait else "nothing: it fails at once where no server can be reached"))
+        facts.append(
+            (
+                "waits for",
+                "ready, unless the application says otherwise"
+                if method.wait
+                else "nothing: it fails at once where no server can be reached",
+            )
+        )
     for field, words in ((method.request, "request"), (method.response, "response")):
         if field is not None:
             facts.append((words, f"messages of at most {min(field, MOST_MESSAGE):,} bytes"))

@@ -124,8 +124,14 @@ class Attempts:
 
     def is_licensed(self, row, code, pushback, count):
         plan, run = row.call.plan, row.call.run
-        return (plan is not None and plan.kind == "retry" and code in plan.codes and pushback != "stop"
-                and (run is None or run.is_above(count)) and row.number < plan.attempts)
+        return (
+            plan is not None
+            and plan.kind == "retry"
+            and code in plan.codes
+            and pushback != "stop"
+            and (run is None or run.is_above(count))
+            and row.number < plan.attempts
+        )
 
     def charge(self, row, code, pushback):
         """The tokens after a counted end."""

@@ -37,12 +37,20 @@ def summary(channel):
     kinds = {}
     for row in channel.rows:
         kinds[row.kind] = kinds.get(row.kind, 0) + 1
-    more = [count(kinds[kind], words, plural) for kind, words, plural in (("retry", "retry", "retries"), ("hedge", "hedge", "hedges"),
-                                                                         ("transparent", "transparent retry", "transparent retries")) if kinds.get(kind)]
-    span = end_of_session(channel) - (channel.first_moment or 0)
-    return (f"{count(len(channel.calls), 'call')}{': ' + words if words else ''}; {count(len(channel.rows), 'attempt')}"
-            f"{' (' + ', '.join(more) + ')' if more else ''} on {count(len(channel.links), 'link')}; {count(channel.report.entries, 'entry', 'entries')}, {duration(span)}"
-            f"{'; the session was full then' if channel.report.is_full else ''}")
+    more = [
+        count(kinds[kind], words, plural)
+        for kind, words, plural in (
+            ("retry", "retry", "retries"),
+            ("hedge", "hedge", "hedges"),
+            ("transparent", "transparent retry", "transparent retries"),
+        )
+        if kinds.get(kind)
+    ]
+    calls = count(len(channel.calls), "call") + (f": {words}" if words else "")
+    attempts = count(len(channel.rows), "attempt") + (f" ({', '.join(more)})" if more else "")
+    session = f"{count(channel.report.entries, 'entry', 'entries')}, {duration(end_of_session(channel) - (channel.first_moment or 0))}"
+    full = "; the session was full then" if channel.report.is_full else ""
+    return f"{calls}; {attempts} on {count(len(channel.links), 'link')}; {session}{full}"
 
 
 def table(rows, heads, rights, width=None):
@@ -67,8 +75,17 @@ def overview_lines(channel, width):
     longest = max(call_time(channel, call) for call in calls)
     unit = unit_for(longest)
     most = max(16, (width or 120) // 3)
-    rows = [[str(call.number), call_end_name(call), str(len(call.rows)), in_unit(call_time(channel, call), unit), short_path(call.path, most),
-             why_of(channel, call).clause] for call in calls]
+    rows = [
+        [
+            str(call.number),
+            call_end_name(call),
+            str(len(call.rows)),
+            in_unit(call_time(channel, call), unit),
+            short_path(call.path, most),
+            why_of(channel, call).clause,
+        ]
+        for call in calls
+    ]
     return lines + [""] + table(rows, ["call", "end", "attempts", unit[0], "path", "why"], (0, 2, 3), width)
 
 
@@ -95,8 +112,14 @@ def call_lines(channel, call, width):
     limit = f" of {duration(call.deadline - call.moment)}" if call.deadline is not None else ", without a deadline"
     source = source_words(call)
     lines = [f"call {call.number}  {call.path}"]
-    facts = [("end", end_line(channel, call)), ("time", f"{duration(call_time(channel, call))}{limit}"),
-             ("policy", policy_words(call) + (f" ({source})" if source else "")), ("throttle", throttle_words(call.run))]
+    facts = [
+        ("end", end_line(channel, call)),
+        ("time", f"{duration(call_time(channel, call))}{limit}"),
+        ("policy", policy_words(call) + (f" ({source})" if source else "")),
+        ("throttle", throttle_words(call.run)),
+    ]
+    if call.waits:
+        facts.append(("waits", "for ready" + ("" if call.wait == "yes" else ", by its config")))
     for name, words in facts:
         lines += wrapped(words, " " * 12, width, f"  {name:<10}")
     lines += [""] + attempt_table(channel, call, width) if call.rows else []
@@ -106,11 +129,12 @@ def call_lines(channel, call, width):
 
 def attempt_table(channel, call, width):
     unit = unit_for(max(call_time(channel, call), 1))
+    has_several = len({row.sub.address for row in channel.rows if row.sub}) > 1
     heads = [f"attempt, {unit[0]}", "due", "sent", "end", "link/stream", "tokens", "what came"]
     rows = []
     for row in call.rows:
         at = lambda stamp: in_unit(stamp.moment - call.moment, unit) if stamp else "-"  # noqa: E731
-        where = f"{row.link.number}/{row.stream or '-'}" if row.link else "-"
+        where = f"{row.link.number}/{row.stream or '-'}" + (f" {row.sub.address}" if has_several else "") if row.link else "-"
         left = tokens(row.end.tokens) if row.end and row.end.tokens is not None else "-"
         rows.append([f"{row.number} {row.kind}", in_unit(row.due - call.moment, unit), at(row.sent), at(row.end), where, left, came(row)])
     return ["  " + line for line in table(rows, heads, (1, 2, 3), width - 2)]

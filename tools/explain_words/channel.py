@@ -1,5 +1,5 @@
 """A session followed by its rules from its report alone: each entry's event, what follows of it, and at the end each row as the report
-has it. Where the rules give something else than the report, the report is damaged, and that is told with the line."""
+has it. Where the rules give something else than the report, the report is damaged, and the line is named."""
 
 from heapq import heappop, heappush
 
@@ -10,8 +10,26 @@ from .reading import Reading
 from .report import ROW, Fault, entries_of
 from .session import CONNECTING, FAILURE, IDLE, SHUTDOWN, Call, Link, Run, Stamp
 
-COLUMNS = ["row", "call", "number", "kind", "due", "placed", "generation", "sub", "link", "stream", "ended", "code", "pushback", "seen", "cause",
-           "committed", "tokens", "word"]
+COLUMNS = [
+    "row",
+    "call",
+    "number",
+    "kind",
+    "due",
+    "placed",
+    "generation",
+    "sub",
+    "link",
+    "stream",
+    "ended",
+    "code",
+    "pushback",
+    "seen",
+    "cause",
+    "committed",
+    "tokens",
+    "word",
+]
 
 
 class Channel(Attempts, Policies, Reading):
@@ -103,7 +121,7 @@ class Channel(Attempts, Policies, Reading):
         for link in self.touched:
             is_leaving = link.goaway or link.sub.state == SHUTDOWN
             if link.gone is None and (link.over or (is_leaving and not link.rows)):
-                link.gone = Stamp(self.entry, self.moment, link.over.cause if link.over else "retired")
+                link.gone = Stamp(self.entry, self.moment, link.over.cause if link.over else "GOAWAY" if link.goaway else "shut")
         self.touched = set()
 
     # ---- calls
@@ -159,9 +177,10 @@ class Channel(Attempts, Policies, Reading):
             call.too_long = None
 
     def call_of(self, number):
-        if not 1 <= int(number) <= len(self.calls):
+        number = int(number)
+        if not 1 <= number <= len(self.calls):
             self.fault(f"no call {number} was begun")
-        return self.calls[int(number) - 1]
+        return self.calls[number - 1]
 
     def on_send(self, fields, reply):
         call, size = self.call_of(fields[0]), 0 if fields[1] == "-" else len(bytes.fromhex(fields[1]))
@@ -179,7 +198,9 @@ class Channel(Attempts, Policies, Reading):
                 call.too_long = (max(size, call.too_long[0] if call.too_long else 0),)
             if call.committed is None and call.accepted > MOST_UNCOMMITTED:
                 rows = [row for row in call.rows if row.is_outstanding]
-                self.commit(min(rows, key=lambda row: (-row.written, row.number)), "overflow") if rows else self.fault("no attempt had room for it")
+                self.commit(min(rows, key=lambda row: (-row.written, row.number)), "overflow") if rows else self.fault(
+                    "no attempt had room for it"
+                )
 
     def on_finish(self, fields, reply):
         call = self.call_of(fields[0])
@@ -191,8 +212,10 @@ class Channel(Attempts, Policies, Reading):
         if reply.startswith("end "):
             _, code, _, _, cause = reply.split(" ")
             if call.end is None or (int(code), cause) != (call.end_code(), call.end.cause):
-                self.fault(f"the take says that the call ended with {code} ({cause}), and by the rules it "
-                           + (f"ended with {call.end_code()} ({call.end.cause})" if call.end else "is open"))
+                self.fault(
+                    f"the take says that the call ended with {code} ({cause}), and by the rules it "
+                    + (f"ended with {call.end_code()} ({call.end.cause})" if call.end else "is open")
+                )
             call.taken_end = self.entry
         elif reply == "notyet":
             self.note("EventAnswered", "take", reply)
@@ -330,13 +353,13 @@ class Channel(Attempts, Policies, Reading):
         count = 18 if self.report.version == 2 else 16
         for place, line in enumerate(self.report.row_lines(), 1):
             at = self.report.line_of_row(place)
-            told = line.split(" ")
-            if not ROW.fullmatch(line) or len(told) != count:
+            given = line.split(" ")
+            if not ROW.fullmatch(line) or len(given) != count:
                 raise Fault(at, f"it is no row: a row of version {self.report.version} has {count} fields")
             if place > len(self.rows):
                 raise Fault(at, f"the events above give {len(self.rows)} rows")
             own = self.rows[place - 1].columns()
-            for name, one, other in zip(COLUMNS, told, own):
+            for name, one, other in zip(COLUMNS, given, own):
                 if one != other:
                     raise Fault(at, f"its {name} is {one}; the events above give {other}")
         last = self.report.end_line

@@ -59,7 +59,7 @@ def load(name):
 def follow(name, has_log=False):
     """The session of a report's file. A fault is said in one line, and ends the command with status 1."""
     report = load(name)
-    gc.disable()        # one pass that makes objects and frees few: collecting them again and again takes a third of the time
+    gc.disable()  # one pass that makes objects and frees few: collecting them again and again takes a third of the time
     try:
         return Channel(report, has_log).run()
     except Fault as fault:
@@ -129,16 +129,20 @@ def explain(plain, options):
     call = call_in(channel, plain[1]) if len(plain) > 1 else None
     if "--stats" in options or "--json" in options:
         from .stats import stats_lines
-        return say(stats_lines(channel, "--json" in options))
+
+        return say(stats_lines(channel, "--json" in options, width))
     if "--svg" in options or "--html" in options:
         return write_pictures(channel, call, options)
     if "--timeline" in options:
         from .timeline import timeline_lines
+
         return say(timeline_lines(channel, call, entries_in(channel, options), width, "--by-entry" in options))
     if "--actions" in options:
         from .actions import action_lines
+
         return say(action_lines(channel, call, *entries_in(channel, options)))
     from .calls import call_lines, overview_lines
+
     return say(call_lines(channel, call, width) if call else overview_lines(channel, cut))
 
 
@@ -150,7 +154,7 @@ def write_pictures(channel, call, options):
         if option in options:
             text = text_of(channel, call, entries_in(channel, options), "--by-entry" in options)
             if options[option] == "-":
-                sys.stdout.write(text)
+                sys.stdout.buffer.write(text.encode())
                 continue
             try:
                 with open(options[option], "w", encoding="utf-8") as file:
@@ -164,11 +168,13 @@ def run(words):
     plain, options = read_words(words)
     if "--diff" in options:
         from .diff import diff_lines
+
         if len(plain) != 2:
             raise Usage("--diff takes two reports")
         return say(diff_lines(follow(plain[0]), follow(plain[1]), plain, width_of(options)[0]))
     if plain[:1] == ["config"] and not (len(plain) == 1 and os.path.exists("config")):
         from .advice import config_lines
+
         if len(plain) not in (2, 3):
             raise Usage("config takes a file, and perhaps a path, as /helloworld.Greeter/SayHello")
         return config_lines(plain[1], plain[2] if len(plain) > 2 else None)
@@ -182,10 +188,11 @@ def main(words, help_text):
     if not words:
         print(help_text, file=sys.stderr)
         return 2
+    sys.stdout.reconfigure(errors="replace")  # where a terminal has no µ
     try:
         return run(words)
     except Usage as fault:
-        print(f"error: {fault}\ntools/explain --help tells what it takes", file=sys.stderr)
+        print(f"error: {fault}\ntools/explain --help says what it takes", file=sys.stderr)
         return 2
     except BrokenPipeError:
         os.dup2(os.open(os.devnull, os.O_WRONLY), sys.stdout.fileno())

@@ -146,7 +146,7 @@ def taken(value, kind, path, words):
 
 
 def nanos(value, path, is_positive=False):
-    words = 'it takes a duration' + (' above 0' if is_positive else '') + ', as "1.5s"'
+    words = "it takes a duration" + (" above 0" if is_positive else "") + ', as "1.5s"'
     found = DURATION.fullmatch(value) if isinstance(value, str) and not isinstance(value, Number) else None
     if not found:
         raise ConfigFault(path, "missing; " + words if value is ABSENT else words)
@@ -207,7 +207,9 @@ def retry_of(policy, path):
     longest = nanos(policy.get("maxBackoff", ABSENT), f"{path}.maxBackoff", True)
     attempts = attempts_of(policy, path)
     multiplier = thousandths(policy.get("backoffMultiplier", ABSENT), 1000000, f"{path}.backoffMultiplier")
-    return Retry(attempts, initial, longest, multiplier, codes_of(policy.get("retryableStatusCodes", ABSENT), f"{path}.retryableStatusCodes", False))
+    return Retry(
+        attempts, initial, longest, multiplier, codes_of(policy.get("retryableStatusCodes", ABSENT), f"{path}.retryableStatusCodes", False)
+    )
 
 
 def hedge_of(policy, path):

@@ -49,8 +49,14 @@ def moments_words(one, other, entry):
     mine, theirs = lines_of(one)[entry].split(" ", 2), lines_of(other)[entry].split(" ", 2)
     words = []
     if mine[0] != theirs[0]:
-        words.append(f"the moment, +{duration(int(mine[0]) - one.first_moment)} and +{duration(int(theirs[0]) - other.first_moment)}"
-                     + (" since the first entries" if int(mine[0]) - one.first_moment != int(theirs[0]) - other.first_moment else f" ({mine[0]} and {theirs[0]})"))
+        words.append(
+            f"the moment, +{duration(int(mine[0]) - one.first_moment)} and +{duration(int(theirs[0]) - other.first_moment)}"
+            + (
+                " since the first entries"
+                if int(mine[0]) - one.first_moment != int(theirs[0]) - other.first_moment
+                else f" ({mine[0]} and {theirs[0]})"
+            )
+        )
     if mine[1] != theirs[1]:
         words.append(f"the random word, {mine[1]} and {theirs[1]}")
     return " and ".join(words)
@@ -74,8 +80,12 @@ def event_lines(one, other, entry, width):
 
 def shape(channel, call):
     """What of a call counts when two are compared: its end, and its attempts."""
-    return (call.path, call_end_name(call), call.end.cause if call.end else None,
-            tuple((row.kind, row.number, row.sub and row.sub.address, row.end and (row.end.code, row.end.cause)) for row in call.rows))
+    return (
+        call.path,
+        call_end_name(call),
+        call.end.cause if call.end else None,
+        tuple((row.kind, row.number, row.sub and row.sub.address, row.end and (row.end.code, row.end.cause)) for row in call.rows),
+    )
 
 
 def call_lines(one, other, width):
@@ -94,7 +104,10 @@ def call_lines(one, other, width):
     if not most:
         return ["", "neither has a call"]
     if not lines:
-        return ["", f"all {count(most, 'call')} end alike, by the same attempts" if most > 1 else "its one call ends alike, by the same attempts"]
+        return [
+            "",
+            f"all {count(most, 'call')} end alike, by the same attempts" if most > 1 else "its one call ends alike, by the same attempts",
+        ]
     return ["", f"what followed: {count(len(lines_with_call(lines)), 'call')} went otherwise, {same:,} alike"] + lines
 
 

@@ -51,12 +51,24 @@ def end_of(channel):
 def lanes_of(channel, call=None):
     """The lanes of a session; of one call, what it used: its attempts, their links and subchannels, and its tokens."""
     if call is None:
-        return (channel_lanes(channel) + sub_lanes(channel, channel.subs) + link_lanes(channel, channel.links) + token_lanes(channel, channel.runs)
-                + [lane for one in channel.calls for lane in call_lanes(channel, one)])
+        return (
+            channel_lanes(channel)
+            + sub_lanes(channel, channel.subs)
+            + link_lanes(channel, channel.links)
+            + token_lanes(channel, channel.runs)
+            + [lane for one in channel.calls for lane in call_lanes(channel, one)]
+        )
     links = list(dict.fromkeys(row.link for row in call.rows if row.link))
-    subs = [sub for sub in channel.subs if any(link.sub is sub for link in links)] or [sub for sub in channel.subs if sub.states[0][0].entry <= (call.end or call).entry]
-    return (channel_lanes(channel)[:1] + sub_lanes(channel, subs[:8]) + link_lanes(channel, links)
-            + token_lanes(channel, [call.run] if call.run else []) + call_lanes(channel, call))
+    subs = [sub for sub in channel.subs if any(link.sub is sub for link in links)] or [
+        sub for sub in channel.subs if sub.states[0][0].entry <= (call.end or call).entry
+    ]
+    return (
+        channel_lanes(channel)[:1]
+        + sub_lanes(channel, subs[:8])
+        + link_lanes(channel, links)
+        + token_lanes(channel, [call.run] if call.run else [])
+        + call_lanes(channel, call)
+    )
 
 
 def channel_lanes(channel):
@@ -66,7 +78,9 @@ def channel_lanes(channel):
     for (stamp, state), stop in zip(channel.states, stops):
         lane.bar("state-" + state, at(stamp), stop, f"the channel is {state}", f"e{stamp.entry}")
     for stamp, reply in channel.results:
-        words = {"done": "the resolver answers", "unresolved": "the resolver fails"}.get(reply, f"the resolver answers with a bad config ({reply})")
+        words = {"done": "the resolver answers", "unresolved": "the resolver fails"}.get(
+            reply, f"the resolver answers with a bad config ({reply})"
+        )
         lane.mark("result" if reply == "done" else "failed", at(stamp), words, f"e{stamp.entry}")
     return [lane] + [generation_lane(generation, end) for generation in channel.generations]
 
@@ -103,11 +117,23 @@ def link_lanes(channel, links):
     for link in links:
         gone, ready = at(link.gone) if link.gone else end, link.settings
         lane = Lane(f"link {link.number}", "link", f"{link.gone.cause}" if link.gone else "stays", note=link.sub.address)
-        lane.bar("link-up", at(link.up), at(ready) if ready else gone, f"link {link.number} is up, before the server's SETTINGS", f"e{link.up.entry}")
+        lane.bar(
+            "link-up",
+            at(link.up),
+            at(ready) if ready else gone,
+            f"link {link.number} is up, before the server's SETTINGS",
+            f"e{link.up.entry}",
+        )
         if ready:
             leaves = at(link.goaway[0]) if link.goaway else gone
             lane.bar("link-ready", at(ready), min(leaves, gone), f"link {link.number} to {link.sub.address} is in use", f"e{ready.entry}")
-            lane.bar("link-retiring", min(leaves, gone), gone, f"link {link.number} is retiring: its streams go on, none is opened", f"e{leaves[0]}")
+            lane.bar(
+                "link-retiring",
+                min(leaves, gone),
+                gone,
+                f"link {link.number} is retiring: its streams go on, none is opened",
+                f"e{leaves[0]}",
+            )
         if link.goaway:
             stamp, last, code, _ = link.goaway
             lane.mark("goaway", at(stamp), f"GOAWAY: last stream {last}, {name_in(ERRORS, code)}", f"e{stamp.entry}")
@@ -128,18 +154,23 @@ def token_lanes(channel, runs):
     end = end_of(channel)
     lanes = []
     for run in runs:
-        lane = Lane(f"tokens {run.number}", "tokens", f"{tokens(run.count)} of {tokens(run.start)}", note=f"half is {tokens(run.start // 2)}")
+        lane = Lane(
+            f"tokens {run.number}", "tokens", f"{tokens(run.count)} of {tokens(run.start)}", note=f"half is {tokens(run.start // 2)}"
+        )
         stops = [at(change[0]) for change in run.changes[1:]] + [end]
         for (stamp, left, row), stop in zip(run.changes, stops):
             by = f" after {attempt_name(row)} of call {row.call.number}" if row else " at first"
             kind = "above" if run.is_above(left) else "below"
-            words = f"{tokens(left)} of {tokens(run.start)} tokens{by}; " + ("more than half" if kind == "above" else "not more than half: no retry or hedge")
+            words = f"{tokens(left)} of {tokens(run.start)} tokens{by}; " + (
+                "more than half" if kind == "above" else "not more than half: no retry or hedge"
+            )
             lane.items.append(Item(LEVEL, kind, at(stamp), stop, words, f"r{row.place}" if row else f"e{stamp.entry}", left / run.start))
         lanes.append(lane)
     return lanes
 
 
 # ---- calls
+
 
 def call_lanes(channel, call):
     """A lane for each attempt; the first one also has the call's own span."""
@@ -159,6 +190,14 @@ def call_lanes(channel, call):
         lane = head if row is call.rows[0] else Lane(f"{name} · {row.number} {row.kind}", "attempt", ref=f"c{call.number}")
         fill_attempt(channel, lane, call, row, end)
         lanes.append(lane)
+    if call.withheld:
+        stamp, _, left = call.withheld
+        lanes[-1].mark(
+            "withheld",
+            at(stamp),
+            f"the next hedge was due, and throttling withheld it: {tokens(left)} of {tokens(call.run.start)} tokens",
+            f"e{stamp.entry}",
+        )
     return lanes
 
 
@@ -193,7 +232,13 @@ def wait_line(lane, call, row, ref):
         why = f"pushback of {ended.end.pushback} ms" if ended.end.pushback is not None else f"backoff of {duration(ended.end.wait)}"
         lane.line("wait", at(ended.end), at(row.made), f"{why} before {attempt_name(row)}", ref)
     elif row.kind == "hedge" and before and before[0].placed and before[0].placed.moment < row.made.moment:
-        lane.line("delay", at(before[0].placed), at(row.made), f"before {attempt_name(row)}: due {duration(row.due - before[0].placed.moment)} after {attempt_name(before[0])} was placed", ref)
+        lane.line(
+            "delay",
+            at(before[0].placed),
+            at(row.made),
+            f"before {attempt_name(row)}: due {duration(row.due - before[0].placed.moment)} after {attempt_name(before[0])} was placed",
+            ref,
+        )
 
 
 def scale_of(channel, call, part, by_entry):

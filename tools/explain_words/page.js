@@ -133,7 +133,10 @@ function markShape(kind, x, y) {
   if (kind === "failed" || kind === "lost") return make("path", { d: cross + `M${x - 4} ${y - 4}L${x + 4} ${y + 4}`, stroke: colour, "stroke-width": 2.4 });
   if (kind === "cut") return make("path", { d: cross, stroke: colour, "stroke-width": 2.4 });
   if (["send", "dial", "deadline", "result"].includes(kind)) return make("path", { d: `M${x} ${y - 6}V${y + 6}`, stroke: colour, "stroke-width": kind === "deadline" ? 2.4 : 1.6 });
-  if (kind === "commit" || kind === "goaway") return make("path", { d: `M${x} ${y - 5}L${x + 5} ${y}L${x} ${y + 5}L${x - 5} ${y}Z`, fill: colour });
+  if (["commit", "goaway", "withheld"].includes(kind)) {
+    const isOpen = kind === "withheld";
+    return make("path", { d: `M${x} ${y - 5}L${x + 5} ${y}L${x} ${y + 5}L${x - 5} ${y}Z`, fill: isOpen ? "#fff" : colour, stroke: isOpen ? colour : "none", "stroke-width": 1.6 });
+  }
   return make("circle", { cx: x, cy: y, r: 4.2, fill: kind === "open" ? "#fff" : colour, stroke: colour });
 }
 function drawPieces(pieces, top, height, parts) {
@@ -211,6 +214,11 @@ async function rowNodes(place) {
   return [`${title}, attempt ${name}`, own.concat([node("h2", "its call")], parts)];
 }
 async function show(ref) {
+  if (!("DecompressionStream" in window)) {
+    byId("lines").textContent = "This browser cannot open compressed pieces (DecompressionStream); a newer one can.";
+    byId("details").hidden = false;
+    return;
+  }
   const number = Number(ref.slice(1));
   chosen = ref;
   chosenEntry = ref[0] === "e" ? number : null;
@@ -219,8 +227,16 @@ async function show(ref) {
   byId("lines").replaceChildren(...parts);
   byId("details").hidden = false;
   byId("before").hidden = byId("after").hidden = ref[0] !== "e";
+  byId("fit").hidden = ref[0] === "e";
   history.replaceState(null, "", "#" + ref);
   ask();
+}
+function fit() {
+  const items = lanes.flatMap((lane) => (lane[4].some((item) => item[7] === chosen) ? lane[4] : [])), [first, last] = range();
+  if (!items.length) return;
+  const part = byEntry ? [2, 4] : [3, 5], ends = [Math.min(...items.map((item) => item[part[0]])), Math.max(...items.map((item) => item[part[1]]))];
+  const [from, to] = ends.map((value) => (value - first) / (last - first)), margin = Math.max((to - from) / 8, 1e-9);
+  setView(from - margin, to + margin);
 }
 function step(by) { if (chosenEntry) show("e" + Math.min(count, Math.max(1, chosenEntry + by))); }
 function close() { byId("details").hidden = true; chosen = chosenEntry = null; ask(); }
@@ -260,10 +276,11 @@ byId("all").onclick = () => setView(0, 1);
 byId("before").onclick = () => step(-1);
 byId("after").onclick = () => step(1);
 byId("close").onclick = close;
+byId("fit").onclick = fit;
 addEventListener("keydown", (event) => {
   if (event.target.tagName === "INPUT") return;
   const size = view[1] - view[0];
-  const keys = { "+": () => zoom(0.5), "-": () => zoom(2), 0: () => setView(0, 1), Escape: close,
+  const keys = { "+": () => zoom(0.5), "-": () => zoom(2), 0: () => setView(0, 1), f: fit, Escape: close,
     ArrowLeft: () => (chosenEntry ? step(-1) : setView(view[0] - size / 5, view[1] - size / 5)), ArrowRight: () => (chosenEntry ? step(1) : setView(view[0] + size / 5, view[1] + size / 5)) };
   if (keys[event.key] && !event.ctrlKey && !event.metaKey) { keys[event.key](); event.preventDefault(); }
 });
@@ -283,7 +300,7 @@ function find(text) {
 
 function legend() {
   const named = [["call", "call"], ["queue", "waits for a link"], ["placed", "on a link, not sent"], ["sent", "waits for the answer"], ["answer", "the response comes"], ["wait", "backoff or hedging delay"]];
-  const marks = [["ok", "OK"], ["failed", "failed, lost"], ["cut", "cut by the client"], ["commit", "committed"], ["goaway", "GOAWAY"]];
+  const marks = [["ok", "OK"], ["failed", "failed, lost"], ["cut", "cut by the client"], ["commit", "committed"], ["withheld", "hedge withheld"], ["goaway", "GOAWAY"]];
   const states = ["IDLE", "CONNECTING", "READY", "TRANSIENT_FAILURE", "SHUTDOWN"].map((state) => ["state-" + state, state]);
   for (const [kind, words] of named.concat(states)) byId("legend").append(sample(make("rect", { width: 12, height: 10, y: 1, fill: data.colours[kind], stroke: kind === "call" ? "#c3c9d0" : "none" }), words));
   for (const [kind, words] of marks) byId("legend").append(sample(markShape(kind, 6, 6), words));

@@ -33,7 +33,9 @@ def entry_items(channel):
     wire, items = Wire(), []
     for entry in range(1, channel.report.entries + 1):
         line = channel.report.lines[entry]
-        actions = [action_words(action) for action in channel.log.get(entry, ()) if action[0] not in ("FrameRead", "FrameWritten", "BytesArrive")]
+        actions = [
+            action_words(action) for action in channel.log.get(entry, ()) if action[0] not in ("FrameRead", "FrameWritten", "BytesArrive")
+        ]
         items.append([short(line, MOST_LINE), short(entry_text(wire.entry(line)), MOST_LINE), actions])
     return items
 
@@ -42,23 +44,53 @@ def call_item(channel, call):
     """A call: facts and steps."""
     limit = f" of {duration(call.deadline - call.moment)}" if call.deadline is not None else ", without a deadline"
     source = source_words(call)
-    facts = [["end", end_line(channel, call)], ["time", duration(call_time(channel, call)) + limit],
-             ["policy", policy_words(call) + (f" ({source})" if source else "")], ["throttle", throttle_words(call.run)], ["why", why_of(channel, call).words]]
+    facts = [
+        ["end", end_line(channel, call)],
+        ["time", duration(call_time(channel, call)) + limit],
+        ["policy", policy_words(call) + (f" ({source})" if source else "")],
+        ["throttle", throttle_words(call.run)],
+        ["why", why_of(channel, call).words],
+    ]
     return [call.number, call.path, facts, steps_of(channel, call), [row.place for row in call.rows]]
 
 
 def row_item(channel, row):
     """An attempt: its line, its call, and the entries in which something happened to it."""
     line = channel.report.line_of_row(row.place)
-    stamps = [("due", row.made), ("placed", row.placed), ("sent", row.sent), ("head", row.head), ("committed", row.committed), ("ended", row.end),
-              ("reset", row.reset[0] if row.reset else None)]
-    return [line, channel.report.lines[line - 1], row.call.number, f"{row.number} {row.kind}", [[name, stamp.entry] for name, stamp in stamps if stamp]]
+    stamps = [
+        ("due", row.made),
+        ("placed", row.placed),
+        ("sent", row.sent),
+        ("head", row.head),
+        ("committed", row.committed),
+        ("ended", row.end),
+        ("reset", row.reset[0] if row.reset else None),
+    ]
+    return [
+        line,
+        channel.report.lines[line - 1],
+        row.call.number,
+        f"{row.number} {row.kind}",
+        [[name, stamp.entry] for name, stamp in stamps if stamp],
+    ]
 
 
 def lane_item(channel, lane, call):
     start = channel.first_moment or 0
-    items = [[item.shape, item.kind, item.entry, item.moment - start, item.last_entry, item.last_moment - start, item.words, item.ref, item.share]
-             for item in lane.items]
+    items = [
+        [
+            item.shape,
+            item.kind,
+            item.entry,
+            item.moment - start,
+            item.last_entry,
+            item.last_moment - start,
+            item.words,
+            item.ref,
+            item.share,
+        ]
+        for item in lane.items
+    ]
     pieces = []
     if lane.group == "link":
         pieces = channel.links[int(lane.name.split()[1]) - 1].pieces
@@ -79,12 +111,26 @@ def page_text(channel, call, part, by_entry):
     """The whole page."""
     scale = scale_of(channel, call, part, by_entry)
     data = {
-        "title": title_of(channel, call), "byEntry": by_entry, "view": [scale.first, scale.last], "isPart": part != (1, len(channel.moments)) or call is not None,
-        "moments": deltas(channel.moments), "rowLine": 1 + channel.report.entries, "colours": COLOURS, "marks": MARK_COLOURS, "chunk": CHUNK,
+        "title": title_of(channel, call),
+        "byEntry": by_entry,
+        "view": [scale.first, scale.last],
+        "isPart": part != (1, len(channel.moments)) or call is not None,
+        "moments": deltas(channel.moments),
+        "rowLine": 1 + channel.report.entries,
+        "colours": COLOURS,
+        "marks": MARK_COLOURS,
+        "chunk": CHUNK,
         "lanes": [lane_item(channel, lane, call) for lane in lanes_of(channel, call)],
-        "entries": packed(entry_items(channel)), "rows": packed([row_item(channel, row) for row in channel.rows]),
-        "calls": packed([call_item(channel, one) for one in channel.calls])}
+        "entries": packed(entry_items(channel)),
+        "rows": packed([row_item(channel, row) for row in channel.rows]),
+        "calls": packed([call_item(channel, one) for one in channel.calls]),
+    }
     text = json.dumps(data, separators=(",", ":"))
-    for letter in "<>&":        # so that the page is well formed both as HTML and as XML
+    for letter in "<>&":  # so that the page is well formed both as HTML and as XML
         text = text.replace(letter, f"\\u{ord(letter):04x}")
-    return read_part("page.html").replace("/*STYLE*/", read_part("page.css")).replace("/*SCRIPT*/", read_part("page.js")).replace("/*DATA*/", text)
+    return (
+        read_part("page.html")
+        .replace("/*STYLE*/", read_part("page.css"))
+        .replace("/*SCRIPT*/", read_part("page.js"))
+        .replace("/*DATA*/", text)
+    )

@@ -8,20 +8,62 @@ from .names import count, duration, short
 
 LABEL, PLOT, AFTER, MARGIN = 232, 640, 300, 14
 TOP, ROW, TOKENS = 58, 20, 44
-TALL = 700      # from here on the axis stands below the lanes, too
+TALL = 700  # from here on the axis stands below the lanes, too
 COLOURS = {
-    "state-IDLE": "#cfd4da", "state-CONNECTING": "#f0c649", "state-READY": "#86c08a", "state-TRANSIENT_FAILURE": "#dc7b70", "state-SHUTDOWN": "#5d646b",
-    "pending": "#f0c649", "current": "#b9c7dc", "link-up": "#f0c649", "link-ready": "#86c08a", "link-retiring": "#c9b38c",
-    "call": "#eef1f5", "queue": "#f0c649", "placed": "#b7d3ee", "sent": "#4d8ac0", "answer": "#2f9e8f", "wait": "#7d858d", "delay": "#7d858d",
-    "above": "#a9cfac", "below": "#e6a39b",
+    "state-IDLE": "#cfd4da",
+    "state-CONNECTING": "#f0c649",
+    "state-READY": "#86c08a",
+    "state-TRANSIENT_FAILURE": "#dc7b70",
+    "state-SHUTDOWN": "#5d646b",
+    "pending": "#f0c649",
+    "current": "#b9c7dc",
+    "link-up": "#f0c649",
+    "link-ready": "#86c08a",
+    "link-retiring": "#c9b38c",
+    "call": "#eef1f5",
+    "queue": "#f0c649",
+    "placed": "#b7d3ee",
+    "sent": "#4d8ac0",
+    "answer": "#2f9e8f",
+    "wait": "#7d858d",
+    "delay": "#7d858d",
+    "above": "#a9cfac",
+    "below": "#e6a39b",
 }
 INK, SOFT, GOOD, BAD, CUT = "#1f2429", "#6a727a", "#1d7a34", "#b3261e", "#70777e"
-MARK_COLOURS = {"ok": GOOD, "failed": BAD, "lost": BAD, "goaway": "#8a5a00", "cut": CUT, "open": SOFT, "dial": INK, "result": INK, "send": INK, "commit": "#5b2a86",
-                "deadline": BAD}
-LEGEND = (("state-IDLE", "IDLE", ""), ("state-CONNECTING", "CONNECTING", ""), ("state-READY", "READY", ""), ("state-TRANSIENT_FAILURE", "TRANSIENT_FAILURE", ""),
-          ("state-SHUTDOWN", "SHUTDOWN", ""), ("call", "call", ""), ("queue", "waits for a link", ""), ("placed", "on a link, not sent", ""), ("sent", "waits for the answer", ""),
-          ("answer", "the response comes", ""), ("wait", "backoff or hedging delay", "line"), ("ok", "OK", "mark"), ("failed", "failed, lost", "mark"),
-          ("cut", "cut by the client", "mark"), ("commit", "committed", "mark"), ("goaway", "GOAWAY", "mark"))
+MARK_COLOURS = {
+    "ok": GOOD,
+    "failed": BAD,
+    "lost": BAD,
+    "goaway": "#8a5a00",
+    "cut": CUT,
+    "open": SOFT,
+    "dial": INK,
+    "result": INK,
+    "send": INK,
+    "commit": "#5b2a86",
+    "deadline": BAD,
+    "withheld": BAD,
+}
+LEGEND = (
+    ("state-IDLE", "IDLE", ""),
+    ("state-CONNECTING", "CONNECTING", ""),
+    ("state-READY", "READY", ""),
+    ("state-TRANSIENT_FAILURE", "TRANSIENT_FAILURE", ""),
+    ("state-SHUTDOWN", "SHUTDOWN", ""),
+    ("call", "call", ""),
+    ("queue", "waits for a link", ""),
+    ("placed", "on a link, not sent", ""),
+    ("sent", "waits for the answer", ""),
+    ("answer", "the response comes", ""),
+    ("wait", "backoff or hedging delay", "line"),
+    ("ok", "OK", "mark"),
+    ("failed", "failed, lost", "mark"),
+    ("cut", "cut by the client", "mark"),
+    ("commit", "committed", "mark"),
+    ("withheld", "hedge withheld", "mark"),
+    ("goaway", "GOAWAY", "mark"),
+)
 
 
 def number(value):
@@ -31,15 +73,16 @@ def number(value):
 def mark_shape(kind, x, y):
     """A mark of 8 by 8 about a place."""
     colour, x0, y0 = MARK_COLOURS[kind], number(x), number(y)
-    if kind in ("failed", "lost"):
-        return f'<path d="M{number(x - 4)} {number(y - 4)}L{number(x + 4)} {number(y + 4)}M{number(x - 4)} {number(y + 4)}L{number(x + 4)} {number(y - 4)}" stroke="{colour}" stroke-width="2.4"/>'
-    if kind == "cut":
-        return f'<path d="M{number(x - 4)} {number(y + 4)}L{number(x + 4)} {number(y - 4)}" stroke="{colour}" stroke-width="2.4"/>'
+    up = f"M{number(x - 4)} {number(y + 4)}L{number(x + 4)} {number(y - 4)}"
+    down = f"M{number(x - 4)} {number(y - 4)}L{number(x + 4)} {number(y + 4)}"
+    if kind in ("failed", "lost", "cut"):
+        return f'<path d="{up if kind == "cut" else down + up}" stroke="{colour}" stroke-width="2.4"/>'
     if kind in ("send", "dial", "deadline", "result"):
         width = 1.6 if kind != "deadline" else 2.4
         return f'<path d="M{x0} {number(y - 6)}V{number(y + 6)}" stroke="{colour}" stroke-width="{width}"/>'
-    if kind in ("commit", "goaway"):
-        return f'<path d="M{x0} {number(y - 5)}L{number(x + 5)} {y0}L{x0} {number(y + 5)}L{number(x - 5)} {y0}Z" fill="{colour}"/>'
+    if kind in ("commit", "goaway", "withheld"):
+        fill = f'fill="{colour}"' if kind != "withheld" else f'fill="#fff" stroke="{colour}" stroke-width="1.6"'
+        return f'<path d="M{x0} {number(y - 5)}L{number(x + 5)} {y0}L{x0} {number(y + 5)}L{number(x - 5)} {y0}Z" {fill}/>'
     fill = "#fff" if kind == "open" else colour
     return f'<circle cx="{x0}" cy="{y0}" r="4.2" fill="{fill}" stroke="{colour}"/>'
 
@@ -66,20 +109,23 @@ class Drawing:
         self.lines.append(f'<text x="{LABEL + PLOT + 12}" y="{number(middle + 4)}" class="a">{escape(short(lane.after, 46))}</text>')
         self.top += height
 
+    def box(self, x, y, width, height, colour, words):
+        place = f'x="{number(x)}" y="{number(y)}" width="{number(width)}" height="{number(height)}"'
+        self.lines.append(f'<rect {place} fill="{colour}">{words}</rect>')
+
     def item(self, item, top, height):
         one, other = (self.x(share) for share in self.scale.shares(item))
         words = f"<title>{escape(item.words)}</title>"
         middle = top + height / 2
         if item.shape == BAR:
             inset = 2 if item.kind == "call" else 5
-            width = max(other - one, 1.5)
-            self.lines.append(f'<rect x="{number(one)}" y="{number(top + inset)}" width="{number(width)}" height="{height - 2 * inset}" fill="{COLOURS[item.kind]}">{words}</rect>')
+            self.box(one, top + inset, max(other - one, 1.5), height - 2 * inset, COLOURS[item.kind], words)
         elif item.shape == LEVEL:
             size = (height - 6) * item.share
-            self.lines.append(f'<rect x="{number(one)}" y="{number(top + height - 3 - size)}" width="{number(max(other - one, 1))}" height="{number(max(size, 1))}" '
-                              f'fill="{COLOURS[item.kind]}">{words}</rect>')
+            self.box(one, top + height - 3 - size, max(other - one, 1), max(size, 1), COLOURS[item.kind], words)
         elif item.shape == LINE:
-            self.lines.append(f'<path d="M{number(one)} {number(middle)}H{number(max(other, one + 1))}" stroke="{COLOURS[item.kind]}" stroke-width="1.6" stroke-dasharray="3 3">{words}</path>')
+            way = f"M{number(one)} {number(middle)}H{number(max(other, one + 1))}"
+            self.lines.append(f'<path d="{way}" stroke="{COLOURS[item.kind]}" stroke-width="1.6" stroke-dasharray="3 3">{words}</path>')
         else:
             self.lines.append(f"<g>{mark_shape(item.kind, one, middle)}{words}</g>")
 
@@ -101,7 +147,9 @@ class Drawing:
             if shape == "mark":
                 self.lines.append(mark_shape(kind, x + 6, y))
             elif shape == "line":
-                self.lines.append(f'<path d="M{number(x)} {number(y)}h14" stroke="{COLOURS[kind]}" stroke-width="1.6" stroke-dasharray="3 3"/>')
+                self.lines.append(
+                    f'<path d="M{number(x)} {number(y)}h14" stroke="{COLOURS[kind]}" stroke-width="1.6" stroke-dasharray="3 3"/>'
+                )
             else:
                 stroke = ' stroke="#c3c9d0"' if kind == "call" else ""
                 self.lines.append(f'<rect x="{number(x)}" y="{number(y - 5)}" width="12" height="10" fill="{COLOURS[kind]}"{stroke}/>')
@@ -137,9 +185,11 @@ def svg_text(channel, call, part, by_entry):
     drawing.top += below
     drawing.legend()
     width, height = LABEL + PLOT + AFTER + MARGIN, drawing.top
-    head = [f'<svg xmlns="http://www.w3.org/2000/svg" width="{width}" height="{number(height)}" viewBox="0 0 {width} {number(height)}" '
-            'font-family="DejaVu Sans, Verdana, sans-serif" font-size="11">',
-            f"<style>text{{fill:{INK};white-space:pre}}.t{{fill:{SOFT};text-anchor:middle}}.a{{fill:{SOFT}}}</style>",
-            f'<rect width="{width}" height="{number(height)}" fill="#ffffff"/>',
-            f'<text x="{MARGIN}" y="22" font-size="13">{escape(title_of(channel, call))}</text>']
+    head = [
+        f'<svg xmlns="http://www.w3.org/2000/svg" width="{width}" height="{number(height)}" viewBox="0 0 {width} {number(height)}" '
+        'font-family="DejaVu Sans, Verdana, sans-serif" font-size="11">',
+        f"<style>text{{fill:{INK};white-space:pre}}.t{{fill:{SOFT};text-anchor:middle}}.a{{fill:{SOFT}}}</style>",
+        f'<rect width="{width}" height="{number(height)}" fill="#ffffff"/>',
+        f'<text x="{MARGIN}" y="22" font-size="13">{escape(title_of(channel, call))}</text>',
+    ]
     return "\n".join(head + drawing.lines + ["</svg>", ""])

@@ -5,7 +5,7 @@ from heapq import heappop, heappush
 from .session import CONNECTING, FAILURE, IDLE, READY, SHUTDOWN, Generation, Stamp, Sub
 
 SECOND, WORDS = 10**9, 1 << 64
-WIDTH = 8       # addresses in a tier of `priority`
+WIDTH = 8  # addresses in a tier of `priority`
 
 
 def connect_wait(dials, word):
@@ -151,8 +151,9 @@ class Policies:
 
     def adopt(self, generation, addresses):
         before, generation.addresses, generation.state = generation.failed, addresses, None
-        generation.failed = {sub.number for sub in self.view(generation)
-                             if sub.state == FAILURE or (sub.number in before and sub.state != READY)}
+        generation.failed = {
+            sub.number for sub in self.view(generation) if sub.state == FAILURE or (sub.number in before and sub.state != READY)
+        }
         self.note("AddressesGiven", generation, addresses)
 
     def drop_unlisted(self):

@@ -8,7 +8,7 @@ from .session import CONNECTING, READY, Stamp
 DATA, HEADERS, PRIORITY, RST_STREAM, SETTINGS, PUSH_PROMISE, PING, GOAWAY, WINDOW_UPDATE, CONTINUATION = range(10)
 END_STREAM, ACK, END_HEADERS, PADDED, HAS_PRIORITY = 0x1, 0x1, 0x4, 0x8, 0x20
 MOST_FRAME, MOST_WINDOW, MOST_BLOCK = 16384, (1 << 31) - 1, 65536
-HEAD = struct.Struct(">BHBBI").unpack_from      # the length in two parts, the kind, the flags, the stream
+HEAD = struct.Struct(">BHBBI").unpack_from  # the length in two parts, the kind, the flags, the stream
 PREFACE = b"PRI * HTTP/2.0\r\n\r\nSM\r\n\r\n"
 RESET_CODES = {7: 14, 8: 1, 11: 8, 12: 7, 0: 13, 1: 13, 2: 13, 3: 13, 4: 13, 6: 13, 9: 13, 10: 13}
 LENGTHS = {PING: 8, WINDOW_UPDATE: 4, RST_STREAM: 4, PRIORITY: 5}
@@ -16,8 +16,12 @@ LENGTHS = {PING: 8, WINDOW_UPDATE: 4, RST_STREAM: 4, PRIORITY: 5}
 
 def length_fault(length, kind):
     """FRAME_SIZE_ERROR, as soon as the length and the kind show it."""
-    return (length > MOST_FRAME or (kind == SETTINGS and length % 6) or (kind in LENGTHS and length != LENGTHS[kind])
-            or (kind == GOAWAY and length < 8))
+    return (
+        length > MOST_FRAME
+        or (kind == SETTINGS and length % 6)
+        or (kind in LENGTHS and length != LENGTHS[kind])
+        or (kind == GOAWAY and length < 8)
+    )
 
 
 def fields_before(kind, flags):
@@ -75,7 +79,11 @@ class Reading:
                 break
             high, length, kind, flags, stream = HEAD(data, at)
             length, stream = high << 16 | length, stream & MOST_WINDOW
-            fault = head_fault(length, kind, flags, stream) if kind > 1 or not stream or flags & (PADDED | HAS_PRIORITY) or length > MOST_FRAME else None
+            fault = (
+                head_fault(length, kind, flags, stream)
+                if kind > 1 or not stream or flags & (PADDED | HAS_PRIORITY) or length > MOST_FRAME
+                else None
+            )
             if not fault and kind < 2 and flags & PADDED and count - at > 9 and data[at + 9] > length - fields_before(kind, flags):
                 fault = 1
             if not fault and count - at < 9 + length:
@@ -206,7 +214,9 @@ class Reading:
         else:
             by = int.from_bytes(payload, "big") & MOST_WINDOW
             if by == 0 or row.link.initial + row.lift + by > MOST_WINDOW:
-                self.end_row(row, 13, "framing", reset=3 if by else 1, detail="a WINDOW_UPDATE " + ("past the greatest window" if by else "of 0"))
+                self.end_row(
+                    row, 13, "framing", reset=3 if by else 1, detail="a WINDOW_UPDATE " + ("past the greatest window" if by else "of 0")
+                )
             else:
                 row.lift += by
 
@@ -219,7 +229,13 @@ class Reading:
             return
         pushback = block.pushback if is_end else None
         if is_interim or (not is_end and (row.head is not None or status is None)):
-            why = "a 1xx head with END_STREAM" if is_interim else "a second header block without END_STREAM" if row.head else "a head without :status"
+            why = (
+                "a 1xx head with END_STREAM"
+                if is_interim
+                else "a second header block without END_STREAM"
+                if row.head
+                else "a head without :status"
+            )
             self.end_row(row, 13, "framing", block, pushback, reset=1, detail=why)
         elif not is_end:
             self.read_head(row, block)
@@ -317,4 +333,6 @@ class Reading:
 
 
 def pairs_of(payload):
-    return [(int.from_bytes(payload[at : at + 2], "big"), int.from_bytes(payload[at + 2 : at + 6], "big")) for at in range(0, len(payload), 6)]
+    return [
+        (int.from_bytes(payload[at : at + 2], "big"), int.from_bytes(payload[at + 2 : at + 6], "big")) for at in range(0, len(payload), 6)
+    ]

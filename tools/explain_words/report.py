@@ -1,9 +1,9 @@
-"""The lines of a report, tested one by one: what is no line of one is told with its place, and nothing is guessed."""
+"""The lines of a report, tested one by one: what is no line of one is named by its place, and nothing is guessed."""
 
 import re
 
 NUMBER = r"(?:0|[1-9][0-9]*)"
-HEX = "[0-9a-f]+"           # that the digits are even is tested where the bytes are read
+HEX = "[0-9a-f]+"  # that the digits are even is tested where the bytes are read
 PATH = r"/[!-.0-~]+/[!-.0-~]+"
 META = r"(?:-|[!#-+.-9;-~-]+:(?:[0-9a-f]{2})*(?:,[!#-+.-9;-~-]+:(?:[0-9a-f]{2})*)*)"
 TEXT = r"(?:[!-$&-~]|%[0-9A-F]{2})+"
@@ -31,8 +31,10 @@ FORMS = {
 }
 EVENTS = {name: re.compile(rf"{' ' + fields if fields else ''} = ({reply}|{REFUSED})") for name, (fields, reply) in FORMS.items()}
 OPENING = re.compile(rf"({NUMBER}) ({NUMBER}) ([a-z]+)")
-ROW = re.compile(rf"row(?: {NUMBER}){{2}} (?:first|retry|hedge|transparent) {NUMBER}(?: (?:-|{NUMBER})){{7}} (?:-|stop|{NUMBER})"
-                 rf" (?:-|{NUMBER}) (?:-|[a-z]+) (?:-|{NUMBER})(?: (?:-|{NUMBER}) (?:-|{NUMBER}))?")
+ROW = re.compile(
+    rf"row(?: {NUMBER}){{2}} (?:first|retry|hedge|transparent) {NUMBER}(?: (?:-|{NUMBER})){{7}} (?:-|stop|{NUMBER})"
+    rf" (?:-|{NUMBER}) (?:-|[a-z]+) (?:-|{NUMBER})(?: (?:-|{NUMBER}) (?:-|{NUMBER}))?"
+)
 END = re.compile(rf"end {NUMBER} {NUMBER} {NUMBER} {NUMBER}")
 MOST_MOMENT, WORDS = 4 * 10**18, 1 << 64
 FULL = "fault session full"

@@ -6,10 +6,44 @@ IDLE, CONNECTING, READY, FAILURE, SHUTDOWN = "IDLE", "CONNECTING", "READY", "TRA
 class Call:
     """One call of the application."""
 
-    __slots__ = ("number", "entry", "moment", "path", "wait", "timeout", "meta", "messages", "accepted", "finished", "config", "configured",
-                 "configured_at", "method", "name", "run", "waits", "request", "response", "deadline", "end", "rows", "committed",
-                 "withheld", "too_long", "taken", "taken_end", "sent", "newest", "placed", "forced", "is_stopped", "delayed", "is_refusal_followed",
-                 "last_counted", "full")
+    __slots__ = (
+        "number",
+        "entry",
+        "moment",
+        "path",
+        "wait",
+        "timeout",
+        "meta",
+        "messages",
+        "accepted",
+        "finished",
+        "config",
+        "configured",
+        "configured_at",
+        "method",
+        "name",
+        "run",
+        "waits",
+        "request",
+        "response",
+        "deadline",
+        "end",
+        "rows",
+        "committed",
+        "withheld",
+        "too_long",
+        "taken",
+        "taken_end",
+        "sent",
+        "newest",
+        "placed",
+        "forced",
+        "is_stopped",
+        "delayed",
+        "is_refusal_followed",
+        "last_counted",
+        "full",
+    )
 
     def __init__(self, number, entry, moment, path, wait, timeout, meta):
         self.number, self.entry, self.moment, self.path = number, entry, moment, path
@@ -34,8 +68,11 @@ class Call:
         """The code of the call's end, or None while it is open."""
         if self.end is None:
             return None
-        return {"deadline": 4, "cancelled": 1, "request": 8, "response": 8, "noconfig": 14, "shut": 14}.get(self.end.cause) \
-            if self.end.cause != "row" else self.committed.end.code
+        return (
+            {"deadline": 4, "cancelled": 1, "request": 8, "response": 8, "noconfig": 14, "shut": 14}.get(self.end.cause)
+            if self.end.cause != "row"
+            else self.committed.end.code
+        )
 
     def attempts(self):
         """How many attempts the policy counts: all but transparent retries."""
@@ -54,8 +91,23 @@ class Stamp:
 class RowEnd:
     """How an attempt ended."""
 
-    __slots__ = ("entry", "moment", "code", "cause", "text", "fields", "pushback", "seen", "tokens", "word", "is_unseen", "detail", "is_counted",
-                 "cap", "wait")
+    __slots__ = (
+        "entry",
+        "moment",
+        "code",
+        "cause",
+        "text",
+        "fields",
+        "pushback",
+        "seen",
+        "tokens",
+        "word",
+        "is_unseen",
+        "detail",
+        "is_counted",
+        "cap",
+        "wait",
+    )
 
     def __init__(self, entry, moment, code, cause):
         self.entry, self.moment, self.code, self.cause = entry, moment, code, cause
@@ -67,8 +119,32 @@ class RowEnd:
 class Row:
     """One attempt: a row of the report."""
 
-    __slots__ = ("place", "call", "number", "kind", "due", "made", "placed", "generation", "sub", "link", "stream", "sent", "head", "messages",
-                 "end", "committed", "reset", "written", "has_sent_end", "is_closed", "lift", "prefix", "missing", "received")
+    __slots__ = (
+        "place",
+        "call",
+        "number",
+        "kind",
+        "due",
+        "made",
+        "placed",
+        "generation",
+        "sub",
+        "link",
+        "stream",
+        "sent",
+        "head",
+        "messages",
+        "end",
+        "committed",
+        "reset",
+        "written",
+        "has_sent_end",
+        "is_closed",
+        "lift",
+        "prefix",
+        "missing",
+        "received",
+    )
 
     def __init__(self, place, call, number, kind, due, made):
         self.place, self.call, self.number, self.kind, self.due, self.made = place, call, number, kind, due, made
@@ -85,8 +161,18 @@ class Row:
     def columns(self):
         """The row as a report of version 2 has it."""
         end, placed = self.end, self.placed
-        items = ["row", self.call.number, self.number, self.kind, self.due, placed and placed.entry, self.generation and self.generation.number,
-                 self.sub and self.sub.number, self.link and self.link.number, self.stream]
+        items = [
+            "row",
+            self.call.number,
+            self.number,
+            self.kind,
+            self.due,
+            placed and placed.entry,
+            self.generation and self.generation.number,
+            self.sub and self.sub.number,
+            self.link and self.link.number,
+            self.stream,
+        ]
         items += [end.entry, end.code, end.pushback, end.seen, end.cause] if end else [None] * 5
         items += [self.committed and self.committed.entry, end and end.tokens, end and end.word]
         return ["-" if item is None else str(item) for item in items]
@@ -95,8 +181,33 @@ class Row:
 class Link:
     """One connection."""
 
-    __slots__ = ("number", "sub", "up", "rest", "read", "settings", "goaway", "over", "gone", "rows", "waiting", "streams", "opened", "room",
-                 "initial", "most", "block", "blocks", "bytes_in", "bytes_out", "frames_in", "frames_out", "out_preface", "most_seen", "pieces")
+    __slots__ = (
+        "number",
+        "sub",
+        "up",
+        "rest",
+        "read",
+        "settings",
+        "goaway",
+        "over",
+        "gone",
+        "rows",
+        "waiting",
+        "streams",
+        "opened",
+        "room",
+        "initial",
+        "most",
+        "block",
+        "blocks",
+        "bytes_in",
+        "bytes_out",
+        "frames_in",
+        "frames_out",
+        "out_preface",
+        "most_seen",
+        "pieces",
+    )
 
     def __init__(self, number, sub, up):
         self.number, self.sub, self.up = number, sub, up
@@ -107,7 +218,7 @@ class Link:
         self.bytes_in = self.bytes_out = self.most_seen = 0
         self.frames_in, self.frames_out = [0] * 11, [0] * 11
         self.out_preface = False
-        self.pieces = []        # the entries with bytes, read (above 0) and written (below 0), where a log is kept
+        self.pieces = []  # the entries with bytes, read (above 0) and written (below 0), where a log is kept
 
 
 class Sub:

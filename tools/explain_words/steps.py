@@ -12,8 +12,13 @@ def steps_of(channel, call):
         steps += row_steps(channel, call, row)
     if call.withheld:
         stamp, due, left = call.withheld
-        steps.append((stamp.entry, f"the next hedge was due, and throttling withheld it for good: {tokens(left)} of {tokens(call.run.start)} tokens "
-                      f"were left, and more than half ({tokens(call.run.start // 2)}) are needed"))
+        steps.append(
+            (
+                stamp.entry,
+                f"the next hedge was due, and throttling withheld it for good: {tokens(left)} of {tokens(call.run.start)} tokens "
+                f"were left, and more than half ({tokens(call.run.start // 2)}) are needed",
+            )
+        )
     if call.full and call.full.entry:
         steps.append((call.full.entry, "a message was not taken: the call held back too many bytes (the reply says how many)"))
     if call.end and call.end.cause != "row":
@@ -43,9 +48,14 @@ def begin_steps(channel, call):
 
 def end_words(call):
     code = CODES[call.end_code()]
-    return {"deadline": f"the deadline comes, and the call ends with {code}", "cancelled": f"the application cancels the call: {code}",
-            "shut": f"the channel is shut down, and the call ends with {code}", "noconfig": f"no valid config can be had, and the call ends with {code}",
-            "request": f"a message above its limit ends the call with {code}", "response": f"a message above its limit ends the call with {code}"}[call.end.cause]
+    return {
+        "deadline": f"the deadline comes, and the call ends with {code}",
+        "cancelled": f"the application cancels the call: {code}",
+        "shut": f"the channel is shut down, and the call ends with {code}",
+        "noconfig": f"no valid config can be had, and the call ends with {code}",
+        "request": f"a message above its limit ends the call with {code}",
+        "response": f"a message above its limit ends the call with {code}",
+    }[call.end.cause]
 
 
 def made_steps(channel, call, row):
@@ -54,15 +64,21 @@ def made_steps(channel, call, row):
     before = call.rows[call.rows.index(row) - 1] if row.kind != "first" else None
     if row.kind == "transparent":
         prior = next(other for other in reversed(call.rows[: call.rows.index(row)]) if other.number == row.number)
-        steps.append((row.made.entry, f"no server saw {attempt_name(prior)} ({short_what(prior) if prior.end.cause != 'unsent' else 'nothing was sent'}), so it is made again at once; "
-                      "such a transparent retry counts as no attempt and takes no token"))
+        what = "nothing was sent" if prior.end.cause == "unsent" else short_what(prior)
+        words = f"no server saw {attempt_name(prior)} ({what}), so it is made again at once"
+        steps.append((row.made.entry, words + "; such a transparent retry counts as no attempt and takes no token"))
     elif row.kind == "retry":
         steps.append((last_ended(call, row).end.entry, retry_words(call, row)))
     elif row.kind == "hedge":
         steps.append((row.made.entry, hedge_words(call, row)))
     if row.placed and row.placed.entry != row.made.entry:
-        steps.append((row.placed.entry, f"{attempt_name(row)} is placed on link {row.link.number} ({row.sub.address}), {duration(row.placed.moment - row.made.moment)} after it was due: "
-                      "before that the channel had no link for it"))
+        wait = row.placed.moment - row.made.moment
+        when = (
+            f", {duration(wait)} after it was due: before that the channel had no link for it"
+            if wait
+            else ", as soon as the channel had a link for it"
+        )
+        steps.append((row.placed.entry, f"{attempt_name(row)} is placed on link {row.link.number} ({row.sub.address}){when}"))
     return steps
 
 
@@ -75,16 +91,22 @@ def retry_words(call, row):
     before, plan = last_ended(call, row), call.plan
     end = before.end
     left = f", {tokens(end.tokens)} of {tokens(call.run.start)} tokens are left, more than half" if call.run else ""
-    words = f"{CODES[end.code]} is among the retryableStatusCodes, {before.number} of {plan.attempts} attempts {'is' if before.number == 1 else 'are'} made{left}: attempt {row.number} is due "
+    made = f"{before.number} of {plan.attempts} attempts {'is' if before.number == 1 else 'are'} made"
+    words = f"{CODES[end.code]} is among the retryableStatusCodes, {made}{left}: attempt {row.number} is due "
     if end.pushback is not None:
         return words + (f"{end.pushback} ms later" if end.pushback else "at once") + ", as the server asked (grpc-retry-pushback-ms)"
-    return words + f"{duration(end.wait)} later, drawn from {duration(end.cap - end.cap // 5)} to {duration(end.cap + end.cap // 5)} (backoff {duration(end.cap)})"
+    band = f"from {duration(end.cap - end.cap // 5)} to {duration(end.cap + end.cap // 5)}"
+    return words + f"{duration(end.wait)} later, drawn {band} (backoff {duration(end.cap)})"
 
 
 def hedge_words(call, row):
     """By the delay, or at once by an end, or after a pushback."""
     name = attempt_name(row)
-    ended = [other for other in call.rows if other.end and other.end.is_counted and other.number < row.number and other.end.entry <= row.made.entry]
+    ended = [
+        other
+        for other in call.rows
+        if other.end and other.end.is_counted and other.number < row.number and other.end.entry <= row.made.entry
+    ]
     for other in reversed(sorted(ended, key=lambda other: other.end.moment)):
         if other.end.pushback not in (None, "stop") and other.end.moment + other.end.pushback * 10**6 == row.due:
             return f"{name} is due {other.end.pushback} ms after the end of {attempt_name(other)}, as the server asked (grpc-retry-pushback-ms)"
@@ -111,8 +133,12 @@ def row_steps(channel, call, row):
 def commit_words(call, row):
     cut = [other for other in others_cut(call, row) if other.end.entry == row.committed.entry]
     rest = f", and {attempt_names(cut)} {'is' if len(cut) == 1 else 'are'} cut" if cut else ""
-    how = {"head": "the head of {} comes, so the call is committed to it", "overflow": "the messages pass 262,144 bytes, so the call is committed to {}, which was sent furthest",
-           "handed": "the call was committed before, and goes on with {}", "final": "that is the call's end"}[row.committed.cause]
+    how = {
+        "head": "the head of {} comes, so the call is committed to it",
+        "overflow": "the messages pass 262,144 bytes, so the call is committed to {}, which was sent furthest",
+        "handed": "the call was committed before, and goes on with {}",
+        "final": "that is the call's end",
+    }[row.committed.cause]
     return how.format(attempt_name(row)) + rest
 
 
@@ -125,9 +151,17 @@ def came(row):
         if row.sent is None:
             return "waits on its link, not sent"
         return f"head, {count(row.messages, 'message')}, no end" if row.head else "no answer yet"
-    words = {"status": CODES[end.code], "http": f"HTTP {end.detail if end.detail is not None else 'without a status'}, so {CODES[end.code]}", "framing": f"broken response, so {CODES[end.code]}: {end.detail}",
-             "lost": "the link was lost: UNAVAILABLE", "goaway": "left out by GOAWAY: UNAVAILABLE", "unsent": "its link was gone before anything was sent",
-             "pick": "no link: the channel was in TRANSIENT_FAILURE", "cut": cut_words(row), "reset": f"{short_what(row)}, so {CODES[end.code]}"}[end.cause]
+    words = {
+        "status": CODES[end.code],
+        "http": f"HTTP {end.detail if end.detail is not None else 'without a status'}, so {CODES[end.code]}",
+        "framing": f"broken response, so {CODES[end.code]}: {end.detail}",
+        "lost": "the link was lost: UNAVAILABLE",
+        "goaway": "left out by GOAWAY: UNAVAILABLE",
+        "unsent": "its link was gone before anything was sent",
+        "pick": "no link: the channel was in TRANSIENT_FAILURE",
+        "cut": cut_words(row),
+        "reset": f"{short_what(row)}, so {CODES[end.code]}",
+    }[end.cause]
     if end.text:
         words += f': "{end.text}"'
     if end.cause == "status" and end.code == 0:
@@ -140,7 +174,9 @@ def came(row):
 def cut_words(row):
     call = row.call
     if call.end and call.end.entry == row.end.entry and call.end.cause != "row":
-        return {"deadline": "cut at the deadline", "cancelled": "cut: cancelled", "shut": "cut: the channel was shut down"}.get(call.end.cause, "cut: a message above its limit")
+        return {"deadline": "cut at the deadline", "cancelled": "cut: cancelled", "shut": "cut: the channel was shut down"}.get(
+            call.end.cause, "cut: a message above its limit"
+        )
     return f"cut: the call was committed to attempt {call.committed.number}" if call.committed else "cut"
 
 
@@ -152,10 +188,16 @@ def policy_words(call):
     if plan is None:
         return "none: one attempt"
     if plan.kind == "retry":
-        return (f"retry: up to {plan.attempts} attempts, {duration(plan.initial)} x {tokens(plan.multiplier)} up to {duration(plan.longest)}, "
-                f"on {codes_words(plan.codes)}")
+        return (
+            f"retry: up to {plan.attempts} attempts, {duration(plan.initial)} x {tokens(plan.multiplier)} up to {duration(plan.longest)}, "
+            f"on {codes_words(plan.codes)}"
+        )
     codes = f"goes on after {codes_words(plan.codes)}" if plan.codes else "each code is fatal"
-    return f"hedge: up to {plan.attempts} attempts, one each {duration(plan.delay)}, {codes}" if plan.delay else f"hedge: up to {plan.attempts} attempts at once, {codes}"
+    return (
+        f"hedge: up to {plan.attempts} attempts, one each {duration(plan.delay)}, {codes}"
+        if plan.delay
+        else f"hedge: up to {plan.attempts} attempts at once, {codes}"
+    )
 
 
 def source_words(call):
@@ -163,7 +205,9 @@ def source_words(call):
     if call.name is None:
         return "no entry of methodConfig is for it" if call.configured else ""
     service, method = call.name
-    return f"methodConfig[{call.method.place}], " + (f"method {service}/{method}" if method else f"service {service}" if service else "the default")
+    return f"methodConfig[{call.method.place}], " + (
+        f"method {service}/{method}" if method else f"service {service}" if service else "the default"
+    )
 
 
 def throttle_words(run):

@@ -5,16 +5,54 @@ from .lanes import BAR, LEVEL, LINE, MARK, lanes_of, scale_of
 from .names import count, duration, in_unit, short, unit_for
 from .steps import came
 
-BARS = {"state-IDLE": ".", "state-CONNECTING": "~", "state-READY": "=", "state-TRANSIENT_FAILURE": "!", "state-SHUTDOWN": "#", "pending": "~", "current": "=",
-        "link-up": "~", "link-ready": "=", "link-retiring": "-", "call": " ", "queue": ".", "placed": ":", "sent": "=", "answer": "+", "wait": "-", "delay": "-",
-        "above": "=", "below": "!"}
-MARKS = {"result": "r", "failed": "!", "dial": "d", "goaway": "G", "lost": "X", "send": ">", "commit": "c", "ok": "*", "cut": "x", "open": "?", "deadline": "D"}
-CALL_LEGEND = ("- wait before it  . waits for a link  : on a link, not sent  > sent  = waits for the answer  + the response comes  c committed  "
-               "* answered OK  ! failed  x cut by the client  ? open  D deadline")
-LEGEND = (("channel, subchannels: . IDLE  ~ CONNECTING  = READY  ! TRANSIENT_FAILURE  # SHUTDOWN  r the resolver answers  d dial  ! the dial failed", {"channel", "sub"}),
-          ("links: ~ before SETTINGS  = in use  - retiring  G GOAWAY  X lost or broken", {"link"}),
-          ("tokens: = more than half  ! not more than half: no retry or hedge", {"tokens"}),
-          ("attempts: " + CALL_LEGEND, {"call", "attempt"}))
+BARS = {
+    "state-IDLE": ".",
+    "state-CONNECTING": "~",
+    "state-READY": "=",
+    "state-TRANSIENT_FAILURE": "!",
+    "state-SHUTDOWN": "#",
+    "pending": "~",
+    "current": "=",
+    "link-up": "~",
+    "link-ready": "=",
+    "link-retiring": "-",
+    "call": " ",
+    "queue": ".",
+    "placed": ":",
+    "sent": "=",
+    "answer": "+",
+    "wait": "-",
+    "delay": "-",
+    "above": "=",
+    "below": "!",
+}
+MARKS = {
+    "result": "r",
+    "failed": "!",
+    "dial": "d",
+    "goaway": "G",
+    "lost": "X",
+    "send": ">",
+    "commit": "c",
+    "ok": "*",
+    "cut": "x",
+    "open": "?",
+    "deadline": "D",
+    "withheld": "w",
+}
+CALL_LEGEND = (
+    "- wait before it  . waits for a link  : on a link, not sent  > sent  = waits for the answer  + the response comes  c committed  "
+    "* answered OK  ! failed  x cut by the client  ? open  w a hedge withheld  D deadline"
+)
+LEGEND = (
+    (
+        "channel, subchannels: . IDLE  ~ CONNECTING  = READY  ! TRANSIENT_FAILURE  # SHUTDOWN  r the resolver answers  d dial  ! the dial failed",
+        {"channel", "sub"},
+    ),
+    ("links: ~ before SETTINGS  = in use  - retiring  G GOAWAY  X lost or broken", {"link"}),
+    ("tokens: = more than half  ! not more than half: no retry or hedge", {"tokens"}),
+    ("attempts: " + CALL_LEGEND, {"call", "attempt"}),
+)
 
 
 def drawn(lane, scale, width):
@@ -54,7 +92,11 @@ def timeline_lines(channel, call, part, width, by_entry):
     names = [lane_name(lane, call) for lane in lanes]
     label = min(max([len(name) for name in names] + [8]), max(18, width // 3)) + 2
     plot = max(20, width - label - 1)
-    head = f"call {call.number} {call.path}: {call_end_name(call)} after {duration(call_time(channel, call))}, {count(len(call.rows), 'attempt')}" if call else summary(channel)
+    head = (
+        f"call {call.number} {call.path}: {call_end_name(call)} after {duration(call_time(channel, call))}, {count(len(call.rows), 'attempt')}"
+        if call
+        else summary(channel)
+    )
     lines = [short(head, width), ""] + axis_lines(scale, label, plot)
     for lane, name in zip(lanes, names):
         lines.append((short(name, label - 2).ljust(label) + drawn(lane, scale, plot)).rstrip())
@@ -78,7 +120,8 @@ def attempt_lines(channel, call):
         sent = in_unit(row.sent.moment - call.moment, unit) if row.sent else "-"
         end = in_unit(row.end.moment - call.moment, unit) if row.end else "-"
         where = f"link {row.link.number} stream {row.stream or '-'}" if row.link else "no link"
-        lines.append(f"  {row.number} {row.kind:<11}  due {in_unit(row.due - call.moment, unit):>8}  sent {sent:>8}  end {end:>8} {unit[0]}  {where}  {came(row)}")
+        times = f"due {in_unit(row.due - call.moment, unit):>8}  sent {sent:>8}  end {end:>8} {unit[0]}"
+        lines.append(f"  {row.number} {row.kind:<11}  {times}  {where}  {came(row)}")
     return lines
 
 

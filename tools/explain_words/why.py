@@ -50,7 +50,12 @@ def why_of(channel, call):
     if cause == "deadline":
         clause, what, entries = waited_for(channel, call)
         limit = duration(call.deadline - call.moment)
-        return Why("deadline", f"deadline of {limit}; {clause}", f"the deadline of {limit} ({deadline_source(call)}) came while {what}", entries + at)
+        return Why(
+            "deadline",
+            f"deadline of {limit}; {clause}",
+            f"the deadline of {limit} ({deadline_source(call)}) came while {what}",
+            entries + at,
+        )
     if cause == "cancelled":
         clause, what, entries = waited_for(channel, call)
         return Why("cancelled", f"cancelled by the application; {clause}", f"the application cancelled the call while {what}", entries + at)
@@ -79,12 +84,15 @@ def too_long_why(call, cause):
 def noconfig_why(channel, call):
     stamp, reply = next(((stamp, reply) for stamp, reply in reversed(channel.results) if stamp.entry <= call.end.entry), (None, None))
     what = "the resolver failed" if reply == "unresolved" else f"the resolver's config has a fault ({reply})"
-    words = (f"{what}, and no valid config was ever given, so a call that does not wait for ready ends at once: no server ever saw it. "
-             "Mend the config or the name, or let the call wait (wait for ready: yes)")
+    words = (
+        f"{what}, and no valid config was ever given, so a call that does not wait for ready ends at once: no server ever saw it. "
+        "Mend the config or the name, or let the call wait (wait for ready: yes)"
+    )
     return Why("noconfig", f"{what}, and no valid config was there", words, [stamp.entry if stamp else None, call.end.entry])
 
 
 # ---- calls that an attempt ended
+
 
 def others_cut(call, winner):
     return [row for row in call.rows if row is not winner and row.end and row.end.cause == "cut"]
@@ -97,8 +105,13 @@ def answered_why(call):
         names = attempt_names(cut)
         how = "its head came first" if row.committed.cause == "head" else "its answer came first"
         when = duration(row.committed.moment - call.moment)
-        return Why("won", f"{attempt_name(row)} won after {when}, {names} cut", f"{attempt_name(row)} won: {how}, so the call was committed to it ({A6}) and "
-                   f"{names} {'was' if len(cut) == 1 else 'were'} cut, {when} after the call began", entries)
+        return Why(
+            "won",
+            f"{attempt_name(row)} won after {when}, {names} cut",
+            f"{attempt_name(row)} won: {how}, so the call was committed to it ({A6}) and "
+            f"{names} {'was' if len(cut) == 1 else 'were'} cut, {when} after the call began",
+            entries,
+        )
     if row.number == 1 and row.kind != "transparent":
         return Why("answered", "the first attempt was answered OK", None, entries)
     return Why("answered", f"{attempt_name(row)} was answered OK", None, entries)
@@ -131,8 +144,14 @@ def short_what(row):
     end = row.end
     if end.cause == "reset":
         return f"reset {name_in(ERRORS, end.detail)}"
-    return {"status": CODES[end.code], "pick": "no link: TRANSIENT_FAILURE", "lost": "link lost", "goaway": "GOAWAY",
-            "http": f"HTTP {end.detail}", "framing": "broken response"}.get(end.cause, end.cause)
+    return {
+        "status": CODES[end.code],
+        "pick": "no link: TRANSIENT_FAILURE",
+        "lost": "link lost",
+        "goaway": "GOAWAY",
+        "http": f"HTTP {end.detail}",
+        "framing": "broken response",
+    }.get(end.cause, end.cause)
 
 
 def no_further(call, row):
@@ -146,7 +165,12 @@ def no_further(call, row):
     if end.code not in plan.codes:
         field = "retryableStatusCodes" if plan.kind == "retry" else "nonFatalStatusCodes"
         verb = "is not retried" if plan.kind == "retry" else "is fatal to a hedged call"
-        return "code", f"{CODES[end.code]} {verb}", f"{CODES[end.code]} is not among the {field} ({codes_words(plan.codes)}), so that answer is the call's", []
+        return (
+            "code",
+            f"{CODES[end.code]} {verb}",
+            f"{CODES[end.code]} is not among the {field} ({codes_words(plan.codes)}), so that answer is the call's",
+            [],
+        )
     return hedged_rule(call, row) if plan.kind == "hedge" else retried_rule(call, row)
 
 
@@ -155,9 +179,21 @@ def committed_rule(call, row, how):
     if call.plan is None:
         return "no-policy", "no retry policy", f"{no_policy_words(call)}, so the end of its one attempt is the call's", []
     if how == "head":
-        return "committed", "its head had come: committed", f"its head had come before, which commits the call to it ({A6}): no other attempt is made", at
-    return "committed", "committed by its buffer", ("its messages had passed the 262,144 bytes that are kept for further attempts, which commits the call "
-                                                    f"({A6}): no other attempt is made"), at
+        return (
+            "committed",
+            "its head had come: committed",
+            f"its head had come before, which commits the call to it ({A6}): no other attempt is made",
+            at,
+        )
+    return (
+        "committed",
+        "committed by its buffer",
+        (
+            "its messages had passed the 262,144 bytes that are kept for further attempts, which commits the call "
+            f"({A6}): no other attempt is made"
+        ),
+        at,
+    )
 
 
 def no_policy_words(call):
@@ -166,18 +202,39 @@ def no_policy_words(call):
     return f"its entry (methodConfig[{call.method.place}]) has neither a retryPolicy nor a hedgingPolicy"
 
 
+def left_words(call, count_now):
+    return f"{tokens(count_now)} of {tokens(call.run.start)} tokens left"
+
+
 def throttle_rule(call, count_now):
-    return f"{tokens(count_now)} of {tokens(call.run.start)} tokens were left, and more than half ({tokens(call.run.start // 2)}) are needed"
+    return (
+        f"{tokens(count_now)} of {tokens(call.run.start)} tokens were left, and more than half ({tokens(call.run.start // 2)}) are needed"
+    )
 
 
 def retried_rule(call, row):
     plan, end = call.plan, row.end
     if end.pushback == "stop":
-        return "pushback", "the server said: no retry", f"its grpc-retry-pushback-ms says that no retry may follow ({A6}: pushback), so that answer is the call's", []
+        return (
+            "pushback",
+            "the server said: no retry",
+            f"its grpc-retry-pushback-ms says that no retry may follow ({A6}: pushback), so that answer is the call's",
+            [],
+        )
     if row.number >= plan.attempts:
         all_of = f"all {plan.attempts} attempts" if plan.attempts > 1 else "the attempt"
-        return "attempts", f"{all_of} used", f"the policy allows {plan.attempts} attempts and this was the last, so its answer is the call's", []
-    return ("throttled", "throttled", f"the policy allows {plan.attempts} attempts, but throttling forbade another one: {throttle_rule(call, end.tokens)}", [])
+        return (
+            "attempts",
+            f"{all_of} used",
+            f"the policy allows {plan.attempts} attempts and this was the last, so its answer is the call's",
+            [],
+        )
+    return (
+        "throttled",
+        f"throttled, {left_words(call, end.tokens)}",
+        f"the policy allows {plan.attempts} attempts, but throttling forbade another one: {throttle_rule(call, end.tokens)}",
+        [],
+    )
 
 
 def hedged_rule(call, row):
@@ -187,16 +244,39 @@ def hedged_rule(call, row):
     stopped = next((other for other in counted if other.end.pushback == "stop"), None)
     if call.withheld:
         stamp, _, left = call.withheld
-        return "throttled", "throttled", f"the policy allows {plan.attempts} attempts, but throttling withheld the {ordinal(made + 1)}: {throttle_rule(call, left)}", [stamp.entry]
+        return (
+            "throttled",
+            f"throttled, {left_words(call, left)}",
+            f"the policy allows {plan.attempts} attempts, but throttling withheld the {ordinal(made + 1)}: {throttle_rule(call, left)}",
+            [stamp.entry],
+        )
     if stopped and made < plan.attempts:
-        return "pushback", "the server said: no more hedges", (f"the grpc-retry-pushback-ms of {attempt_name(stopped)} says that no further attempt may follow "
-                                                               f"({A6}: pushback), and no other attempt ran"), [stopped.end.entry]
+        return (
+            "pushback",
+            "the server said: no more hedges",
+            (
+                f"the grpc-retry-pushback-ms of {attempt_name(stopped)} says that no further attempt may follow "
+                f"({A6}: pushback), and no other attempt ran"
+            ),
+            [stopped.end.entry],
+        )
     if made >= plan.attempts:
-        return "attempts", f"all {plan.attempts} attempts used", f"the policy allows {plan.attempts} attempts, all of them had ended, and this was the last to end", []
-    return "throttled", "throttled", f"the policy allows {plan.attempts} attempts, but throttling forbade another one: {throttle_rule(call, end.tokens)}", []
+        return (
+            "attempts",
+            f"all {plan.attempts} attempts used",
+            f"the policy allows {plan.attempts} attempts, all of them had ended, and this was the last to end",
+            [],
+        )
+    return (
+        "throttled",
+        f"throttled, {left_words(call, end.tokens)}",
+        f"the policy allows {plan.attempts} attempts, but throttling forbade another one: {throttle_rule(call, end.tokens)}",
+        [],
+    )
 
 
 # ---- no server reached, and calls that waited
+
 
 def dials_words(channel, call, entry):
     """What became of each subchannel up to an entry: its last failure since it was READY, else its state."""
@@ -251,8 +331,10 @@ def no_server_words(channel, call, row):
     where = "; ".join(words[:4]) if words else "the resolver gave no address"
     more = f"; {len(words) - 4} more" if len(words) > 4 else ""
     seen = "no server ever saw it" if not any(other.sent for other in call.rows) else "this attempt reached no server"
-    return (f"{where}{more}. So the channel was in TRANSIENT_FAILURE, and a call that does not wait for ready fails at once: {seen}. "
-            "To let it wait, say so when it begins (wait for ready: yes), or \"waitForReady\": true in its methodConfig"), entries[:4] + [row.end.entry]
+    return (
+        f"{where}{more}. So the channel was in TRANSIENT_FAILURE, and a call that does not wait for ready fails at once: {seen}. "
+        'To let it wait, say so when it begins (wait for ready: yes), or "waitForReady": true in its methodConfig'
+    ), entries[:4] + [row.end.entry]
 
 
 def waited_for(channel, call):
@@ -276,7 +358,13 @@ def waited_for(channel, call):
     if last is None:
         return "no attempt was running", "no attempt was running", []
     due = channel.next_due(call) if call.end is None else None
-    wait = due - last.end.moment if due is not None else last.end.pushback * 10**6 if last.end.pushback not in (None, "stop") else last.end.wait
+    wait = (
+        due - last.end.moment
+        if due is not None
+        else last.end.pushback * 10**6
+        if last.end.pushback not in (None, "stop")
+        else last.end.wait
+    )
     then = f", and the next one {'is' if call.end is None else 'was'} due {duration(wait)} after it" if wait is not None else ""
     words = f"{attempt_name(last)} {has} ended with {CODES[last.end.code]}{then}"
     return words, words, [last.end.entry]
@@ -287,7 +375,11 @@ def running_words(call, rows, waits, has):
     for row in rows:
         if row.sent is None:
             most = row.link.most
-            why = f"its server allows {count(most, 'stream')} at a time" if most is not None and row.link.most_seen >= most else f"its request {'was' if call.end else 'is'} not sent yet"
+            why = (
+                f"its server allows {count(most, 'stream')} at a time"
+                if most is not None and row.link.most_seen >= most
+                else f"its request {'was' if call.end else 'is'} not sent yet"
+            )
             words.append(f"{attempt_name(row)} {waits} on link {row.link.number}: {why}")
             entries.append(row.placed.entry)
         elif row.head is None:
@@ -313,5 +405,9 @@ def queued_words(channel, call, row, entry, waits):
 
 def open_why(channel, call):
     clause, what, entries = waited_for(channel, call)
-    limit = "no deadline: without an answer it waits for ever" if call.deadline is None else f"its deadline is {duration(call.deadline - call.moment)}"
+    limit = (
+        "no deadline: without an answer it waits for ever"
+        if call.deadline is None
+        else f"its deadline is {duration(call.deadline - call.moment)}"
+    )
     return Why("open", f"open: {clause}", f"the session ends with the call open: {what} ({limit})", entries)

@@ -147,7 +147,11 @@ class Wire:
 def event_words(name, fields):
     if name == "begin":
         path, wait, timeout, meta = fields
-        words = [path] + ([f"wait for ready: {wait}"] if wait != "-" else []) + ([f"timeout {duration(int(timeout))}"] if timeout != "-" else [])
+        words = (
+            [path]
+            + ([f"wait for ready: {wait}"] if wait != "-" else [])
+            + ([f"timeout {duration(int(timeout))}"] if timeout != "-" else [])
+        )
         return "begin " + ", ".join(words + ([meta_words(meta)] if meta != "-" else []))
     if name == "send":
         return f"send {fields[0]} {message_words(fields[1])}"
@@ -165,7 +169,12 @@ def reply_words(reply):
         return "head " + (meta_words(rest) or "without metadata")
     if name == "end":
         code, text, meta, cause = rest.split(" ")
-        return f"end {code}" + (f" {quoted(text_of(text))}" if text != "-" else "") + (f", {meta_words(meta)}" if meta != "-" else "") + f" ({cause})"
+        return (
+            f"end {code}"
+            + (f" {quoted(text_of(text))}" if text != "-" else "")
+            + (f", {meta_words(meta)}" if meta != "-" else "")
+            + f" ({cause})"
+        )
     return reply
 
 
