@@ -9,6 +9,7 @@ use crate::announced::Announced;
 use crate::remember::{Fronted, Remembering, tell};
 use channel_top::run_channel;
 use dns_watch::TcpNamedWorld;
+use fault_words::is_misspelled;
 use gate_io::{Sink, Source, StdSink, StdSource};
 use grpc_base::NoMemory;
 use lb_kinds::{PickFirst, RoundRobin};
@@ -57,6 +58,20 @@ fn words(rt: &(impl Env + AllocGlobal)) -> Result<Vec<String>, NoWords> {
         }
     }
     Ok(words)
+}
+
+/// The words that `help` and further words stand for, those words and `--help`; other words as they are.
+fn with_help(alloc: Global, words: Vec<String>) -> Result<Vec<String>, NoMemory> {
+    match words.as_slice() {
+        [first, ..] if first.as_bytes() == b"help".as_slice() => {}
+        _ => return Ok(words),
+    }
+    let mut asked = Vec::new(alloc);
+    for word in words.into_iter().skip(1) {
+        asked.push(word)?;
+    }
+    asked.push(String::from_str(alloc, "--help")?)?;
+    Ok(asked)
 }
 
 /// Runs the top call over TCP with these policies, where they may be handed to it.
@@ -115,12 +130,18 @@ fn main(rt: HostRuntime) -> ExitCode {
         Err(NoWords::NotText) => (Vec::new(alloc), false),
         Err(NoWords::NoMemory) => return ExitCode::from(NO_MEMORY),
     };
-    let mut input = Remembering::new(alloc, words.as_slice(), rt.reader());
+    let Ok(words) = with_help(alloc, words) else {
+        return ExitCode::from(NO_MEMORY);
+    };
+    // A number with a sign or a leading zero is refused as no words are, before it is read.
+    let is_refused = is_misspelled(words.as_slice());
+    let run_words: &[String] = if is_refused { &[] } else { words.as_slice() };
+    let mut input = Remembering::new(alloc, rt, words.as_slice(), rt.reader());
     let mut output = Fronted::new(io::writer(&rt));
     let ended = run(
         &rt,
         alloc,
-        words.as_slice(),
+        run_words,
         &mut StdSource::new(&mut input),
         &mut StdSink::new(&mut output),
     );

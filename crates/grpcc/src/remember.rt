@@ -1,41 +1,73 @@
 // Standard input and output, as they are remembered for the words on standard error; and these words.
 use crate::NO_MEMORY;
-use fault_words::{Ended, Failure, Remembered, explain};
+use fault_words::{Ended, Failure, Remembered, explain, warn};
 use std::alloc::Global;
 use std::io;
-use std::io::{ErrorKind, Read, Write};
+use std::io::{ErrorKind, IsTerminal, Read, Write};
 
 /// How many bytes of the front of standard output are remembered: more than a fault line has.
 const FRONT: usize = 256;
 
-/// A reader that remembers what it read, and why a read failed.
+/// A reader that remembers what it read, and why a read failed. It says on standard error that it reads from a terminal, and at the
+/// end of a server script what is strange in it.
 #[derive(Drop)]
-pub struct Remembering<R> {
+pub struct Remembering<R, E> {
+    rt: E,
+    alloc: Global,
     reader: R,
     input: Remembered,
     failure: Option<Failure>,
+    /// Whether a read was begun.
+    has_begun: bool,
+    /// Whether it is a server script whose end was not read yet.
+    is_served: bool,
 }
 
-impl<R: Read> Remembering<R> {
+impl<R: Read + IsTerminal, E: Eprint> Remembering<R, E> {
     /// A reader over this one, for the input of the mode that these words name.
-    pub fn new(alloc: Global, words: &[String], reader: R) -> Remembering<R> {
-        let input = match words {
-            [first, ..] if first.as_bytes() == b"config".as_slice() => Remembered::of_config(alloc),
-            _ => Remembered::of_script(alloc),
+    pub fn new(alloc: Global, rt: E, words: &[String], reader: R) -> Remembering<R, E> {
+        let is_served = match words {
+            [first, ..] => first.as_bytes() == b"serve".as_slice(),
+            _ => false,
         };
         Remembering {
+            rt,
+            alloc,
             reader,
-            input,
+            input: Remembered::new(alloc),
             failure: None,
+            has_begun: false,
+            is_served,
         }
+    }
+
+    fn begin(&mut self) {
+        if !self.has_begun && self.reader.is_terminal() {
+            print(&self.rt, b"reading from the terminal; end with Ctrl-D\n");
+        }
+        self.has_begun = true;
+    }
+
+    fn end(&mut self) {
+        if self.is_served
+            && let Ok(text) = warn(self.alloc, &self.input)
+        {
+            print(&self.rt, text.as_slice());
+        }
+        self.is_served = false;
     }
 }
 
-impl<R: Read> Read for Remembering<R> {
+impl<R: Read + IsTerminal, E: Eprint> Read for Remembering<R, E> {
     ghost remaining = { λ r. R.remaining r.reader };
 
     fn read(&mut self, buf: &mut [u8]) -> io::Result<usize> {
+        self.begin();
         match self.reader.read(buf) {
+            Ok(0) => {
+                self.end();
+                Ok(0)
+            }
             Ok(count) => {
                 self.input.take(&buf[..count]);
                 Ok(count)
@@ -122,13 +154,13 @@ fn failure_of(kind: ErrorKind) -> Failure {
 }
 
 /// Says on standard error how a run on these words ended. Where a word of the command was not text, `words` is empty.
-pub fn tell<E: Eprint, R, W>(
+pub fn tell<E: Eprint, R, T, W>(
     rt: &E,
     alloc: Global,
     status: u8,
     words: &[String],
     are_text: bool,
-    input: &Remembering<R>,
+    input: &Remembering<R, T>,
     output: &Fronted<W>,
 ) {
     let ended = Ended {
