@@ -40,32 +40,32 @@ impl<R: Read + IsTerminal, E: Eprint> Remembering<R, E> {
             is_served,
         }
     }
+}
 
-    fn begin(&mut self) {
-        if !self.has_begun && self.reader.is_terminal() {
-            print(&self.rt, b"reading from the terminal; end with Ctrl-D\n");
-        }
-        self.has_begun = true;
+/// Says before the first read that it is from a terminal.
+fn begin<R: IsTerminal, E: Eprint>(rt: &E, reader: &R, has_begun: &mut bool) {
+    if !*has_begun && reader.is_terminal() {
+        print(rt, b"reading from the terminal; end with Ctrl-D\n");
     }
+    *has_begun = true;
+}
 
-    fn end(&mut self) {
-        if self.is_served
-            && let Ok(text) = warn(self.alloc, &self.input)
-        {
-            print(&self.rt, text.as_slice());
-        }
-        self.is_served = false;
+/// Says at the end of a server script what is strange in it.
+fn end<E: Eprint>(rt: &E, alloc: Global, input: &Remembered, is_served: &mut bool) {
+    if *is_served && let Ok(text) = warn(alloc, input) {
+        print(rt, text.as_slice());
     }
+    *is_served = false;
 }
 
 impl<R: Read + IsTerminal, E: Eprint> Read for Remembering<R, E> {
     ghost remaining = { λ r. R.remaining r.reader };
 
     fn read(&mut self, buf: &mut [u8]) -> io::Result<usize> {
-        self.begin();
+        begin(&self.rt, &self.reader, &mut self.has_begun);
         match self.reader.read(buf) {
             Ok(0) => {
-                self.end();
+                end(&self.rt, self.alloc, &self.input, &mut self.is_served);
                 Ok(0)
             }
             Ok(count) => {
