@@ -145,11 +145,17 @@ Causes of bad lines are those of scripts: grpcc replay --help"
 
 /// Of `load`: what it plays, and the columns of its line.
 pub fn of_load() -> &'static str {
-    "Makes a session of so many calls from a seed, plays it in memory against a scripted server on two
-links, and sums it up. Nothing is read. The same seed and calls give the same line.
+    "A simulation: makes a session of so many calls from a seed, plays it in memory against a scripted
+server on two links, and sums it up. Nothing is read, no socket is opened, and time is the script's
+own. The same seed and calls give the same line. How fast calls are over TCP: grpcc live.
+
+The server refuses on purpose, as the seed draws: it answers a request UNAVAILABLE, resets it with
+REFUSED_STREAM, or answers it well. Retries are made for UNAVAILABLE, up to 4 attempts, under
+throttling with 100 tokens: each failure takes one, each success gives a tenth of one back, and at
+50 or fewer no retry is made. So in long loads most calls that draw UNAVAILABLE fail.
 
 Output:  load <seed> calls <calls> entries <n> rows <n> ok <n> failed <n> open <n> retries <n> transparent <n>
-  entries      of the journal
+  entries      of the journal: the events of the session
   rows         attempts
   ok           calls whose end was taken and has status 0
   failed       calls whose end was taken and has another status
