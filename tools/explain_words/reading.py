@@ -89,7 +89,9 @@ class Reading:
             if not fault and count - at < 9 + length:
                 break
             payload = data[at + 9 : at + 9 + length]
-            if fault or kind or link.block or link.settings is None or not stream & 1 or stream > link.opened:
+            if kind < 2 and link.block is None and link.settings and stream & 1 and stream <= link.opened:
+                fault = fault or (self.block_fault(link, kind, flags, stream, payload) if kind else None)
+            else:
                 fault = fault or self.frame_fault(link, kind, flags, stream, payload)
             if fault:
                 self.break_link(link, fault)

@@ -118,7 +118,7 @@ def report_of(data):
 
 
 def entries_of(report):
-    """Each entry: its number, moment, word, the event's name, its fields, and the reply."""
+    """Each entry: its number, moment, word, the event's name, and its fields with the reply as the last."""
     last = 0
     lines = report.lines
     opening, forms = OPENING.match, EVENTS
@@ -135,8 +135,7 @@ def entries_of(report):
         if moment < last or moment > MOST_MOMENT or word >= WORDS:
             raise Fault(number + 1, "its moment is below the one before" if moment < last else "its moment or its word is out of range")
         last = moment
-        *fields, reply = rest.groups()
-        yield number, moment, word, name, fields, reply
+        yield number, moment, word, name, rest.groups()
 
 
 def entry_words(line):
