@@ -6,7 +6,6 @@ use Rattle.attempt_ledger.specs.declared.row.RowCause.{RowCause}
 use Rattle.attempt_ledger.specs.declared.row.RowEnd.{RowEnd}
 use Rattle.grpc_base.specs.ErrorCodes.{cancel}
 use Rattle.h2_frame.specs.Sent.{rst_stream_frame}
-use Rattle.json_text.specs.Reading.{run}
 use Rattle.session_actions.specs.Attempts.{call_of, commitment, is_outstanding, is_over, is_to_follow, of_its_call, with_attempt}
 use Rattle.session_actions.specs.Calls.{marked}
 use Rattle.session_actions.specs.Configs.{config_of_call, plan_of}

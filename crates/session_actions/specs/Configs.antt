@@ -6,7 +6,6 @@ use Rattle.grpc_base.specs.declared.event.ConfigFault.{ConfigFault}
 use Rattle.grpc_base.specs.declared.plan.CallPlan.{CallPlan}
 use Rattle.grpc_base.specs.declared.plan.Chosen.{Chosen}
 use Rattle.grpc_base.specs.declared.plan.Throttle.{Throttle}
-use Rattle.json_text.specs.Reading.{run}
 use Rattle.service_config.specs.Choice.{chosen_for, empty_config, taken}
 use Rattle.service_config.specs.Reading.{config_of}
 use Rattle.service_config.specs.declared.config.Config.{Config}

@@ -7,7 +7,6 @@ use Rattle.attempt_ledger.specs.Numbering.{is_transparent, kind_by_number, most_
 use Rattle.attempt_ledger.specs.Throttling.{codes_of}
 use Rattle.attempt_ledger.specs.declared.row.RowEnd.{RowEnd}
 use Rattle.attempt_ledger.specs.declared.row.RowKind.{RowKind}
-use Rattle.config_values.specs.Values.{tokens}
 use Rattle.grpc_base.specs.Backoff.{capped_wait, spread_wait}
 use Rattle.grpc_base.specs.Codes.{has_code}
 use Rattle.grpc_base.specs.declared.code.Code.{Code}

@@ -2,7 +2,6 @@
 use Rattle.std.specs.Prelude.{Bool, None, Option, Some, [], false, if◌then◌else◌, option_map, true, ℕ}
 use Rattle.grpc_base.specs.declared.event.Event.{Event}
 use Rattle.grpc_base.specs.declared.event.Refusal.{Refusal}
-use Rattle.json_text.specs.Decimals.{most}
 use Rattle.session_actions.specs.CallEnds.{is_after_event}
 use Rattle.session_actions.specs.Configs.{read_config}
 use Rattle.session_actions.specs.Deliveries.{next_item, send_action, take_action}

@@ -2,7 +2,6 @@
 -- 6 and 6.9; RFC 7541).
 use Rattle.std.specs.List.{list_any}
 use Rattle.std.specs.Prelude.{Bool, Err, List, None, Ok, Option, Result, Some, [], drop, false, filter, flat_map, fold, if◌then◌else◌, length, map, nat_le, nat_lt, not, option_map, sum_by, unwrap_or, ℕ, ◌&&◌, ◌++◌, ◌+◌, ◌-◌, ◌==◌, ◌||◌, ◌∷◌}
-use Rattle.config_values.specs.Values.{size}
 use Rattle.grpc_base.specs.ErrorCodes.{compression_error, enhance_your_calm, flow_control_error, protocol_error}
 use Rattle.grpc_base.specs.declared.fields.Field.{Field}
 use Rattle.h2_frame.specs.Frames.{FrameSeen, has_flag}

@@ -3,7 +3,6 @@ use Rattle.std.specs.List.{list_any}
 use Rattle.std.specs.Prelude.{Bool, None, Option, Some, if◌then◌else◌, is_some, nat_lt, not, ℕ, ◌&&◌, ◌||◌}
 use Rattle.grpc_base.specs.declared.event.Event.{Event}
 use Rattle.grpc_base.specs.declared.event.Refusal.{Refusal}
-use Rattle.json_text.specs.Decimals.{most}
 use Rattle.session_actions.specs.Links.{is_retiring}
 use Rattle.session_actions.specs.Policies.{is_shutdown}
 use Rattle.session_actions.specs.Reading.{is_outstanding_on}

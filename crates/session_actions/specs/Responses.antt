@@ -4,24 +4,20 @@ use Rattle.std.specs.Char.{is_ascii_digit}
 use Rattle.std.specs.List.{list_all, starts_with}
 use Rattle.std.specs.Option.{option_map_or}
 use Rattle.std.specs.Prelude.{Bool, List, None, Option, Some, [], codes, false, fold, if◌then◌else◌, is_none, is_some, length, nat_eq, nat_le, nat_lt, slice_get, true, ℕ, ◌&&◌, ◌++◌, ◌+◌, ◌==◌, ◌||◌, ◌∷◌}
-use Rattle.attempt_ledger.specs.Journals.{by}
 use Rattle.attempt_ledger.specs.Throttling.{is_success}
 use Rattle.attempt_ledger.specs.declared.row.RowCause.{RowCause}
-use Rattle.config_values.specs.Values.{size}
 use Rattle.grpc_base.specs.ErrorCodes.{cancel, flow_control_error, protocol_error, refused_stream}
 use Rattle.grpc_base.specs.Limits.{message_limit}
 use Rattle.grpc_base.specs.Numbers.{number_of}
 use Rattle.grpc_base.specs.declared.code.Code.{Code}
 use Rattle.grpc_base.specs.declared.fields.Field.{Field}
 use Rattle.grpc_frame.specs.Messages.{Messages, messages_of}
-use Rattle.grpc_frame.specs.Read.{told}
 use Rattle.grpc_frame.specs.declared.next.MessageFault.{MessageFault}
 use Rattle.grpc_meta.specs.ResponseFields.{pushback_of, shown_of, values_of}
 use Rattle.grpc_status.specs.StatusMaps.{code_of_text, http_codes, looked_up, reset_codes, text_of_message}
 use Rattle.h2_frame.specs.Frames.{FrameSeen, has_flag}
 use Rattle.h2_frame.specs.Numbers.{data_type, end_stream_flag, goaway_type, rst_stream_type, window_update_type}
 use Rattle.h2_frame.specs.Payloads.{content_of, increment, last_stream, reset_code}
-use Rattle.h2_frame.specs.Steps.{seen}
 use Rattle.session_actions.specs.Attempts.{call_of}
 use Rattle.session_actions.specs.Configs.{chosen_of}
 use Rattle.session_actions.specs.Links.{is_settings, link_of, settings_of}

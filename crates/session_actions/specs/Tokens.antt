@@ -4,13 +4,11 @@ use Rattle.std.specs.Prelude.{Bool, None, Option, Some, fold, if◌then◌else�
 use Rattle.attempt_ledger.specs.Ends.{is_above, is_stop}
 use Rattle.attempt_ledger.specs.Throttling.{codes_of, is_success}
 use Rattle.attempt_ledger.specs.declared.row.RowEnd.{RowEnd}
-use Rattle.config_values.specs.Values.{tokens}
 use Rattle.grpc_base.specs.Codes.{has_code}
 use Rattle.grpc_base.specs.declared.code.Code.{Code}
 use Rattle.grpc_base.specs.declared.plan.CallPlan.{CallPlan}
 use Rattle.grpc_base.specs.declared.plan.Pushback.{Pushback}
 use Rattle.grpc_base.specs.declared.plan.Throttle.{Throttle}
-use Rattle.json_text.specs.Reading.{run}
 use Rattle.session_actions.specs.Attempts.{call_of}
 use Rattle.session_actions.specs.Configs.{config_of_call, plan_of}
 use Rattle.session_actions.specs.Words.{numbered}

@@ -12,8 +12,6 @@ use Rattle.h2_frame.specs.Payloads.{ping_word}
 use Rattle.h2_frame.specs.Sent.{data_frame, headers_frame, ping_ack, ping_frame, settings_ack, settings_frame, window_update_frame}
 use Rattle.h2_frame.specs.declared.payload.Setting.{Setting}
 use Rattle.h2_hpack.specs.Encoding.{block_bytes, size_update_to_zero}
-use Rattle.json_text.specs.Decimals.{most}
-use Rattle.json_text.specs.Reading.{named}
 use Rattle.session_actions.specs.Attempts.{call_of, with_attempt}
 use Rattle.session_actions.specs.Configs.{deadline}
 use Rattle.session_actions.specs.Entries.{now, replied, with_entry}
