@@ -1,4 +1,6 @@
 -- A session as one list of actions: what each adds, and which one is next.
+-- Example: a call begins on a channel that is READY, with a config: EntryOpens, CallBegins, SettlingBegins, CallConfigured, AttemptMade, PickRequested,
+-- AttemptPlaced, EntryCloses. Its HEADERS wait for a drain: EntryOpens, EventAnswered, FrameWritten, SettlingBegins, EntryCloses.
 use Rattle.std.specs.Prelude.{List, None, Option, Some, [], if◌then◌else◌, length, option_and_then, true, ◌∷◌}
 use Rattle.session_actions.specs.AttemptEnds.{attempt_ended, next_cut, next_reset, next_wire_end, stream_reset}
 use Rattle.session_actions.specs.CallEnds.{call_ended, has_long_request, has_long_response, is_cancelled, is_over_by_row, is_shut_down, lacks_config, next_deadline, next_ended}

@@ -1,4 +1,7 @@
--- How an attempt ends: cut off by the client, by its pick, or by the wire; and what is stamped at its end (gRPC over HTTP/2, "Errors"; gRFC A6).
+-- How an attempt ends: cut off by the client, by its pick, or by the wire; and what is stamped at its end (gRPC over HTTP/2, "Errors", and "Connection
+-- Management": GOAWAY Frame, Connection failure; RFC 9113, sections 5.1, 5.4.2, 6.4 and 6.8; gRFC A6, "Transparent Retries" and "Pushback").
+-- Example: a link is lost with two attempts on it, of two calls. The one with a stream ends UNAVAILABLE by Lost; the one without ends UNAVAILABLE by
+-- Unsent, and a transparent retry follows it. No stream is reset, since the link is over.
 use Rattle.std.specs.Option.{option_map_or, option_or}
 use Rattle.std.specs.Prelude.{Bool, None, Option, Some, [], false, filter, if◌then◌else◌, is_none, is_some, not, option_and_then, option_map, true, ℕ, ◌&&◌, ◌++◌, ◌==◌, ◌||◌, ◌∷◌}
 use Rattle.attempt_ledger.specs.Ends.{delay_of, is_cut}

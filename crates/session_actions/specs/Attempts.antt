@@ -1,5 +1,7 @@
 -- Attempts: which are outstanding, queued or over, which a transparent retry follows, and which ends count (gRFC A6, "Transparent Retries" and
--- "When Retries are Valid").
+-- "When Retries are Valid"; RFC 9113, section 8.7).
+-- Example: row 1, attempt 1 of a call, ends by RST_STREAM with REFUSED_STREAM before a head: row 2, again of number 1, follows it, and its end does not
+-- count. Row 2 ends in the same way: nothing follows it, and its end counts, with UNAVAILABLE.
 use Rattle.std.specs.List.{list_any}
 use Rattle.std.specs.Option.{option_map_or}
 use Rattle.std.specs.Prelude.{Bool, Option, is_none, is_some, nat_lt, not, ℕ, ◌&&◌, ◌==◌, ◌||◌}

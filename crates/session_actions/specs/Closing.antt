@@ -1,4 +1,6 @@
--- An entry is made where nothing is left to do.
+-- An entry is made where nothing is left to do. Its state is that of the channel ("gRPC Connectivity Semantics and API").
+-- Example: entry 12 is the loss of link 1, of the only subchannel, under pick_first. The subchannel becomes IDLE and then CONNECTING, which is the state of
+-- entry 12, and link 1 is gone from entry 12 on.
 use Rattle.std.specs.Prelude.{None, Some, [], if◌then◌else◌, is_none, map, unwrap_or, ◌&&◌, ◌++◌, ◌∷◌}
 use Rattle.grpc_base.specs.declared.event.Entry.{Entry}
 use Rattle.session_actions.specs.Entries.{entry}

@@ -1,4 +1,7 @@
--- Configuration: the resolver's results, the valid service configs, and what each call gets of one (gRPC, "Service Config in gRPC"; gRFC A6).
+-- Configuration: the resolver's results, the valid service configs, and what each call gets of one (gRPC, "Service Config in gRPC": waitForReady,
+-- timeout, maxRequestMessageBytes, maxResponseMessageBytes, retryThrottling, and "Service Config Changes"; "gRPC Wait for Ready Semantics"; gRFC A6).
+-- Example: configs 1 and 2 with maxTokens 10 and tokenRatio 0.1 share run 1. Config 3 has no throttling, and config 4, equal to 1, begins run 2.
+-- A call begun at 5 with the timeouts 10 of its application and 7 of its config has the deadline 12.
 use Rattle.std.specs.Option.{option_map_or, option_or}
 use Rattle.std.specs.Prelude.{Bool, Err, List, None, Ok, Option, Result, Some, [], false, if◌then◌else◌, is_none, is_some, length, nat_lt, option_and_then, option_map, true, unwrap_or, ℕ, ◌&&◌, ◌++◌, ◌+◌, ◌==◌, ◌∷◌}
 use Rattle.grpc_base.specs.Kinds.{KindsSeen, no_kinds, with_kind}

@@ -1,5 +1,7 @@
--- Delivery: which messages are accepted of the application, and what it takes of the response (gRPC, "Core concepts": unary and streaming calls; gRFC
--- A6, "Memory Management (Buffering)": the bounds are the channel's own).
+-- Delivery: which messages are accepted of the application, and what it takes of the response (gRPC, "Core concepts": unary and streaming calls; gRPC
+-- over HTTP/2, "Length-Prefixed-Message"; gRFC A6, "Memory Management (Buffering)": the bounds are the channel's own).
+-- Example: a call that is not committed holds a message of 262,134 bytes, which counts 262,139 with its prefix. The empty message fits, with 5 more.
+-- One of 1 byte, which counts 6, does not: while no attempt is outstanding the answer is Full 262,139.
 use Rattle.std.specs.Option.{option_map_or}
 use Rattle.std.specs.Prelude.{Bool, List, None, Option, Some, [], false, if◌then◌else◌, is_some, length, map, nat_le, nat_lt, option_and_then, option_map, option_to_list, true, ℕ, ◌++◌, ◌+◌, ◌-◌, ◌||◌, ◌∷◌}
 use Rattle.attempt_ledger.specs.declared.row.RowEnd.{RowEnd}

@@ -1,4 +1,7 @@
--- When the next attempt of a call is due, and which end is final (gRFC A6, "Retry Policy", "Exponential Backoff", "Hedging Policy" and "Pushback").
+-- When the next attempt of a call is due, and which end is final (gRFC A6, "Retry Policy", "Maximum Number of Retries", "Exponential Backoff", "Hedging
+-- Policy" and "Pushback").
+-- Example: initialBackoff is 1 s, backoffMultiplier 2, maxBackoff 120 s, all random words are 0. Attempt 1 fails at 0 s: attempt 2 is due at 0.8 s, after
+-- 1 s less a fifth. It fails at 1 s with a pushback of 500 ms: attempt 3 is due at 1.5 s, and the wait after its end is 0.8 s once more.
 use Rattle.std.specs.List.{list_any}
 use Rattle.std.specs.Option.{option_map_or, option_or}
 use Rattle.std.specs.Prelude.{Bool, None, Option, Some, count_by, false, filter, filter_map, fold, if◌then◌else◌, is_none, is_some, max, nat_le, nat_lt, not, option_map, true, unwrap_or, ℕ, ◌&&◌, ◌+◌, ◌-◌, ◌||◌}

@@ -1,4 +1,6 @@
--- The action of an event itself, by which it is answered.
+-- The action of an event itself, by which it is answered, and the frames that it brings. The events are the channel's own.
+-- Example: a Take of call 1 is `ItemTaken` where something has come, `EventAnswered` with NotYet where nothing has, and `EventRefused` with NoSuchCall
+-- where there is no call 1.
 use Rattle.std.specs.Prelude.{Bool, None, Option, Some, [], false, if◌then◌else◌, option_map, true, ℕ}
 use Rattle.grpc_base.specs.declared.event.Event.{Event}
 use Rattle.grpc_base.specs.declared.event.Refusal.{Refusal}

@@ -1,4 +1,6 @@
--- Links: what passed on them, in the order in which it did, and how they change (RFC 9113, sections 3.4 and 6).
+-- Links: what passed on them, in the order in which it did, and how they change (RFC 9113, sections 3.4, 5.1, 6.5 and 6.8).
+-- Example: SETTINGS without content came, and then the client's preface was written: `traffic` is Read, Written; 9 bytes were read; the server's preface
+-- came; and no frame was written, since the client's preface with its SETTINGS is none here.
 use Rattle.std.specs.List.{list_any}
 use Rattle.std.specs.Option.{option_map_or}
 use Rattle.std.specs.Prelude.{Bool, List, None, Option, Some, [], filter_map, if◌then◌else◌, nat_lt, not, option_and_then, true, unwrap_or, ℕ, ◌&&◌, ◌++◌, ◌==◌, ◌||◌}

@@ -1,5 +1,8 @@
 -- Policies and picks: generations of load balancing policies, their views of the subchannels, and what they answer ("Load Balancing in gRPC"; "gRPC
--- Connectivity Semantics and API"). The table of each kind stands in `lb_policy`.
+-- Connectivity Semantics and API"; "gRPC Wait for Ready Semantics"; "Service Config in gRPC": loadBalancingConfig). The table of each kind stands in
+-- `lb_policy`.
+-- Example: round_robin, generation 1, has the READY subchannels 1 and 2: three requests get Place 1, Place 2, Place 1. A config of pick_first begins
+-- generation 2, which takes over when it is READY or in TRANSIENT_FAILURE, or when generation 1 is no longer READY.
 use Rattle.std.specs.List.{list_any}
 use Rattle.std.specs.Option.{option_map_or}
 use Rattle.std.specs.Prelude.{Bool, List, None, Option, Some, [], count_by, false, filter, filter_map, find, flat_map, if◌then◌else◌, is_none, is_some, length, map, nat_lt, not, option_and_then, option_map, option_to_list, true, unwrap_or, ℕ, ◌&&◌, ◌++◌, ◌+◌, ◌==◌, ◌||◌, ◌∷◌}

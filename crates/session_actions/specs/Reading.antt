@@ -1,5 +1,7 @@
--- The wire, read: the frames of a link one by one, what they said so far, and the rules whose breach breaks the link (RFC 9113, sections 3.4, 4.3, 5.1,
--- 6 and 6.9; RFC 7541).
+-- The wire, read: the frames of a link one by one, what they said so far, and the rules whose breach breaks the link (RFC 9113, sections 3.4, 4.1 to
+-- 4.3, 5.1, 5.4.1, 6 and 6.9; RFC 7541, sections 2.2 and 3.1).
+-- Example: on a new link the bytes 00 00 00 04 00 00 00 00 00 are a frame, SETTINGS without content, with end 9. PING in its place breaks the link with
+-- PROTOCOL_ERROR. After it, WINDOW_UPDATE of 2,147,483,647 on stream 0 breaks it with FLOW_CONTROL_ERROR, since the window has 65,535 already.
 use Rattle.std.specs.List.{list_any}
 use Rattle.std.specs.Prelude.{Bool, Err, List, None, Ok, Option, Result, Some, [], drop, false, filter, flat_map, fold, if◌then◌else◌, length, map, nat_le, nat_lt, not, option_map, sum_by, unwrap_or, ℕ, ◌&&◌, ◌++◌, ◌+◌, ◌-◌, ◌==◌, ◌||◌, ◌∷◌}
 use Rattle.grpc_base.specs.ErrorCodes.{compression_error, enhance_your_calm, flow_control_error, protocol_error}

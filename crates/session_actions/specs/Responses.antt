@@ -1,5 +1,7 @@
--- The response on a stream: a head or none, messages, and an end or none (gRPC over HTTP/2, "Responses" and "Errors"; RFC 9113, sections 5.1, 6.4, 6.8,
--- 6.9 and 8.1).
+-- The response on a stream: a head or none, messages, and an end or none (gRPC over HTTP/2, "Responses" and "Errors"; "Status codes and their use in
+-- gRPC"; "HTTP to gRPC Status Code Mapping"; RFC 9113, sections 5.1, 5.4.2, 6.1, 6.4, 6.8, 6.9 and 8.1).
+-- Example: HEADERS with `:status` 200 and `content-type` application/grpc are a head; DATA 00 00000002 6869 is the message `hi`; trailers with
+-- `grpc-status` 0 are the end, OK. Where the DATA was 00 00000002 68, a message is cut off, and the same trailers are the end INTERNAL.
 use Rattle.std.specs.Char.{is_ascii_digit}
 use Rattle.std.specs.List.{list_all, starts_with}
 use Rattle.std.specs.Option.{option_map_or}

@@ -1,4 +1,7 @@
--- The wire, written: what a link has to send, and in which order (RFC 9113, sections 3.4, 5.1.2, 6 and 6.9; gRPC over HTTP/2, "Requests").
+-- The wire, written: what a link has to send, and in which order (RFC 9113, sections 3.4, 5.1.1, 5.1.2, 6 and 6.9; RFC 7541, section 4.2; gRPC over
+-- HTTP/2, "Requests").
+-- Example: one attempt waits on a link whose server sent SETTINGS; its call has the message `hi` and is finished. The link writes the preface (45
+-- bytes with the client's SETTINGS), the acknowledgement, HEADERS on stream 1, and DATA of 7 bytes with END_STREAM.
 use Rattle.std.specs.List.{list_any}
 use Rattle.std.specs.Option.{option_map_or, option_or}
 use Rattle.std.specs.Prelude.{Bool, List, None, Option, Some, [], count_by, drop, false, filter, if◌then◌else◌, is_none, is_some, length, map, min, nat_le, nat_lt, not, option_and_then, option_map, slice_get, take, true, ℕ, ◌&&◌, ◌*◌, ◌++◌, ◌+◌, ◌-◌, ◌==◌, ◌||◌, ◌∷◌}
