@@ -1,6 +1,6 @@
 -- A session as one list of actions: what each adds, and which one is next.
--- Example: a call begins on a channel that is READY, with a config: EntryOpens, CallBegins, SettlingBegins, CallConfigured, AttemptMade, PickRequested,
--- AttemptPlaced, EntryCloses. Its HEADERS wait for a drain: EntryOpens, EventAnswered, FrameWritten, SettlingBegins, EntryCloses.
+-- Example: a call begins on a channel that is READY, with a config: EntryOpens, CallBegins, SettlingBegins, CallConfigured, AttemptMade,
+-- PickRequested, AttemptPlaced, EntryCloses. Its HEADERS wait for a drain: EntryOpens, EventAnswered, FrameWritten, SettlingBegins, EntryCloses.
 use Rattle.std.specs.Prelude.{List, None, Option, Some, [], if◌then◌else◌, length, option_and_then, true, ◌∷◌}
 use Rattle.session_actions.specs.AttemptEnds.{attempt_ended, next_cut, next_reset, next_wire_end, stream_reset}
 use Rattle.session_actions.specs.CallEnds.{call_ended, has_long_request, has_long_response, is_cancelled, is_over_by_row, is_shut_down, lacks_config, next_deadline, next_ended}
@@ -90,8 +90,9 @@ after a s = after_if s.current a s
 abbrev pub first_action : List (Option Action) → Option Action
 first_action actions = first_of (λ (o : Option Action). o) actions
 
--- What follows at once from what is, before anything else and whichever stage the entry is at, in this order. Within a line the lowest place, number
--- or call comes first.
+-- What follows at once from what is, before anything else and whichever stage the entry is at, in this order. Of one kind of action the lowest place
+-- of a row, or number of a call or another thing, comes first. But resets go by link and stream, deadlines by moment and then call, pick requests by
+-- call and then row; and subchannels are added in the order of the lists of addresses.
 abbrev pub of_calls : OpenEntry → Seen → Option Action
 of_calls o s = first_action (
     -- an attempt that is over is cut off; a transparent retry is made, and takes a commitment over; a call ends by its committed attempt
@@ -105,7 +106,7 @@ abbrev pub of_links : OpenEntry → Seen → Option Action
 of_links o s = first_action (
     -- a pick request is followed; a subchannel is READY, or its link went
     next_of_pick s ∷ next_of_links s
-    -- attempts end by the wire, and then their streams are reset; where a link is lost, each attempt's end with its own
+    -- all attempts end that one frame ends, and then their streams are reset; where a link is lost, after each end the streams that it leaves are reset
     ∷ (if is_loss o.event then None else next_wire_end s) ∷ next_reset s ∷ next_wire_end s ∷ [])
 
 abbrev pub of_policies : OpenEntry → Seen → Option Action

@@ -1,5 +1,6 @@
--- How an attempt ends: cut off by the client, by its pick, or by the wire; and what is stamped at its end (gRPC over HTTP/2, "Errors", and "Connection
--- Management": GOAWAY Frame, Connection failure; RFC 9113, sections 5.1, 5.4.2, 6.4 and 6.8; gRFC A6, "Transparent Retries" and "Pushback").
+-- How an attempt ends: cut off by the client, by its pick, or by the wire; and what is stamped at its end (gRPC over HTTP/2, "Errors", and
+-- "Connection Management": GOAWAY Frame, Connection failure; RFC 9113, sections 5.1, 5.4.2, 6.4 and 6.8; gRFC A6, "Transparent Retries" and
+-- "Pushback").
 -- Example: a link is lost with two attempts on it, of two calls. The one with a stream ends UNAVAILABLE by Lost; the one without ends UNAVAILABLE by
 -- Unsent, and a transparent retry follows it. No stream is reset, since the link is over.
 use Rattle.std.specs.Option.{option_map_or, option_or}
@@ -43,8 +44,8 @@ unsent_end = plain_end code.Unavailable cause.Unsent true (Some cancel)
 abbrev pub lost_end : Told
 lost_end = plain_end code.Unavailable cause.Lost false (Some cancel)
 
--- how the wire ends an attempt that is outstanding on a link, if it does: one without a stream where the link takes no further one, and one
--- with a stream by its response, or else where the link is over
+-- how the wire ends an attempt that is outstanding on a link, if it does: one without a stream where the link is over or takes no further stream, and
+-- one with a stream by its response, or else where the link is over
 abbrev pub told_on : Attempt → Seen → Option ℕ → Link → Option Told
 told_on a s None l = if is_some l.over || is_retiring l then Some unsent_end else None
 told_on a s (Some stream) l = option_or (response a s).end (if is_some l.over then Some lost_end else None)
@@ -52,11 +53,11 @@ told_on a s (Some stream) l = option_or (response a s).end (if is_some l.over th
 abbrev pub told_of : Attempt → Seen → Option Told
 told_of a s = option_and_then (told_on a s a.row.stream) (link_of a s)
 
--- whether an end of an attempt counts
+-- whether an end of an attempt will count: the client does not cut it off, and no transparent retry is to follow
 abbrev pub will_count : Attempt → Told → Seen → Bool
 will_count a t s = not (is_cut t.cause) && not (of_its_call (λ c. is_to_follow c t.cause t.unseen s) a s)
 
--- the tokens after it
+-- the tokens of its call's bucket after it, where there is one
 abbrev pub tokens_told : Attempt → Told → Seen → Call → ThrottleRun → ℕ
 tokens_told a t s c run =
     if will_count a t s then tokens_after run.throttle (plan_of c s) t.code t.pushback (tokens_in run s) else tokens_in run s
@@ -73,7 +74,7 @@ is_drawing a t s c =
     will_count a t s && is_none (commitment c s) && is_none (delay_of t.pushback)
     && is_licensed c a.row.number t.code t.pushback (tokens_at a t s c) s
 
--- the whole end
+-- the whole end: what the wire or the client says, stamped with the entry, the moment, the bytes of its link that were read, tokens and random word
 abbrev pub end_of : Attempt → Told → Seen → RowEnd
 end_of a t s = record {
   entry = entry s;
@@ -105,6 +106,7 @@ cut s a = if is_outstanding a && is_over a s then Some (action.AttemptEnds a.pla
 abbrev pub next_cut : Seen → Option Action
 next_cut s = first_of (cut s) s.attempts
 
+-- the peer reset the stream; the peer broke a rule of the stream
 abbrev pub is_reset : RowCause → Bool
 is_reset cause.Reset = true
 is_reset _ = false
@@ -113,6 +115,8 @@ abbrev pub is_framing : RowCause → Bool
 is_framing cause.Framing = true
 is_framing _ = false
 
+-- the code of RST_STREAM for the stream of an attempt that ended in this entry, once: none where the peer reset it, its link is over, or both sides
+-- had closed it; the stream error's; and else CANCEL (gRPC over HTTP/2, "Errors"; RFC 9113, sections 5.1 and 5.4.2)
 abbrev pub code_to_reset : Attempt → RowEnd → ℕ → Seen → Link → Option ℕ
 code_to_reset a e stream s l =
     if is_reset e.cause || is_some l.over || (has_written_end stream l && (response a s).closes) then None

@@ -47,7 +47,8 @@ send_action call message s c =
     else if is_accepted c message s then action.MessageAccepted call
     else action.EventAnswered (reply.Full (held_bytes c s))
 
--- the code of an end by the channel
+-- the code of an end by the channel; a call that ends by its attempt has the code of that attempt, and none of its own ("Status codes and their use
+-- in gRPC")
 abbrev pub code_of_cause : EndCause → Code
 code_of_cause ending.Deadline = code.DeadlineExceeded
 code_of_cause ending.Cancelled = code.Cancelled

@@ -1,7 +1,7 @@
--- When the next attempt of a call is due, and which end is final (gRFC A6, "Retry Policy", "Maximum Number of Retries", "Exponential Backoff", "Hedging
--- Policy" and "Pushback").
--- Example: initialBackoff is 1 s, backoffMultiplier 2, maxBackoff 120 s, all random words are 0. Attempt 1 fails at 0 s: attempt 2 is due at 0.8 s, after
--- 1 s less a fifth. It fails at 1 s with a pushback of 500 ms: attempt 3 is due at 1.5 s, and the wait after its end is 0.8 s once more.
+-- When the next attempt of a call is due, and which end is final (gRFC A6, "Retry Policy", "Maximum Number of Retries", "Exponential Backoff",
+-- "Hedging Policy" and "Pushback").
+-- Example: initialBackoff is 1 s, backoffMultiplier 2, maxBackoff 120 s, all random words are 0. Attempt 1 fails at 0 s: attempt 2 is due at 0.8 s,
+-- after 1 s less a fifth. It fails at 1 s with a pushback of 500 ms: attempt 3 is due at 1.5 s, and the wait after its end is 0.8 s once more.
 use Rattle.std.specs.List.{list_any}
 use Rattle.std.specs.Option.{option_map_or, option_or}
 use Rattle.std.specs.Prelude.{Bool, None, Option, Some, count_by, false, filter, filter_map, fold, if◌then◌else◌, is_none, is_some, max, nat_le, nat_lt, not, option_map, true, unwrap_or, ℕ, ◌&&◌, ◌+◌, ◌-◌, ◌||◌}
@@ -54,7 +54,7 @@ retry_wait p n e = spread_wait (capped_wait p.initial p.multiplier p.limit n) (u
 abbrev pub retry_due : RetryPolicy → ℕ → RowEnd → ℕ
 retry_due p n e = option_map_or (λ millis. millis_after e millis) (delay_of e.pushback) (e.moment + retry_wait p n e)
 
--- nothing happened yet
+-- before its configuration no attempt of a call is made
 abbrev pub no_due : DueState
 no_due = record { newest = None; placed = None; forced = None; stopped = true }
 
@@ -79,12 +79,14 @@ due_after_end c s d a e =
     if not d.stopped && counts_by a s e && has_code (codes_of (plan_of c s)) e.code
     then due_by_plan (plan_of c s) c a s d e else d
 
--- an attempt was made; transparent retries are none
+-- an attempt was made: no moment is set for the next one yet. A transparent retry is no further attempt
 abbrev pub due_after_making : DueState → Attempt → DueState
 due_after_making d a =
     if is_transparent a.row.kind then d
     else record d { newest = Some a.place; placed = None; forced = None }
 
+-- what each mark says: the first attempt is due when the configuration comes; a commitment, the end of the call or a hedge that is withheld stops
+-- further ones
 abbrev pub due_after_mark : Call → Seen → MarkKind → ℕ → DueState → DueState
 due_after_mark c s mark.Configured moment d = record d { forced = Some moment; stopped = false }
 due_after_mark c s (mark.Made row) moment d = option_map_or (due_after_making d) (numbered s.attempts row) d
@@ -98,7 +100,7 @@ due_after_mark c s mark.Closed moment d = record d { stopped = true }
 abbrev pub due_state : Call → Seen → DueState
 due_state c s = fold (λ d m. due_after_mark c s m.what m.moment d) no_due c.marks
 
--- how many attempts were made; transparent retries are none
+-- how many attempts were made; a transparent retry is no further one
 abbrev pub attempts_made : Call → Seen → ℕ
 attempts_made c s = count_by (λ a. is_of c a && not (is_transparent a.row.kind)) s.attempts
 
@@ -129,7 +131,8 @@ last_counted c s = last_of (filter_map (λ m. counted_row s m.what) c.marks)
 abbrev pub has_going : Call → Seen → Bool
 has_going c s = list_any (λ a. is_of c a && (is_outstanding a || is_queued a s)) s.attempts
 
--- a counted end is final: no further attempt follows it
+-- a counted end is final where no further attempt follows it: without a plan; where it licenses no retry; of a hedged call with a code that is not
+-- one of the policy's, or where it is the last one, no attempt goes on and none is due
 abbrev pub is_final_by : CallPlan → Call → Attempt → Seen → RowEnd → Bool
 is_final_by plan.None c a s e = true
 is_final_by (plan.Retry p) c a s e = not (is_licensed c a.row.number e.code e.pushback e.tokens s)

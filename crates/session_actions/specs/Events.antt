@@ -1,6 +1,6 @@
 -- The action of an event itself, by which it is answered, and the frames that it brings. The events are the channel's own.
--- Example: a Take of call 1 is `ItemTaken` where something has come, `EventAnswered` with NotYet where nothing has, and `EventRefused` with NoSuchCall
--- where there is no call 1.
+-- Example: a Take of call 1 is `ItemTaken` where something has come, `EventAnswered` with NotYet where nothing has, and `EventRefused` with
+-- NoSuchCall where there is no call 1.
 use Rattle.std.specs.Prelude.{Bool, None, Option, Some, [], false, if◌then◌else◌, option_map, true, ℕ}
 use Rattle.grpc_base.specs.declared.event.Event.{Event}
 use Rattle.grpc_base.specs.declared.event.Refusal.{Refusal}
@@ -35,7 +35,7 @@ event_applied (event.LinkUp sub) s = Some (action.LinkUp sub)
 event_applied (event.DialFailed sub) s = Some (action.DialFails sub)
 event_applied (event.Arrived link piece) s = Some (action.BytesArrive link)
 event_applied (event.LinkLost link) s = Some (action.LinkLost link)
-event_applied (event.Drain link given) s = Some (action.EventAnswered (reply.Octets []))
+event_applied (event.Drain link room) s = Some (action.EventAnswered (reply.Octets []))
 event_applied (event.Ping link word) s = Some (action.PingQueued link)
 event_applied event.Tick s = Some (action.EventAnswered reply.Done)
 event_applied event.Shutdown s = Some action.ChannelShuts

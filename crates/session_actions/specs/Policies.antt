@@ -99,13 +99,13 @@ policy_of g s = record {
 abbrev pub policy_state : PolicyUse → Seen → Conn
 policy_state g s = state_of (policy_of g s)
 
--- the channel's state is that of the current policy
+-- the channel's state is that of the current policy; before there is one, IDLE, or TRANSIENT_FAILURE where no valid config came
 abbrev pub channel_state : Seen → Conn
 channel_state s =
     if s.shut then conn.Shutdown
     else option_map_or (λ g. policy_state g s) (current_policy s) (if is_unconfigured s then conn.Failure else conn.Idle)
 
--- a pending policy takes over when it has an answer, or the current one is not READY
+-- a pending policy takes over when it is READY or in TRANSIENT_FAILURE, or when the current one is not READY
 abbrev pub is_failure : Conn → Bool
 is_failure conn.Failure = true
 is_failure _ = false
@@ -131,7 +131,7 @@ is_served s a = is_queued a s && holds (λ g. is_served_by (policy_state g s) a 
 abbrev pub is_queued_before : Attempt → Attempt → Bool
 is_queued_before a b = nat_lt a.row.call b.row.call || ((a.row.call == b.row.call) && nat_lt a.place b.place)
 
--- behind the last one of the pass that is going on
+-- after the last one of the pass that is going on
 abbrev pub is_behind : Turn → Attempt → Bool
 is_behind t a = nat_lt t.call a.row.call || ((t.call == a.row.call) && nat_lt t.row a.place)
 
@@ -148,7 +148,7 @@ next_of_pass o s = option_and_then (λ t. next_asked (is_behind t) s) o.turn
 abbrev pub next_of_queue : Seen → Option Action
 next_of_queue s = next_asked (λ a. true) s
 
--- the pick request that is not followed yet
+-- the last pick request, in the entry in which it was made: the attempt is placed on the subchannel that was picked, or ends
 abbrev pub is_unfollowed : Attempt → Bool
 is_unfollowed a = is_none a.row.placed && is_none a.row.ended
 
@@ -175,7 +175,7 @@ follow_ask s ask =
 abbrev pub next_of_pick : Seen → Option Action
 next_of_pick s = option_and_then (follow_ask s) (last_of s.asks)
 
--- behind a result of the resolver, while a valid config is held: its kind, and the addresses of the result
+-- after a result of the resolver, while a valid config is held: the kind of that config, and the addresses of the result
 abbrev pub addresses_in : Event → Option (List Address)
 addresses_in (event.Resolved addresses config) = Some addresses
 addresses_in _ = None

@@ -1,7 +1,7 @@
 -- The wire, read: the frames of a link one by one, what they said so far, and the rules whose breach breaks the link (RFC 9113, sections 3.4, 4.1 to
 -- 4.3, 5.1, 5.4.1, 6 and 6.9; RFC 7541, sections 2.2 and 3.1).
--- Example: on a new link the bytes 00 00 00 04 00 00 00 00 00 are a frame, SETTINGS without content, with end 9. PING in its place breaks the link with
--- PROTOCOL_ERROR. After it, WINDOW_UPDATE of 2,147,483,647 on stream 0 breaks it with FLOW_CONTROL_ERROR, since the window has 65,535 already.
+-- Example: on a new link the bytes 00 00 00 04 00 00 00 00 00 are a frame, SETTINGS without content, with end 9. PING in its place breaks the link
+-- with PROTOCOL_ERROR. After it, WINDOW_UPDATE of 2,147,483,647 on stream 0 breaks it with FLOW_CONTROL_ERROR, since the window has 65,535 already.
 use Rattle.std.specs.List.{list_any}
 use Rattle.std.specs.Prelude.{Bool, Err, List, None, Ok, Option, Result, Some, [], drop, false, filter, flat_map, fold, if◌then◌else◌, length, map, nat_le, nat_lt, not, option_map, sum_by, unwrap_or, ℕ, ◌&&◌, ◌++◌, ◌+◌, ◌-◌, ◌==◌, ◌||◌, ◌∷◌}
 use Rattle.grpc_base.specs.ErrorCodes.{compression_error, enhance_your_calm, flow_control_error, protocol_error}
@@ -64,7 +64,7 @@ room stream l = first_window stream l + raised stream l - used stream l
 abbrev pub largest_window : ℕ
 largest_window = 2147483647
 
--- a header block is HEADERS and the CONTINUATION frames behind it, up to END_HEADERS (section 4.3)
+-- a header block is HEADERS and the CONTINUATION frames after it, up to END_HEADERS (section 4.3)
 abbrev pub is_of_block : FrameSeen → Bool
 is_of_block f = (f.kind == headers_type) || (f.kind == continuation_type)
 
@@ -117,7 +117,7 @@ is_of_opened kind = (kind == data_type) || (kind == headers_type) || (kind == rs
 abbrev pub is_unopened : Link → FrameSeen → Bool
 is_unopened l f = is_of_opened f.kind && not (f.stream == 0) && not (is_one_of (opened_streams l) f.stream)
 
--- WINDOW_UPDATE that lifts the window of the link above the largest (section 6.9.1)
+-- WINDOW_UPDATE that takes the window of the link above the largest (section 6.9.1)
 abbrev pub lifts_link : Link → FrameSeen → Bool
 lifts_link l f =
     (f.kind == window_update_type) && (f.stream == 0) && nat_lt (largest_window + used 0 l) (65535 + raised 0 l + increment f.payload)
@@ -129,7 +129,7 @@ is_outstanding_on l a = is_outstanding a && holds (λ at. at.link == l.number) a
 abbrev pub outstanding_on : Link → Seen → List Attempt
 outstanding_on l s = filter (is_outstanding_on l) s.attempts
 
--- SETTINGS_INITIAL_WINDOW_SIZE (4) above the largest window, or that lifts the window of an attempt's stream above it (section 6.9.2)
+-- SETTINGS_INITIAL_WINDOW_SIZE (4) above the largest window, or that takes the window of an attempt's stream above it (section 6.9.2)
 abbrev pub lifts_stream : Link → ℕ → ℕ → Bool
 lifts_stream l size stream = nat_lt (largest_window + used stream l) (size + raised stream l)
 
@@ -139,7 +139,8 @@ is_wide_setting l s x =
     && (nat_lt largest_window x.value
     || list_any (λ a. holds (lifts_stream l x.value) a.row.stream) (outstanding_on l s))
 
--- the rules that a whole frame keeps with those before it, in their order: the code of the first that it breaks
+-- the rules that a whole frame keeps with those before it, in their order: the code of the first that it breaks. The server's preface comes first
+-- (section 3.4), and pushes are off (section 6.6)
 abbrev pub link_error : Link → FrameSeen → Seen → Option ℕ
 link_error l f s =
     if not (is_greeted l) && not (is_settings f) then Some protocol_error
@@ -151,7 +152,7 @@ link_error l f s =
     else if list_any (is_wide_setting l s) (settings_of f) then Some flow_control_error
     else None
 
--- a header block has at most 65,536 bytes, and can be decoded
+-- a header block has at most 65,536 bytes, which is the channel's own limit, and can be decoded (section 4.3)
 abbrev pub is_long_block : OpenBlock → Bool
 is_long_block b = nat_lt 65536 (length b.bytes)
 
@@ -183,6 +184,6 @@ next_read_by Partial l s = nextread.Nothing
 next_read_by (Fault code) l s = nextread.Broken code
 next_read_by (Whole f size) l s = frame_read_by (link_error l f s) l f (read_bytes l + size)
 
--- what the bytes behind those that were read show
+-- what the bytes after those that were read show
 abbrev pub next_read : Link → Seen → NextRead
 next_read l s = next_read_by (reading_of (drop (read_bytes l) l.received)) l s

@@ -1,6 +1,7 @@
--- Refusals: an event that names what is not there, or that comes too late, changes nothing. The first that stands is given. They are the channel's own.
--- Example: where call 1 is finished, a Send of it is refused with AfterFinish, and with CallEnded once it has ended; where there is no call 9, a Send of
--- call 9 with NoSuchCall; and after a Shutdown all three with Shut.
+-- Refusals: an event that names what is not there, or that comes too late, changes nothing. The first that stands is given. They are the channel's
+-- own.
+-- Example: where call 1 is finished, a Send of it is refused with AfterFinish, and with CallEnded once it has ended; where there is no call 9, a Send
+-- of call 9 with NoSuchCall; and after a Shutdown all three with Shut.
 use Rattle.std.specs.List.{list_any}
 use Rattle.std.specs.Prelude.{Bool, None, Option, Some, if◌then◌else◌, is_some, nat_lt, not, ℕ, ◌&&◌, ◌||◌}
 use Rattle.grpc_base.specs.declared.event.Event.{Event}

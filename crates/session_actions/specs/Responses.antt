@@ -129,7 +129,7 @@ with_head p b =
     if is_head b.fields then record p { head = Some (shown_of b.fields) }
     else ended (block_end (http_code b.fields) cause.Http cancel b) p
 
--- a header block. Before the head interim responses are passed over; behind it only trailers may come
+-- a header block. Before the head interim responses are passed over; after it only trailers may come (RFC 9113, section 8.1)
 abbrev pub with_block : Response → Block → Response
 with_block p b =
     if is_none p.head && is_interim (http_status b.fields) then (if b.ends then ended_by_block b p else p)
@@ -197,14 +197,14 @@ with_traffic limit stream p (traffic.Read r) = with_read limit stream p r
 with_traffic limit stream p (traffic.Written (sent.Frame f)) = with_written stream p f
 with_traffic limit stream p (traffic.Written sent.Preface) = p
 
--- nothing counts behind its end, nor behind a message that is too large
+-- nothing counts after its end, nor after a message that is too large
 abbrev pub response_after : ℕ → ℕ → Response → Traffic → Response
 response_after limit stream p t = if is_some p.end || p.large then p else with_traffic limit stream p t
 
 abbrev pub response_in : ℕ → ℕ → List Traffic → Response
 response_in limit stream ts = fold (response_after limit stream) no_response ts
 
--- what passed on a link up to a byte of what was read
+-- what passed on a link until so many bytes of it were read
 abbrev pub is_read_by : ℕ → Traffic → Bool
 is_read_by seen (traffic.Read r) = nat_le r.end seen
 is_read_by seen _ = true

@@ -1,6 +1,6 @@
 -- Sessions: a journal and a ledger are those of a list of actions, each of which is the next one.
--- Example: of one Tick on a new channel the actions are EntryOpens, EventAnswered, SettlingBegins, EntryCloses. The journal is one entry with reply Done and
--- state IDLE; the ledger has no rows, calls, requests, generations or links, and its entry is 1.
+-- Example: of one Tick on a new channel the actions are EntryOpens, EventAnswered, SettlingBegins, EntryCloses. The journal is one entry with reply
+-- Done and state IDLE; the ledger has no rows, calls, requests, generations or links, and its entry is 1.
 use Rattle.std.specs.Prelude.{List, None, Some, [], false, filter, length, map, true, ◌∷◌, ◌≡◌}
 use Rattle.attempt_ledger.specs.declared.ledger.CallSeen.{CallSeen}
 use Rattle.attempt_ledger.specs.declared.ledger.Ledger.{Ledger}

@@ -1,6 +1,6 @@
 -- Subchannels: their states, dials and links ("gRPC Connectivity Semantics and API"; "Connection Backoff Protocol"; RFC 9113, sections 3.4 and 6.8).
--- Example: a dial at 0 s is given up at 20 s, and there is no other before 1 s. It fails at 3 s: TRANSIENT_FAILURE, and in the same entry IDLE, since 1 s
--- has passed. The next dial, at 3 s with the random word 0, waits 1.6 s less a fifth: no other before 4.28 s, given up at 23 s.
+-- Example: a dial at 0 s is given up at 20 s, and there is no other before 1 s. It fails at 3 s: TRANSIENT_FAILURE, and in the same entry IDLE, since
+-- 1 s has passed. The next dial, at 3 s with the random word 0, waits 1.6 s less a fifth: no other before 4.28 s, given up at 23 s.
 use Rattle.std.specs.List.{list_any}
 use Rattle.std.specs.Option.{option_map_or}
 use Rattle.std.specs.Prelude.{Bool, None, Option, Some, [], false, find, if◌then◌else◌, is_none, is_some, length, map, max, nat_le, not, option_and_then, option_map, true, ℕ, ◌&&◌, ◌++◌, ◌+◌, ◌==◌, ◌||◌, ◌∷◌}

@@ -1,6 +1,6 @@
 -- Throttling: tokens that failures take and successes give back, in thousandths (gRFC A6, "Throttling Retry Attempts and Hedged RPCs").
--- Example: with maxTokens 10 and tokenRatio 0.5 a bucket begins with 10,000. A failure leaves 9,000, and a success after it 9,500. At 5,000 no retry is
--- made: 5,000 is not above half of 10,000.
+-- Example: with maxTokens 10 and tokenRatio 0.5 a bucket begins with 10,000. A failure leaves 9,000, and a success after it 9,500. At 5,000 no retry
+-- is made: 5,000 is not above half of 10,000.
 use Rattle.std.specs.Option.{option_map_or}
 use Rattle.std.specs.Prelude.{Bool, None, Option, Some, fold, if◌then◌else◌, min, option_and_then, option_map, ℕ, ◌+◌, ◌-◌, ◌||◌}
 use Rattle.attempt_ledger.specs.Ends.{is_above, is_stop}

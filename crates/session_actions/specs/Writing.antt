@@ -40,7 +40,7 @@ use Rattle.grpc_base.specs.declared.event.Reply.TheVariants as reply
 use Rattle.session_actions.specs.declared.link.Sent.TheVariants as sent
 use Rattle.session_actions.specs.declared.link.Traffic.TheVariants as traffic
 
--- what is written of the messages of a call for one attempt
+-- how many bytes of its call's messages, each with its prefix, were written for an attempt; how many were accepted
 abbrev pub drained : Attempt → Seen → ℕ
 drained a s = option_map_or (λ stream. option_map_or (used stream) (link_of a s) 0) a.row.stream 0
 
@@ -108,8 +108,8 @@ next_stream l = 2 * length (opened_streams l) + 1
 abbrev pub headers_for : Link → Seen → Attempt → Option Sent
 headers_for l s a = option_map (λ c. sent.Frame (headers_frame (next_stream l) (request_block c a l s))) (call_of a s)
 
--- the next DATA of an attempt's stream: as much as one frame, both windows and the accepted messages allow; END_STREAM behind all of them where
--- no further one comes; an empty frame only for END_STREAM
+-- the next DATA of an attempt's stream: as much as one frame, both windows and the accepted messages allow; END_STREAM with the last of them where
+-- no further message comes; an empty frame only for END_STREAM
 abbrev pub data_len : Link → ℕ → ℕ → ℕ
 data_len l stream left = min (min 16384 (room 0 l)) (min (room stream l) left)
 

@@ -4,7 +4,7 @@ use grpc_base::Moment;
 /// What the marks of a call say of its next attempt.
 #[derive(Clone, Copy, Debug, PartialEq, Eq)]
 pub struct DueState {
-    /// The place of the row of the newest attempt; transparent retries are none.
+    /// The place of the row of the newest attempt; a transparent retry is no further attempt.
     pub newest: Option<u64>,
     /// The moment at which that row was placed.
     pub placed: Option<Moment>,

@@ -21,7 +21,7 @@ pub struct Told {
 pub struct Response {
     /// The metadata of its head.
     pub head: Option<Metadata>,
-    /// Its whole messages, and the bytes behind them.
+    /// Its whole messages, and the bytes after them.
     pub messages: Items<Octets>,
     pub rest: Text,
     /// Whether the next message is longer than the limit of its call.
