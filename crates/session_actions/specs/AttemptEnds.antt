@@ -115,14 +115,15 @@ abbrev pub is_framing : RowCause → Bool
 is_framing cause.Framing = true
 is_framing _ = false
 
--- the code of RST_STREAM for the stream of an attempt that ended in this entry, once: none where the peer reset it, its link is over, or both sides
--- had closed it; the stream error's; and else CANCEL (gRPC over HTTP/2, "Errors"; RFC 9113, sections 5.1 and 5.4.2)
+-- the code of RST_STREAM for the stream of an attempt that ended: none where the peer reset it, its link is over, or both sides had closed it; that of
+-- the stream error; and else CANCEL (gRPC over HTTP/2, "Errors"; RFC 9113, sections 5.1 and 5.4.2)
 abbrev pub code_to_reset : Attempt → RowEnd → ℕ → Seen → Link → Option ℕ
 code_to_reset a e stream s l =
     if is_reset e.cause || is_some l.over || (has_written_end stream l && (response a s).closes) then None
     else if is_framing e.cause then option_and_then (λ t. t.reset) (response a s).end
     else Some cancel
 
+-- it is queued once, in the entry in which the attempt ended
 abbrev pub code_for_stream : Attempt → RowEnd → Seen → ℕ → Option ℕ
 code_for_stream a e s stream =
     if (e.entry == entry s) && not a.reset then option_and_then (code_to_reset a e stream s) (link_of a s) else None
