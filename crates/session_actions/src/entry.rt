@@ -27,7 +27,7 @@ pub struct OpenEntry {
     pub word: u64,
     pub event: Event,
     pub stage: Stage,
-    /// Once there is one.
+    /// What the event was answered, once it was.
     pub reply: Option<Reply>,
     /// How many random words were drawn in it.
     pub drawn: u64,

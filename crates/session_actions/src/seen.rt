@@ -35,7 +35,8 @@ pub struct Seen {
     pub runs: Items<ThrottleRun>,
     /// Whether the resolver has answered, with whatever.
     pub answered: bool,
-    /// Whether a resolution is wanted: the resolver has not answered since the last trouble.
+    /// Whether a resolution is wanted: the resolver has not answered since the begin, a dial that failed or timed out, or a link that was lost or
+    /// broke. No action depends on it.
     pub wants: bool,
     /// Whether the channel was shut down.
     pub shut: bool,
