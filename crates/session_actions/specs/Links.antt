@@ -84,6 +84,6 @@ owed frames link s = with_link (λ l. record l { owed = l.owed ++ frames }) link
 abbrev pub link_over : LinkOver → ℕ → Seen → Seen
 link_over why link s = with_link (λ l. record l { over = Some why }) link s
 
--- a resolution is wanted ("gRPC Name Resolution"); no action depends on it
+-- a resolution is wanted (gRPC Name Resolution); no action depends on it
 abbrev pub wants_resolution : Seen → Seen
 wants_resolution s = record s { wants = true }
