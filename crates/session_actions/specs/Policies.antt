@@ -99,7 +99,8 @@ policy_of g s = record {
 abbrev pub policy_state : PolicyUse → Seen → Conn
 policy_state g s = state_of (policy_of g s)
 
--- the channel's state is that of the current policy; before there is one, IDLE, or TRANSIENT_FAILURE where no valid config came
+-- the channel's state: SHUTDOWN from a shutdown on, else that of the current policy; before there is one, TRANSIENT_FAILURE where the resolver has
+-- answered and no valid config came, and else IDLE
 abbrev pub channel_state : Seen → Conn
 channel_state s =
     if s.shut then conn.Shutdown
