@@ -92,7 +92,7 @@ first_action actions = first_of (λ (o : Option Action). o) actions
 
 -- What follows at once from what is, before anything else and whichever stage the entry is at, in this order. Of one kind of action the lowest place
 -- of a row, or number of a call or another thing, comes first. But resets go by link and stream, deadlines by moment and then call, pick requests by
--- call and then row; and subchannels are added in the order of the lists of addresses.
+-- call and then row; and subchannels are added in the order of the lists of addresses, that of the current policy before that of the pending one.
 abbrev pub of_calls : OpenEntry → Seen → Option Action
 of_calls o s = first_action (
     -- an attempt that is over is cut off; a transparent retry is made, and takes a commitment over; a call ends by its committed attempt

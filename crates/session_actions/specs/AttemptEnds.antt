@@ -116,7 +116,7 @@ is_framing cause.Framing = true
 is_framing _ = false
 
 -- the code of RST_STREAM for the stream of an attempt that ended: none where the peer reset it, its link is over, or both sides had closed it; that of
--- the stream error; and else CANCEL (gRPC over HTTP/2, "Errors"; RFC 9113, sections 5.1 and 5.4.2)
+-- the stream error; and else CANCEL, also for a stream that GOAWAY left out (gRPC over HTTP/2, "Errors"; RFC 9113, sections 5.1, 5.4.2, 6.4 and 8.1)
 abbrev pub code_to_reset : Attempt → RowEnd → ℕ → Seen → Link → Option ℕ
 code_to_reset a e stream s l =
     if is_reset e.cause || is_some l.over || (has_written_end stream l && (response a s).closes) then None

@@ -87,7 +87,8 @@ abbrev pub with_held : Config → Option Throttle → Seen → Seen
 with_held config None s = with_config config None s
 with_held config (Some t) s = with_throttled config t (run_to_join t s) s
 
--- a result is read: a valid config is held from now on, and a fault changes nothing
+-- a result is read: a valid config is held from now on. A fault leaves the one that is held, whose kind then gets the addresses of the result; where
+-- none was ever held, the channel is unconfigured, as after a resolution that failed
 abbrev pub resolver_answered : Seen → Seen
 resolver_answered s = record s { answered = true; wants = false }
 

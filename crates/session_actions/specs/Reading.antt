@@ -140,7 +140,8 @@ is_wide_setting l s x =
     || list_any (λ a. holds (lifts_stream l x.value) a.row.stream) (outstanding_on l s))
 
 -- the rules that a whole frame keeps with those before it, in their order: the code of the first that it breaks. The server's preface comes first
--- (section 3.4), and pushes are off (section 6.6)
+-- (section 3.4), and pushes are off (section 6.6). DATA beyond a receive window (section 6.9.1) is never found: both
+-- windows count as given back when a DATA frame is read, and a frame has at most 16,384 bytes
 abbrev pub link_error : Link → FrameSeen → Seen → Option ℕ
 link_error l f s =
     if not (is_greeted l) && not (is_settings f) then Some protocol_error

@@ -1,5 +1,6 @@
--- Refusals: an event that names what is not there, or that comes too late, changes nothing. The first that stands is given. They are the channel's
--- own.
+-- Refusals: an event that names what is not there, or that comes too late, has no effect of its own. It makes an entry all the same, in which
+-- deadlines and what is due are served. The first refusal that stands is given, judged after the deadlines of the entry. They are the channel's own;
+-- that a link after GOAWAY still carries its open streams is RFC 9113, section 6.8.
 -- Example: where call 1 is finished, a Send of it is refused with AfterFinish, and with CallEnded once it has ended; where there is no call 9, a Send
 -- of call 9 with NoSuchCall; and after a Shutdown all three with Shut.
 use Rattle.std.specs.List.{list_any}
@@ -51,7 +52,7 @@ abbrev pub link_refusal : Seen → Option Link → Option Refusal → Option Ref
 link_refusal s None others = Some refusal.NoSuchLink
 link_refusal s (Some l) others = refused_if (is_gone l s) refusal.LinkGone others
 
--- what a channel that was shut down refuses: all but Take, Tick and Shutdown
+-- what an event is refused for while the channel is open
 abbrev pub refusal_when_open : Event → Seen → Option Refusal
 refusal_when_open (event.Send call message) s = send_refusal (numbered s.calls call)
 refusal_when_open (event.Finish call) s = send_refusal (numbered s.calls call)
@@ -65,6 +66,7 @@ refusal_when_open (event.Drain link most) s =
 refusal_when_open (event.Ping link word) s = link_refusal s (numbered s.links link) None
 refusal_when_open _ s = None
 
+-- a channel that was shut down refuses all but Take, Tick and Shutdown
 abbrev pub refusal_of : Event → Seen → Option Refusal
 refusal_of (event.Take call) s = take_refusal (numbered s.calls call)
 refusal_of event.Tick s = None

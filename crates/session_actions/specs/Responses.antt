@@ -137,7 +137,8 @@ with_block p b =
     else if is_some p.head || is_none (http_status b.fields) then ended_by_block b p
     else with_head p b
 
--- DATA: it may not come before a head, nor hold a message with a bad flag, nor end a stream without trailers
+-- DATA. Before a head, or with a message whose flag is not 0, it breaks a rule of the stream. With END_STREAM it ends the response without a
+-- grpc-status, which is UNKNOWN, as HTTP 200 says
 abbrev pub with_messages : Response → Messages → Bool → Response
 with_messages p m closes = record p { messages = p.messages ++ m.whole; rest = m.rest; closes = closes }
 
@@ -146,6 +147,7 @@ with_fault (Some (messagefault.TooLarge len)) p = record p { large = true }
 with_fault (Some messagefault.BadFlag) p = ended (plain_end code.Internal cause.Framing false (Some cancel)) p
 with_fault None p = if p.closes then ended (plain_end code.Unknown cause.Http false (Some cancel)) p else p
 
+-- (DATA beyond the receive window of the stream is never found: it counts as given back when a frame is read, and a frame has at most 16,384 bytes)
 abbrev pub with_data : ℕ → Response → FrameSeen → Response
 with_data limit p f =
     if is_none p.head then ended (plain_end code.Internal cause.Framing false (Some protocol_error)) p

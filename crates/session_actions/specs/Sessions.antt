@@ -63,7 +63,8 @@ abbrev pub Does : List Action → Seen → Seen → Type 0
 Does [] s t = t ≡ s
 Does (a ∷ actions) s t = IsNext a s × Does actions (after a s) t
 
--- a journal and a ledger are those of a session
+-- a journal and a ledger are those of a session. A step that finds the journal full, or no memory, makes no entry: it is no action, and the list is
+-- that of the steps before it
 pub record IsConsistent (setup : Setup) (entries : List Entry) (ledger : Ledger) : Type 0 where
   pub actions : List Action
   pub end : Seen

@@ -166,6 +166,7 @@ updates_for f l s =
     ∷ (if list_any (is_going_on f.stream s) (outstanding_on l s) && not (has_flag f.flags end_stream_flag)
     then window_update_frame f.stream (length f.payload) ∷ [] else [])
 
+-- (a PING with ACK is passed over; so are PRIORITY, unknown types outside a header block, and settings 5 and 6. A link that breaks sends no GOAWAY.)
 abbrev pub owed_for : FrameSeen → Link → Seen → List FrameSeen
 owed_for f l s =
     if is_settings f then settings_ack ∷ []

@@ -126,7 +126,7 @@ pub enum Action {
     SubchannelConnects {
         sub: u32,
     },
-    /// The environment takes a dial, with the moments before which there is no other and at which it is given up.
+    /// The environment takes a dial. Should it fail, the subchannel stays in TRANSIENT_FAILURE until `again`; the dial is given up at `until`.
     DialTaken {
         sub: u32,
         again: u64,
@@ -149,7 +149,7 @@ pub enum Action {
     SettingsArrive {
         sub: u32,
     },
-    /// The link of a subchannel was lost, broke, timed out or is retiring.
+    /// The link of a subchannel was lost or broken, or its server sent GOAWAY: the subchannel no longer has it. After GOAWAY its open streams go on.
     LinkDown {
         sub: u32,
     },

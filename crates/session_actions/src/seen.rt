@@ -1,4 +1,6 @@
-// All that has happened: plain history, with no cursor, window, queue or timer in it.
+// All that has happened. No flow-control window, decoder table, token count, timer queue or rest of a frame is kept: each is computed. Some things are
+// kept though they follow from the actions, since that is shorter. Of the entry that is being made: stage, drawn, turn. Of a subchannel: dials, again, until. Of a
+// policy: failed. Of an attempt: reset. And wants.
 use crate::{Attempt, Call, HeldConfig, Link, OpenEntry, PolicyUse, Subchannel, ThrottleRun};
 use attempt_ledger::Ask;
 use grpc_base::{Entry, Items, Kind, Text};
