@@ -10,6 +10,6 @@ pub struct DueState {
     pub placed: Option<Moment>,
     /// The moment to which an end, or the configuration, sets the next attempt.
     pub forced: Option<u64>,
-    /// Whether no further attempt is made.
+    /// Whether no further attempt is made; of a call before its configuration none is, too.
     pub stopped: bool,
 }
