@@ -1,6 +1,6 @@
 -- How an attempt ends: cut off by the client, by its pick, or by the wire; and what is stamped at its end (gRPC over HTTP/2, "Errors", and
--- "Connection Management": GOAWAY Frame, Connection failure; RFC 9113, sections 5.1, 5.4.2, 6.4 and 6.8; gRFC A6, "Transparent Retries" and
--- "Pushback").
+-- "Connection Management": GOAWAY Frame, Connection failure; RFC 9113, sections 5.1, 5.4.2, 6.4, 6.8 and 8.1; gRFC A6, "Transparent Retries",
+-- "Throttling Retry Attempts and Hedged RPCs", "Exponential Backoff" and "Pushback").
 -- Example: a link is lost with two attempts on it, of two calls. The one with a stream ends UNAVAILABLE by Lost; the one without ends UNAVAILABLE by
 -- Unsent, and a transparent retry follows it. No stream is reset, since the link is over.
 use Rattle.std.specs.Option.{option_map_or, option_or}
@@ -44,8 +44,8 @@ unsent_end = plain_end code.Unavailable cause.Unsent true (Some cancel)
 abbrev pub lost_end : Told
 lost_end = plain_end code.Unavailable cause.Lost false (Some cancel)
 
--- how the wire ends an attempt that is outstanding on a link, if it does: one without a stream where the link is over or takes no further stream, and
--- one with a stream by its response, or else where the link is over
+-- how the wire ends an attempt that is outstanding on a link, if it does. One without a stream ends where the link is over or takes no further
+-- stream; one with a stream by its response, or else where the link is over
 abbrev pub told_on : Attempt → Seen → Option ℕ → Link → Option Told
 told_on a s None l = if is_some l.over || is_retiring l then Some unsent_end else None
 told_on a s (Some stream) l = option_or (response a s).end (if is_some l.over then Some lost_end else None)
@@ -53,7 +53,8 @@ told_on a s (Some stream) l = option_or (response a s).end (if is_some l.over th
 abbrev pub told_of : Attempt → Seen → Option Told
 told_of a s = option_and_then (told_on a s a.row.stream) (link_of a s)
 
--- whether an end of an attempt will count: the client does not cut it off, and no transparent retry is to follow
+-- whether an end of an attempt will count: the client does not cut it off, and no transparent retry is to follow (the same as `counts_by` of the end,
+-- before it is there)
 abbrev pub will_count : Attempt → Told → Seen → Bool
 will_count a t s = not (is_cut t.cause) && not (of_its_call (λ c. is_to_follow c t.cause t.unseen s) a s)
 
@@ -115,8 +116,9 @@ abbrev pub is_framing : RowCause → Bool
 is_framing cause.Framing = true
 is_framing _ = false
 
--- the code of RST_STREAM for the stream of an attempt that ended: none where the peer reset it, its link is over, or both sides had closed it; that of
--- the stream error; and else CANCEL, also for a stream that GOAWAY left out (gRPC over HTTP/2, "Errors"; RFC 9113, sections 5.1, 5.4.2, 6.4 and 8.1)
+-- the code of RST_STREAM for the stream of an attempt that ended: none where the peer reset it, its link is over, or both sides had closed it. It is
+-- that of the stream error, and else CANCEL, also for a stream that GOAWAY left out (gRPC over HTTP/2, "Errors"; RFC 9113, sections 5.1, 5.4.2, 6.4
+-- and 8.1)
 abbrev pub code_to_reset : Attempt → RowEnd → ℕ → Seen → Link → Option ℕ
 code_to_reset a e stream s l =
     if is_reset e.cause || is_some l.over || (has_written_end stream l && (response a s).closes) then None

@@ -1,5 +1,5 @@
 -- Attempts: which are outstanding, queued or over, which a transparent retry follows, and which ends count (gRFC A6, "Transparent Retries" and "When
--- Retries are Valid"; RFC 9113, section 8.7).
+-- Retries are Valid"; RFC 9113, sections 6.8 and 8.7).
 -- Example: row 1, attempt 1 of a call, ends by RST_STREAM with REFUSED_STREAM before a head: row 2, again of number 1, follows it, and its end does
 -- not count. Row 2 ends in the same way: nothing follows it, and its end counts, with UNAVAILABLE.
 use Rattle.std.specs.List.{list_any}
@@ -56,15 +56,16 @@ is_later_of a q = (q.row.call == a.row.call) && (q.row.number == a.row.number) &
 abbrev pub is_followed : Attempt → Seen → Bool
 is_followed a s = list_any (is_later_of a) s.attempts
 
--- the server cannot have seen it, and it ended by GOAWAY or RST_STREAM: such an attempt is followed once a call. Whether one was
+-- the server did not process it: a GOAWAY left its stream out, or REFUSED_STREAM came before a head (RFC 9113, sections 6.8 and 8.7). Such an attempt
+-- is retried transparently once a call. Whether one was
 abbrev pub was_refused : Attempt → Bool
 was_refused a = holds is_refused a.row.ended
 
 abbrev pub was_retried_so : Call → Seen → Bool
 was_retried_so c s = list_any (λ q. is_of c q && was_refused q && is_followed q s) s.attempts
 
--- whether a transparent retry is to follow an end of this cause: always where the request never left the client; else where the server cannot have
--- seen it, once a call, while the call is not committed
+-- whether a transparent retry follows an end: always where the request never left the client; where the server did not process it, once a call, while
+-- the call is not committed; else never
 abbrev pub is_to_follow : Call → RowCause → Bool → Seen → Bool
 is_to_follow c why unseen s =
     is_unsent why || (unseen && is_by_peer why && is_none (commitment c s) && not (was_retried_so c s))

@@ -11,7 +11,8 @@ use Rattle.session_actions.specs.declared.link.Link.{Link}
 use Rattle.session_actions.specs.declared.seen.Seen.{Seen}
 use Rattle.grpc_base.specs.declared.event.Reply.TheVariants as reply
 
--- the entry, with the channel's state after it; a link that is gone by now, and was not before, is gone from this entry on
+-- the entry, with the channel's state after it; a link that is gone by now, and was not before, is gone from this entry on. It
+-- stays so: its subchannel no longer has it, so no further attempt is placed on it. The reply Done is no default: an entry that closes was answered
 abbrev pub made_entry : OpenEntry → Seen → Entry
 made_entry o s = record {
   moment = o.moment;

@@ -1,5 +1,6 @@
 -- Configuration: the resolver's results, the valid service configs, and what each call gets of one (gRPC, "Service Config in gRPC": waitForReady,
--- timeout, maxRequestMessageBytes, maxResponseMessageBytes, retryThrottling, and "Service Config Changes"; "gRPC Wait for Ready Semantics"; gRFC A6).
+-- timeout, maxRequestMessageBytes, maxResponseMessageBytes, retryThrottling, and "Service Config Changes"; "gRPC Wait for Ready Semantics"; gRFC A6,
+-- "Integration with Service Config" and "Throttling Retry Attempts and Hedged RPCs").
 -- Example: configs 1 and 2 with maxTokens 10 and tokenRatio 0.1 share run 1. Config 3 has no throttling, and config 4, equal to 1, begins run 2.
 -- A call begun at 5 with the timeouts 10 of its application and 7 of its config has the deadline 12.
 use Rattle.std.specs.Option.{option_map_or, option_or}
@@ -53,7 +54,7 @@ chosen_of c s = option_map_or (λ h. chosen_for h.config c.request.path) (config
 abbrev pub plan_of : Call → Seen → CallPlan
 plan_of c s = (chosen_of c s).plan
 
--- whether a call waits for ready: what the application says decides before the config
+-- whether a call waits for ready ("gRPC Wait for Ready Semantics"): what the application says decides before the config
 abbrev pub waits_for_ready : Call → Seen → Bool
 waits_for_ready c s = unwrap_or (option_or c.request.wait (chosen_of c s).wait) false
 

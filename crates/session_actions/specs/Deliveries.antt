@@ -47,8 +47,8 @@ send_action call message s c =
     else if is_accepted c message s then action.MessageAccepted call
     else action.EventAnswered (reply.Full (held_bytes c s))
 
--- the code of an end by the channel; a call that ends by its attempt has the code of that attempt, and none of its own ("Status codes and their use
--- in gRPC")
+-- the code of an end by the channel; a call that ends by its attempt has the code of that attempt, and none of its own: UNKNOWN for it
+-- is never given ("Status codes and their use in gRPC")
 abbrev pub code_of_cause : EndCause → Code
 code_of_cause ending.Deadline = code.DeadlineExceeded
 code_of_cause ending.Cancelled = code.Cancelled
@@ -62,7 +62,8 @@ abbrev pub is_by_row : EndCause → Bool
 is_by_row ending.Row = true
 is_by_row _ = false
 
--- the end of a call as the application gets it: that of its committed attempt, or the channel's
+-- the end of a call as the application gets it: that of its committed attempt, or the channel's. (A call that ends by its attempt is committed to one
+-- that ended, so the default is never taken.)
 abbrev pub end_by_channel : EndCause → Reply
 end_by_channel why = reply.End (code_of_cause why) [] [] why
 

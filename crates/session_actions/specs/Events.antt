@@ -1,4 +1,4 @@
--- The action of an event itself, by which it is answered, and the frames that it brings. The events are the channel's own.
+-- The action of an event itself, by which it is answered, and the frames that it brings. The events are the channel's own, as is their order.
 -- Example: a Take of call 1 is `ItemTaken` where something has come, `EventAnswered` with NotYet where nothing has, and `EventRefused` with
 -- NoSuchCall where there is no call 1.
 use Rattle.std.specs.Prelude.{Bool, None, Option, Some, [], false, if◌then◌else◌, option_map, true, ℕ}
@@ -47,7 +47,7 @@ event_action_by None e s = event_applied e s
 abbrev pub event_action : Event → Seen → Option Action
 event_action e s = event_action_by (refusal_of e s) e s
 
--- what an event brought, frame by frame
+-- frame by frame: of a piece those that are read, of a Drain those that are written
 abbrev pub frame_of_event : Event → OpenEntry → Seen → Option Action
 frame_of_event (event.Arrived link piece) o s = next_frame_read link s
 frame_of_event (event.Drain link most) o s = next_written link most o s

@@ -73,7 +73,7 @@ stream_number a = unwrap_or a.row.stream 0
 abbrev pub is_stream_before : Attempt → Attempt → Bool
 is_stream_before a b = nat_lt (link_number a) (link_number b) || ((link_number a == link_number b) && nat_lt (stream_number a) (stream_number b))
 
--- a link, changed; control frames queued on it
+-- a link, changed; control frames queued on it, after all that were queued before, written or not
 abbrev pub with_link : (Link → Link) → ℕ → Seen → Seen
 with_link f link s = record s { links = changed f link s.links }
 

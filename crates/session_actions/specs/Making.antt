@@ -43,7 +43,7 @@ due_action s c = if is_open_call c then option_and_then (due_if_past c s) (next_
 abbrev pub next_due_attempt : Seen → Option Action
 next_due_attempt s = first_of (due_action s) s.calls
 
--- what it adds: a row at the end of the ledger. But for a transparent one, a new pass over the queue begins
+-- what it adds: a row at the end of the ledger. Unless it is a transparent retry, a new pass over the queue begins
 abbrev pub new_row : ℕ → ℕ → RowKind → ℕ → Row
 new_row call number k due = record {
   call = call;

@@ -80,7 +80,7 @@ live_sub s address = find (is_live_sub address) s.subs
 abbrev pub view_of : List Address → Seen → List SubSeen
 view_of addresses s = map (λ b. record { sub = b.number; state = b.state }) (filter_map (live_sub s) addresses)
 
--- a policy as the table sees it: its turns are the pick requests that it answered
+-- a policy as the table sees it: its turns are the pick requests that it answered (not the `turn` of an entry)
 abbrev pub width_of : Kind → List PolicyKind → ℕ
 width_of k policies = option_map_or (λ p. p.width) (find (λ p. is_same_kind p.kind k) policies) 1
 
@@ -106,7 +106,7 @@ channel_state s =
     if s.shut then conn.Shutdown
     else option_map_or (λ g. policy_state g s) (current_policy s) (if is_unconfigured s then conn.Failure else conn.Idle)
 
--- a pending policy takes over when it is READY or in TRANSIENT_FAILURE, or when the current one is not READY
+-- a graceful switch: a pending policy takes over when it is READY or in TRANSIENT_FAILURE, or when the current one is not READY
 abbrev pub is_failure : Conn → Bool
 is_failure conn.Failure = true
 is_failure _ = false
@@ -119,7 +119,8 @@ abbrev pub next_take_over : Seen → Option Action
 next_take_over s =
     option_and_then (λ g. if may_take_over s g then Some (action.PolicyTakesOver g.number) else None) (pending_policy s)
 
--- a queued attempt is served while the current policy is READY, or in TRANSIENT_FAILURE where its call does not wait for ready
+-- a queued attempt is served while the current policy is READY, or in TRANSIENT_FAILURE where its call does not wait for ready ("gRPC Wait for Ready
+-- Semantics")
 abbrev pub is_served_by : Conn → Attempt → Seen → Bool
 is_served_by conn.Ready a s = true
 is_served_by conn.Failure a s = of_its_call (λ c. not (waits_for_ready c s)) a s
@@ -139,6 +140,7 @@ is_behind t a = nat_lt t.call a.row.call || ((t.call == a.row.call) && nat_lt t.
 abbrev pub asking : Seen → Attempt → Option Action
 asking s a = option_map (λ g. action.PickRequested a.place g.number (pick_of (policy_of g s))) (current_policy s)
 
+-- (READY answers Place and TRANSIENT_FAILURE Fail, so a pick request that is made is never answered Wait)
 abbrev pub next_asked : (Attempt → Bool) → Seen → Option Action
 next_asked test s = option_and_then (asking s) (foremost is_queued_before (filter (λ a. is_served s a && test a) s.attempts))
 
@@ -149,7 +151,8 @@ next_of_pass o s = option_and_then (λ t. next_asked (is_behind t) s) o.turn
 abbrev pub next_of_queue : Seen → Option Action
 next_of_queue s = next_asked (λ a. true) s
 
--- the last pick request, in the entry in which it was made: the attempt is placed on the subchannel that was picked, or ends
+-- the last pick request, in the entry in which it was made, where its attempt is neither placed nor ended yet: its answer is acted on. The attempt is
+-- placed on the subchannel that was picked, or ends. (The link 0 stands for none, and is never so: a READY subchannel has a link.)
 abbrev pub is_unfollowed : Attempt → Bool
 is_unfollowed a = is_none a.row.placed && is_none a.row.ended
 
@@ -187,7 +190,9 @@ result_of o = if is_after_event o then addresses_in o.event else None
 abbrev pub wanted_kind : OpenEntry → Seen → Option Kind
 wanted_kind o s = if is_some (result_of o) then option_map (λ h. h.config.kind) (held_config s) else None
 
--- a generation is retired by a Shutdown, and a pending one of another kind by a result
+-- a generation is retired by a Shutdown, and a pending one of another kind by a result. In one result a pending policy is retired, then one begins,
+-- then the one of the config's kind gets the addresses, and only then subchannels go and come. So an address that the list before and the new one
+-- share keeps its subchannel
 abbrev pub is_other_kind : Kind → PolicyUse → Bool
 is_other_kind k g = not (is_same_kind g.generation.kind k)
 

@@ -1,5 +1,6 @@
 -- The wire, read: the frames of a link one by one, what they said so far, and the rules whose breach breaks the link (RFC 9113, sections 3.4, 4.1 to
--- 4.3, 5.1, 5.4.1, 6 and 6.9; RFC 7541, sections 2.2 and 3.1).
+-- 4.3, 5.1, 5.4.1, 6, 6.5.2, 6.9.1, 6.9.2, 6.10 and 7; RFC 7541, sections 2.2, 3.1, 4 and 6). The channel's own: a link that breaks sends no GOAWAY,
+-- PRIORITY of a wrong length breaks the link, and a header block has at most 65,536 bytes.
 -- Example: on a new link the bytes 00 00 00 04 00 00 00 00 00 are a frame, SETTINGS without content, with end 9. PING in its place breaks the link
 -- with PROTOCOL_ERROR. After it, WINDOW_UPDATE of 2,147,483,647 on stream 0 breaks it with FLOW_CONTROL_ERROR, since the window has 65,535 already.
 use Rattle.std.specs.List.{list_any}
@@ -58,6 +59,7 @@ used stream l = sum_by (λ f. if is_data_on stream f then length f.payload else 
 abbrev pub first_window : ℕ → Link → ℕ
 first_window stream l = if stream == 0 then 65535 else initial_window l
 
+-- the flow-control window that is left (section 6.9); never below 0: a window that SETTINGS made negative sends nothing
 abbrev pub room : ℕ → Link → ℕ
 room stream l = first_window stream l + raised stream l - used stream l
 
@@ -140,8 +142,8 @@ is_wide_setting l s x =
     || list_any (λ a. holds (lifts_stream l x.value) a.row.stream) (outstanding_on l s))
 
 -- the rules that a whole frame keeps with those before it, in their order: the code of the first that it breaks. The server's preface comes first
--- (section 3.4), and pushes are off (section 6.6). DATA beyond a receive window (section 6.9.1) is never found: both
--- windows count as given back when a DATA frame is read, and a frame has at most 16,384 bytes
+-- (section 3.4), and pushes are off (section 6.6). DATA beyond a receive window (section 6.9.1) is never found: both windows
+-- count as given back when a DATA frame is read, and a frame has at most 16,384 bytes
 abbrev pub link_error : Link → FrameSeen → Seen → Option ℕ
 link_error l f s =
     if not (is_greeted l) && not (is_settings f) then Some protocol_error

@@ -1,8 +1,8 @@
 -- Refusals: an event that names what is not there, or that comes too late, has no effect of its own. It makes an entry all the same, in which
--- deadlines and what is due are served. The first refusal that stands is given, judged after the deadlines of the entry. They are the channel's own;
--- that a link after GOAWAY still carries its open streams is RFC 9113, section 6.8.
--- Example: where call 1 is finished, a Send of it is refused with AfterFinish, and with CallEnded once it has ended; where there is no call 9, a Send
--- of call 9 with NoSuchCall; and after a Shutdown all three with Shut.
+-- deadlines end calls and what is due is done. The first refusal that stands is given, judged after the deadlines of the entry. They are the
+-- channel's own; that a link after GOAWAY still carries its open streams is RFC 9113, section 6.8.
+-- Example: where call 1 is finished, a Send of it is refused with AfterFinish, and with CallEnded once it has ended. Where there is no call 9, a Send
+-- of call 9 is refused with NoSuchCall; and after a Shutdown all three with Shut.
 use Rattle.std.specs.List.{list_any}
 use Rattle.std.specs.Prelude.{Bool, None, Option, Some, if◌then◌else◌, is_some, nat_lt, not, ℕ, ◌&&◌, ◌||◌}
 use Rattle.grpc_base.specs.declared.event.Event.{Event}
@@ -19,7 +19,8 @@ use Rattle.session_actions.specs.declared.subchannel.Subchannel.{Subchannel}
 use Rattle.grpc_base.specs.declared.event.Event.TheVariants as event
 use Rattle.grpc_base.specs.declared.event.Refusal.TheVariants as refusal
 
--- a link is gone: it is over; or it takes no further stream, or its subchannel is shut down, and no attempt is outstanding on it
+-- a link is gone: it is over; or it takes no further stream, or its subchannel is shut down, and no attempt is outstanding on it. It stays so, since
+-- its subchannel no longer has it, and no further attempt is placed on it
 abbrev pub is_shutdown_sub : Seen → ℕ → Bool
 is_shutdown_sub s sub = holds (λ b. is_shutdown b.state) (numbered s.subs sub)
 

@@ -1,5 +1,6 @@
 -- The response on a stream: a head or none, messages, and an end or none (gRPC over HTTP/2, "Responses" and "Errors"; "Status codes and their use in
--- gRPC"; "HTTP to gRPC Status Code Mapping"; RFC 9113, sections 5.1, 5.4.2, 6.1, 6.4, 6.8, 6.9 and 8.1).
+-- gRPC"; "HTTP to gRPC Status Code Mapping"; RFC 9113, sections 5.1, 5.4.2, 6.1, 6.4, 6.8, 6.9, 8.1, 8.3.2 and 8.7;
+-- RFC 9110, section 15; gRPC over HTTP/2, "Length-Prefixed-Message"; gRFC A6, "Pushback").
 -- Example: HEADERS with `:status` 200 and `content-type` application/grpc are a head; DATA 00 00000002 6869 is the message `hi`; trailers with
 -- `grpc-status` 0 are the end, OK. Where the DATA was 00 00000002 68, a message is cut off, and the same trailers are the end INTERNAL.
 use Rattle.std.specs.Char.{is_ascii_digit}
@@ -90,7 +91,8 @@ plain_end c why unseen reset = record {
   reset = reset;
 }
 
--- an end by a header block: with its first `grpc-message`, its metadata, and, where it ends the stream, what it asks of the next attempt
+-- an end by a header block: with its first `grpc-message`, its metadata, and, where it ends the stream, what it asks of the next attempt. That is
+-- so also where the block breaks a rule, or is no gRPC response: the channel's own choice
 abbrev pub block_end : Code → RowCause → ℕ → Block → Told
 block_end c why reset b = record {
   code = c;
@@ -109,7 +111,8 @@ ended told p = record p { end = Some told }
 abbrev pub ended_by_block : Block → Response → Response
 ended_by_block b p = ended (block_end code.Internal cause.Framing protocol_error b) p
 
--- trailers, or a response of trailers alone: by the one `grpc-status`, and by the HTTP status where there is none; OK may cut no message off
+-- trailers, or a response of trailers alone: by the one `grpc-status`, and by the HTTP status where there is none. Several
+-- `grpc-status` are UNKNOWN. A message that OK cuts off breaks a rule
 abbrev pub status_end : List (List ℕ) → Block → Told
 status_end [] b = block_end (http_code b.fields) cause.Http cancel b
 status_end (value ∷ []) b = block_end (code_of_text value) cause.Status cancel b
@@ -199,14 +202,15 @@ with_traffic limit stream p (traffic.Read r) = with_read limit stream p r
 with_traffic limit stream p (traffic.Written (sent.Frame f)) = with_written stream p f
 with_traffic limit stream p (traffic.Written sent.Preface) = p
 
--- nothing counts after its end, nor after a message that is too large
+-- nothing counts after its end, nor after a message that is too large. (RFC 9113, section 5.1, lets an endpoint answer frames on a closed stream with
+-- STREAM_CLOSED; here they are passed over.)
 abbrev pub response_after : ℕ → ℕ → Response → Traffic → Response
 response_after limit stream p t = if is_some p.end || p.large then p else with_traffic limit stream p t
 
 abbrev pub response_in : ℕ → ℕ → List Traffic → Response
 response_in limit stream ts = fold (response_after limit stream) no_response ts
 
--- what passed on a link until so many bytes of it were read
+-- what passed on a link until a number of its bytes were read
 abbrev pub is_read_by : ℕ → Traffic → Bool
 is_read_by seen (traffic.Read r) = nat_le r.end seen
 is_read_by seen _ = true

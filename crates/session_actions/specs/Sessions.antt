@@ -1,4 +1,4 @@
--- Sessions: a journal and a ledger are those of a list of actions, each of which is the next one.
+-- Sessions: a journal and a ledger are those of a list of actions, each of which is the next one. How a session is kept is the channel's own.
 -- Example: of one Tick on a new channel the actions are EntryOpens, EventAnswered, SettlingBegins, EntryCloses. The journal is one entry with reply
 -- Done and state IDLE; the ledger has no rows, calls, requests, generations or links, and its entry is 1.
 use Rattle.std.specs.Prelude.{List, None, Some, [], false, filter, length, map, true, ◌∷◌, ◌≡◌}

@@ -27,7 +27,7 @@ tokens_after t plan c asks count =
     else if has_code (codes_of plan) c || is_stop asks then count - 1000
     else count
 
--- the bucket of a call is that of the run of its config
+-- the bucket of a call is that of the run of its config: valid configs one after another with equal throttle settings
 abbrev pub run_of : Call → Seen → Option ThrottleRun
 run_of c s = option_and_then (numbered s.runs) (option_and_then (λ h. h.run) (config_of_call c s))
 

@@ -1,5 +1,5 @@
--- The wire, written: what a link has to send, and in which order (RFC 9113, sections 3.4, 5.1.1, 5.1.2, 6 and 6.9; RFC 7541, section 4.2; gRPC over
--- HTTP/2, "Requests").
+-- The wire, written: what a link has to send, and in which order (RFC 9113, sections 3.4, 4.3.1, 5.1.1, 5.1.2, 5.2.2, 6, 6.5.2, 6.5.3, 6.7 and 6.9.1;
+-- RFC 7541, sections 4.2 and 6.3; gRPC over HTTP/2, "Requests": Timeout, Length-Prefixed-Message; gRFC A6, "Exposed Retry Metadata").
 -- Example: one attempt waits on a link whose server sent SETTINGS; its call has the message `hi` and is finished. The link writes the preface (45
 -- bytes with the client's SETTINGS), the acknowledgement, HEADERS on stream 1, and DATA of 7 bytes with END_STREAM.
 use Rattle.std.specs.List.{list_any}
@@ -74,7 +74,7 @@ abbrev pub controls_written : Link → ℕ
 controls_written l = count_by is_control (frames_written l)
 
 -- a header block begins with a dynamic table size update to 0 where an acknowledgement written since the last block answers SETTINGS that name
--- SETTINGS_HEADER_TABLE_SIZE (1): the acknowledgements answer the SETTINGS in turn (RFC 7541, section 4.2; RFC 9113, section 4.3.1)
+-- SETTINGS_HEADER_TABLE_SIZE (1). The acknowledgements answer the SETTINGS in turn (RFC 7541, section 4.2; RFC 9113, section 4.3.1)
 abbrev pub table_sizes_named : Link → List Bool
 table_sizes_named l =
     map (λ r. list_any (is_setting 1) (settings_of r.frame)) (filter (λ r. is_settings r.frame) (frames_read l))
@@ -134,11 +134,13 @@ waiting_on l s = filter (λ a. is_none a.row.stream) (outstanding_on l s)
 abbrev pub streaming_on : Link → Seen → List Attempt
 streaming_on l s = filter (λ a. is_some a.row.stream) (outstanding_on l s)
 
--- a stream may be opened while no GOAWAY came, and the peer allows one more (SETTINGS_MAX_CONCURRENT_STREAMS, 3)
+-- a stream may be opened while no GOAWAY came, and the peer allows one more (SETTINGS_MAX_CONCURRENT_STREAMS, 3). A stream is open while its attempt
+-- is outstanding: when that ends, both sides are closed, or RST_STREAM goes out before any further HEADERS (RFC 9113, section 5.1.2)
 abbrev pub may_open_stream : Link → Seen → Bool
 may_open_stream l s = not (is_retiring l) && option_map_or (λ most. nat_lt (length (streaming_on l s)) most) (setting 3 l) true
 
--- the next in this order: the preface, the control frames that are owed, HEADERS of the first attempt that waits, DATA of the lowest stream
+-- the next in this order, which is the channel's own: the preface, the control frames that are owed, HEADERS of the first attempt that waits, DATA of
+-- the lowest stream
 abbrev pub next_control : Link → Option Sent
 next_control l = option_map (λ f. sent.Frame f) (slice_get l.owed (controls_written l))
 
@@ -154,8 +156,9 @@ sendable l s =
     if not (has_begun l) then Some sent.Preface
     else option_or (next_control l) (option_or (next_headers l s) (next_data l s))
 
--- what a frame that was read makes the client queue: an acknowledgement of SETTINGS, an answer to PING, and for DATA leave to send as much again,
--- on the link, and on the stream while a response with a head goes on there
+-- what a frame that was read makes the client queue: an acknowledgement of SETTINGS, an answer to PING, and for DATA leave to send as much again.
+-- That is on the link, and on the stream unless its attempt ended before, no head came before, or the frame has END_STREAM. It is judged before the
+-- frame is applied, and queued before a RST_STREAM that the frame causes
 abbrev pub is_going_on : ℕ → Seen → Attempt → Bool
 is_going_on stream s a = is_number stream a.row.stream && is_some (response a s).head
 
