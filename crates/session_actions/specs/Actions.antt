@@ -1,4 +1,8 @@
--- A session as one list of actions: what each adds, and which one is next.
+-- A session as one list of actions: what each adds, and which one is next. The order is the channel's own, where the standards leave it open. An
+-- action is enabled where its line below gives it; its priority is the place of that line. Some actions have several lines: an attempt ends cut off,
+-- by the wire, or by its pick; it is made transparently or because it is due; a call ends for each of seven causes.
+-- Example: a call begins on a channel that is READY, with a config: EntryOpens, CallBegins, SettlingBegins, CallConfigured, AttemptMade,
+-- PickRequested, AttemptPlaced, EntryCloses. Its HEADERS wait for a drain: EntryOpens, EventAnswered, FrameWritten, SettlingBegins, EntryCloses.
 use Rattle.std.specs.Prelude.{List, None, Option, Some, [], if◌then◌else◌, length, option_and_then, true, ◌∷◌}
 use Rattle.session_actions.specs.AttemptEnds.{attempt_ended, next_cut, next_reset, next_wire_end, stream_reset}
 use Rattle.session_actions.specs.CallEnds.{call_ended, has_long_request, has_long_response, is_cancelled, is_over_by_row, is_shut_down, lacks_config, next_deadline, next_ended}
@@ -88,8 +92,11 @@ after a s = after_if s.current a s
 abbrev pub first_action : List (Option Action) → Option Action
 first_action actions = first_of (λ (o : Option Action). o) actions
 
--- What follows at once from what is, before anything else and whichever stage the entry is at, in this order. Within a line the lowest place, number
--- or call comes first.
+-- What follows at once from what is, before anything else and whichever stage the entry is at, in this order. Of one kind of action the lowest place
+-- of a row, or number of a call or another thing, comes first. But resets go by link and stream, deadlines by moment and then call, pick requests by
+-- call and then row. Subchannels are added in the order of the lists of addresses, that of the current policy before that of the pending one.
+-- (The lines go over all calls, not call by call. No two calls should have such an action at one time: what makes one possible is an action of one
+-- call, and these come before any other. That is not proved here.)
 abbrev pub of_calls : OpenEntry → Seen → Option Action
 of_calls o s = first_action (
     -- an attempt that is over is cut off; a transparent retry is made, and takes a commitment over; a call ends by its committed attempt
@@ -101,9 +108,10 @@ of_calls o s = first_action (
 
 abbrev pub of_links : OpenEntry → Seen → Option Action
 of_links o s = first_action (
-    -- a pick request is followed; a subchannel is READY, or its link went
+    -- the answer of a pick request is acted on; a subchannel becomes READY, or loses its link
     next_of_pick s ∷ next_of_links s
-    -- attempts end by the wire, and then their streams are reset; where a link is lost, each attempt's end with its own
+    -- attempts end by the wire, all that one frame ends, by place; then their streams are reset, by stream. Where the environment lost the link, the
+    -- resets that one end brings (those of a hedged call's other attempts, on other links) are queued before the next end
     ∷ (if is_loss o.event then None else next_wire_end s) ∷ next_reset s ∷ next_wire_end s ∷ [])
 
 abbrev pub of_policies : OpenEntry → Seen → Option Action
@@ -111,15 +119,17 @@ of_policies o s = first_action (
     -- calls of a channel that was shut down end; policies are retired, begin and get their addresses, and subchannels with them
     next_ended ending.Shut (is_shut_down s) s ∷ next_retired o s ∷ next_begun o s ∷ next_given o s ∷ next_shut s ∷ next_added s ∷ [])
 
--- then, by the stage of the entry: deadlines that have come, and the event itself; its frames, one by one
+-- then, by the stage of the entry: deadlines that have come, and the event itself; its frames, one by one. Deadlines are looked at only here: so a
+-- call that begins with a timeout of 0, or gets a config whose timeout is over, ends in the next entry
 abbrev pub of_event : OpenEntry → Seen → Option Action
 of_event o s = first_action (next_deadline s ∷ event_action o.event s ∷ [])
 
 abbrev pub of_frames : OpenEntry → Seen → Option Action
 of_frames o s = first_action (frame_action o s ∷ Some action.SettlingBegins ∷ [])
 
--- and what is due by now: the clock of subchannels; a policy that takes over; connections that are wished; configurations; pick requests of the
--- pass that goes on; attempts that are due, each of which begins a new pass; and a new pass. An entry is made where none of this is left
+-- and what is due by now: the clock of subchannels; a policy that takes over; connections that are wished; configurations. Then rounds: all attempts
+-- that are due are made, by call; then each queued attempt asks once, by call and place; and again, until a round does nothing. An entry is made
+-- where none of this is left
 abbrev pub config_action : Seen → Call → Option Action
 config_action s c =
     if is_to_configure s c then Some (action.CallConfigured c.number (length s.configs))

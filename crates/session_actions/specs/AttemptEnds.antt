@@ -1,4 +1,8 @@
--- How an attempt ends: cut off by the client, by its pick, or by the wire; and what is stamped at its end (gRPC over HTTP/2, "Errors"; gRFC A6).
+-- How an attempt ends: cut off by the client, by its pick, or by the wire; and what is stamped at its end (gRPC over HTTP/2, "Errors", and
+-- "Connection Management": GOAWAY Frame, Connection failure; RFC 9113, sections 5.1, 5.4.2, 6.4, 6.8 and 8.1; gRFC A6, "Transparent Retries",
+-- "Throttling Retry Attempts and Hedged RPCs", "Exponential Backoff" and "Pushback").
+-- Example: a link is lost with two attempts on it, of two calls. The one with a stream ends UNAVAILABLE by Lost; the one without ends UNAVAILABLE by
+-- Unsent, and a transparent retry follows it. No stream is reset, since the link is over.
 use Rattle.std.specs.Option.{option_map_or, option_or}
 use Rattle.std.specs.Prelude.{Bool, None, Option, Some, [], false, filter, if◌then◌else◌, is_none, is_some, not, option_and_then, option_map, true, ℕ, ◌&&◌, ◌++◌, ◌==◌, ◌||◌, ◌∷◌}
 use Rattle.attempt_ledger.specs.Ends.{delay_of, is_cut}
@@ -6,7 +10,6 @@ use Rattle.attempt_ledger.specs.declared.row.RowCause.{RowCause}
 use Rattle.attempt_ledger.specs.declared.row.RowEnd.{RowEnd}
 use Rattle.grpc_base.specs.ErrorCodes.{cancel}
 use Rattle.h2_frame.specs.Sent.{rst_stream_frame}
-use Rattle.json_text.specs.Reading.{run}
 use Rattle.session_actions.specs.Attempts.{call_of, commitment, is_outstanding, is_over, is_to_follow, of_its_call, with_attempt}
 use Rattle.session_actions.specs.Calls.{marked}
 use Rattle.session_actions.specs.Configs.{config_of_call, plan_of}
@@ -41,8 +44,8 @@ unsent_end = plain_end code.Unavailable cause.Unsent true (Some cancel)
 abbrev pub lost_end : Told
 lost_end = plain_end code.Unavailable cause.Lost false (Some cancel)
 
--- how the wire ends an attempt that is outstanding on a link, if it does: one without a stream where the link takes no further one, and one
--- with a stream by its response, or else where the link is over
+-- how the wire ends an attempt that is outstanding on a link, if it does. One without a stream ends where the link is over or takes no further
+-- stream; one with a stream by its response, or else where the link is over
 abbrev pub told_on : Attempt → Seen → Option ℕ → Link → Option Told
 told_on a s None l = if is_some l.over || is_retiring l then Some unsent_end else None
 told_on a s (Some stream) l = option_or (response a s).end (if is_some l.over then Some lost_end else None)
@@ -50,11 +53,12 @@ told_on a s (Some stream) l = option_or (response a s).end (if is_some l.over th
 abbrev pub told_of : Attempt → Seen → Option Told
 told_of a s = option_and_then (told_on a s a.row.stream) (link_of a s)
 
--- whether an end of an attempt counts
+-- whether an end of an attempt will count: the client does not cut it off, and no transparent retry is to follow (the same as `counts_by` of the end,
+-- before it is there)
 abbrev pub will_count : Attempt → Told → Seen → Bool
 will_count a t s = not (is_cut t.cause) && not (of_its_call (λ c. is_to_follow c t.cause t.unseen s) a s)
 
--- the tokens after it
+-- the tokens of its call's bucket after it, where there is one
 abbrev pub tokens_told : Attempt → Told → Seen → Call → ThrottleRun → ℕ
 tokens_told a t s c run =
     if will_count a t s then tokens_after run.throttle (plan_of c s) t.code t.pushback (tokens_in run s) else tokens_in run s
@@ -71,7 +75,7 @@ is_drawing a t s c =
     will_count a t s && is_none (commitment c s) && is_none (delay_of t.pushback)
     && is_licensed c a.row.number t.code t.pushback (tokens_at a t s c) s
 
--- the whole end
+-- the whole end: what the wire or the client says, stamped with the entry, the moment, the bytes of its link that were read, tokens and random word
 abbrev pub end_of : Attempt → Told → Seen → RowEnd
 end_of a t s = record {
   entry = entry s;
@@ -103,6 +107,7 @@ cut s a = if is_outstanding a && is_over a s then Some (action.AttemptEnds a.pla
 abbrev pub next_cut : Seen → Option Action
 next_cut s = first_of (cut s) s.attempts
 
+-- the peer reset the stream; the peer broke a rule of the stream
 abbrev pub is_reset : RowCause → Bool
 is_reset cause.Reset = true
 is_reset _ = false
@@ -111,12 +116,16 @@ abbrev pub is_framing : RowCause → Bool
 is_framing cause.Framing = true
 is_framing _ = false
 
+-- the code of RST_STREAM for the stream of an attempt that ended: none where the peer reset it, its link is over, or both sides had closed it. It is
+-- that of the stream error, and else CANCEL, also for a stream that GOAWAY left out (gRPC over HTTP/2, "Errors"; RFC 9113, sections 5.1, 5.4.2, 6.4
+-- and 8.1)
 abbrev pub code_to_reset : Attempt → RowEnd → ℕ → Seen → Link → Option ℕ
 code_to_reset a e stream s l =
     if is_reset e.cause || is_some l.over || (has_written_end stream l && (response a s).closes) then None
     else if is_framing e.cause then option_and_then (λ t. t.reset) (response a s).end
     else Some cancel
 
+-- it is queued once, in the entry in which the attempt ended
 abbrev pub code_for_stream : Attempt → RowEnd → Seen → ℕ → Option ℕ
 code_for_stream a e s stream =
     if (e.entry == entry s) && not a.reset then option_and_then (code_to_reset a e stream s) (link_of a s) else None

@@ -1,5 +1,7 @@
--- Attempts: which are outstanding, queued or over, which a transparent retry follows, and which ends count (gRFC A6, "Transparent Retries" and
--- "When Retries are Valid").
+-- Attempts: which are outstanding, queued or over, which a transparent retry follows, and which ends count (gRFC A6, "Transparent Retries" and "When
+-- Retries are Valid"; RFC 9113, sections 6.8 and 8.7).
+-- Example: row 1, attempt 1 of a call, ends by RST_STREAM with REFUSED_STREAM before a head: row 2, again of number 1, follows it, and its end does
+-- not count. Row 2 ends in the same way: nothing follows it, and its end counts, with UNAVAILABLE.
 use Rattle.std.specs.List.{list_any}
 use Rattle.std.specs.Option.{option_map_or}
 use Rattle.std.specs.Prelude.{Bool, Option, is_none, is_some, nat_lt, not, ℕ, ◌&&◌, ◌==◌, ◌||◌}
@@ -54,19 +56,21 @@ is_later_of a q = (q.row.call == a.row.call) && (q.row.number == a.row.number) &
 abbrev pub is_followed : Attempt → Seen → Bool
 is_followed a s = list_any (is_later_of a) s.attempts
 
--- the server cannot have seen it, and by a GOAWAY or RST_STREAM it ended: once a call such an attempt is followed
+-- the server did not process it: a GOAWAY left its stream out, or REFUSED_STREAM came before a head (RFC 9113, sections 6.8 and 8.7). Such an attempt
+-- is retried transparently once a call. Whether one was
 abbrev pub was_refused : Attempt → Bool
 was_refused a = holds is_refused a.row.ended
 
 abbrev pub was_retried_so : Call → Seen → Bool
 was_retried_so c s = list_any (λ q. is_of c q && was_refused q && is_followed q s) s.attempts
 
--- whether a transparent retry follows an end of this cause, which the server cannot have seen or can: always where the request never left the
--- client, and else once a call, while that is not committed
+-- whether a transparent retry follows an end: always where the request never left the client; where the server did not process it, once a call, while
+-- the call is not committed; else never
 abbrev pub is_to_follow : Call → RowCause → Bool → Seen → Bool
 is_to_follow c why unseen s =
     is_unsent why || (unseen && is_by_peer why && is_none (commitment c s) && not (was_retried_so c s))
 
+-- it ended, and is to be followed, and is not yet
 abbrev pub wants_follower_by : Attempt → Seen → RowEnd → Bool
 wants_follower_by a s e = not (is_followed a s) && of_its_call (λ c. is_to_follow c e.cause e.unseen s) a s
 

@@ -1,4 +1,8 @@
--- How a call ends, once: by its committed attempt, or by the channel.
+-- How a call ends, once: by its committed attempt, or by the channel (gRPC, "Core concepts": Deadlines/Timeouts, Cancelling an RPC; "Service Config
+-- in gRPC": timeout, maxRequestMessageBytes, maxResponseMessageBytes; "gRPC Wait for Ready Semantics"; "Status codes and their use in
+-- gRPC"; gRFC A6, "When Retries are Valid").
+-- Example: an event comes at 10, and the open calls 1, 2 and 3 have the deadlines 9, 7 and 11. Call 2 ends by its deadline, then call 1; then the
+-- event is applied. A Cancel of call 1 is refused, since that call has ended.
 use Rattle.std.specs.List.{list_any}
 use Rattle.std.specs.Prelude.{Bool, Option, Some, false, filter, find, nat_le, nat_lt, not, option_map, true, unwrap_or, ℕ, ◌&&◌, ◌==◌, ◌||◌}
 use Rattle.grpc_base.specs.declared.event.EndCause.{EndCause}
@@ -26,7 +30,7 @@ use Rattle.session_actions.specs.declared.entry.Stage.TheVariants as stage
 abbrev pub is_over_by_row : Seen → Call → Bool
 is_over_by_row s c = is_open_call c && holds (λ k. is_counted k s) (commitment c s)
 
--- after its event: the entry is answered, and was not refused
+-- an entry after its event: it was replied to, and not with a refusal
 abbrev pub is_refusal : Reply → Bool
 is_refusal (reply.Refused why) = true
 is_refusal _ = false

@@ -1,4 +1,6 @@
--- What happens to a call, and how it is kept in order.
+-- What happens to a call, and how it is kept in order (gRPC, "Core concepts": RPC life cycle).
+-- Example: a call whose one attempt is answered by trailers alone has the marks Configured, Made 1, Placed 1, Ended 1, Committed, Closed; one whose
+-- response has a head has Committed before Ended 1.
 use Rattle.std.specs.Prelude.{Bool, [], is_none, ℕ, ◌++◌, ◌∷◌}
 use Rattle.session_actions.specs.Entries.{now}
 use Rattle.session_actions.specs.Words.{changed}

@@ -1,4 +1,6 @@
--- An entry is made where nothing is left to do.
+-- An entry is made where nothing is left to do. Its state is that of the channel ("gRPC Connectivity Semantics and API").
+-- Example: entry 12 is the loss of link 1, of the only subchannel, under pick_first. The subchannel becomes IDLE and then CONNECTING, which is the
+-- state of entry 12, and link 1 is gone from entry 12 on.
 use Rattle.std.specs.Prelude.{None, Some, [], if◌then◌else◌, is_none, map, unwrap_or, ◌&&◌, ◌++◌, ◌∷◌}
 use Rattle.grpc_base.specs.declared.event.Entry.{Entry}
 use Rattle.session_actions.specs.Entries.{entry}
@@ -9,7 +11,8 @@ use Rattle.session_actions.specs.declared.link.Link.{Link}
 use Rattle.session_actions.specs.declared.seen.Seen.{Seen}
 use Rattle.grpc_base.specs.declared.event.Reply.TheVariants as reply
 
--- an entry that is made, with the channel's state behind it; the links that are gone by now were seen to be gone in it
+-- the entry, with the channel's state after it; a link that is gone by now, and was not before, is gone from this entry on. It
+-- stays so: its subchannel no longer has it, so no further attempt is placed on it. The reply Done is no default: an entry that closes was answered
 abbrev pub made_entry : OpenEntry → Seen → Entry
 made_entry o s = record {
   moment = o.moment;

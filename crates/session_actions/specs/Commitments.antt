@@ -1,5 +1,7 @@
 -- Commitment: a call is committed to one attempt, whose response the application gets (gRFC A6, "When Retries are Valid" and "Memory Management
 -- (Buffering)").
+-- Example: the hedged attempts 1 and 2 of a call are outstanding as rows 1 and 2, and the head of row 2 comes: `CallCommitted 2 Head`, and then row 1
+-- is cut off. Had row 1 ended before that with a code that hedgingPolicy does not name, its end would commit the call: `CallCommitted 1 Final`.
 use Rattle.std.specs.Prelude.{Bool, None, Option, Some, filter, find, if◌then◌else◌, is_none, is_some, nat_lt, option_map, ℕ, ◌&&◌, ◌==◌, ◌||◌}
 use Rattle.session_actions.specs.Attempts.{commitment, is_counted, is_of, is_outstanding, marked_row, of_its_call, with_attempt}
 use Rattle.session_actions.specs.DueAttempts.{is_final}

@@ -1,4 +1,8 @@
--- Configuration: the resolver's results, the valid service configs, and what each call gets of one (gRPC, "Service Config in gRPC"; gRFC A6).
+-- Configuration: the resolver's results, the valid service configs, and what each call gets of one (gRPC, "Service Config in gRPC": waitForReady,
+-- timeout, maxRequestMessageBytes, maxResponseMessageBytes, retryThrottling, and "Service Config Changes"; "gRPC Wait for Ready Semantics"; gRFC A6,
+-- "Integration with Service Config" and "Throttling Retry Attempts and Hedged RPCs").
+-- Example: configs 1 and 2 with maxTokens 10 and tokenRatio 0.1 share run 1. Config 3 has no throttling, and config 4, equal to 1, begins run 2.
+-- A call begun at 5 with the timeouts 10 of its application and 7 of its config has the deadline 12.
 use Rattle.std.specs.Option.{option_map_or, option_or}
 use Rattle.std.specs.Prelude.{Bool, Err, List, None, Ok, Option, Result, Some, [], false, if◌then◌else◌, is_none, is_some, length, nat_lt, option_and_then, option_map, true, unwrap_or, ℕ, ◌&&◌, ◌++◌, ◌+◌, ◌==◌, ◌∷◌}
 use Rattle.grpc_base.specs.Kinds.{KindsSeen, no_kinds, with_kind}
@@ -6,7 +10,6 @@ use Rattle.grpc_base.specs.declared.event.ConfigFault.{ConfigFault}
 use Rattle.grpc_base.specs.declared.plan.CallPlan.{CallPlan}
 use Rattle.grpc_base.specs.declared.plan.Chosen.{Chosen}
 use Rattle.grpc_base.specs.declared.plan.Throttle.{Throttle}
-use Rattle.json_text.specs.Reading.{run}
 use Rattle.service_config.specs.Choice.{chosen_for, empty_config, taken}
 use Rattle.service_config.specs.Reading.{config_of}
 use Rattle.service_config.specs.declared.config.Config.{Config}
@@ -51,7 +54,7 @@ chosen_of c s = option_map_or (λ h. chosen_for h.config c.request.path) (config
 abbrev pub plan_of : Call → Seen → CallPlan
 plan_of c s = (chosen_of c s).plan
 
--- whether a call waits for ready: what the application says decides before the config
+-- whether a call waits for ready ("gRPC Wait for Ready Semantics"): what the application says decides before the config
 abbrev pub waits_for_ready : Call → Seen → Bool
 waits_for_ready c s = unwrap_or (option_or c.request.wait (chosen_of c s).wait) false
 
@@ -85,7 +88,8 @@ abbrev pub with_held : Config → Option Throttle → Seen → Seen
 with_held config None s = with_config config None s
 with_held config (Some t) s = with_throttled config t (run_to_join t s) s
 
--- a result is read: a valid config is held from now on, and a fault changes nothing
+-- a result is read: a valid config is held from now on. A fault leaves the one that is held, whose kind then gets the addresses of the result; where
+-- none was ever held, the channel is unconfigured, as after a resolution that failed
 abbrev pub resolver_answered : Seen → Seen
 resolver_answered s = record s { answered = true; wants = false }
 

@@ -1,5 +1,7 @@
--- Delivery: which messages are accepted of the application, and what it takes of the response (gRPC, "Core concepts": unary and streaming calls; gRFC
--- A6, "Memory Management (Buffering)": the bounds are the channel's own).
+-- Delivery: which messages are accepted of the application, and what it takes of the response (gRPC, "Core concepts": unary and streaming calls; gRPC
+-- over HTTP/2, "Length-Prefixed-Message"; gRFC A6, "Memory Management (Buffering)": the bounds are the channel's own).
+-- Example: a call that is not committed holds a message of 262,134 bytes, which counts 262,139 with its prefix. The empty message fits, with 5 more.
+-- One of 1 byte, which counts 6, does not: while no attempt is outstanding the answer is Full 262,139.
 use Rattle.std.specs.Option.{option_map_or}
 use Rattle.std.specs.Prelude.{Bool, List, None, Option, Some, [], false, if◌then◌else◌, is_some, length, map, nat_le, nat_lt, option_and_then, option_map, option_to_list, true, ℕ, ◌++◌, ◌+◌, ◌-◌, ◌||◌, ◌∷◌}
 use Rattle.attempt_ledger.specs.declared.row.RowEnd.{RowEnd}
@@ -45,7 +47,8 @@ send_action call message s c =
     else if is_accepted c message s then action.MessageAccepted call
     else action.EventAnswered (reply.Full (held_bytes c s))
 
--- the code of an end by the channel
+-- the code of an end by the channel; a call that ends by its attempt has the code of that attempt, and none of its own: UNKNOWN for it
+-- is never given ("Status codes and their use in gRPC")
 abbrev pub code_of_cause : EndCause → Code
 code_of_cause ending.Deadline = code.DeadlineExceeded
 code_of_cause ending.Cancelled = code.Cancelled
@@ -59,7 +62,8 @@ abbrev pub is_by_row : EndCause → Bool
 is_by_row ending.Row = true
 is_by_row _ = false
 
--- the end of a call as the application gets it: that of its committed attempt, or the channel's
+-- the end of a call as the application gets it: that of its committed attempt, or the channel's. (A call that ends by its attempt is committed to one
+-- that ended, so the default is never taken.)
 abbrev pub end_by_channel : EndCause → Reply
 end_by_channel why = reply.End (code_of_cause why) [] [] why
 

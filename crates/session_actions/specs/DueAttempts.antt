@@ -1,4 +1,7 @@
--- When the next attempt of a call is due, and which end is final (gRFC A6, "Retry Policy", "Exponential Backoff", "Hedging Policy" and "Pushback").
+-- When the next attempt of a call is due, and which end is final (gRFC A6, "Retry Policy", "Maximum Number of Retries", "Exponential Backoff",
+-- "Retryable Status Codes", "Hedging Policy", "Throttling Retry Attempts and Hedged RPCs", "Pushback" and "Summary of Retry and Hedging Logic").
+-- Example: initialBackoff is 1 s, backoffMultiplier 2, maxBackoff 120 s, all random words are 0. Attempt 1 fails at 0 s: attempt 2 is due at 0.8 s,
+-- after 1 s less a fifth. It fails at 1 s with a pushback of 500 ms: attempt 3 is due at 1.5 s, and the wait after its end is 0.8 s once more.
 use Rattle.std.specs.List.{list_any}
 use Rattle.std.specs.Option.{option_map_or, option_or}
 use Rattle.std.specs.Prelude.{Bool, None, Option, Some, count_by, false, filter, filter_map, fold, if◌then◌else◌, is_none, is_some, max, nat_le, nat_lt, not, option_map, true, unwrap_or, ℕ, ◌&&◌, ◌+◌, ◌-◌, ◌||◌}
@@ -7,7 +10,6 @@ use Rattle.attempt_ledger.specs.Numbering.{is_transparent, kind_by_number, most_
 use Rattle.attempt_ledger.specs.Throttling.{codes_of}
 use Rattle.attempt_ledger.specs.declared.row.RowEnd.{RowEnd}
 use Rattle.attempt_ledger.specs.declared.row.RowKind.{RowKind}
-use Rattle.config_values.specs.Values.{tokens}
 use Rattle.grpc_base.specs.Backoff.{capped_wait, spread_wait}
 use Rattle.grpc_base.specs.Codes.{has_code}
 use Rattle.grpc_base.specs.declared.code.Code.{Code}
@@ -28,8 +30,8 @@ use Rattle.session_actions.specs.declared.call.MarkKind.TheVariants as mark
 use Rattle.grpc_base.specs.declared.plan.CallPlan.TheVariants as plan
 use Rattle.grpc_base.specs.declared.plan.Pushback.TheVariants as pushback
 
--- an end of this number, code, pushback and count of tokens licenses a retry: its code is one of the policy's, the server does not forbid it,
--- enough tokens are left, and one attempt more is allowed
+-- an end of this number, code, pushback and count of tokens licenses a retry: its code is one that retryPolicy names, the server does not forbid it,
+-- enough tokens are left, and one attempt more is allowed. That the call is not committed is asked where this is used
 abbrev pub is_licensed_by : CallPlan → ℕ → Code → Pushback → Bool → Bool
 is_licensed_by (plan.Retry p) number c asks allowed = has_code p.codes c && not (is_stop asks) && allowed && nat_lt number p.max
 is_licensed_by _ number c asks allowed = false
@@ -45,14 +47,15 @@ was_delayed c number s a =
 abbrev pub last_delayed : Call → ℕ → Seen → ℕ
 last_delayed c number s = fold (λ n a. max n a.row.number) 0 (filter (was_delayed c number s) s.attempts)
 
--- the moment of the retry after an end: when the server asks, or after a wait that grew with each attempt since the last such delay
+-- the moment of the retry after an end: when the server asks, or after a wait that grew with each attempt since the last such delay.
+-- (The word 0 is never taken: a licensed end without such a delay drew a word.)
 abbrev pub retry_wait : RetryPolicy → ℕ → RowEnd → ℕ
 retry_wait p n e = spread_wait (capped_wait p.initial p.multiplier p.limit n) (unwrap_or e.word 0)
 
 abbrev pub retry_due : RetryPolicy → ℕ → RowEnd → ℕ
 retry_due p n e = option_map_or (λ millis. millis_after e millis) (delay_of e.pushback) (e.moment + retry_wait p n e)
 
--- nothing happened yet
+-- before its configuration no attempt of a call is made
 abbrev pub no_due : DueState
 no_due = record { newest = None; placed = None; forced = None; stopped = true }
 
@@ -77,12 +80,14 @@ due_after_end c s d a e =
     if not d.stopped && counts_by a s e && has_code (codes_of (plan_of c s)) e.code
     then due_by_plan (plan_of c s) c a s d e else d
 
--- an attempt was made; transparent retries are none
+-- an attempt was made: no moment is set for the next one yet. A transparent retry is no further attempt
 abbrev pub due_after_making : DueState → Attempt → DueState
 due_after_making d a =
     if is_transparent a.row.kind then d
     else record d { newest = Some a.place; placed = None; forced = None }
 
+-- what each mark says: the first attempt is due when the configuration comes; a commitment, the end of the call or a hedge that is withheld stops
+-- further ones
 abbrev pub due_after_mark : Call → Seen → MarkKind → ℕ → DueState → DueState
 due_after_mark c s mark.Configured moment d = record d { forced = Some moment; stopped = false }
 due_after_mark c s (mark.Made row) moment d = option_map_or (due_after_making d) (numbered s.attempts row) d
@@ -93,10 +98,11 @@ due_after_mark c s mark.Withheld moment d = record d { stopped = true }
 due_after_mark c s mark.Committed moment d = record d { stopped = true }
 due_after_mark c s mark.Closed moment d = record d { stopped = true }
 
+-- (whether an end counts is settled at its own moment: a transparent retry follows at once or never)
 abbrev pub due_state : Call → Seen → DueState
 due_state c s = fold (λ d m. due_after_mark c s m.what m.moment d) no_due c.marks
 
--- how many attempts were made; transparent retries are none
+-- how many attempts were made; a transparent retry is no further one
 abbrev pub attempts_made : Call → Seen → ℕ
 attempts_made c s = count_by (λ a. is_of c a && not (is_transparent a.row.kind)) s.attempts
 
@@ -111,7 +117,7 @@ due_by p made d = if d.stopped || nat_le (most_attempts p) made then None else o
 abbrev pub next_due : Call → Seen → Option ℕ
 next_due c s = due_by (plan_of c s) (attempts_made c s) (due_state c s)
 
--- the kind of the next attempt
+-- the kind of the next attempt. (First is no default for a later one: a plan without further attempts has none due.)
 abbrev pub kind_of_next : Call → Seen → RowKind
 kind_of_next c s = unwrap_or (kind_by_number (plan_of c s) (attempts_made c s + 1)) kind.First
 
@@ -127,7 +133,8 @@ last_counted c s = last_of (filter_map (λ m. counted_row s m.what) c.marks)
 abbrev pub has_going : Call → Seen → Bool
 has_going c s = list_any (λ a. is_of c a && (is_outstanding a || is_queued a s)) s.attempts
 
--- a counted end is final: no further attempt follows it
+-- a counted end is final where no further attempt follows it: without a plan; where it licenses no retry. Of a hedged call it is so with a code
+-- that hedgingPolicy does not name, or where it is the last one, no attempt goes on and none is due
 abbrev pub is_final_by : CallPlan → Call → Attempt → Seen → RowEnd → Bool
 is_final_by plan.None c a s e = true
 is_final_by (plan.Retry p) c a s e = not (is_licensed c a.row.number e.code e.pushback e.tokens s)

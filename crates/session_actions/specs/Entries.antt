@@ -1,4 +1,7 @@
--- Entry and clock: an event is posted and an entry begins; it is answered, the channel settles, and the entry is made.
+-- Entry and clock: an event is posted and an entry begins; it is answered, the channel settles, and the entry is made. How a session is kept is the
+-- channel's own: moments and random words are handed in. They serve "Connection Backoff Protocol" and gRFC A6, "Exponential Backoff".
+-- Example: an event posted at 5 after an entry of moment 7 opens an entry of moment 7. A drain with room 65,536 needs room for 64 + 65,536 bytes;
+-- where it then gives 45 bytes, its entry counts 109.
 use Rattle.std.specs.Option.{option_map_or}
 use Rattle.std.specs.Prelude.{Bool, List, None, Option, Some, if◌then◌else◌, is_none, is_some, length, max, nat_le, nat_lt, option_map, sum_by, ℕ, ◌&&◌, ◌+◌}
 use Rattle.grpc_base.specs.Backoff.{nth_word}
@@ -35,7 +38,7 @@ given_bytes (reply.Octets octets) = length octets
 given_bytes _ = 0
 
 abbrev pub entry_bytes : Event → Reply → ℕ
-entry_bytes (event.Drain link given) r = 64 + given_bytes r
+entry_bytes (event.Drain link room) r = 64 + given_bytes r
 entry_bytes e r = event_bytes e
 
 abbrev pub journal_bytes : List Entry → ℕ

@@ -1,8 +1,9 @@
--- The action of an event itself, by which it is answered.
+-- The action of an event itself, by which it is answered, and the frames that it brings. The events are the channel's own, as is their order.
+-- Example: a Take of call 1 is `ItemTaken` where something has come, `EventAnswered` with NotYet where nothing has, and `EventRefused` with
+-- NoSuchCall where there is no call 1.
 use Rattle.std.specs.Prelude.{Bool, None, Option, Some, [], false, if◌then◌else◌, option_map, true, ℕ}
 use Rattle.grpc_base.specs.declared.event.Event.{Event}
 use Rattle.grpc_base.specs.declared.event.Refusal.{Refusal}
-use Rattle.json_text.specs.Decimals.{most}
 use Rattle.session_actions.specs.CallEnds.{is_after_event}
 use Rattle.session_actions.specs.Configs.{read_config}
 use Rattle.session_actions.specs.Deliveries.{next_item, send_action, take_action}
@@ -34,7 +35,7 @@ event_applied (event.LinkUp sub) s = Some (action.LinkUp sub)
 event_applied (event.DialFailed sub) s = Some (action.DialFails sub)
 event_applied (event.Arrived link piece) s = Some (action.BytesArrive link)
 event_applied (event.LinkLost link) s = Some (action.LinkLost link)
-event_applied (event.Drain link given) s = Some (action.EventAnswered (reply.Octets []))
+event_applied (event.Drain link room) s = Some (action.EventAnswered (reply.Octets []))
 event_applied (event.Ping link word) s = Some (action.PingQueued link)
 event_applied event.Tick s = Some (action.EventAnswered reply.Done)
 event_applied event.Shutdown s = Some action.ChannelShuts
@@ -46,7 +47,7 @@ event_action_by None e s = event_applied e s
 abbrev pub event_action : Event → Seen → Option Action
 event_action e s = event_action_by (refusal_of e s) e s
 
--- what an event brought, frame by frame
+-- frame by frame: of a piece those that are read, of a Drain those that are written
 abbrev pub frame_of_event : Event → OpenEntry → Seen → Option Action
 frame_of_event (event.Arrived link piece) o s = next_frame_read link s
 frame_of_event (event.Drain link most) o s = next_written link most o s

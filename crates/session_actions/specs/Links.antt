@@ -1,4 +1,6 @@
--- Links: what passed on them, in the order in which it did, and how they change (RFC 9113, sections 3.4 and 6).
+-- Links: what passed on them, in the order in which it did, and how they change (RFC 9113, sections 3.4, 5.1, 6.5 and 6.8).
+-- Example: SETTINGS without content came, and then the client's preface was written: `traffic` is Read, Written; 9 bytes were read; the server's
+-- preface came; and no frame was written, since the client's preface with its SETTINGS is none here.
 use Rattle.std.specs.List.{list_any}
 use Rattle.std.specs.Option.{option_map_or}
 use Rattle.std.specs.Prelude.{Bool, List, None, Option, Some, [], filter_map, if◌then◌else◌, nat_lt, not, option_and_then, true, unwrap_or, ℕ, ◌&&◌, ◌++◌, ◌==◌, ◌||◌}
@@ -57,12 +59,11 @@ is_retiring l = list_any (λ r. r.frame.kind == goaway_type) (frames_read l)
 abbrev pub link_of : Attempt → Seen → Option Link
 link_of a s = option_and_then (λ at. numbered s.links at.link) a.row.placed
 
--- RST_STREAM for the stream of an attempt that ended, unless the peer reset it, its link is over, or both sides had closed it
--- (gRPC over HTTP/2, "Errors"; RFC 9113, section 5.1)
+-- the client closed its side of a stream: it wrote END_STREAM (section 5.1)
 abbrev pub has_written_end : ℕ → Link → Bool
 has_written_end stream l = list_any (λ f. (f.kind == data_type) && (f.stream == stream) && has_flag f.flags end_stream_flag) (frames_written l)
 
--- of these in the order of their links and streams
+-- attempts in the order of their links and streams
 abbrev pub link_number : Attempt → ℕ
 link_number a = option_map_or (λ at. at.link) a.row.placed 0
 
@@ -72,7 +73,7 @@ stream_number a = unwrap_or a.row.stream 0
 abbrev pub is_stream_before : Attempt → Attempt → Bool
 is_stream_before a b = nat_lt (link_number a) (link_number b) || ((link_number a == link_number b) && nat_lt (stream_number a) (stream_number b))
 
--- a link, changed; control frames queued on it
+-- a link, changed; control frames queued on it, after all that were queued before, written or not
 abbrev pub with_link : (Link → Link) → ℕ → Seen → Seen
 with_link f link s = record s { links = changed f link s.links }
 
@@ -83,5 +84,6 @@ owed frames link s = with_link (λ l. record l { owed = l.owed ++ frames }) link
 abbrev pub link_over : LinkOver → ℕ → Seen → Seen
 link_over why link s = with_link (λ l. record l { over = Some why }) link s
 
+-- a resolution is wanted (gRPC Name Resolution); no action depends on it
 abbrev pub wants_resolution : Seen → Seen
 wants_resolution s = record s { wants = true }

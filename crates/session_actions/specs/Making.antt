@@ -1,4 +1,7 @@
--- Making attempts: a transparent retry at once, and any other where it is due (gRFC A6).
+-- Making attempts: a transparent retry at once, and any other where it is due (gRFC A6, "Transparent Retries", "Retry Policy", "Hedging Policy" and
+-- "Throttling Retry Attempts and Hedged RPCs").
+-- Example: maxAttempts is 3 and hedgingDelay 1 s; the call gets its config at 0 s. Attempt 1 is made and placed at 0 s; attempt 2 is due at 1 s and
+-- made in the first entry from then on. Where the tokens are not above half in it, HedgeWithheld stands instead, and no further attempt is made.
 use Rattle.std.specs.Prelude.{Bool, None, Option, Some, [], false, find, if◌then◌else◌, length, nat_le, not, option_and_then, option_map, ℕ, ◌&&◌, ◌++◌, ◌+◌, ◌∷◌}
 use Rattle.attempt_ledger.specs.Hedging.{is_hedge}
 use Rattle.attempt_ledger.specs.Numbering.{is_transparent}
@@ -40,7 +43,7 @@ due_action s c = if is_open_call c then option_and_then (due_if_past c s) (next_
 abbrev pub next_due_attempt : Seen → Option Action
 next_due_attempt s = first_of (due_action s) s.calls
 
--- what it adds: a row at the end of the ledger; but for a transparent one, the queue is passed over anew
+-- what it adds: a row at the end of the ledger. Unless it is a transparent retry, a new pass over the queue begins
 abbrev pub new_row : ℕ → ℕ → RowKind → ℕ → Row
 new_row call number k due = record {
   call = call;

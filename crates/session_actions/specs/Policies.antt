@@ -1,5 +1,8 @@
 -- Policies and picks: generations of load balancing policies, their views of the subchannels, and what they answer ("Load Balancing in gRPC"; "gRPC
--- Connectivity Semantics and API"). The table of each kind stands in `lb_policy`.
+-- Connectivity Semantics and API"; "gRPC Wait for Ready Semantics"; "Service Config in gRPC": loadBalancingConfig). The table of each kind stands in
+-- `lb_policy`.
+-- Example: round_robin, generation 1, has the READY subchannels 1 and 2: three requests get Place 1, Place 2, Place 1. A config of pick_first begins
+-- generation 2, which takes over when it is READY or in TRANSIENT_FAILURE, or when generation 1 is no longer READY.
 use Rattle.std.specs.List.{list_any}
 use Rattle.std.specs.Option.{option_map_or}
 use Rattle.std.specs.Prelude.{Bool, List, None, Option, Some, [], count_by, false, filter, filter_map, find, flat_map, if◌then◌else◌, is_none, is_some, length, map, nat_lt, not, option_and_then, option_map, option_to_list, true, unwrap_or, ℕ, ◌&&◌, ◌++◌, ◌+◌, ◌==◌, ◌||◌, ◌∷◌}
@@ -77,7 +80,7 @@ live_sub s address = find (is_live_sub address) s.subs
 abbrev pub view_of : List Address → Seen → List SubSeen
 view_of addresses s = map (λ b. record { sub = b.number; state = b.state }) (filter_map (live_sub s) addresses)
 
--- a policy as the table sees it: its turns are the pick requests that it answered
+-- a policy as the table sees it: its turns are the pick requests that it answered (not the `turn` of an entry)
 abbrev pub width_of : Kind → List PolicyKind → ℕ
 width_of k policies = option_map_or (λ p. p.width) (find (λ p. is_same_kind p.kind k) policies) 1
 
@@ -96,13 +99,14 @@ policy_of g s = record {
 abbrev pub policy_state : PolicyUse → Seen → Conn
 policy_state g s = state_of (policy_of g s)
 
--- the channel's state is that of the current policy
+-- the channel's state: SHUTDOWN from a shutdown on, else that of the current policy; before there is one, TRANSIENT_FAILURE where the resolver has
+-- answered and no valid config came, and else IDLE
 abbrev pub channel_state : Seen → Conn
 channel_state s =
     if s.shut then conn.Shutdown
     else option_map_or (λ g. policy_state g s) (current_policy s) (if is_unconfigured s then conn.Failure else conn.Idle)
 
--- a pending policy takes over when it has an answer, or the current one is not READY
+-- a graceful switch: a pending policy takes over when it is READY or in TRANSIENT_FAILURE, or when the current one is not READY
 abbrev pub is_failure : Conn → Bool
 is_failure conn.Failure = true
 is_failure _ = false
@@ -115,7 +119,8 @@ abbrev pub next_take_over : Seen → Option Action
 next_take_over s =
     option_and_then (λ g. if may_take_over s g then Some (action.PolicyTakesOver g.number) else None) (pending_policy s)
 
--- a queued attempt is served while the current policy is READY, or in TRANSIENT_FAILURE where its call does not wait for ready
+-- a queued attempt is served while the current policy is READY, or in TRANSIENT_FAILURE where its call does not wait for ready ("gRPC Wait for Ready
+-- Semantics")
 abbrev pub is_served_by : Conn → Attempt → Seen → Bool
 is_served_by conn.Ready a s = true
 is_served_by conn.Failure a s = of_its_call (λ c. not (waits_for_ready c s)) a s
@@ -128,13 +133,14 @@ is_served s a = is_queued a s && holds (λ g. is_served_by (policy_state g s) a 
 abbrev pub is_queued_before : Attempt → Attempt → Bool
 is_queued_before a b = nat_lt a.row.call b.row.call || ((a.row.call == b.row.call) && nat_lt a.place b.place)
 
--- behind the last one of the pass that is going on
+-- after the last one of the pass that is going on
 abbrev pub is_behind : Turn → Attempt → Bool
 is_behind t a = nat_lt t.call a.row.call || ((t.call == a.row.call) && nat_lt t.row a.place)
 
 abbrev pub asking : Seen → Attempt → Option Action
 asking s a = option_map (λ g. action.PickRequested a.place g.number (pick_of (policy_of g s))) (current_policy s)
 
+-- (READY answers Place and TRANSIENT_FAILURE Fail, so a pick request that is made is never answered Wait)
 abbrev pub next_asked : (Attempt → Bool) → Seen → Option Action
 next_asked test s = option_and_then (asking s) (foremost is_queued_before (filter (λ a. is_served s a && test a) s.attempts))
 
@@ -145,7 +151,8 @@ next_of_pass o s = option_and_then (λ t. next_asked (is_behind t) s) o.turn
 abbrev pub next_of_queue : Seen → Option Action
 next_of_queue s = next_asked (λ a. true) s
 
--- the pick request that is not followed yet
+-- the last pick request, in the entry in which it was made, where its attempt is neither placed nor ended yet: its answer is acted on. The attempt is
+-- placed on the subchannel that was picked, or ends. (The link 0 stands for none, and is never so: a READY subchannel has a link.)
 abbrev pub is_unfollowed : Attempt → Bool
 is_unfollowed a = is_none a.row.placed && is_none a.row.ended
 
@@ -172,7 +179,7 @@ follow_ask s ask =
 abbrev pub next_of_pick : Seen → Option Action
 next_of_pick s = option_and_then (follow_ask s) (last_of s.asks)
 
--- behind a result of the resolver, while a valid config is held: its kind, and the addresses of the result
+-- after a result of the resolver, while a valid config is held: the kind of that config, and the addresses of the result
 abbrev pub addresses_in : Event → Option (List Address)
 addresses_in (event.Resolved addresses config) = Some addresses
 addresses_in _ = None
@@ -183,7 +190,9 @@ result_of o = if is_after_event o then addresses_in o.event else None
 abbrev pub wanted_kind : OpenEntry → Seen → Option Kind
 wanted_kind o s = if is_some (result_of o) then option_map (λ h. h.config.kind) (held_config s) else None
 
--- a generation is retired by a Shutdown, and a pending one of another kind by a result
+-- a generation is retired by a Shutdown, and a pending one of another kind by a result. In one result a pending policy is retired, then one begins,
+-- then the one of the config's kind gets the addresses, and only then subchannels go and come. So an address that the list before and the new one
+-- share keeps its subchannel
 abbrev pub is_other_kind : Kind → PolicyUse → Bool
 is_other_kind k g = not (is_same_kind g.generation.kind k)
 

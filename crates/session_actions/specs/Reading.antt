@@ -1,8 +1,10 @@
--- The wire, read: the frames of a link one by one, what they said so far, and the rules whose breach breaks the link (RFC 9113, sections 3.4, 4.3, 5.1,
--- 6 and 6.9; RFC 7541).
+-- The wire, read: the frames of a link one by one, what they said so far, and the rules whose breach breaks the link (RFC 9113, sections 3.4, 4.1 to
+-- 4.3, 5.1, 5.4.1, 6, 6.5.2, 6.9.1, 6.9.2, 6.10 and 7; RFC 7541, sections 2.2, 3.1, 4 and 6). The channel's own: a link that breaks sends no GOAWAY,
+-- PRIORITY of a wrong length breaks the link, and a header block has at most 65,536 bytes.
+-- Example: on a new link the bytes 00 00 00 04 00 00 00 00 00 are a frame, SETTINGS without content, with end 9. PING in its place breaks the link
+-- with PROTOCOL_ERROR. After it, WINDOW_UPDATE of 2,147,483,647 on stream 0 breaks it with FLOW_CONTROL_ERROR, since the window has 65,535 already.
 use Rattle.std.specs.List.{list_any}
 use Rattle.std.specs.Prelude.{Bool, Err, List, None, Ok, Option, Result, Some, [], drop, false, filter, flat_map, fold, if◌then◌else◌, length, map, nat_le, nat_lt, not, option_map, sum_by, unwrap_or, ℕ, ◌&&◌, ◌++◌, ◌+◌, ◌-◌, ◌==◌, ◌||◌, ◌∷◌}
-use Rattle.config_values.specs.Values.{size}
 use Rattle.grpc_base.specs.ErrorCodes.{compression_error, enhance_your_calm, flow_control_error, protocol_error}
 use Rattle.grpc_base.specs.declared.fields.Field.{Field}
 use Rattle.h2_frame.specs.Frames.{FrameSeen, has_flag}
@@ -57,13 +59,14 @@ used stream l = sum_by (λ f. if is_data_on stream f then length f.payload else 
 abbrev pub first_window : ℕ → Link → ℕ
 first_window stream l = if stream == 0 then 65535 else initial_window l
 
+-- the flow-control window that is left (section 6.9); never below 0: a window that SETTINGS made negative sends nothing
 abbrev pub room : ℕ → Link → ℕ
 room stream l = first_window stream l + raised stream l - used stream l
 
 abbrev pub largest_window : ℕ
 largest_window = 2147483647
 
--- a header block is HEADERS and the CONTINUATION frames behind it, up to END_HEADERS (section 4.3)
+-- a header block is HEADERS and the CONTINUATION frames after it, up to END_HEADERS (section 4.3)
 abbrev pub is_of_block : FrameSeen → Bool
 is_of_block f = (f.kind == headers_type) || (f.kind == continuation_type)
 
@@ -116,7 +119,7 @@ is_of_opened kind = (kind == data_type) || (kind == headers_type) || (kind == rs
 abbrev pub is_unopened : Link → FrameSeen → Bool
 is_unopened l f = is_of_opened f.kind && not (f.stream == 0) && not (is_one_of (opened_streams l) f.stream)
 
--- WINDOW_UPDATE that lifts the window of the link above the largest (section 6.9.1)
+-- WINDOW_UPDATE that takes the window of the link above the largest (section 6.9.1)
 abbrev pub lifts_link : Link → FrameSeen → Bool
 lifts_link l f =
     (f.kind == window_update_type) && (f.stream == 0) && nat_lt (largest_window + used 0 l) (65535 + raised 0 l + increment f.payload)
@@ -128,7 +131,7 @@ is_outstanding_on l a = is_outstanding a && holds (λ at. at.link == l.number) a
 abbrev pub outstanding_on : Link → Seen → List Attempt
 outstanding_on l s = filter (is_outstanding_on l) s.attempts
 
--- SETTINGS_INITIAL_WINDOW_SIZE (4) above the largest window, or that lifts the window of an attempt's stream above it (section 6.9.2)
+-- SETTINGS_INITIAL_WINDOW_SIZE (4) above the largest window, or that takes the window of an attempt's stream above it (section 6.9.2)
 abbrev pub lifts_stream : Link → ℕ → ℕ → Bool
 lifts_stream l size stream = nat_lt (largest_window + used stream l) (size + raised stream l)
 
@@ -138,7 +141,9 @@ is_wide_setting l s x =
     && (nat_lt largest_window x.value
     || list_any (λ a. holds (lifts_stream l x.value) a.row.stream) (outstanding_on l s))
 
--- the rules that a whole frame keeps with those before it, in their order: the code of the first that it breaks
+-- the rules that a whole frame keeps with those before it, in their order: the code of the first that it breaks. The server's preface comes first
+-- (section 3.4), and pushes are off (section 6.6). DATA beyond a receive window (section 6.9.1) is never found: both windows
+-- count as given back when a DATA frame is read, and a frame has at most 16,384 bytes
 abbrev pub link_error : Link → FrameSeen → Seen → Option ℕ
 link_error l f s =
     if not (is_greeted l) && not (is_settings f) then Some protocol_error
@@ -150,7 +155,7 @@ link_error l f s =
     else if list_any (is_wide_setting l s) (settings_of f) then Some flow_control_error
     else None
 
--- a header block has at most 65,536 bytes, and can be decoded
+-- a header block has at most 65,536 bytes, which is the channel's own limit, and can be decoded (section 4.3)
 abbrev pub is_long_block : OpenBlock → Bool
 is_long_block b = nat_lt 65536 (length b.bytes)
 
@@ -182,6 +187,6 @@ next_read_by Partial l s = nextread.Nothing
 next_read_by (Fault code) l s = nextread.Broken code
 next_read_by (Whole f size) l s = frame_read_by (link_error l f s) l f (read_bytes l + size)
 
--- what the bytes behind those that were read show
+-- what the bytes after those that were read show
 abbrev pub next_read : Link → Seen → NextRead
 next_read l s = next_read_by (reading_of (drop (read_bytes l) l.received)) l s

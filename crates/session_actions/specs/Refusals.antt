@@ -1,9 +1,12 @@
--- Refusals: an event that names what is not there, or that comes too late, changes nothing. The first that stands is given.
+-- Refusals: an event that names what is not there, or that comes too late, has no effect of its own. It makes an entry all the same, in which
+-- deadlines end calls and what is due is done. The first refusal that stands is given, judged after the deadlines of the entry. They are the
+-- channel's own; that a link after GOAWAY still carries its open streams is RFC 9113, section 6.8.
+-- Example: where call 1 is finished, a Send of it is refused with AfterFinish, and with CallEnded once it has ended. Where there is no call 9, a Send
+-- of call 9 is refused with NoSuchCall; and after a Shutdown all three with Shut.
 use Rattle.std.specs.List.{list_any}
 use Rattle.std.specs.Prelude.{Bool, None, Option, Some, if◌then◌else◌, is_some, nat_lt, not, ℕ, ◌&&◌, ◌||◌}
 use Rattle.grpc_base.specs.declared.event.Event.{Event}
 use Rattle.grpc_base.specs.declared.event.Refusal.{Refusal}
-use Rattle.json_text.specs.Decimals.{most}
 use Rattle.session_actions.specs.Links.{is_retiring}
 use Rattle.session_actions.specs.Policies.{is_shutdown}
 use Rattle.session_actions.specs.Reading.{is_outstanding_on}
@@ -16,7 +19,8 @@ use Rattle.session_actions.specs.declared.subchannel.Subchannel.{Subchannel}
 use Rattle.grpc_base.specs.declared.event.Event.TheVariants as event
 use Rattle.grpc_base.specs.declared.event.Refusal.TheVariants as refusal
 
--- a link is gone: it is over; or it takes no further stream, or its subchannel is shut down, and no attempt is outstanding on it
+-- a link is gone: it is over; or it takes no further stream, or its subchannel is shut down, and no attempt is outstanding on it. It stays so, since
+-- its subchannel no longer has it, and no further attempt is placed on it
 abbrev pub is_shutdown_sub : Seen → ℕ → Bool
 is_shutdown_sub s sub = holds (λ b. is_shutdown b.state) (numbered s.subs sub)
 
@@ -49,7 +53,7 @@ abbrev pub link_refusal : Seen → Option Link → Option Refusal → Option Ref
 link_refusal s None others = Some refusal.NoSuchLink
 link_refusal s (Some l) others = refused_if (is_gone l s) refusal.LinkGone others
 
--- what a channel that was shut down refuses: all but Take, Tick and Shutdown
+-- what an event is refused for while the channel is open
 abbrev pub refusal_when_open : Event → Seen → Option Refusal
 refusal_when_open (event.Send call message) s = send_refusal (numbered s.calls call)
 refusal_when_open (event.Finish call) s = send_refusal (numbered s.calls call)
@@ -63,6 +67,7 @@ refusal_when_open (event.Drain link most) s =
 refusal_when_open (event.Ping link word) s = link_refusal s (numbered s.links link) None
 refusal_when_open _ s = None
 
+-- a channel that was shut down refuses all but Take, Tick and Shutdown
 abbrev pub refusal_of : Event → Seen → Option Refusal
 refusal_of (event.Take call) s = take_refusal (numbered s.calls call)
 refusal_of event.Tick s = None

@@ -1,27 +1,26 @@
--- The response on a stream: a head or none, messages, and an end or none (gRPC over HTTP/2, "Responses" and "Errors"; RFC 9113, sections 5.1, 6.4, 6.8,
--- 6.9 and 8.1).
+-- The response on a stream: a head or none, messages, and an end or none (gRPC over HTTP/2, "Responses" and "Errors"; "Status codes and their use in
+-- gRPC"; "HTTP to gRPC Status Code Mapping"; RFC 9113, sections 5.1, 5.4.2, 6.1, 6.4, 6.8, 6.9, 8.1, 8.3.2 and 8.7;
+-- RFC 9110, section 15; gRPC over HTTP/2, "Length-Prefixed-Message"; gRFC A6, "Pushback").
+-- Example: HEADERS with `:status` 200 and `content-type` application/grpc are a head; DATA 00 00000002 6869 is the message `hi`; trailers with
+-- `grpc-status` 0 are the end, OK. Where the DATA was 00 00000002 68, a message is cut off, and the same trailers are the end INTERNAL.
 use Rattle.std.specs.Char.{is_ascii_digit}
 use Rattle.std.specs.List.{list_all, starts_with}
 use Rattle.std.specs.Option.{option_map_or}
 use Rattle.std.specs.Prelude.{Bool, List, None, Option, Some, [], codes, false, fold, if◌then◌else◌, is_none, is_some, length, nat_eq, nat_le, nat_lt, slice_get, true, ℕ, ◌&&◌, ◌++◌, ◌+◌, ◌==◌, ◌||◌, ◌∷◌}
-use Rattle.attempt_ledger.specs.Journals.{by}
 use Rattle.attempt_ledger.specs.Throttling.{is_success}
 use Rattle.attempt_ledger.specs.declared.row.RowCause.{RowCause}
-use Rattle.config_values.specs.Values.{size}
 use Rattle.grpc_base.specs.ErrorCodes.{cancel, flow_control_error, protocol_error, refused_stream}
 use Rattle.grpc_base.specs.Limits.{message_limit}
 use Rattle.grpc_base.specs.Numbers.{number_of}
 use Rattle.grpc_base.specs.declared.code.Code.{Code}
 use Rattle.grpc_base.specs.declared.fields.Field.{Field}
 use Rattle.grpc_frame.specs.Messages.{Messages, messages_of}
-use Rattle.grpc_frame.specs.Read.{told}
 use Rattle.grpc_frame.specs.declared.next.MessageFault.{MessageFault}
 use Rattle.grpc_meta.specs.ResponseFields.{pushback_of, shown_of, values_of}
 use Rattle.grpc_status.specs.StatusMaps.{code_of_text, http_codes, looked_up, reset_codes, text_of_message}
 use Rattle.h2_frame.specs.Frames.{FrameSeen, has_flag}
 use Rattle.h2_frame.specs.Numbers.{data_type, end_stream_flag, goaway_type, rst_stream_type, window_update_type}
 use Rattle.h2_frame.specs.Payloads.{content_of, increment, last_stream, reset_code}
-use Rattle.h2_frame.specs.Steps.{seen}
 use Rattle.session_actions.specs.Attempts.{call_of}
 use Rattle.session_actions.specs.Configs.{chosen_of}
 use Rattle.session_actions.specs.Links.{is_settings, link_of, settings_of}
@@ -92,7 +91,8 @@ plain_end c why unseen reset = record {
   reset = reset;
 }
 
--- an end by a header block: with its first `grpc-message`, its metadata, and, where it ends the stream, what it asks of the next attempt
+-- an end by a header block: with its first `grpc-message`, its metadata, and, where it ends the stream, what it asks of the next attempt. That is
+-- so also where the block breaks a rule, or is no gRPC response: the channel's own choice
 abbrev pub block_end : Code → RowCause → ℕ → Block → Told
 block_end c why reset b = record {
   code = c;
@@ -111,7 +111,8 @@ ended told p = record p { end = Some told }
 abbrev pub ended_by_block : Block → Response → Response
 ended_by_block b p = ended (block_end code.Internal cause.Framing protocol_error b) p
 
--- trailers, or a response of trailers alone: by the one `grpc-status`, and by the HTTP status where there is none; OK may cut no message off
+-- trailers, or a response of trailers alone: by the one `grpc-status`, and by the HTTP status where there is none. Several
+-- `grpc-status` are UNKNOWN. A message that OK cuts off breaks a rule
 abbrev pub status_end : List (List ℕ) → Block → Told
 status_end [] b = block_end (http_code b.fields) cause.Http cancel b
 status_end (value ∷ []) b = block_end (code_of_text value) cause.Status cancel b
@@ -131,7 +132,7 @@ with_head p b =
     if is_head b.fields then record p { head = Some (shown_of b.fields) }
     else ended (block_end (http_code b.fields) cause.Http cancel b) p
 
--- a header block. Before the head interim responses are passed over; behind it only trailers may come
+-- a header block. Before the head interim responses are passed over; after it only trailers may come (RFC 9113, section 8.1)
 abbrev pub with_block : Response → Block → Response
 with_block p b =
     if is_none p.head && is_interim (http_status b.fields) then (if b.ends then ended_by_block b p else p)
@@ -139,7 +140,8 @@ with_block p b =
     else if is_some p.head || is_none (http_status b.fields) then ended_by_block b p
     else with_head p b
 
--- DATA: it may not come before a head, nor hold a message with a bad flag, nor end a stream without trailers
+-- DATA. Before a head, or with a message whose flag is not 0, it breaks a rule of the stream. With END_STREAM it ends the response without a
+-- grpc-status, which is UNKNOWN, as HTTP 200 says
 abbrev pub with_messages : Response → Messages → Bool → Response
 with_messages p m closes = record p { messages = p.messages ++ m.whole; rest = m.rest; closes = closes }
 
@@ -148,6 +150,7 @@ with_fault (Some (messagefault.TooLarge len)) p = record p { large = true }
 with_fault (Some messagefault.BadFlag) p = ended (plain_end code.Internal cause.Framing false (Some cancel)) p
 with_fault None p = if p.closes then ended (plain_end code.Unknown cause.Http false (Some cancel)) p else p
 
+-- (DATA beyond the receive window of the stream is never found: it counts as given back when a frame is read, and a frame has at most 16,384 bytes)
 abbrev pub with_data : ℕ → Response → FrameSeen → Response
 with_data limit p f =
     if is_none p.head then ended (plain_end code.Internal cause.Framing false (Some protocol_error)) p
@@ -199,14 +202,15 @@ with_traffic limit stream p (traffic.Read r) = with_read limit stream p r
 with_traffic limit stream p (traffic.Written (sent.Frame f)) = with_written stream p f
 with_traffic limit stream p (traffic.Written sent.Preface) = p
 
--- nothing counts behind its end, nor behind a message that is too large
+-- nothing counts after its end, nor after a message that is too large. (RFC 9113, section 5.1, lets an endpoint answer frames on a closed stream with
+-- STREAM_CLOSED; here they are passed over.)
 abbrev pub response_after : ℕ → ℕ → Response → Traffic → Response
 response_after limit stream p t = if is_some p.end || p.large then p else with_traffic limit stream p t
 
 abbrev pub response_in : ℕ → ℕ → List Traffic → Response
 response_in limit stream ts = fold (response_after limit stream) no_response ts
 
--- what passed on a link up to a byte of what was read
+-- what passed on a link until a number of its bytes were read
 abbrev pub is_read_by : ℕ → Traffic → Bool
 is_read_by seen (traffic.Read r) = nat_le r.end seen
 is_read_by seen _ = true

@@ -1,4 +1,6 @@
--- Sessions: a journal and a ledger are those of a list of actions, each of which is the next one.
+-- Sessions: a journal and a ledger are those of a list of actions, each of which is the next one. How a session is kept is the channel's own.
+-- Example: of one Tick on a new channel the actions are EntryOpens, EventAnswered, SettlingBegins, EntryCloses. The journal is one entry with reply
+-- Done and state IDLE; the ledger has no rows, calls, requests, generations or links, and its entry is 1.
 use Rattle.std.specs.Prelude.{List, None, Some, [], false, filter, length, map, true, ◌∷◌, ◌≡◌}
 use Rattle.attempt_ledger.specs.declared.ledger.CallSeen.{CallSeen}
 use Rattle.attempt_ledger.specs.declared.ledger.Ledger.{Ledger}
@@ -61,7 +63,8 @@ abbrev pub Does : List Action → Seen → Seen → Type 0
 Does [] s t = t ≡ s
 Does (a ∷ actions) s t = IsNext a s × Does actions (after a s) t
 
--- a journal and a ledger are those of a session
+-- a journal and a ledger are those of a session. A step that finds the journal full, or no memory, makes no entry: it is no action, and the list is
+-- that of the steps before it
 pub record IsConsistent (setup : Setup) (entries : List Entry) (ledger : Ledger) : Type 0 where
   pub actions : List Action
   pub end : Seen

@@ -1,4 +1,7 @@
--- Subchannels: their states, dials and links ("gRPC Connectivity Semantics and API"; "Connection Backoff Protocol"; RFC 9113, sections 3.4 and 6.8).
+-- Subchannels: their states, dials and links ("gRPC Connectivity Semantics and API"; "Connection Backoff Protocol"; RFC 9113, sections 3.4, 6.5 and
+-- 6.8).
+-- Example: a dial at 0 s is given up at 20 s, and its wait is over at 1 s. It fails at 3 s: TRANSIENT_FAILURE, and in the same entry IDLE, since 1 s
+-- has passed. The next dial, at 3 s with the random word 0, has a wait of 1.6 s less a fifth: over at 4.28 s, and the dial is given up at 23 s.
 use Rattle.std.specs.List.{list_any}
 use Rattle.std.specs.Option.{option_map_or}
 use Rattle.std.specs.Prelude.{Bool, None, Option, Some, [], false, find, if◌then◌else◌, is_none, is_some, length, map, max, nat_le, not, option_and_then, option_map, true, ℕ, ◌&&◌, ◌++◌, ◌+◌, ◌==◌, ◌||◌, ◌∷◌}
@@ -110,8 +113,9 @@ is_wished s b = list_any (λ g. is_one_of (wish_of (policy_of g s)) b.number) (l
 abbrev pub next_connected : Seen → Option Action
 next_connected s = option_map (λ b. action.SubchannelConnects b.number) (find (λ b. is_idle b.state && is_wished s b) s.subs)
 
--- a dial is taken: of the lowest that is to be dialled. The n-th since the last success is not repeated before a wait, of which it has 20 s at
--- least; a random word spreads that wait from the second dial on
+-- a dial is taken: of the lowest that is to be dialled. It is given up after its wait, or after 20 s where that is longer (MIN_CONNECT_TIMEOUT); if
+-- it fails, the subchannel stays in TRANSIENT_FAILURE until the wait is over. The wait grows with each dial since the last READY, and from the second
+-- on a random word spreads it (INITIAL_BACKOFF, MULTIPLIER, MAX_BACKOFF, JITTER)
 abbrev pub dial_wait : Subchannel → Seen → ℕ
 dial_wait b s = connect_wait (b.dials + 1) (if b.dials == 0 then 0 else next_word s)
 

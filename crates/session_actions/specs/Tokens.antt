@@ -1,16 +1,16 @@
 -- Throttling: tokens that failures take and successes give back, in thousandths (gRFC A6, "Throttling Retry Attempts and Hedged RPCs").
+-- Example: with maxTokens 10 and tokenRatio 0.5 a bucket begins with 10,000. A failure leaves 9,000, and a success after it 9,500. At 5,000 no retry
+-- is made: 5,000 is not above half of 10,000.
 use Rattle.std.specs.Option.{option_map_or}
 use Rattle.std.specs.Prelude.{Bool, None, Option, Some, fold, if◌then◌else◌, min, option_and_then, option_map, ℕ, ◌+◌, ◌-◌, ◌||◌}
 use Rattle.attempt_ledger.specs.Ends.{is_above, is_stop}
 use Rattle.attempt_ledger.specs.Throttling.{codes_of, is_success}
 use Rattle.attempt_ledger.specs.declared.row.RowEnd.{RowEnd}
-use Rattle.config_values.specs.Values.{tokens}
 use Rattle.grpc_base.specs.Codes.{has_code}
 use Rattle.grpc_base.specs.declared.code.Code.{Code}
 use Rattle.grpc_base.specs.declared.plan.CallPlan.{CallPlan}
 use Rattle.grpc_base.specs.declared.plan.Pushback.{Pushback}
 use Rattle.grpc_base.specs.declared.plan.Throttle.{Throttle}
-use Rattle.json_text.specs.Reading.{run}
 use Rattle.session_actions.specs.Attempts.{call_of}
 use Rattle.session_actions.specs.Configs.{config_of_call, plan_of}
 use Rattle.session_actions.specs.Words.{numbered}
@@ -27,7 +27,7 @@ tokens_after t plan c asks count =
     else if has_code (codes_of plan) c || is_stop asks then count - 1000
     else count
 
--- the bucket of a call is that of the run of its config
+-- the bucket of a call is that of the run of its config: valid configs one after another with equal throttle settings
 abbrev pub run_of : Call → Seen → Option ThrottleRun
 run_of c s = option_and_then (numbered s.runs) (option_and_then (λ h. h.run) (config_of_call c s))
 

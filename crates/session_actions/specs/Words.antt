@@ -1,4 +1,7 @@
--- Words on lists and options. The things of a session are numbered from 1.
+-- Words on lists and options. The things of a session are numbered from 1. In the other files mostly c is a call, a an attempt, k the one to which a
+-- call is committed, l a link, b a subchannel, g a policy, h a held config. And s is what is seen, o the open entry, e an event or an end.
+-- Example: of the list a, b the number 1 names a, 2 names b, and 0 and 3 name nothing; `changed f 2` makes it a, f b. The `foremost` of 3, 1, 2
+-- by `nat_lt` is 1, and the `sooner` of 5 and nothing is 5.
 use Rattle.std.specs.Option.{option_map_or, option_or}
 use Rattle.std.specs.Prelude.{Bool, List, None, Option, Some, [], false, if◌then◌else◌, length, min, pred, slice_get, slice_set, suc, zero, ℕ, ◌==◌, ◌∷◌}
 

@@ -1,4 +1,7 @@
--- The wire, written: what a link has to send, and in which order (RFC 9113, sections 3.4, 5.1.2, 6 and 6.9; gRPC over HTTP/2, "Requests").
+-- The wire, written: what a link has to send, and in which order (RFC 9113, sections 3.4, 4.3.1, 5.1.1, 5.1.2, 5.2.2, 6, 6.5.2, 6.5.3, 6.7 and 6.9.1;
+-- RFC 7541, sections 4.2 and 6.3; gRPC over HTTP/2, "Requests": Timeout, Length-Prefixed-Message; gRFC A6, "Exposed Retry Metadata").
+-- Example: one attempt waits on a link whose server sent SETTINGS; its call has the message `hi` and is finished. The link writes the preface (45
+-- bytes with the client's SETTINGS), the acknowledgement, HEADERS on stream 1, and DATA of 7 bytes with END_STREAM.
 use Rattle.std.specs.List.{list_any}
 use Rattle.std.specs.Option.{option_map_or, option_or}
 use Rattle.std.specs.Prelude.{Bool, List, None, Option, Some, [], count_by, drop, false, filter, if◌then◌else◌, is_none, is_some, length, map, min, nat_le, nat_lt, not, option_and_then, option_map, slice_get, take, true, ℕ, ◌&&◌, ◌*◌, ◌++◌, ◌+◌, ◌-◌, ◌==◌, ◌||◌, ◌∷◌}
@@ -12,8 +15,6 @@ use Rattle.h2_frame.specs.Payloads.{ping_word}
 use Rattle.h2_frame.specs.Sent.{data_frame, headers_frame, ping_ack, ping_frame, settings_ack, settings_frame, window_update_frame}
 use Rattle.h2_frame.specs.declared.payload.Setting.{Setting}
 use Rattle.h2_hpack.specs.Encoding.{block_bytes, size_update_to_zero}
-use Rattle.json_text.specs.Decimals.{most}
-use Rattle.json_text.specs.Reading.{named}
 use Rattle.session_actions.specs.Attempts.{call_of, with_attempt}
 use Rattle.session_actions.specs.Configs.{deadline}
 use Rattle.session_actions.specs.Entries.{now, replied, with_entry}
@@ -39,7 +40,7 @@ use Rattle.grpc_base.specs.declared.event.Reply.TheVariants as reply
 use Rattle.session_actions.specs.declared.link.Sent.TheVariants as sent
 use Rattle.session_actions.specs.declared.link.Traffic.TheVariants as traffic
 
--- what is written of the messages of a call for one attempt
+-- how many bytes of its call's messages, each with its prefix, were written for an attempt; how many were accepted
 abbrev pub drained : Attempt → Seen → ℕ
 drained a s = option_map_or (λ stream. option_map_or (used stream) (link_of a s) 0) a.row.stream 0
 
@@ -73,7 +74,7 @@ abbrev pub controls_written : Link → ℕ
 controls_written l = count_by is_control (frames_written l)
 
 -- a header block begins with a dynamic table size update to 0 where an acknowledgement written since the last block answers SETTINGS that name
--- SETTINGS_HEADER_TABLE_SIZE (1): the acknowledgements answer the SETTINGS in turn (RFC 7541, section 4.2; RFC 9113, section 4.3.1)
+-- SETTINGS_HEADER_TABLE_SIZE (1). The acknowledgements answer the SETTINGS in turn (RFC 7541, section 4.2; RFC 9113, section 4.3.1)
 abbrev pub table_sizes_named : Link → List Bool
 table_sizes_named l =
     map (λ r. list_any (is_setting 1) (settings_of r.frame)) (filter (λ r. is_settings r.frame) (frames_read l))
@@ -107,8 +108,8 @@ next_stream l = 2 * length (opened_streams l) + 1
 abbrev pub headers_for : Link → Seen → Attempt → Option Sent
 headers_for l s a = option_map (λ c. sent.Frame (headers_frame (next_stream l) (request_block c a l s))) (call_of a s)
 
--- the next DATA of an attempt's stream: as much as one frame, both windows and the accepted messages allow; END_STREAM behind all of them where
--- no further one comes; an empty frame only for END_STREAM
+-- the next DATA of an attempt's stream: as much as one frame, both windows and the accepted messages allow; END_STREAM with the last of them where
+-- no further message comes; an empty frame only for END_STREAM
 abbrev pub data_len : Link → ℕ → ℕ → ℕ
 data_len l stream left = min (min 16384 (room 0 l)) (min (room stream l) left)
 
@@ -133,11 +134,13 @@ waiting_on l s = filter (λ a. is_none a.row.stream) (outstanding_on l s)
 abbrev pub streaming_on : Link → Seen → List Attempt
 streaming_on l s = filter (λ a. is_some a.row.stream) (outstanding_on l s)
 
--- a stream may be opened while no GOAWAY came, and the peer allows one more (SETTINGS_MAX_CONCURRENT_STREAMS, 3)
+-- a stream may be opened while no GOAWAY came, and the peer allows one more (SETTINGS_MAX_CONCURRENT_STREAMS, 3). A stream is open while its attempt
+-- is outstanding: when that ends, both sides are closed, or RST_STREAM goes out before any further HEADERS (RFC 9113, section 5.1.2)
 abbrev pub may_open_stream : Link → Seen → Bool
 may_open_stream l s = not (is_retiring l) && option_map_or (λ most. nat_lt (length (streaming_on l s)) most) (setting 3 l) true
 
--- the next in this order: the preface, the control frames that are owed, HEADERS of the first attempt that waits, DATA of the lowest stream
+-- the next in this order, which is the channel's own: the preface, the control frames that are owed, HEADERS of the first attempt that waits, DATA of
+-- the lowest stream
 abbrev pub next_control : Link → Option Sent
 next_control l = option_map (λ f. sent.Frame f) (slice_get l.owed (controls_written l))
 
@@ -153,8 +156,9 @@ sendable l s =
     if not (has_begun l) then Some sent.Preface
     else option_or (next_control l) (option_or (next_headers l s) (next_data l s))
 
--- what a frame that was read makes the client queue: an acknowledgement of SETTINGS, an answer to PING, and for DATA leave to send as much again,
--- on the link, and on the stream while a response with a head goes on there
+-- what a frame that was read makes the client queue: an acknowledgement of SETTINGS, an answer to PING, and for DATA leave to send as much again.
+-- That is on the link, and on the stream unless its attempt ended before, no head came before, or the frame has END_STREAM. It is judged before the
+-- frame is applied, and queued before a RST_STREAM that the frame causes
 abbrev pub is_going_on : ℕ → Seen → Attempt → Bool
 is_going_on stream s a = is_number stream a.row.stream && is_some (response a s).head
 
@@ -165,6 +169,7 @@ updates_for f l s =
     ∷ (if list_any (is_going_on f.stream s) (outstanding_on l s) && not (has_flag f.flags end_stream_flag)
     then window_update_frame f.stream (length f.payload) ∷ [] else [])
 
+-- (a PING with ACK is passed over; so are PRIORITY, unknown types outside a header block, and settings 5 and 6. A link that breaks sends no GOAWAY.)
 abbrev pub owed_for : FrameSeen → Link → Seen → List FrameSeen
 owed_for f l s =
     if is_settings f then settings_ack ∷ []

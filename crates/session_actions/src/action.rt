@@ -27,6 +27,7 @@ pub enum Action {
         word: u64,
         event: Event,
     },
+    /// The event is refused: it has no effect of its own.
     EventRefused {
         refusal: Refusal,
     },
@@ -36,13 +37,17 @@ pub enum Action {
     },
     /// The event is done with: what is due by now comes next.
     SettlingBegins,
+    /// Nothing is left to do: the entry joins the journal, with the state of the channel.
     EntryCloses,
 
     // applications
+    /// The application begins a call, and gets its number.
     CallBegins,
+    /// A message of the application is kept, for each attempt of the call to send.
     MessageAccepted {
         call: u32,
     },
+    /// The application sends no further message.
     RequestFinished {
         call: u32,
     },
@@ -51,46 +56,54 @@ pub enum Action {
         call: u32,
         item: Reply,
     },
+    /// The call ends, once: by its committed attempt, or by the channel.
     CallEnds {
         call: u32,
         cause: EndCause,
     },
 
     // configuration
-    /// The resolver's result is read.
+    /// The resolver's result is read: its service config, or the fault of that.
     ConfigRead {
         config: Result<Config, ConfigFault>,
     },
+    /// The resolver answers without a result.
     ResolutionFailed,
+    /// The call gets the service config that is held, and its first attempt is due.
     CallConfigured {
         call: u32,
         config: u64,
     },
 
     // attempts
+    /// An attempt is made: a row at the end of the ledger, queued until a pick places it.
     AttemptMade {
         call: u32,
         number: u32,
         kind: RowKind,
         due: u64,
     },
-    /// A hedge is due, and the tokens forbid it.
+    /// A hedge is due, and the tokens forbid it: no further one is made.
     HedgeWithheld {
         call: u32,
     },
+    /// The current load balancing policy is asked for a pick for a queued attempt, and answers.
     PickRequested {
         row: u64,
         generation: u32,
         answer: Pick,
     },
+    /// The attempt is on a link, and waits there for a stream.
     AttemptPlaced {
         row: u64,
         at: Placed,
     },
+    /// The attempt ends, with the whole end as the ledger keeps it.
     AttemptEnds {
         row: u64,
         end: RowEnd,
     },
+    /// The call is committed to this attempt: its other attempts are cut off.
     CallCommitted {
         row: u64,
         why: CommitCause,
@@ -102,23 +115,29 @@ pub enum Action {
     },
 
     // policies
+    /// A load balancing policy begins: as the current one where there is none, and else as the pending one of a graceful switch.
     PolicyBegins {
         kind: Kind,
     },
+    /// A load balancing policy gets the addresses of the resolver's result.
     AddressesGiven {
         generation: u32,
     },
+    /// The pending load balancing policy becomes the current one, and the one before is retired: the end of a graceful switch.
     PolicyTakesOver {
         generation: u32,
     },
+    /// A load balancing policy is given up: a pending one for a config of another kind, or any by a shutdown.
     PolicyRetired {
         generation: u32,
     },
 
     // subchannels
+    /// An address that a load balancing policy lists gets a subchannel, which is IDLE.
     SubchannelAdded {
         address: Address,
     },
+    /// No load balancing policy lists its address any longer: it is SHUTDOWN.
     SubchannelShut {
         sub: u32,
     },
@@ -126,58 +145,67 @@ pub enum Action {
     SubchannelConnects {
         sub: u32,
     },
-    /// The environment takes a dial, with the moments before which there is no other and at which it is given up.
+    /// The environment takes a dial. Should it fail, the subchannel stays in TRANSIENT_FAILURE until `again`; the dial is given up at `until`.
     DialTaken {
         sub: u32,
         again: u64,
         until: u64,
     },
+    /// The environment could not connect: CONNECTING becomes TRANSIENT_FAILURE.
     DialFails {
         sub: u32,
     },
-    /// No SETTINGS came in time.
+    /// The dial did not come up, or no SETTINGS came on it, by `until`: TRANSIENT_FAILURE.
     ConnectTimesOut {
         sub: u32,
     },
+    /// Its wait after a failure is over: TRANSIENT_FAILURE becomes IDLE.
     BackoffEnds {
         sub: u32,
     },
+    /// The dial is a connection. Its subchannel stays CONNECTING until SETTINGS come.
     LinkUp {
         sub: u32,
     },
-    /// The server's SETTINGS came: the subchannel is READY.
+    /// The server's first SETTINGS came on its link: the subchannel is READY, and its backoff begins anew.
     SettingsArrive {
         sub: u32,
     },
-    /// The link of a subchannel was lost, broke, timed out or is retiring.
+    /// The link of a subchannel was lost or broken, or its server sent GOAWAY: the subchannel no longer has it. After GOAWAY its open streams go on.
     LinkDown {
         sub: u32,
     },
 
     // the wire, read
+    /// Bytes of the server came. Their whole frames are read next, one by one.
     BytesArrive {
         link: u32,
     },
+    /// A whole frame that breaks no rule of the link is read; what it makes the client owe is queued.
     FrameRead {
         link: u32,
         read: ReadFrame,
     },
-    /// The peer broke a rule of the whole link.
+    /// The peer broke a rule of the whole link, which is over from then on. No GOAWAY is sent.
     LinkBreaks {
         link: u32,
         code: u32,
     },
+    /// The environment lost the link, which is over from then on.
     LinkLost {
         link: u32,
     },
 
     // the wire, written
+    /// A PING of the environment is queued.
     PingQueued {
         link: u32,
     },
+    /// A frame, or the preface, is added to the bytes that a Drain gives.
     FrameWritten {
         link: u32,
         sent: Sent,
     },
+    /// The channel is shut down, for good.
     ChannelShuts,
 }

@@ -10,10 +10,10 @@ pub struct HeldConfig {
     pub run: Option<u64>,
 }
 
-/// A run of valid configs with equal throttle settings, which have one token bucket. Runs are numbered from 1.
+/// A run: valid configs one after another with equal throttle settings, which have one token bucket. Runs are numbered from 1.
 #[derive(Debug, Drop)]
 pub struct ThrottleRun {
     pub throttle: Throttle,
-    /// The places of the rows of its calls that ended for good, in the order of their ends.
+    /// The places of the rows of its calls whose ends count, in the order of the ends.
     pub ends: Items<u64>,
 }

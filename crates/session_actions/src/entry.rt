@@ -4,9 +4,9 @@ use grpc_base::{Event, Moment, Reply};
 /// How far an entry has come.
 #[derive(Clone, Copy, Debug, PartialEq, Eq)]
 pub enum Stage {
-    /// Deadlines that have come are served, and then its event.
+    /// Calls whose deadline has come end, and then its event is applied.
     Event,
-    /// Its event was replied to, and what the event brought is worked off: the frames of a piece, the bytes of a drain.
+    /// Its event was replied to, and its frames follow one by one: of a piece those that are read, of a drain those that are written.
     Replied,
     /// The channel settles: what is due by now is done.
     Settling,
@@ -27,9 +27,10 @@ pub struct OpenEntry {
     pub word: u64,
     pub event: Event,
     pub stage: Stage,
-    /// Once there is one.
+    /// What the event was answered, once it was.
     pub reply: Option<Reply>,
     /// How many random words were drawn in it.
     pub drawn: u64,
+    /// The last pick request of the pass over the queue that is going on.
     pub turn: Option<Turn>,
 }

@@ -1,5 +1,7 @@
-// A session as one list of actions: what may be looked at (plain history) and the actions themselves, as data. What each action
-// needs and adds, and which one is next, stands in specs/.
+// A session as one list of actions: what may be looked at (plain history) and the actions themselves, as data. What each action needs and adds, and
+// which one is next, stands in specs/. There Actions shows the whole; its parts are read in this order. What is everywhere: Words, Entries, Calls. A
+// call: Configs, Attempts, Tokens, DueAttempts, Making, Commitments, CallEnds, Deliveries. The wire: Links, Reading, Responses, Writing, AttemptEnds.
+// Connections: Policies, Subchannels. An entry: Refusals, Events, Closing, Actions, Sessions.
 #![tactic(auto)]
 
 mod action;

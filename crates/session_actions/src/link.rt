@@ -73,7 +73,7 @@ pub struct Link {
     pub received: Octets,
     /// What was read and written, in the order in which it was.
     pub traffic: Items<Traffic>,
-    /// The control frames that were queued, in order.
+    /// All control frames that were queued so far, in order; those that were written are its beginning.
     pub owed: Items<WireFrame>,
     pub over: Option<LinkOver>,
     /// The first entry after which it is gone.

@@ -2,7 +2,7 @@
 use attempt_ledger::Generation;
 use grpc_base::{Address, Items};
 
-/// A generation, with the addresses that it was given. Generations are numbered from 1.
+/// One use of a load balancing policy, a generation, with the addresses that it was given. Generations are numbered from 1.
 #[derive(Debug, Drop)]
 pub struct PolicyUse {
     pub number: u32,

@@ -12,7 +12,7 @@ pub struct Told {
     /// Whether the server cannot have processed the request.
     pub unseen: bool,
     pub cause: RowCause,
-    /// The code with which the client resets the stream; None where the peer did.
+    /// For an end by a broken rule: the code with which the stream is reset. For any other end it is not looked at.
     pub reset: Option<u32>,
 }
 
@@ -21,7 +21,7 @@ pub struct Told {
 pub struct Response {
     /// The metadata of its head.
     pub head: Option<Metadata>,
-    /// Its whole messages, and the bytes behind them.
+    /// Its whole messages, and the bytes after them.
     pub messages: Items<Octets>,
     pub rest: Text,
     /// Whether the next message is longer than the limit of its call.

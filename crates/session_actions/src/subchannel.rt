@@ -9,7 +9,7 @@ pub struct Subchannel {
     pub state: Conn,
     /// How many dials were taken since it was READY.
     pub dials: u32,
-    /// The moment before which it is not dialled again.
+    /// In TRANSIENT_FAILURE: the moment at which it becomes IDLE. In any other state what the last dial left.
     pub again: Option<u64>,
     /// The moment at which the dial that was taken is given up, until it is over.
     pub until: Option<u64>,
