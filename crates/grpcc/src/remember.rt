@@ -50,9 +50,13 @@ fn begin<R: IsTerminal, E: Eprint>(rt: &E, reader: &R, has_begun: &mut bool) {
     *has_begun = true;
 }
 
-/// Says at the end of a server script what is strange in it.
+/// Says at the end of a server script what is strange in it, where its beginning that is remembered is all of it.
 fn end<E: Eprint>(rt: &E, alloc: Global, input: &Remembered, is_served: &mut bool) {
-    if *is_served && let Ok(text) = warn(alloc, input) {
+    let is_whole = input.front().len() as u64 == input.bytes();
+    if *is_served
+        && is_whole
+        && let Ok(text) = warn(alloc, input)
+    {
         print(rt, text.as_slice());
     }
     *is_served = false;
