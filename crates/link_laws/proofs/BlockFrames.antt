@@ -2,7 +2,7 @@
 use Rattle.std.proofs.Common.{◌≡◌, ◌≤◌, ℕ, ◌+◌, ◌==◌, ◌&&◌, ◌||◌, not, Bool, true, false, if◌then◌else◌, List, [], ◌++◌, length, refl, sym, ◌∙◌, ap, subst, arith, Option, Some, None, Result, Ok, Err}
 use Rattle.std.specs.Prelude.{IfOk, min}
 use Rattle.std.specs.List.{list_any}
-use Rattle.std.proofs.lemmas.Bool.{eqb-true, ltb-false}
+use Rattle.std.proofs.lemmas.Bool.{eqb-true, ltb-false, or_right}
 use Rattle.grpc_base.specs.declared.fields.Field.{Field}
 use Rattle.grpc_base.specs.ErrorCodes.{flow_control_error, protocol_error}
 use Rattle.h2_frame.specs.Frames.{FrameSeen, has_flag}
@@ -180,10 +180,6 @@ not_ready : (a b : Bool) → b ≡ false → (a || b) ≡ a
 not_ready true b is = refl
 not_ready false b is = is
 
-now_ready : (a b : Bool) → b ≡ true → (a || b) ≡ true
-now_ready true b is = refl
-now_ready false b is = is
-
 at_window : (w v : Wire) (f : FrameSeen) (window : ℕ) → window_after w.window f ≡ window → is_preface f ≡ false → Has (windowed w window w.ready) v → Has (windowed w (window_after w.window f) (ready_after w.ready f)) v
 at_window w v f window is none h = record { block_is = h.block_is; table_is = h.table_is; window_is = h.window_is ∙ sym is; ready_is = h.ready_is ∙ sym (not_ready w.ready (is_preface f) none) }
 
@@ -197,7 +193,7 @@ has_settings w f true v is kind ack h = record { block_is = refl; table_is = ref
     none_ack : (b : Bool) → (b && not true) ≡ false
     none_ack true = refl
     none_ack false = refl
-has_settings w f false v is kind ack h = record { block_is = h.block_is; table_is = h.table_is; window_is = h.window_is ∙ sym is; ready_is = h.ready_is ∙ sym (now_ready w.ready (is_preface f) (ap (λ (c : Bool). c && not (has_flag f.flags ack_flag)) kind ∙ ap (λ (c : Bool). not c) ack)) }
+has_settings w f false v is kind ack h = record { block_is = h.block_is; table_is = h.table_is; window_is = h.window_is ∙ sym is; ready_is = h.ready_is ∙ sym (or_right w.ready (is_preface f) (ap (λ (c : Bool). c && not (has_flag f.flags ack_flag)) kind ∙ ap (λ (c : Bool). not c) ack)) }
 
 has_plain : (w : Wire) (f : FrameSeen) (seen : ℕ) → (is_on window_update_type 0 f ≡ true → w.window + increment f.payload ≤ 2147483647) → Has (windowed w (window_after w.window f) (ready_after w.ready f)) (plain_told w f seen).wire
 has_plain w f seen low =

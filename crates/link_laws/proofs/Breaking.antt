@@ -3,6 +3,7 @@ use Rattle.std.proofs.Common.{◌≡◌, ◌∙◌, ℕ, zero, suc, ◌-◌, ◌
 use Rattle.std.specs.Prelude.{◌⊎◌}
 use Rattle.std.specs.Option.{option_map}
 use Rattle.std.proofs.lemmas.List.{take_all}
+use Rattle.std.proofs.lemmas.Bool.{or_parts, not-true}
 use Rattle.attempt_ledger.specs.declared.news.News.{News}
 use Rattle.attempt_ledger.specs.declared.news.News.TheVariants as news
 use Rattle.ledger_stamps.specs.Steps.{read_link}
@@ -29,7 +30,7 @@ use Rattle.link_laws.proofs.CalmNews.{frame_alive}
 use Rattle.link_laws.proofs.GivenLinks as given
 use Rattle.link_laws.proofs.GivenSends.{Holds, Kept, texted}
 use Rattle.link_laws.proofs.Keeping.{Breaks, IsRead, told_is}
-use Rattle.link_laws.proofs.LinkHears.{ReadsOn, SoundOn, break_dies, deaf_dead, frame_sound, frame_text, news_heard, none_there, not_true, one_more, or_true, seen_now, take_front, took}
+use Rattle.link_laws.proofs.LinkHears.{ReadsOn, SoundOn, break_dies, deaf_dead, frame_sound, frame_text, news_heard, none_there, one_more, seen_now, take_front, took}
 use Rattle.link_laws.proofs.LinkStays.{StaysOn, dead_on, is_dead_slot, seen_on, stays, text_in, text_on}
 use Rattle.link_laws.proofs.LinkTexts.{HearsText, Reads, Text, end_of, frame_read, heard_text, most}
 use Rattle.link_laws.proofs.Numbered.{numbered_here}
@@ -312,7 +313,7 @@ module _ (P : List FrameSeen → List FrameSeen → Wire → Type 0) (May : List
       → Comes k octets start (bytes ++ b ∷ piece) (frames_from (pieces_after k piece) k (if hears then Some (heard_by slot k (b ∷ piece) s.links) else None) s)
   comes_if k octets start bytes b piece s slot false is at h more = absurd (let dead : dead_on k s ≡ true = deaf_dead k bytes s slot is at h.reads in let alive : dead_on k s ≡ false = h.alive in let bad : ⊥ = (cc) in bad)
   comes_if k octets start bytes b piece s slot true is at h more =
-      let both : (slot.dead ≡ false) × (is_some slot.link.link.wire.broken ≡ false) = or_true slot.dead (is_some slot.link.link.wire.broken) (not_true (slot.dead || is_some slot.link.link.wire.broken) at) in
+      let both : (slot.dead ≡ false) × (is_some slot.link.link.wire.broken ≡ false) = or_parts slot.dead (is_some slot.link.link.wire.broken) (not-true (slot.dead || is_some slot.link.link.wire.broken) at) in
       let unbroken : slot.link.link.wire.broken ≡ None = none_there slot.link.link.wire.broken both.1 in
       let some : 1 ≤ length (b ∷ piece) = omega arith in
       let told : HearsText bytes (b ∷ piece) (heard slot.link.link (b ∷ piece)) = heard_text bytes (b ∷ piece) (seen_on k s) slot.link.link (reads_slot k bytes s slot is both.0 h.reads) unbroken some in

@@ -3,6 +3,7 @@ use Rattle.std.proofs.Common.{◌≡◌, ℕ, zero, suc, ◌+◌, Bool, true, fa
 use Rattle.std.specs.List.{AllByRecursion}
 use Rattle.std.specs.Option.{option_map}
 use Rattle.std.proofs.lemmas.Bool.{cases_eq}
+use Rattle.std.proofs.lemmas.Option.{none-some}
 use Rattle.grpc_base.specs.declared.event.EndCause.{EndCause}
 use Rattle.grpc_base.specs.declared.event.EndCause.TheVariants as ends
 use Rattle.grpc_base.specs.declared.event.Refusal.{Refusal}
@@ -57,9 +58,6 @@ ran_at f rows p keeps place at e = elim (cases_eq p place) [
   | inr off ↦ sym (ap running_of (numbered_there f rows p place off)) ∙ e
 ]
 
-none_some : {X : Type 0} (x : X) → None ≡ Some x → ⊥
-none_some x e = (cc)
-
 over_row : (end : RowEnd) (r : Row) → running_of (Some (ended_row end r)) ≡ None
 over_row end r = by r.ended
   where
@@ -68,7 +66,7 @@ over_row end r = by r.ended
     by (Some e) = refl
 
 over_keeps : (end : RowEnd) → KeepsRan (ended_row end)
-over_keeps end r at e = absurd (none_some at (sym (over_row end r) ∙ e))
+over_keeps end r at e = absurd (none-some at (sym (over_row end r) ∙ e))
 
 commit_keeps : (entry : ℕ) → KeepsRan (committed_row entry)
 commit_keeps entry r at e = e
@@ -95,7 +93,7 @@ AreCutOver rows acts = AllByRecursion (IsCutOver rows) acts
 
 none_ran : (o p : Option Placed) → ((at : Placed) → p ≡ Some at → o ≡ Some at) → o ≡ None → p ≡ None
 none_ran o None less e = refl
-none_ran o (Some at) less e = absurd (none_some at (sym e ∙ less at refl))
+none_ran o (Some at) less e = absurd (none-some at (sym e ∙ less at refl))
 
 one_over : (rows after : List Row) (a : CallAct) → Ran rows after → IsCutOver rows a → IsCutOver after a
 one_over rows after (act.Cut place) ran e = none_ran (running_at rows place) (running_at after place) (ran place) e

@@ -1,6 +1,7 @@
 -- A tag of which a link tells the end is from then on no tag of its streams, nor of those that wait for one.
 use Rattle.std.proofs.Common.{◌≡◌, ◌∙◌, ℕ, ◌||◌, Bool, true, false, if◌then◌else◌, Option, Some, None, is_some, List, [], ◌∷◌, ◌++◌, map, refl, sym}
 use Rattle.std.specs.List.{AllByRecursion, remove}
+use Rattle.std.proofs.lemmas.Bool.{or_left}
 use Rattle.grpc_base.specs.ErrorCodes.{cancel}
 use Rattle.grpc_base.specs.declared.fields.Field.{Field}
 use Rattle.attempt_ledger.specs.declared.news.EndNews.{EndNews}
@@ -81,16 +82,12 @@ over_headers : (r : ReaderSeen) (tag : ℕ) (fields : List Field) (seen : ℕ) (
 over_headers r tag fields seen (Some end) = ((refl, refl), tt)
 over_headers r tag fields seen None = over_if tag (comes_head fields) _ (record { reader = r; news = [] }) (tt, tt) tt
 
-or_first : (a b : Bool) → a ≡ true → (a || b) ≡ true
-or_first true b e = refl
-or_first false b e = absurd (let no : ⊥ = (cc) in no)
-
 over_data : (r : ReaderSeen) (tag : ℕ) (g : frame.Given) (ends : Bool) (seen : ℕ) → AllOver tag (data_by r tag g ends seen)
 over_data r tag g ends seen =
     let over : Bool = is_some (data_end g.fault ends seen) || is_some (data_large g.fault seen) in
     all_append (Overs tag over) (map (message_news tag seen) g.messages ++ large_gained tag (data_large g.fault seen)) (end_gained tag (data_end g.fault ends seen))
     (all_append (Overs tag over) (map (message_news tag seen) g.messages) (large_gained tag (data_large g.fault seen)) (over_messages tag seen over g.messages) (over_large tag over (data_large g.fault seen)))
-    (over_end tag over (data_end g.fault ends seen) (λ e. or_first (is_some (data_end g.fault ends seen)) (is_some (data_large g.fault seen)) e))
+    (over_end tag over (data_end g.fault ends seen) (λ e. or_left (is_some (data_end g.fault ends seen)) (is_some (data_large g.fault seen)) e))
 
 over_read : (r : ReaderSeen) (tag : ℕ) (n : LinkNews) → AllOver tag (read_on r tag n)
 over_read r tag (link.Fields t fields ends seen) = over_headers r tag fields seen (headers_end r.head (frame.is_whole r.messages) fields ends seen)

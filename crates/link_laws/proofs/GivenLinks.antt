@@ -1,7 +1,7 @@
 -- What is kept of the wire of each link, beside all bytes that came on it and all that were sent, while it is neither dead nor broken.
 use Rattle.std.proofs.Common.{◌≡◌, ◌∙◌, ℕ, zero, suc, ◌-◌, ◌≤◌, Bool, true, false, if◌then◌else◌, ◌||◌, not, List, [], ◌∷◌, ◌++◌, length, take, refl, ap, sym, subst, inl, inr, Option, Some, None, is_some, arith, append-nil}
 use Rattle.std.specs.Option.{option_map}
-use Rattle.std.proofs.lemmas.Bool.{cases_eq}
+use Rattle.std.proofs.lemmas.Bool.{cases_eq, or_parts, not-true}
 use Rattle.grpc_base.specs.ErrorCodes.{cancel}
 use Rattle.h2_frame.specs.Frames.{FrameSeen}
 use Rattle.h2_frame.specs.Readings.{IsReading}
@@ -24,7 +24,7 @@ use Rattle.channel_core.specs.Tables.{Heard, buried, fresh_link, heard_at, heard
 use Rattle.ledger_stamps.specs.Steps.{changed_at}
 use Rattle.link_laws.proofs.GivenSends.{Holds, Kept, Texted, heard_holds, taken_is, text_grows}
 use Rattle.link_laws.proofs.Keeping.{Grows, cut_kept, grows_if, grows_queued, grows_same, grows_sealed}
-use Rattle.link_laws.proofs.LinkHears.{frame_text, none_there, not_true, on_told, one_more, or_true, over_told, take_front, told_text}
+use Rattle.link_laws.proofs.LinkHears.{frame_text, none_there, on_told, one_more, over_told, take_front, told_text}
 use Rattle.link_laws.proofs.LinkSent.{stamped_links}
 use Rattle.link_laws.proofs.LinkStays.{text_in, text_on}
 use Rattle.link_laws.proofs.LinkTexts.{Text, text_of}
@@ -58,7 +58,7 @@ module _ (H : Wire → Type 0) (cuts : (w : Wire) (tag code : ℕ) → H w → H
 -- a link that hears is neither dead nor broken
 hears_so : (slot : LinkSlot) → hears_at (Some slot) ≡ true → (slot.dead ≡ false) × (slot.link.link.wire.broken ≡ None)
 hears_so slot is =
-    let both = or_true slot.dead (is_some slot.link.link.wire.broken) (not_true (slot.dead || is_some slot.link.link.wire.broken) is) in
+    let both = or_parts slot.dead (is_some slot.link.link.wire.broken) (not-true (slot.dead || is_some slot.link.link.wire.broken) is) in
     (both.0, none_there slot.link.link.wire.broken both.1)
 
 deaf_so : (dead : Bool) (broken : Option ℕ) → not (dead || is_some broken) ≡ false → dead ≡ false → broken ≡ None → ⊥

@@ -21,10 +21,10 @@ use Rattle.h2_link.specs.Status.{http_status, is_interim}
 use Rattle.h2_link.specs.StreamErrors.{data_error, headers_error, window_error}
 use Rattle.h2_link.specs.Steps.{all_reset, data_effect, headers_effect, is_above, link_updated, queue_after, reset_after, reset_owed, stream_updated, unless, window_effect, is_within, live_after, applied, block_held, block_read, broke, continuation_told, cut, cut_at, data_told, found_from, headers_told, is_numbered, is_tagged, judged, list_read, listed, opened_by, outcome, plain_told, read_after, reset_told, settings_told, told, window_told}
 use Rattle.h2_link.specs.Wire.{Block, Told, Wire}
-use Rattle.std.proofs.lemmas.Bool.{ne_eqb}
+use Rattle.std.proofs.lemmas.Bool.{ne_eqb, or_from, or_parts}
 use Rattle.std.proofs.lemmas.List.{take-append-drop}
 use Rattle.std.proofs.lemmas.List.Folds.{list_any-append}
-use Rattle.link_laws.proofs.Streams.{IsLive, Streams, inserted_length, neither, parted, got, all_below, all_by, all_filter, below, is_reset_of, kept_within, removed_apart, with_one, with_queue, with_reset, without_one}
+use Rattle.link_laws.proofs.Streams.{IsLive, Streams, inserted_length, got, all_below, all_by, all_filter, below, is_reset_of, kept_within, removed_apart, with_one, with_queue, with_reset, without_one}
 use Rattle.link_laws.proofs.Waits.{MayWait, Ready, Waits, live_ready, waits_queued, waits_reset, waits_sealed}
 
 later_place : (start more : ℕ) → 1 ≤ start → 1 ≤ start + more
@@ -137,16 +137,16 @@ grows_updated s len end q =
     (grows_if (end || not s.head || (len == 0)) v _ _ (grows_same v) (grows_queued v (control.StreamUpdate s.number len) refl))
 
 any_after : (p : Control → Bool) (q : List Control) (c : Control) → list_any p q ≡ false → p c ≡ false → list_any p (q ++ c ∷ []) ≡ false
-any_after p q c none one = list_any-append p q (c ∷ []) ∙ neither (list_any p q) (p c || false) none (neither (p c) false one refl)
+any_after p q c none one = list_any-append p q (c ∷ []) ∙ or_from (list_any p q) (p c || false) none (or_from (p c) false one refl)
 
 any_inserted : (m : ℕ) (q : List Control) (i n code : ℕ) → (m ≡ n → ⊥) → list_any (is_reset_of m) q ≡ false → list_any (is_reset_of m) (insert q i (control.Reset n code)) ≡ false
 any_inserted m q i n code ne is =
     let other : (n == m) ≡ false = ne_eqb n m (λ e. ne (sym e)) in
     let parts : (list_any (is_reset_of m) (take i q) || list_any (is_reset_of m) (drop i q)) ≡ false =
     sym (list_any-append (is_reset_of m) (take i q) (drop i q)) ∙ ap (λ (l : List Control). list_any (is_reset_of m) l) (take-append-drop i q) ∙ is in
-    let both = parted (list_any (is_reset_of m) (take i q)) (list_any (is_reset_of m) (drop i q)) parts in
+    let both = or_parts (list_any (is_reset_of m) (take i q)) (list_any (is_reset_of m) (drop i q)) parts in
     list_any-append (is_reset_of m) (take i q) (control.Reset n code ∷ drop i q)
-    ∙ neither (list_any (is_reset_of m) (take i q)) (list_any (is_reset_of m) (control.Reset n code ∷ drop i q)) both.0 (neither (n == m) (list_any (is_reset_of m) (drop i q)) other both.1)
+    ∙ or_from (list_any (is_reset_of m) (take i q)) (list_any (is_reset_of m) (control.Reset n code ∷ drop i q)) both.0 (or_from (n == m) (list_any (is_reset_of m) (drop i q)) other both.1)
 
 not_both : (last : ℕ) (s g : LiveStream) → is_above last g ≡ true → is_within last s ≡ true → s.number ≡ g.number → ⊥
 not_both last s g above within is =

@@ -35,7 +35,7 @@ use Rattle.link_laws.proofs.LentCalls.{Lent, Settles, after_ended, after_news, l
 use Rattle.link_laws.proofs.Owning.{GoesBut, GoesChosen, GoesTo, IsOwner, goes_but, goes_chosen, goes_closed_by, goes_configured, goes_due, goes_ended_at, goes_news, goes_placed, goes_sent, goes_timed_out}
 use Rattle.channel_core.proofs.Stamping.{Keeps, Writes, begins, keeps, keeps_configured, keeps_held, then_writes}
 use Rattle.link_laws.proofs.Recording.{IsRecord, LeavesOthers, Records, Same, records_chosen, records_closed_by, records_configured, records_due, records_ended_at, records_news, records_placed, records_sent, records_timed_out}
-use Rattle.link_laws.proofs.Tokens.{Fits, FitsIn, Follows, IsAfter, WereLent, after_same, chosen_throttle, fits_begun, fits_bucket, fits_configured, fits_held, fits_then, follows_laid, follows_same, own_none, tokens_acted, were_acted, were_changed, were_same, were_slot}
+use Rattle.link_laws.proofs.Tokens.{Fits, FitsIn, Follows, IsAfter, WereLent, chosen_throttle, fits_begun, fits_bucket, fits_configured, fits_held, fits_then, follows_laid, follows_same, own_none, tokens_acted, were_acted, were_changed, were_same, were_slot}
 use Rattle.channel_core.proofs.Timely.{Quiet, quiet_closed_by, quiet_configured, quiet_due, quiet_ended_at, quiet_news, quiet_placed, quiet_sent, quiet_timed_out}
 use Rattle.call_core.specs.Laws.{IsKept}
 use Rattle.grpc_base.specs.declared.event.EndCause.{EndCause}
@@ -259,7 +259,7 @@ module _ (C : Chosen → Type 0) (T : Stepped → ℕ → News → Type 0) (P : 
   asked_by f number s k does =
       let bucket : ℕ = bucket_at (slot_at s.book number) in
       let tokens : Option Bucket = tokens_in s.book.buckets bucket in
-      done_by f number tokens s _ k refl refl refl (λ slot is fits. lent_by number slot s is fits) (follows_laid s.book.buckets bucket tokens (after_same tokens)) does
+      done_by f number tokens s _ k refl refl refl (λ slot is fits. lent_by number slot s is fits) (follows_same s.book.buckets) does
 
   acted_by : (f : Stepped → Stepped) (number : ℕ) (s : StateSeen) → ((x : Stepped) → IsAfter x.tokens (f x).tokens) → Keeps s (with_book (book_acted f number s.book).book s) → ((x : Stepped) → x.ledger.entry ≡ s.book.ledger.entry → AreOwnTokens x.tokens x.call.chosen → P s.book.moment s.book.ledger.entry x → DoesLent P J s.book.moment s.book.ledger.entry x (f x)) → Lifts P J K N s (with_book (book_acted f number s.book).book s)
   acted_by f number s stays k does =

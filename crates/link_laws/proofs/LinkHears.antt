@@ -1,7 +1,7 @@
 -- What a link hears: how much was read of the bytes that arrived on it, frame by frame, and that bytes on another link leave it.
-use Rattle.std.proofs.Common.{◌≡◌, ◌∙◌, ℕ, zero, suc, ◌-◌, ◌≤◌, Bool, true, false, if◌then◌else◌, ◌||◌, not, List, [], ◌∷◌, ◌++◌, length, take, refl, ap, sym, subst, inl, inr, Option, Some, None, is_some, arith, append_assoc, append-nil}
-use Rattle.std.specs.Prelude.{◌⊎◌}
+use Rattle.std.proofs.Common.{◌≡◌, ◌∙◌, ℕ, zero, suc, ◌-◌, ◌≤◌, Bool, true, false, if◌then◌else◌, ◌||◌, List, [], ◌∷◌, ◌++◌, length, take, refl, ap, sym, subst, inl, inr, Option, Some, None, is_some, arith, append_assoc, append-nil}
 use Rattle.std.specs.Option.{option_map}
+use Rattle.std.proofs.lemmas.Bool.{or_parts, not-true, not-false, or_cases}
 use Rattle.attempt_ledger.specs.declared.ledger.LinkSeen.{LinkSeen}
 use Rattle.attempt_ledger.specs.declared.news.News.{News}
 use Rattle.attempt_ledger.specs.declared.news.News.TheVariants as news
@@ -175,19 +175,6 @@ frame_sound k bytes piece s slot is alive sound_wire some sound =
           subst (λ (ns : List News). dead_on k (arrivals.heard k ns s1) ≡ true) (sym tells) (break_dies k code s1 there);
     }
 
--- a link that hears nothing passes the bytes over
-pub or_true : (a b : Bool) → (a || b) ≡ false → (a ≡ false) × (b ≡ false)
-or_true true b is = absurd (let no : ⊥ = (cc) in no)
-or_true false b is = (refl, is)
-
-pub not_true : (b : Bool) → not b ≡ true → b ≡ false
-not_true true is = absurd (let no : ⊥ = (cc) in no)
-not_true false is = refl
-
-not_false : (b : Bool) → not b ≡ false → b ≡ true
-not_false true is = refl
-not_false false is = absurd (let no : ⊥ = (cc) in no)
-
 pub none_there : (o : Option ℕ) → is_some o ≡ false → o ≡ None
 none_there None is = refl
 none_there (Some n) is = absurd (let no : ⊥ = (cc) in no)
@@ -196,14 +183,10 @@ some_there : (o : Option ℕ) → is_some o ≡ true → (n : ℕ) × (o ≡ Som
 some_there None is = absurd (let no : ⊥ = (cc) in no)
 some_there (Some n) is = (n, refl)
 
-either_true : (a b : Bool) → (a || b) ≡ true → (a ≡ true) ⊎ (b ≡ true)
-either_true true b is = inl refl
-either_true false b is = inr is
-
 pub deaf_dead : (k : ℕ) (bytes : List ℕ) (s : StateSeen) (slot : LinkSlot) → numbered s.links k ≡ Some slot → hears_at (Some slot) ≡ false → SoundOn k bytes s → dead_on k s ≡ true
 deaf_dead k bytes s slot is deaf sound =
     let text : text_on k s ≡ Some (text_in slot) = ap (λ o. option_map text_in o) is in
-    elim (either_true slot.dead (is_some slot.link.link.wire.broken) (not_false (slot.dead || is_some slot.link.link.wire.broken) deaf)) [
+    elim (or_cases slot.dead (is_some slot.link.link.wire.broken) (not-false (slot.dead || is_some slot.link.link.wire.broken) deaf)) [
       | inl dead ↦ ap is_dead_slot is ∙ dead
       | inr broken ↦ (let code = some_there slot.link.link.wire.broken broken in sound.broken_dead (text_in slot) code.0 text code.1)
     ]
@@ -246,7 +229,7 @@ heard_frames : (k : ℕ) (bytes : List ℕ) (b : ℕ) (piece : List ℕ) (s : St
 heard_frames k bytes b piece s slot false is at sound more = passed_sound k bytes (b ∷ piece) s slot is (deaf_dead k bytes s slot is at sound) sound
 heard_frames k bytes b piece s slot true is at sound more =
     let h : Heard = heard_by slot k (b ∷ piece) s.links in
-    let both : (slot.dead ≡ false) × (is_some slot.link.link.wire.broken ≡ false) = or_true slot.dead (is_some slot.link.link.wire.broken) (not_true (slot.dead || is_some slot.link.link.wire.broken) at) in
+    let both : (slot.dead ≡ false) × (is_some slot.link.link.wire.broken ≡ false) = or_parts slot.dead (is_some slot.link.link.wire.broken) (not-true (slot.dead || is_some slot.link.link.wire.broken) at) in
     let unbroken : slot.link.link.wire.broken ≡ None = none_there slot.link.link.wire.broken both.1 in
     let hears : Hearing = heard slot.link.link (b ∷ piece) in
     let text : text_on k s ≡ Some (text_in slot) = ap (λ o. option_map text_in o) is in

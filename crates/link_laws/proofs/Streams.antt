@@ -3,6 +3,7 @@ use Rattle.std.proofs.Common.{◌≡◌, ◌≤◌, ◌<◌, ℕ, zero, suc, ◌
 use Rattle.std.specs.Prelude.{filter}
 use Rattle.std.specs.List.{AllByRecursion, insert, list_any, remove}
 use Rattle.std.proofs.lemmas.List.Folds.{list_any-append}
+use Rattle.std.proofs.lemmas.Bool.{or_from, or_left, or_parts}
 use Rattle.h2_frame.specs.Frames.{FrameSeen}
 use Rattle.h2_frame.specs.Numbers.{headers_type, rst_stream_type}
 use Rattle.h2_link.specs.declared.control.Control.{Control}
@@ -180,31 +181,18 @@ inserted_length [] (suc i) c = refl
 inserted_length (x ∷ cs) zero c = omega arith
 inserted_length (x ∷ cs) (suc i) c = (let e = inserted_length cs i c in omega (arith, e))
 
--- a frame is sent
-pub neither : (a b : Bool) → a ≡ false → b ≡ false → (a || b) ≡ false
-neither true b p q = p
-neither false b p q = q
-
-or_left : (a b : Bool) → a ≡ true → (a || b) ≡ true
-or_left true b p = refl
-or_left false b p = absurd (let bad : ⊥ = (cc) in bad)
-
 or_right : (a b : Bool) → b ≡ true → (a || (b || false)) ≡ true
 or_right true b is = refl
 or_right false true is = refl
 or_right false false is = absurd (let bad : ⊥ = (cc) in bad)
 
-pub parted : (a b : Bool) → (a || b) ≡ false → (a ≡ false) × (b ≡ false)
-parted true b is = absurd (let bad : ⊥ = (cc) in bad)
-parted false b is = (refl, is)
-
 pub any_more : (p : FrameSeen → Bool) (frames : List FrameSeen) (f : FrameSeen) → list_any p frames ≡ false → p f ≡ false → list_any p (frames ++ f ∷ []) ≡ false
-any_more p frames f none one = list_any-append p frames (f ∷ []) ∙ neither (list_any p frames) (list_any p (f ∷ [])) none (neither (p f) false one refl)
+any_more p frames f none one = list_any-append p frames (f ∷ []) ∙ or_from (list_any p frames) (list_any p (f ∷ [])) none (or_from (p f) false one refl)
 
 pub any_still : (p : FrameSeen → Bool) (frames : List FrameSeen) (f : FrameSeen) → list_any p frames ≡ true → list_any p (frames ++ f ∷ []) ≡ true
 any_still p frames f some = list_any-append p frames (f ∷ []) ∙ or_left (list_any p frames) (list_any p (f ∷ [])) some
 
--- one that ends no stream: neither a reset nor DATA with END_STREAM
+-- one that ends no stream: or_from a reset nor DATA with END_STREAM
 pub frame_more : (frames : List FrameSeen) (bound : ℕ) (live : List LiveStream) (q : List Control) (f : FrameSeen) → ((n : ℕ) → ends_on n f ≡ false) → ((n : ℕ) → is_on rst_stream_type n f ≡ false) → Streams frames bound live q → Streams (frames ++ f ∷ []) bound live q
 frame_more frames bound live q f ends resets h = record {
   each = all_by (IsLive frames q) (IsLive (frames ++ f ∷ []) q) live (λ s l. record {
@@ -219,7 +207,7 @@ frame_more frames bound live q f ends resets h = record {
 
 -- the reset at the queue's front
 first_reset : (n stream code : ℕ) (q : List Control) → list_any (is_reset_of n) (control.Reset stream code ∷ q) ≡ false → ((stream == n) ≡ false) × (list_any (is_reset_of n) q ≡ false)
-first_reset n stream code q h = parted (stream == n) (list_any (is_reset_of n) q) h
+first_reset n stream code q h = or_parts (stream == n) (list_any (is_reset_of n) q) h
 
 pub reset_more : (frames : List FrameSeen) (bound : ℕ) (live : List LiveStream) (q : List Control) (f : FrameSeen) (stream code : ℕ) → ((n : ℕ) → ends_on n f ≡ false) → ((n : ℕ) → is_on rst_stream_type n f ≡ (stream == n)) → Streams frames bound live (control.Reset stream code ∷ q) → Streams (frames ++ f ∷ []) bound live q
 reset_more frames bound live q f stream code ends resets h = record {

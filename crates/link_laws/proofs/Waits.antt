@@ -1,7 +1,7 @@
 -- The frames that wait to be sent keep the order of streams: each is of a stream that was opened, and stands behind no reset of it.
 use Rattle.std.proofs.Common.{◌≡◌, ◌≤◌, ℕ, zero, suc, ◌+◌, ◌-◌, ◌==◌, Bool, true, false, List, [], ◌∷◌, ◌++◌, length, drop, refl, sym, ◌∙◌, subst, arith, append_assoc, append-nil, inl, inr, min}
 use Rattle.std.specs.List.{AllByRecursion, insert, list_any}
-use Rattle.std.proofs.lemmas.Bool.{cases_lt, eq-eqb, ne_eqb}
+use Rattle.std.proofs.lemmas.Bool.{cases_lt, eq-eqb, ne_eqb, or_from, or_parts}
 use Rattle.std.proofs.lemmas.List.Folds.{list_any-append}
 use Rattle.h2_frame.specs.Frames.{FrameSeen}
 use Rattle.h2_frame.specs.Numbers.{headers_type, rst_stream_type}
@@ -10,7 +10,7 @@ use Rattle.h2_link.specs.declared.control.Control.TheVariants as control
 use Rattle.h2_link.specs.declared.live.LiveStream.{LiveStream}
 use Rattle.h2_link.specs.Queues.{Queue, queued, reset_place, reset_queued, unqueued}
 use Rattle.link_laws.specs.Wires.{is_on}
-use Rattle.link_laws.proofs.Streams.{IsLive, inserted_length, is_reset_of, neither, parted}
+use Rattle.link_laws.proofs.Streams.{IsLive, inserted_length, is_reset_of}
 
 -- a stream of which a frame may wait behind these
 pub record Ready (frames : List FrameSeen) (before : List Control) (n : ℕ) : Type 0 where
@@ -73,10 +73,10 @@ drop_inserted (x ∷ xs) (suc a) zero r le is all = absurd (let bad : ⊥ = omeg
 drop_inserted (x ∷ xs) (suc a) (suc c) r le is all = drop_inserted xs a c r (omega (arith, le)) is all
 
 front_free : (p : Control → Bool) (xs ys : List Control) → list_any p (xs ++ ys) ≡ false → (list_any p xs ≡ false) × (list_any p ys ≡ false)
-front_free p xs ys is = parted (list_any p xs) (list_any p ys) (sym (list_any-append p xs ys) ∙ is)
+front_free p xs ys is = or_parts (list_any p xs) (list_any p ys) (sym (list_any-append p xs ys) ∙ is)
 
 both_free : (p : Control → Bool) (xs ys : List Control) → list_any p xs ≡ false → list_any p ys ≡ false → list_any p (xs ++ ys) ≡ false
-both_free p xs ys one two = list_any-append p xs ys ∙ neither (list_any p xs) (list_any p ys) one two
+both_free p xs ys one two = list_any-append p xs ys ∙ or_from (list_any p xs) (list_any p ys) one two
 
 -- the same behind others, where what is ready behind the ones is ready behind the others
 abbrev pub Turns : List FrameSeen → List Control → List FrameSeen → List Control → Type 0
@@ -116,7 +116,7 @@ apart m n is same = (let one : (m == n) ≡ true = eq-eqb m n same in (cc))
 behind_reset : (f : List FrameSeen) (b b2 cs : List Control) (n : ℕ) → AreResets cs → list_any (is_reset_of n) cs ≡ false → ((m : ℕ) → (m ≡ n → ⊥) → list_any (is_reset_of m) b ≡ false → list_any (is_reset_of m) b2 ≡ false) → AreWaiting f b cs → AreWaiting f b2 cs
 behind_reset f b b2 [] n all none less h = tt
 behind_reset f b b2 (control.Reset m code ∷ cs) n all none less h =
-    let parts = parted (m == n) (list_any (is_reset_of n) cs) none in
+    let parts = or_parts (m == n) (list_any (is_reset_of n) cs) none in
     let ne : m ≡ n → ⊥ = apart m n parts.0 in
     let now : Ready f b2 m = record { opened = h.0.opened; reset = h.0.reset; queued = less m ne h.0.queued } in
     (now, behind_reset f (b ++ control.Reset m code ∷ []) (b2 ++ control.Reset m code ∷ []) cs n all.1 parts.1 (λ k nk is. (let two = front_free (is_reset_of k) b (control.Reset m code ∷ []) is in both_free (is_reset_of k) b2 (control.Reset m code ∷ []) (less k nk two.0) two.1)) h.1)
@@ -131,7 +131,7 @@ waiting_reset : (f : List FrameSeen) (b cs : List Control) (n code : ℕ) → Re
 waiting_reset f b cs n code r all h =
     let parts = front_free (is_reset_of n) b cs r.queued in (
       record { opened = r.opened; reset = r.reset; queued = parts.0 },
-      behind_reset f b (b ++ control.Reset n code ∷ []) cs n all parts.1 (λ m ne is. both_free (is_reset_of m) b (control.Reset n code ∷ []) is (neither (n == m) false (ne_eqb n m (λ e. ne (sym e))) refl)) h,
+      behind_reset f b (b ++ control.Reset n code ∷ []) cs n all parts.1 (λ m ne is. both_free (is_reset_of m) b (control.Reset n code ∷ []) is (or_from (n == m) false (ne_eqb n m (λ e. ne (sym e))) refl)) h,
     )
 
 waiting_inserted : (f : List FrameSeen) (b cs : List Control) (i n code : ℕ) → Ready f (b ++ cs) n → AreResets (drop i cs) → AreWaiting f b cs → AreWaiting f b (insert cs i (control.Reset n code))

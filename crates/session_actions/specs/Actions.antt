@@ -7,7 +7,7 @@ use Rattle.std.specs.Prelude.{List, None, Option, Some, [], if◌then◌else◌,
 use Rattle.session_actions.specs.AttemptEnds.{attempt_ended, next_cut, next_reset, next_wire_end, stream_reset}
 use Rattle.session_actions.specs.CallEnds.{call_ended, has_long_request, has_long_response, is_cancelled, is_over_by_row, is_shut_down, lacks_config, next_deadline, next_ended}
 use Rattle.session_actions.specs.Closing.{entry_made}
-use Rattle.session_actions.specs.Commitments.{call_committed, next_final, next_handed, next_headed, next_overflow}
+use Rattle.session_actions.specs.Commitments.{call_committed, next_final, next_inherited, next_headed, next_overflow}
 use Rattle.session_actions.specs.Configs.{call_configured, config_read, is_to_configure, resolution_failed}
 use Rattle.session_actions.specs.Deliveries.{call_begun_by, item_taken, message_accepted, request_finished}
 use Rattle.session_actions.specs.Entries.{opened, replied, settling}
@@ -100,7 +100,7 @@ first_action actions = first_of (λ (o : Option Action). o) actions
 abbrev pub of_calls : OpenEntry → Seen → Option Action
 of_calls o s = first_action (
     -- an attempt that is over is cut off; a transparent retry is made, and takes a commitment over; a call ends by its committed attempt
-    next_cut s ∷ next_transparent s ∷ next_handed s ∷ next_ended ending.Row (is_over_by_row s) s
+    next_cut s ∷ next_transparent s ∷ next_inherited s ∷ next_ended ending.Row (is_over_by_row s) s
     -- a call is committed by a final end; it is cancelled; a message of its request was too long
     ∷ next_final s ∷ next_ended ending.Cancelled (is_cancelled o) s ∷ next_ended ending.Request (has_long_request o s) s
     -- a call is committed by overflow or a head; a message of its response is too long

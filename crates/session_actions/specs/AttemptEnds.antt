@@ -24,7 +24,7 @@ use Rattle.session_actions.specs.declared.attempt.Attempt.{Attempt}
 use Rattle.session_actions.specs.declared.call.Call.{Call}
 use Rattle.session_actions.specs.declared.config.ThrottleRun.{ThrottleRun}
 use Rattle.session_actions.specs.declared.link.Link.{Link}
-use Rattle.session_actions.specs.declared.response.Told.{Told}
+use Rattle.session_actions.specs.declared.response.Outcome.{Outcome}
 use Rattle.session_actions.specs.declared.seen.Seen.{Seen}
 use Rattle.session_actions.specs.declared.action.Action.TheVariants as action
 use Rattle.attempt_ledger.specs.declared.row.RowCause.TheVariants as cause
@@ -32,51 +32,51 @@ use Rattle.grpc_base.specs.declared.code.Code.TheVariants as code
 use Rattle.session_actions.specs.declared.call.MarkKind.TheVariants as mark
 
 -- the client cuts it off; its pick failed; it was never sent; its link is over
-abbrev pub cut_end : Told
+abbrev pub cut_end : Outcome
 cut_end = plain_end code.Cancelled cause.Cut false (Some cancel)
 
-abbrev pub pick_end : Told
+abbrev pub pick_end : Outcome
 pick_end = plain_end code.Unavailable cause.Pick false (Some cancel)
 
-abbrev pub unsent_end : Told
+abbrev pub unsent_end : Outcome
 unsent_end = plain_end code.Unavailable cause.Unsent true (Some cancel)
 
-abbrev pub lost_end : Told
+abbrev pub lost_end : Outcome
 lost_end = plain_end code.Unavailable cause.Lost false (Some cancel)
 
 -- how the wire ends an attempt that is outstanding on a link, if it does. One without a stream ends where the link is over or takes no further
 -- stream; one with a stream by its response, or else where the link is over
-abbrev pub told_on : Attempt → Seen → Option ℕ → Link → Option Told
-told_on a s None l = if is_some l.over || is_retiring l then Some unsent_end else None
-told_on a s (Some stream) l = option_or (response a s).end (if is_some l.over then Some lost_end else None)
+abbrev pub outcome_on : Attempt → Seen → Option ℕ → Link → Option Outcome
+outcome_on a s None l = if is_some l.over || is_retiring l then Some unsent_end else None
+outcome_on a s (Some stream) l = option_or (response a s).end (if is_some l.over then Some lost_end else None)
 
-abbrev pub told_of : Attempt → Seen → Option Told
-told_of a s = option_and_then (told_on a s a.row.stream) (link_of a s)
+abbrev pub outcome_of : Attempt → Seen → Option Outcome
+outcome_of a s = option_and_then (outcome_on a s a.row.stream) (link_of a s)
 
 -- whether an end of an attempt will count: the client does not cut it off, and no transparent retry is to follow (the same as `counts_by` of the end,
 -- before it is there)
-abbrev pub will_count : Attempt → Told → Seen → Bool
+abbrev pub will_count : Attempt → Outcome → Seen → Bool
 will_count a t s = not (is_cut t.cause) && not (of_its_call (λ c. is_to_follow c t.cause t.unseen s) a s)
 
 -- the tokens of its call's bucket after it, where there is one
-abbrev pub tokens_told : Attempt → Told → Seen → Call → ThrottleRun → ℕ
-tokens_told a t s c run =
+abbrev pub tokens_counted : Attempt → Outcome → Seen → Call → ThrottleRun → ℕ
+tokens_counted a t s c run =
     if will_count a t s then tokens_after run.throttle (plan_of c s) t.code t.pushback (tokens_in run s) else tokens_in run s
 
-abbrev pub tokens_at : Attempt → Told → Seen → Call → Option ℕ
-tokens_at a t s c = option_map (tokens_told a t s c) (run_of c s)
+abbrev pub tokens_at : Attempt → Outcome → Seen → Call → Option ℕ
+tokens_at a t s c = option_map (tokens_counted a t s c) (run_of c s)
 
-abbrev pub tokens_at_end : Attempt → Told → Seen → Option ℕ
+abbrev pub tokens_at_end : Attempt → Outcome → Seen → Option ℕ
 tokens_at_end a t s = option_and_then (tokens_at a t s) (call_of a s)
 
 -- a random word is drawn where the end licenses a retry after a wait
-abbrev pub is_drawing : Attempt → Told → Seen → Call → Bool
+abbrev pub is_drawing : Attempt → Outcome → Seen → Call → Bool
 is_drawing a t s c =
     will_count a t s && is_none (commitment c s) && is_none (delay_of t.pushback)
     && is_licensed c a.row.number t.code t.pushback (tokens_at a t s c) s
 
 -- the whole end: what the wire or the client says, stamped with the entry, the moment, the bytes of its link that were read, tokens and random word
-abbrev pub end_of : Attempt → Told → Seen → RowEnd
+abbrev pub end_of : Attempt → Outcome → Seen → RowEnd
 end_of a t s = record {
   entry = entry s;
   moment = now s;
@@ -94,7 +94,7 @@ end_of a t s = record {
 -- the next end by the wire, by place
 abbrev pub wire_end : Seen → Attempt → Option Action
 wire_end s a =
-    if is_outstanding a && not (is_over a s) then option_map (λ t. action.AttemptEnds a.place (end_of a t s)) (told_of a s)
+    if is_outstanding a && not (is_over a s) then option_map (λ t. action.AttemptEnds a.place (end_of a t s)) (outcome_of a s)
     else None
 
 abbrev pub next_wire_end : Seen → Option Action

@@ -23,14 +23,14 @@ abbrev pub is_free_call : Seen → Call → Bool
 is_free_call s c = is_none c.end && is_none (commitment c s)
 
 -- a transparent retry takes over the commitment of the attempt that it follows
-abbrev pub is_handed_by : Attempt → Attempt → Bool
-is_handed_by a k = (k.row.number == a.row.number) && nat_lt k.place a.place
+abbrev pub is_inherited_by : Attempt → Attempt → Bool
+is_inherited_by a k = (k.row.number == a.row.number) && nat_lt k.place a.place
 
-abbrev pub is_handed_in : Attempt → Seen → Call → Bool
-is_handed_in a s c = is_none c.end && holds (is_handed_by a) (commitment c s)
+abbrev pub is_inherited_in : Attempt → Seen → Call → Bool
+is_inherited_in a s c = is_none c.end && holds (is_inherited_by a) (commitment c s)
 
-abbrev pub is_handed : Seen → Attempt → Bool
-is_handed s a = is_none a.row.committed && of_its_call (is_handed_in a s) a s
+abbrev pub is_inherited : Seen → Attempt → Bool
+is_inherited s a = is_none a.row.committed && of_its_call (is_inherited_in a s) a s
 
 -- an end that counts and is final commits its attempt
 abbrev pub is_final_in : Attempt → Seen → Call → Bool
@@ -62,8 +62,8 @@ is_headed s a = is_outstanding a && of_its_call (has_head_in a s) a s
 abbrev pub committing : CommitCause → Attempt → Action
 committing why a = action.CallCommitted a.place why
 
-abbrev pub next_handed : Seen → Option Action
-next_handed s = option_map (committing commit.Handed) (find (is_handed s) s.attempts)
+abbrev pub next_inherited : Seen → Option Action
+next_inherited s = option_map (committing commit.Inherited) (find (is_inherited s) s.attempts)
 
 abbrev pub next_final : Seen → Option Action
 next_final s = option_map (committing commit.Final) (find (is_final_end s) s.attempts)

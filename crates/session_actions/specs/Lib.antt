@@ -10,7 +10,9 @@ pub mod Deliveries
 pub mod DueAttempts
 pub mod Entries
 pub mod Events
+pub mod Laws
 pub mod Links
+pub mod Looks
 pub mod Making
 pub mod Policies
 pub mod Reading

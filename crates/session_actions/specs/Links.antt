@@ -50,8 +50,8 @@ abbrev pub settings_of : FrameSeen → List Setting
 settings_of f = if is_settings f then settings_in f.payload else []
 
 -- the server's connection preface came (section 3.4); it sent GOAWAY (section 6.8)
-abbrev pub is_greeted : Link → Bool
-is_greeted l = list_any (λ r. is_settings r.frame) (frames_read l)
+abbrev pub has_settings : Link → Bool
+has_settings l = list_any (λ r. is_settings r.frame) (frames_read l)
 
 abbrev pub is_retiring : Link → Bool
 is_retiring l = list_any (λ r. r.frame.kind == goaway_type) (frames_read l)

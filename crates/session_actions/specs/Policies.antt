@@ -134,8 +134,8 @@ abbrev pub is_queued_before : Attempt → Attempt → Bool
 is_queued_before a b = nat_lt a.row.call b.row.call || ((a.row.call == b.row.call) && nat_lt a.place b.place)
 
 -- after the last one of the pass that is going on
-abbrev pub is_behind : Turn → Attempt → Bool
-is_behind t a = nat_lt t.call a.row.call || ((t.call == a.row.call) && nat_lt t.row a.place)
+abbrev pub is_after : Turn → Attempt → Bool
+is_after t a = nat_lt t.call a.row.call || ((t.call == a.row.call) && nat_lt t.row a.place)
 
 abbrev pub asking : Seen → Attempt → Option Action
 asking s a = option_map (λ g. action.PickRequested a.place g.number (pick_of (policy_of g s))) (current_policy s)
@@ -146,7 +146,7 @@ next_asked test s = option_and_then (asking s) (foremost is_queued_before (filte
 
 -- a pass over the queue goes on, or a new one begins
 abbrev pub next_of_pass : OpenEntry → Seen → Option Action
-next_of_pass o s = option_and_then (λ t. next_asked (is_behind t) s) o.turn
+next_of_pass o s = option_and_then (λ t. next_asked (is_after t) s) o.turn
 
 abbrev pub next_of_queue : Seen → Option Action
 next_of_queue s = next_asked (λ a. true) s

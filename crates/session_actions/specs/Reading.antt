@@ -17,7 +17,7 @@ use Rattle.h2_hpack.specs.Tables.{new_table}
 use Rattle.h2_hpack.specs.declared.fault.HpackFault.{HpackFault}
 use Rattle.lb_policy.specs.Table.{is_one_of}
 use Rattle.session_actions.specs.Attempts.{is_outstanding}
-use Rattle.session_actions.specs.Links.{frames_read, frames_written, is_greeted, is_settings, read_bytes, settings_of}
+use Rattle.session_actions.specs.Links.{frames_read, frames_written, has_settings, is_settings, read_bytes, settings_of}
 use Rattle.session_actions.specs.Words.{find_last, holds}
 use Rattle.session_actions.specs.declared.attempt.Attempt.{Attempt}
 use Rattle.session_actions.specs.declared.link.Link.{Link}
@@ -99,8 +99,8 @@ blocks_from open_ (r ∷ rs) =
     let others = blocks_from (block_after open_ r.frame) rs in
     if is_of_block r.frame && is_last_of_block r.frame then (block_with open_ r.frame).bytes ∷ others else others
 
-abbrev pub fields_behind : Link → List ℕ → Result (List Field) HpackFault
-fields_behind l bytes = fields_in (decoded (state_after (Ok new_table) (blocks_from None (frames_read l))) bytes)
+abbrev pub next_fields : Link → List ℕ → Result (List Field) HpackFault
+next_fields l bytes = fields_in (decoded (state_after (Ok new_table) (blocks_from None (frames_read l))) bytes)
 
 -- SETTINGS_ENABLE_PUSH (2) other than 0, SETTINGS_MAX_FRAME_SIZE (5) outside 16,384 to 16,777,215 (section 6.5.2)
 abbrev pub is_bad_setting : Setting → Bool
@@ -146,7 +146,7 @@ is_wide_setting l s x =
 -- count as given back when a DATA frame is read, and a frame has at most 16,384 bytes
 abbrev pub link_error : Link → FrameSeen → Seen → Option ℕ
 link_error l f s =
-    if not (is_greeted l) && not (is_settings f) then Some protocol_error
+    if not (has_settings l) && not (is_settings f) then Some protocol_error
     else if f.kind == push_promise_type then Some protocol_error
     else if list_any is_bad_setting (settings_of f) then Some protocol_error
     else if is_misplaced (open_block l) f then Some protocol_error
@@ -174,7 +174,7 @@ block_read f end b (Ok fields) =
 
 abbrev pub part_read : Link → FrameSeen → ℕ → OpenBlock → NextRead
 part_read l f end b =
-    if is_last_of_block f then block_read f end b (fields_behind l b.bytes)
+    if is_last_of_block f then block_read f end b (next_fields l b.bytes)
     else if is_long_block b then nextread.Broken enhance_your_calm
     else plain_read f end
 

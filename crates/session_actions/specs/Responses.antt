@@ -32,7 +32,7 @@ use Rattle.session_actions.specs.declared.link.Link.{Link}
 use Rattle.session_actions.specs.declared.link.ReadFrame.{ReadFrame}
 use Rattle.session_actions.specs.declared.link.Traffic.{Traffic}
 use Rattle.session_actions.specs.declared.response.Response.{Response}
-use Rattle.session_actions.specs.declared.response.Told.{Told}
+use Rattle.session_actions.specs.declared.response.Outcome.{Outcome}
 use Rattle.session_actions.specs.declared.seen.Seen.{Seen}
 use Rattle.attempt_ledger.specs.declared.row.RowCause.TheVariants as cause
 use Rattle.grpc_base.specs.declared.code.Code.TheVariants as code
@@ -80,7 +80,7 @@ abbrev pub http_code : List Field → Code
 http_code fields = option_map_or (λ status. looked_up http_codes status) (http_status fields) code.Unknown
 
 -- an end that no header block makes
-abbrev pub plain_end : Code → RowCause → Bool → Option ℕ → Told
+abbrev pub plain_end : Code → RowCause → Bool → Option ℕ → Outcome
 plain_end c why unseen reset = record {
   code = c;
   text = [];
@@ -93,7 +93,7 @@ plain_end c why unseen reset = record {
 
 -- an end by a header block: with its first `grpc-message`, its metadata, and, where it ends the stream, what it asks of the next attempt. That is
 -- so also where the block breaks a rule, or is no gRPC response: the channel's own choice
-abbrev pub block_end : Code → RowCause → ℕ → Block → Told
+abbrev pub block_end : Code → RowCause → ℕ → Block → Outcome
 block_end c why reset b = record {
   code = c;
   text = option_map_or text_of_message (slice_get (values_of (codes "grpc-message") b.fields) 0) [];
@@ -104,8 +104,8 @@ block_end c why reset b = record {
   reset = Some reset;
 }
 
-abbrev pub ended : Told → Response → Response
-ended told p = record p { end = Some told }
+abbrev pub ended : Outcome → Response → Response
+ended outcome p = record p { end = Some outcome }
 
 -- a header block that breaks a rule of its stream
 abbrev pub ended_by_block : Block → Response → Response
@@ -113,14 +113,14 @@ ended_by_block b p = ended (block_end code.Internal cause.Framing protocol_error
 
 -- trailers, or a response of trailers alone: by the one `grpc-status`, and by the HTTP status where there is none. Several
 -- `grpc-status` are UNKNOWN. A message that OK cuts off breaks a rule
-abbrev pub status_end : List (List ℕ) → Block → Told
+abbrev pub status_end : List (List ℕ) → Block → Outcome
 status_end [] b = block_end (http_code b.fields) cause.Http cancel b
 status_end (value ∷ []) b = block_end (code_of_text value) cause.Status cancel b
 status_end (value ∷ other ∷ more) b = block_end code.Unknown cause.Status cancel b
 
-abbrev pub trailers_end : Response → Block → Told → Told
-trailers_end p b told =
-    if is_success told.code && nat_lt 0 (length p.rest) then block_end code.Internal cause.Framing cancel b else told
+abbrev pub trailers_end : Response → Block → Outcome → Outcome
+trailers_end p b outcome =
+    if is_success outcome.code && nat_lt 0 (length p.rest) then block_end code.Internal cause.Framing cancel b else outcome
 
 abbrev pub with_trailers : Response → Block → Response
 with_trailers p b =

@@ -1,21 +1,34 @@
 -- Sessions: a journal and a ledger are those of a list of actions, each of which is the next one. How a session is kept is the channel's own.
 -- Example: of one Tick on a new channel the actions are EntryOpens, EventAnswered, SettlingBegins, EntryCloses. The journal is one entry with reply
 -- Done and state IDLE; the ledger has no rows, calls, requests, generations or links, and its entry is 1.
-use Rattle.std.specs.Prelude.{List, None, Some, [], false, filter, length, map, true, ◌∷◌, ◌≡◌}
+use Rattle.std.specs.Prelude.{List, None, Some, [], false, filter, length, map, true, ℕ, ◌∷◌, ◌≡◌}
 use Rattle.attempt_ledger.specs.declared.ledger.CallSeen.{CallSeen}
 use Rattle.attempt_ledger.specs.declared.ledger.Ledger.{Ledger}
 use Rattle.attempt_ledger.specs.declared.ledger.LinkSeen.{LinkSeen}
+use Rattle.grpc_base.specs.Authorities.{IsAuthority}
 use Rattle.grpc_base.specs.declared.event.Entry.{Entry}
 use Rattle.session_actions.specs.Actions.{after, following}
 use Rattle.session_actions.specs.Attempts.{is_of}
 use Rattle.session_actions.specs.Entries.{may_open}
 use Rattle.session_actions.specs.Links.{read_bytes}
+use Rattle.session_actions.specs.Words.{numbered}
 use Rattle.session_actions.specs.declared.action.Action.{Action}
 use Rattle.session_actions.specs.declared.call.Call.{Call}
 use Rattle.session_actions.specs.declared.link.Link.{Link}
+use Rattle.session_actions.specs.declared.seen.PolicyKind.{PolicyKind}
 use Rattle.session_actions.specs.declared.seen.Seen.{Seen}
 use Rattle.session_actions.specs.declared.seen.Setup.{Setup}
 use Rattle.session_actions.specs.declared.action.Action.TheVariants as action
+use Rattle.grpc_base.specs.declared.kind.Kind.TheVariants as kind
+
+-- what a channel may be made with: an authority, and load balancing policies of which no two are of one kind and one is pick_first
+abbrev pub KindsDiffer : List PolicyKind → Type 0
+KindsDiffer kinds = (i j : ℕ) (p q : PolicyKind) → numbered kinds i ≡ Some p → numbered kinds j ≡ Some q → p.kind ≡ q.kind → i ≡ j
+
+pub record IsSetup (setup : Setup) : Type 0 where
+  pub authority : IsAuthority setup.authority
+  pub kinds_differ : KindsDiffer setup.policies
+  pub has_pick_first : (i : ℕ) × (p : PolicyKind) × (numbered setup.policies i ≡ Some p) × (p.kind ≡ kind.PickFirst)
 
 -- nothing has happened yet
 abbrev pub new_session : Setup → Seen
@@ -64,11 +77,11 @@ Does [] s t = t ≡ s
 Does (a ∷ actions) s t = IsNext a s × Does actions (after a s) t
 
 -- a journal and a ledger are those of a session. A step that finds the journal full, or no memory, makes no entry: it is no action, and the list is
--- that of the steps before it
+-- that of the steps before it. It is asked of a setup that may be (`IsSetup`); a premise of the theorem, not a part of it
 pub record IsConsistent (setup : Setup) (entries : List Entry) (ledger : Ledger) : Type 0 where
   pub actions : List Action
   pub end : Seen
   pub does : Does actions (new_session setup) end
   pub between : end.current ≡ None
   pub journal : end.entries ≡ entries
-  pub told : ledger_of end ≡ ledger
+  pub recorded : ledger_of end ≡ ledger

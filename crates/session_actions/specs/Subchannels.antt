@@ -11,7 +11,7 @@ use Rattle.grpc_base.specs.declared.event.Conn.{Conn}
 use Rattle.lb_policy.specs.Steps.{failed_after}
 use Rattle.lb_policy.specs.Table.{is_one_of, is_ready, wish_of}
 use Rattle.session_actions.specs.Entries.{drawn_if, entry, next_word, now, replied}
-use Rattle.session_actions.specs.Links.{is_greeted, is_retiring, link_over, wants_resolution}
+use Rattle.session_actions.specs.Links.{has_settings, is_retiring, link_over, wants_resolution}
 use Rattle.session_actions.specs.Policies.{is_failure, is_live_policy, is_same_address, is_shutdown, listed, live_policies, live_sub, policy_of, view_of}
 use Rattle.session_actions.specs.Words.{changed, first_of, holds, numbered}
 use Rattle.session_actions.specs.declared.action.Action.{Action}
@@ -63,7 +63,7 @@ abbrev pub link_of_sub : Subchannel → Seen → Option Link
 link_of_sub b s = option_and_then (numbered s.links) b.link
 
 abbrev pub is_to_be_ready : Seen → Subchannel → Bool
-is_to_be_ready s b = is_connecting b.state && holds is_greeted (link_of_sub b s)
+is_to_be_ready s b = is_connecting b.state && holds has_settings (link_of_sub b s)
 
 abbrev pub is_going_down : Link → Bool
 is_going_down l = is_some l.over || is_retiring l

@@ -14,7 +14,7 @@ pub enum CommitCause {
     /// It ended, and no further attempt follows.
     Final,
     /// It follows, transparently, the attempt to which the call was committed.
-    Handed,
+    Inherited,
 }
 
 /// An action. Rows are named by their places, and all else by its number.

@@ -4,7 +4,7 @@ use grpc_base::{Code, Items, Metadata, Octets, Pushback, Text};
 
 /// What the end of an attempt says.
 #[derive(Debug, Drop)]
-pub struct Told {
+pub struct Outcome {
     pub code: Code,
     pub text: Text,
     pub meta: Metadata,
@@ -26,7 +26,7 @@ pub struct Response {
     pub rest: Text,
     /// Whether the next message is longer than the limit of its call.
     pub large: bool,
-    pub end: Option<Told>,
+    pub end: Option<Outcome>,
     /// Whether the peer's END_STREAM was taken.
     pub closes: bool,
     /// The initial size of the stream's send window, what WINDOW_UPDATE added to it, and what DATA used of it.
