@@ -1,0 +1,110 @@
+-- What is done to a call is an action of the session, and leaves the call as what the session then is: until it has its configuration, and of any call
+-- that its request is finished, when its next attempt is due, and that a hedge is withheld. Each is stated of a session and a call that agree (`Sees`),
+-- apart from all other calls and from the rest of the entry.
+-- Example: a call begins; its application finishes its request; then the config comes. In the session CallBegins, RequestFinished and CallConfigured; in
+-- the channel a new call, `finished` and `configured`; and the two agree after each.
+use Rattle.std.specs.List.{list_any}
+use Rattle.std.specs.Option.{option_and_then, option_map}
+use Rattle.std.specs.Prelude.{Bool, List, None, Option, Some, [], false, length, map, not, true, ℕ, ◌&&◌, ◌++◌, ◌+◌, ◌≡◌, ◌∷◌}
+use Rattle.a6_numbers.specs.Throttling.{Bucket}
+use Rattle.attempt_ledger.specs.Hedging.{is_hedge}
+use Rattle.attempt_ledger.specs.declared.ledger.Ledger.{Ledger}
+use Rattle.call_core.specs.Parts.{has_none, is_above, is_tested, is_too_long}
+use Rattle.call_core.specs.Steps as steps
+use Rattle.call_core.specs.Steps.{Stepped, lent, new_call}
+use Rattle.call_core.specs.declared.act.CallAct.{CallAct}
+use Rattle.grpc_base.specs.Requests.{RequestSeen}
+use Rattle.grpc_base.specs.declared.event.EndCause.{EndCause}
+use Rattle.grpc_base.specs.declared.event.EndCause.TheVariants as ending
+use Rattle.grpc_base.specs.declared.event.Event.TheVariants as event
+use Rattle.ledger_stamps.specs.Steps as stamps
+use Rattle.service_config.specs.Choice.{chosen_for}
+use Rattle.call_actions.specs.Sees.{Sees, bucket_of}
+use Rattle.session_actions.specs.Attempts.{is_of}
+use Rattle.session_actions.specs.CallEnds.{call_ended}
+use Rattle.session_actions.specs.Configs.{call_configured, held_config}
+use Rattle.session_actions.specs.Deliveries.{begun_call, call_begun_by, request_finished}
+use Rattle.session_actions.specs.DueAttempts.{kind_of_next, next_due}
+use Rattle.session_actions.specs.Entries.{entry, now}
+use Rattle.session_actions.specs.Making.{hedge_withheld}
+use Rattle.session_actions.specs.Tokens.{has_tokens}
+use Rattle.session_actions.specs.Words.{numbered}
+use Rattle.session_actions.specs.declared.call.Call.{Call}
+use Rattle.session_actions.specs.declared.config.HeldConfig.{HeldConfig}
+use Rattle.session_actions.specs.declared.seen.Seen.{Seen}
+
+-- an open call without a configuration: nothing happened to it, and it has no attempt
+pub record IsBare (s : Seen) (c : Call) : Type 0 where
+  pub config : c.config ≡ None
+  pub configured : c.configured ≡ None
+  pub end : c.end ≡ None
+  pub marks : c.marks ≡ []
+  pub none : list_any (is_of c) s.attempts ≡ false
+
+-- it begins, as the next call of session and ledger
+abbrev pub begun_ledger : Ledger → Ledger
+begun_ledger ledger = record ledger { calls = ledger.calls ++ stamps.begun_call ledger.entry ∷ [] }
+
+pub record Begins (s : Seen) (request : RequestSeen) (ledger : Ledger) (acts : List CallAct) : Type 0 where
+  pub call : Call
+  pub sees : Sees (call_begun_by (event.Begin request) s) call (lent (new_call (length s.calls + 1) request (now s)) (begun_ledger ledger) None acts)
+  pub bare : IsBare (call_begun_by (event.Begin request) s) call
+
+abbrev pub CallsBegin : Type 0
+CallsBegin =
+    (s : Seen) (request : RequestSeen) (ledger : Ledger) (acts : List CallAct) → entry s ≡ ledger.entry → map (λ a. a.row) s.attempts ≡ ledger.rows
+    → length s.calls ≡ length ledger.calls → list_any (λ a. is_of (begun_call (length s.calls + 1) (entry s) (now s) request) a) s.attempts ≡ false
+    → Begins s request ledger acts
+
+-- after an action of a session the call of a number agrees with a call of the channel
+pub record Agrees (s : Seen) (number : ℕ) (x : Stepped) : Type 0 where
+  pub call : Call
+  pub number_is : call.number ≡ number
+  pub sees : Sees s call x
+
+-- the channel ends it
+abbrev pub CallsEnd : Type 0
+CallsEnd =
+    (s : Seen) (c : Call) (x : Stepped) (why : EndCause) → Sees s c x → IsBare s c
+    → Agrees (call_ended c.number why s) c.number (steps.closed_by why (now s) x)
+
+-- it gets the config that is held, with the tokens of its run; where it was sent a message that this config does not allow, it ends at once
+abbrev pub tokens_of_config : Seen → HeldConfig → Option Bucket
+tokens_of_config s h = option_map (bucket_of s) (option_and_then (numbered s.runs) h.run)
+
+abbrev pub configured_by : HeldConfig → Call → Seen → Stepped → Stepped
+configured_by h c s x = steps.configured (chosen_for h.config c.request.path) (now s) (record x { tokens = tokens_of_config s h })
+
+abbrev pub allows : HeldConfig → Call → Stepped → Bool
+allows h c x = not (is_too_long (Some (chosen_for h.config c.request.path)) x.call.longest)
+
+abbrev pub ConfigsCome : Type 0
+ConfigsCome =
+    (s : Seen) (c : Call) (x : Stepped) (h : HeldConfig) → Sees s c x → IsBare s c → held_config s ≡ Some h → allows h c x ≡ true
+    → Agrees (call_configured c.number (length s.configs) s) c.number (configured_by h c s x)
+
+abbrev pub LongMessagesEnd : Type 0
+LongMessagesEnd =
+    (s : Seen) (c : Call) (x : Stepped) (h : HeldConfig) → Sees s c x → IsBare s c → held_config s ≡ Some h → allows h c x ≡ false
+    → Agrees (call_ended c.number ending.Request (call_configured c.number (length s.configs) s)) c.number (configured_by h c s x)
+
+-- of any call that has not ended: its application finishes its request
+abbrev pub RequestsFinish : Type 0
+RequestsFinish =
+    (s : Seen) (c : Call) (x : Stepped) → Sees s c x → c.end ≡ None → c.finished ≡ false
+    → Agrees (request_finished c.number s) c.number (record x { call = steps.finished x.call })
+
+-- its next attempt is due in both at one moment, or in none; and the tokens forbid it in both or in none
+abbrev pub AttemptsAreDue : Type 0
+AttemptsAreDue = (s : Seen) (c : Call) (x : Stepped) → Sees s c x → next_due c s ≡ steps.next_due x.call
+
+abbrev pub HedgesAreTested : Type 0
+HedgesAreTested =
+    (s : Seen) (c : Call) (x : Stepped) → Sees s c x
+    → (is_hedge (kind_of_next c s) && not (has_tokens c s)) ≡ (is_tested (steps.call_plan x.call) x.call.attempts && not (is_above x.tokens))
+
+-- a hedge is withheld, while other attempts go on
+abbrev pub HedgesAreWithheld : Type 0
+HedgesAreWithheld =
+    (s : Seen) (c : Call) (x : Stepped) → Sees s c x → has_none x.call.live ≡ false
+    → Agrees (hedge_withheld c.number s) c.number (steps.refused_due (now s) x)

@@ -1,0 +1,20 @@
+// What is done to a call, as actions of a session; nothing runs.
+ghost use Rattle.call_actions.specs.Laws.{AttemptsAreDue, CallsBegin, CallsEnd, ConfigsCome, HedgesAreTested, HedgesAreWithheld, LongMessagesEnd, RequestsFinish};
+
+/// A call until it has its configuration (gRPC, "Core concepts"; "Service Config in gRPC"): it begins, the channel ends it, or the configuration comes;
+/// and a message that was too long for it ends it at once. Session and channel make the same of it.
+pub fn calls_before_configuration()
+    ensures begun { CallsBegin }
+    ensures ended { CallsEnd }
+    ensures config { ConfigsCome }
+    ensures long { LongMessagesEnd }
+{}
+
+/// Of any call (gRFC A6, "Retry Policy", "Hedging Policy" and "Throttling Retry Attempts and Hedged RPCs"): its request is finished; its next attempt is due in
+/// session and channel at one moment, or in none; the tokens forbid it in both or in none; and a hedge is withheld.
+pub fn calls_go_on_alike()
+    ensures finished { RequestsFinish }
+    ensures due { AttemptsAreDue }
+    ensures tested { HedgesAreTested }
+    ensures withheld { HedgesAreWithheld }
+{}

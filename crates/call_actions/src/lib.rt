@@ -1,0 +1,6 @@
+// What is done to a call is done by actions of a session.
+#![tactic(auto)]
+
+mod laws;
+
+pub use laws::{calls_before_configuration, calls_go_on_alike};

@@ -1,0 +1,33 @@
+// What a link reads and writes, as actions of a session; nothing runs.
+ghost use Rattle.link_actions.specs.Laws.{ControlsAreSame, DrainsAreWritten, FramesAreJudged, NewOnesAgree, NoneIsOwed, QuietFramesKeep, ReadsAreSame, WritesAreSame, WritesKeep};
+
+/// A new link is what a new link of a session is; a whole frame breaks the link by the same rule, with the same code (RFC 9113, section 5.4.1); and
+/// what the bytes show next is the same: nothing yet, a frame that both have read, or a link that is broken. A frame of no attempt's stream makes the same
+/// control frames owed, and both agree after it.
+pub fn reading_is_actions()
+    ensures new { NewOnesAgree }
+    ensures judged { FramesAreJudged }
+    ensures read { ReadsAreSame }
+    ensures quiet { QuietFramesKeep }
+{}
+
+/// What is written whatever the windows is the same, in the same order: the preface, then the control frames that are owed (RFC 9113, sections 3.4, 6.4,
+/// 6.5.3, 6.7 and 6.9).
+pub fn control_frames_are_actions()
+    ensures next { ControlsAreSame }
+    ensures none { NoneIsOwed }
+{}
+
+/// What a link writes next is what the session does, the same bytes, or nothing in both: control frames, then HEADERS of the first attempt that waits,
+/// while SETTINGS_MAX_CONCURRENT_STREAMS and GOAWAY allow it, then DATA of the lowest stream that may send (RFC 9113, sections 5.1.2 and 6.9). After it
+/// the link is what the session then is, so this goes on for as long as frames are written.
+pub fn writing_is_actions()
+    ensures same { WritesAreSame }
+    ensures after { WritesKeep }
+{}
+
+/// A drain is a list of frames that are written, each of which is what the session writes next, and no other; it ends where nothing is left to write, or
+/// where the next does not fit into the room.
+pub fn drains_are_actions()
+    ensures { DrainsAreWritten }
+{}

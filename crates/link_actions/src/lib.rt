@@ -1,0 +1,8 @@
+// What is read and written on a link of the channel is what actions of a session read and write.
+#![tactic(auto)]
+
+mod laws;
+
+pub use laws::{
+    control_frames_are_actions, drains_are_actions, reading_is_actions, writing_is_actions,
+};
