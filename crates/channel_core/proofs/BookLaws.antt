@@ -1,11 +1,12 @@
 -- What the book lends links: both sizes of a header list, and the lines behind the bytes that a link takes.
-use Rattle.std.proofs.Common.{◌≡◌, ◌∙◌, ◌≤◌, ℕ, zero, suc, ◌+◌, ◌==◌, Bool, true, false, nat_lt, if◌then◌else◌, List, [], ◌∷◌, length, drop, refl, sym, ap, inl, inr, subst, slice_get, Option, Some, None, Result, Ok, Err, IfOk, OnOk, OnErr}
+use Rattle.std.proofs.Common.{◌≡◌, ◌∙◌, ◌≤◌, ℕ, zero, suc, ◌+◌, ◌==◌, Bool, true, false, nat_lt, if◌then◌else◌, List, [], ◌∷◌, length, drop, refl, sym, ap, inl, inr, subst, slice_get, slice_set, Option, Some, None, Result, Ok, Err, IfOk, OnOk, OnErr}
 use Rattle.std.specs.Option.{option_map, option_map_or}
 use Rattle.std.proofs.Math.Path.{fun_ext}
 use Rattle.std.proofs.lemmas.Bool.{cases_Bool, cases_eq, eq-eqb, ltb-false, ne_eqb}
 use Rattle.std.proofs.lemmas.List.Sums.{sum_by-cons}
 use Rattle.std.proofs.lemmas.Option.{slice_get_past}
 use Rattle.grpc_base.specs.declared.fields.Field.{Field}
+use Rattle.a6_numbers.specs.Throttling.{Bucket}
 use Rattle.attempt_ledger.specs.declared.row.Row.{Row}
 use Rattle.call_core.specs.declared.state.CallState.{CallState}
 use Rattle.grpc_meta.specs.RequestFields as request
@@ -14,7 +15,7 @@ use Rattle.h2_link.specs.Feeds.{Line, fed}
 use Rattle.channel_core.specs.Feeding.{IsFed}
 use Rattle.ledger_stamps.specs.Steps.{changed, changed_at, index_at}
 use Rattle.channel_core.specs.Books.{call_of, finished_at, head_for, head_of, lines_of, row_at, slot_at, slot_of_tag}
-use Rattle.channel_core.specs.Tables.{changed_call, changed_call_at, changed_call_on, fed_call, left_at, numbered, with_call}
+use Rattle.channel_core.specs.Tables.{BucketsSeen, changed_call, changed_call_at, changed_call_on, fed_call, left_at, numbered, tokens_in, with_call, with_tokens}
 use Rattle.channel_core.specs.declared.state.book.Book.{Book}
 use Rattle.channel_core.specs.declared.state.slots.CallSlot.{CallSlot}
 
@@ -177,3 +178,12 @@ lines_fed tag len call b calls (Ok u) is there new left =
     let Q : List CallSlot → Type 0 = λ l. LeftAfter tag len (slot_at b call) (numbered l call) in
     ap (λ c. lines_of (record b { calls = c })) at ∙ fun_ext (λ t. line_fed tag len call b t is (subst Q at (left (subst P (sym is) there))))
 lines_fed tag len call b calls (Err e) is there new left = new
+
+-- tokens are put back as they were taken
+laid : (runs : List (Option Bucket)) (bucket : ℕ) → slice_set (slice_set runs bucket None) bucket (option_map_or (λ tokens. tokens) (slice_get runs bucket) None) ≡ runs
+laid [] bucket = refl
+laid (x ∷ runs) zero = refl
+laid (x ∷ runs) (suc bucket) = ap (λ l. x ∷ l) (laid runs bucket)
+
+pub put_back : (bucket : ℕ) (b : BucketsSeen) → with_tokens bucket (tokens_in b bucket) (with_tokens bucket None b) ≡ b
+put_back bucket b = ap (λ (runs : List (Option Bucket)). record b { runs = runs }) (laid b.runs bucket)

@@ -10,6 +10,7 @@ pub mod Going
 pub mod GoingSteps
 pub mod Hearing
 pub mod Idling
+pub mod Lending
 pub mod LookLaws
 pub mod OwnRows
 pub mod Places

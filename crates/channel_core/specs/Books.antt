@@ -17,7 +17,7 @@ use Rattle.attempt_ledger.specs.declared.row.RowEnd.{RowEnd}
 use Rattle.a6_numbers.specs.Throttling.{Bucket}
 use Rattle.call_core.specs.declared.act.CallAct.{CallAct}
 use Rattle.call_core.specs.Steps as step
-use Rattle.call_core.specs.Steps.{Stepped, configured, deadline_at, lent, new_call, next_due, waits}
+use Rattle.call_core.specs.Steps.{Stepped, configured, deadline_at, new_call, next_due, waits}
 use Rattle.ledger_stamps.specs.Steps.{begun_call}
 use Rattle.h2_link.specs.Feeds.{Line}
 use Rattle.channel_core.specs.declared.state.book.Book.{Book}
@@ -86,10 +86,6 @@ abbrev pub limit_at : Option CallSlot → ℕ
 limit_at None = 0
 limit_at (Some slot) = limit_in slot.call.chosen
 
-abbrev pub is_live_at : Option CallSlot → Bool
-is_live_at None = false
-is_live_at (Some slot) = is_none slot.call.ended
-
 abbrev pub bucket_at : Option CallSlot → ℕ
 bucket_at None = 0
 bucket_at (Some slot) = slot.bucket
@@ -125,17 +121,12 @@ acted_in f call bucket b =
 abbrev pub book_acted : (Stepped → Stepped) → ℕ → Book → BookActs
 book_acted f call b = acted_in f call (bucket_at (slot_at b call)) b
 
--- the same, where the tokens are only looked at
-abbrev pub asked_in : (Stepped → Stepped) → ℕ → ℕ → Book → BookActs
-asked_in f call bucket b =
-    let a = acted f b.calls call b.ledger (tokens_in b.buckets bucket) in record { book = book_after bucket (tokens_in b.buckets bucket) a b; acts = a.acts }
-
-abbrev pub book_asked : (Stepped → Stepped) → ℕ → Book → BookActs
-book_asked f call b = asked_in f call (bucket_at (slot_at b call)) b
-
--- the same, where there are no tokens to look at
+-- the same, where the tokens are only looked at, or there are none
 abbrev pub placed_in_book : Acted → Book → BookActs
 placed_in_book a b = record { book = record b { calls = a.calls; ledger = a.ledger }; acts = a.acts }
+
+abbrev pub book_asked : (Stepped → Stepped) → ℕ → Book → BookActs
+book_asked f call b = placed_in_book (acted f b.calls call b.ledger (tokens_in b.buckets (bucket_at (slot_at b call)))) b
 
 -- the configuration: the bucket of a call that has none yet is that of the config that is held
 abbrev pub bucket_set : ℕ → Book → List CallSlot

@@ -5,6 +5,7 @@ pub mod Core
 pub mod Draining
 pub mod EndShapes
 pub mod Feeding
+pub mod Lending
 pub mod Settling
 pub mod Sizes
 pub mod States

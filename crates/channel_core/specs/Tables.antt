@@ -13,7 +13,7 @@ use Rattle.call_core.specs.declared.act.CallAct.{CallAct}
 use Rattle.call_core.specs.declared.state.CallState.{CallState}
 use Rattle.call_core.specs.Parts.{fed_buffer, fed_out}
 use Rattle.call_core.specs.Steps.{Stepped, cancel_reply, finish_reply, lent, send_reply, take_reply}
-use Rattle.ledger_stamps.specs.Steps.{changed, changed_at, index_at}
+use Rattle.ledger_stamps.specs.Steps.{changed_at, index_at}
 use Rattle.h2_link.specs.Drains.{Drains, next, opened_between}
 use Rattle.h2_link.specs.Feeds.{Line}
 use Rattle.h2_link.specs.Heard.{heard}
@@ -290,14 +290,7 @@ abbrev pub SlotGives : ℕ → LinkSlot → (ℕ → Line) → Option Drained �
 SlotGives room slot lines None after lines_after = (drains_at room (Some slot) ≡ false) × (after ≡ slot) × (lines_after ≡ lines)
 SlotGives room slot lines (Some drained) after lines_after = DrainsOn room slot lines drained after lines_after
 
--- the same of the link at an index, and of the link of a number
-pub record SlotDrains (room : ℕ) (links : List LinkSlot) (index : ℕ) (lines : ℕ → Line) (given : Option Drained) (links_after : List LinkSlot) (lines_after : ℕ → Line) : Type 0 where
-  pub before : LinkSlot
-  pub after : LinkSlot
-  pub was : slice_get links index ≡ Some before
-  pub gives : SlotGives room before lines given after lines_after
-  pub is : links_after ≡ changed (λ slot. after) links index
-
+-- the same of the link of a number
 pub record LinkDrains (room : ℕ) (links : List LinkSlot) (link : ℕ) (lines : ℕ → Line) (drained : Drained) (links_after : List LinkSlot) (lines_after : ℕ → Line) : Type 0 where
   pub before : LinkSlot
   pub after : LinkSlot

@@ -3,7 +3,7 @@ use Rattle.std.proofs.Common.{Bool, List, None, Option, Some, [], ap, append-nil
 use Rattle.std.specs.Prelude.{flat_map, min}
 use Rattle.std.specs.List.{AllByRecursion}
 use Rattle.std.specs.Option.{option_map}
-use Rattle.std.proofs.lemmas.Bool.{eq-eqb}
+use Rattle.std.proofs.lemmas.Bool.{eq-eqb, or_parts}
 use Rattle.grpc_base.specs.declared.fields.Field.{Field}
 use Rattle.grpc_base.specs.declared.event.Reply.{Reply}
 use Rattle.grpc_base.specs.declared.event.Reply.TheVariants as reply
@@ -30,7 +30,6 @@ use Rattle.channel_laws.proofs.FrameReplies.{GrewTo}
 use Rattle.link_laws.proofs.LinkTags.{all_append}
 use Rattle.link_laws.proofs.LinkTexts.{most}
 use Rattle.channel_laws.proofs.ResponseWords.{Grows, Heads, capped, data_capped, headers_are, headers_capped, list_end}
-use Rattle.link_laws.proofs.Streams.{parted}
 
 -- the parts of a response that news tell of a tag
 abbrev pub parts_in : ℕ → News → List Reply
@@ -339,7 +338,7 @@ module _ (parts : List Reply) (limit : ℕ) (r s : Response) (content : List ℕ
 
   goes_on : done.reader.over ≡ false → OfReader (parts ++ parts_of tag done.news) limit s head done.reader
   goes_on over =
-      let none = parted (is_some (data_end g.fault ends count)) (is_some (data_large g.fault count)) over in
+      let none = or_parts (is_some (data_end g.fault ends count)) (is_some (data_large g.fault count)) over in
       let fine : g.fault ≡ None = fault_none g.fault ends count none.0 none.1 in
       let sound : f ≡ None = sym fault_is ∙ fine in
       let small : data_large f at ≡ None = ap (λ (w : Option MessageFault). data_large w at) sound in

@@ -6,6 +6,7 @@ use Rattle.std.specs.BTreeMap.{insert_entry}
 use Rattle.std.specs.Ordering.{match_ordering, nat_cmp}
 use Rattle.std.specs.declared.cmp.Ordering.{Ordering}
 use Rattle.std.specs.declared.cmp.Ordering.TheVariants as ordering
+use Rattle.std.proofs.lemmas.Option.{none-some}
 use Rattle.attempt_ledger.specs.declared.ledger.Ledger.{Ledger}
 use Rattle.attempt_ledger.specs.declared.news.EndNews.{EndNews}
 use Rattle.attempt_ledger.specs.declared.news.News.{News}
@@ -30,7 +31,7 @@ use Rattle.channel_core.specs.Steps as step
 use Rattle.channel_core.specs.Steps.{end_kept, ends_kept, is_gone, next_word, with_ledger_links}
 use Rattle.channel_core.specs.Tables.{heard_by, heard_link, hears_at, numbered, with_link}
 use Rattle.link_laws.proofs.CutRows.{running_at, running_of, told_over}
-use Rattle.channel_laws.proofs.HeldRows.{Held, HeldIn, Keeps, Was, held, held_less, none_some, one_slot, still_up, was_at}
+use Rattle.channel_laws.proofs.HeldRows.{Held, HeldIn, Keeps, Was, held, held_less, one_slot, still_up, was_at}
 use Rattle.channel_laws.proofs.HeldTags.{AreOpen, EndsTag, IsHeld, held_heard, open_heard}
 use Rattle.link_laws.proofs.LateNews.{equal_is}
 use Rattle.link_laws.proofs.Served.{IsPlacedOn, Served, acted_is, desk_of}
@@ -165,7 +166,7 @@ over_by : (r : Row) (at : Placed) → r.placed ≡ Some at → running_of (Some 
 over_by r at placed none = by r.ended refl
   where
     by : (o : Option RowEnd) → r.ended ≡ o → (e : RowEnd) × (r.ended ≡ Some e)
-    by None e = absurd (none_some at (sym none ∙ ap (λ (o : Option RowEnd). if is_some o then None else r.placed) e ∙ placed))
+    by None e = absurd (none-some at (sym none ∙ ap (λ (o : Option RowEnd). if is_some o then None else r.placed) e ∙ placed))
     by (Some x) e = (x, e)
 
 pub placed_stays : (n : ℕ) (a b : Ledger) (link p : ℕ) → Later n a b → IsPlacedOn a.rows link p → IsPlacedOn b.rows link p
@@ -373,9 +374,9 @@ module _ (laws : MoreLaws) (timed : TimedLaws) (N : ℕ) where
     gone : (place : ℕ) (p : Placed) (slot : LinkSlot) → running_at x.book.ledger.rows place ≡ Some p → numbered x.links p.link ≡ Some slot → slot.dead ≡ false → OffBy off k ns p.link place → IsHeld place slot.link ⊎ off p.link place
     gone place p slot runs is alive (inl o) = inr o
     gone place p slot runs is alive (inr told) = elim (some_of place ns told.1) [
-      | inl ended ↦ absurd (none_some p (sym (over_x place ended) ∙ runs))
+      | inl ended ↦ absurd (none-some p (sym (over_x place ended) ∙ runs))
       | inr other ↦ elim other [
-        | inl big ↦ absurd (none_some p (sym (large_x place big) ∙ runs))
+        | inl big ↦ absurd (none-some p (sym (large_x place big) ∙ runs))
         | inr broken ↦
             let dead : slot.dead ≡ true = sym (ap is_dead_slot (ap (λ (l : ℕ). numbered x.links l) (sym told.0) ∙ is)) ∙ dead_x broken in
             absurd (let bad : false ≡ true = sym alive ∙ dead in (let no : ⊥ = (cc) in no))

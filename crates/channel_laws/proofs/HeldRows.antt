@@ -4,6 +4,7 @@ use Rattle.std.proofs.Common.{◌≡◌, ◌∙◌, ◌⊎◌, ℕ, Bool, true, 
 use Rattle.std.specs.List.{remove}
 use Rattle.std.specs.Option.{option_map}
 use Rattle.std.proofs.lemmas.Bool.{cases_eq}
+use Rattle.std.proofs.lemmas.Option.{none-some}
 use Rattle.grpc_base.specs.declared.event.Event.{Event}
 use Rattle.grpc_base.specs.declared.event.Event.TheVariants as event
 use Rattle.attempt_ledger.specs.declared.row.Placed.{Placed}
@@ -58,11 +59,8 @@ HeldIn off s = Held off s.book.ledger.rows s.links
 abbrev pub Keeps : (ℕ → ℕ → Type 0) → StateSeen → StateSeen → Type 0
 Keeps off s t = HeldIn off s → HeldIn off t
 
-pub none_some : {X : Type 0} (x : X) → None ≡ Some x → ⊥
-none_some x e = (cc)
-
 pub one_slot : (o : Option LinkSlot) (x y : LinkSlot) → o ≡ Some x → o ≡ Some y → x ≡ y
-one_slot None x y e f = absurd (none_some x e)
+one_slot None x y e f = absurd (none-some x e)
 one_slot (Some z) x y e f = (cc)
 
 -- rows that ran before
@@ -304,7 +302,7 @@ held off = record {
   joined = λ s t u first second h. second (first h);
   beside = λ s t book held links h. subst (λ (b : Book). Held off b.ledger.rows t.links) (sym book) (subst (λ (l : List LinkSlot). Held off s.book.ledger.rows l) (sym links) h);
   reset = λ link row s over h. by_link (with_link (reset_link row)) off s.book.ledger.rows s.links link (record {
-    holds = λ slot is place at e held. held_reset place row slot.link (λ same. none_some at (sym over ∙ ap (λ (k : ℕ). running_at s.book.ledger.rows k) same ∙ e)) held;
+    holds = λ slot is place at e held. held_reset place row slot.link (λ same. none-some at (sym over ∙ ap (λ (k : ℕ). running_at s.book.ledger.rows k) same ∙ e)) held;
     alive = λ slot is dead. dead;
     opens = λ slot is o. open_reset row slot.link o;
   }) h;

@@ -11,6 +11,7 @@ use Rattle.std.specs.declared.cmp.Ordering.{Ordering}
 use Rattle.std.specs.declared.cmp.Ordering.TheVariants as ordering
 use Rattle.std.proofs.lemmas.Bool.{cases_eq, eqb-true}
 use Rattle.std.proofs.lemmas.Bool.Decides.{nat_tests}
+use Rattle.std.proofs.lemmas.Option.{none-some}
 use Rattle.grpc_base.specs.ErrorCodes.{cancel}
 use Rattle.grpc_base.specs.declared.fields.Field.{Field}
 use Rattle.attempt_ledger.specs.declared.news.EndNews.{EndNews}
@@ -65,9 +66,6 @@ EndsTag tag news.Retiring = ⊥
 never : false ≡ true → ⊥
 never e = (cc)
 
-none_some : {X : Type 0} (x : X) → None ≡ Some x → ⊥
-none_some x e = (cc)
-
 -- the reader that is found
 record Finds (tag from : ℕ) (readers : List TagReader) (x : ℕ × ReaderSeen) : Type 0 where
   place : ℕ
@@ -86,7 +84,7 @@ finds_by tag from t readers x false is e further =
     record { place = suc f.place; place_is = (let at = f.place_is in omega (arith, at)); entry = f.entry; there = f.there; tag_is = f.tag_is; reader_is = f.reader_is }
 
 finds : (tag from : ℕ) (readers : List TagReader) (x : ℕ × ReaderSeen) → links.found_from tag from readers ≡ Some x → Finds tag from readers x
-finds tag from [] x e = absurd (none_some x e)
+finds tag from [] x e = absurd (none-some x e)
 finds tag from (t ∷ readers) x e = finds_by tag from t readers x (t.tag == tag) refl e (λ f. finds tag (from + 1) readers x f)
 
 pub record At (tag : ℕ) (readers : List TagReader) (x : ℕ × ReaderSeen) : Type 0 where
@@ -102,7 +100,7 @@ found_at tag readers x e =
     record { entry = f.entry; there = subst (λ (i : ℕ). slice_get readers i ≡ Some f.entry) at f.there; tag_is = f.tag_is; reader_is = f.reader_is }
 
 absent_by : (tag from : ℕ) (t : TagReader) (readers : List TagReader) (b : Bool) → (t.tag == tag) ≡ b → (if b then Some (from, t.reader) else links.found_from tag (from + 1) readers) ≡ None → IsRead tag (t ∷ readers) → (links.found_from tag (from + 1) readers ≡ None → IsRead tag readers → ⊥) → ⊥
-absent_by tag from t readers true is e h further = (let bad : None ≡ Some (from, t.reader) = sym e in none_some (from, t.reader) bad)
+absent_by tag from t readers true is e h further = (let bad : None ≡ Some (from, t.reader) = sym e in none-some (from, t.reader) bad)
 absent_by tag from t readers false is e (inl mine) further = never (sym is ∙ same_test t.tag tag mine)
   where
     same_test : (a b : ℕ) → a ≡ b → (a == b) ≡ true

@@ -1,6 +1,7 @@
 -- A law of each call: an end after which a hedge would follow at once, and too few tokens are left, stops hedging.
 use Rattle.std.proofs.Common.{◌≡◌, ◌∙◌, ℕ, ◌+◌, Bool, true, false, not, ◌&&◌, ◌||◌, ◌*◌, nat_lt, length, if◌then◌else◌, ◌⊎◌, inl, inr, Option, Some, None, is_some, List, [], ◌++◌, ◌∷◌, refl, sym, ap, subst}
 use Rattle.std.specs.Option.{is_none}
+use Rattle.std.proofs.lemmas.Bool.{or_right, or_left}
 use Rattle.grpc_base.specs.Codes.{has_code}
 use Rattle.grpc_base.specs.declared.code.Code.{Code}
 use Rattle.grpc_base.specs.declared.plan.Pushback.{Pushback}
@@ -79,15 +80,11 @@ both_true (Some x) above e few = absurd (let no : ⊥ = (cc) in no)
 stops_low : (policy : HedgePolicy) (end : RowEnd) (above : Bool) → delay_of end.pushback ≡ None → above ≡ false → stops policy end above ≡ true
 stops_low policy end above none few = third_of_three (not (has_code policy.codes end.code)) (is_stop end.pushback) _ (both_true (delay_of end.pushback) above none few)
 
-or_second : (a b : Bool) → b ≡ true → (a || b) ≡ true
-or_second true b e = refl
-or_second false b e = e
-
 judged_low : (plan : CallPlan) (policy : HedgePolicy) (a : Attempts) (number : ℕ) (alone : Bool) (end : RowEnd) (above : Bool) (word : ℕ) → plan ≡ plans.Hedge policy → stops policy end above ≡ true → (judged plan a number alone end above word).attempts.stopped ≡ true
 judged_low plans.None policy a number alone end above word e h = absurd (let no : ⊥ = (cc) in no)
 judged_low (plans.Retry other) policy a number alone end above word e h = absurd (let no : ⊥ = (cc) in no)
 judged_low (plans.Hedge other) policy a number alone end above word e h =
-    let same : policy ≡ other = (cc) in or_second a.stopped (stops other end above) (subst (λ (p : HedgePolicy). stops p end above ≡ true) same h)
+    let same : policy ≡ other = (cc) in or_right a.stopped (stops other end above) (subst (λ (p : HedgePolicy). stops p end above ≡ true) same h)
 
 -- the tokens that the end tells are those of the bucket
 above_of : (t : Throttle) (b : Bucket) → b.start ≡ t.start → is_above (Some b) ≡ ledger_ends.is_above (Some t) (count_of (Some b))
@@ -105,15 +102,10 @@ above_settled (Some t) None code asks in_set fits = refl
 above_settled None (Some b) code asks in_set fits = absurd fits
 above_settled (Some t) (Some b) code asks in_set fits = above_kind (is_ok code) (in_set || is_stop asks) b t fits.start
 
--- a call that stopped stays so
-or_first : (a b : Bool) → a ≡ true → (a || b) ≡ true
-or_first true b e = refl
-or_first false b e = absurd (let no : ⊥ = (cc) in no)
-
 judged_stays : (plan : CallPlan) (a : Attempts) (number : ℕ) (alone : Bool) (end : RowEnd) (above : Bool) (word : ℕ) → a.stopped ≡ true → (judged plan a number alone end above word).attempts.stopped ≡ true
 judged_stays plans.None a number alone end above word e = e
 judged_stays (plans.Retry policy) a number alone end above word e = e
-judged_stays (plans.Hedge policy) a number alone end above word e = or_first a.stopped (stops policy end above) e
+judged_stays (plans.Hedge policy) a number alone end above word e = or_left a.stopped (stops policy end above) e
 
 message_stays : (b : Bool) (c : CallState) (s : Stepped) → c.chosen ≡ s.call.chosen → c.attempts ≡ s.call.attempts → IsStopped s → IsStopped (record s { call = (if b then c else s.call) })
 message_stays true c s chosen attempts old = record { configured = ap (λ (o : Option Chosen). is_some o) chosen ∙ old.configured; stopped = ap (λ (a : Attempts). a.stopped) attempts ∙ old.stopped }

@@ -1,6 +1,6 @@
 -- What waits for an application is of the attempt to which its call is committed, whatever is done to a channel.
 use Rattle.std.proofs.Common.{◌≡◌, ℕ, ◌+◌, Bool, true, false, ◌&&◌, ◌||◌, if◌then◌else◌, ◌⊎◌, inl, inr, Option, Some, None, is_some, List, [], ◌∷◌, ◌++◌, length, refl, sym, ap, subst, ◌∙◌}
-use Rattle.std.proofs.lemmas.Bool.{cases_eq}
+use Rattle.std.proofs.lemmas.Bool.{cases_eq, or_right}
 use Rattle.std.specs.Option.{option_map}
 use Rattle.grpc_base.specs.declared.event.EndCause.{EndCause}
 use Rattle.grpc_base.specs.declared.event.EndCause.TheVariants as ending
@@ -152,12 +152,8 @@ message_taken_owned : (o : Option (List ℕ)) (c : CallState) → IsOwned c → 
 message_taken_owned None c own = end_taken_owned c.ended (call.with_rest c) (rest_owned c own)
 message_taken_owned (Some octets) c own = rest_owned c own
 
-headless : (a b : Bool) → b ≡ true → (a || b) ≡ true
-headless true b h = refl
-headless false b h = h
-
 without_head_owned : (c : CallState) → IsOwned c → IsOwned (call.without_head c)
-without_head_owned c own has = own (headless (is_some c.inbox.head) (has_some c.inbox.messages) has)
+without_head_owned c own has = own (or_right (is_some c.inbox.head) (has_some c.inbox.messages) has)
 
 item_taken_owned : (o : Option (List Field)) (c : CallState) → IsOwned c → IsOwned (call.taken_item o c)
 item_taken_owned None c own = message_taken_owned (first_of c.inbox.messages) (call.without_head c) (without_head_owned c own)

@@ -5,7 +5,7 @@ use Rattle.std.specs.BTreeMap.{is_at}
 use Rattle.std.specs.List.{AllByRecursion, filter, list_any}
 use Rattle.std.specs.Ordering.{nat_cmp}
 use Rattle.std.specs.Set.{remove_key}
-use Rattle.std.proofs.lemmas.Bool.{eq-eqb, eqb-true}
+use Rattle.std.proofs.lemmas.Bool.{eq-eqb, eqb-true, both_ways}
 use Rattle.std.proofs.lemmas.List.Folds.{list_any-append}
 use Rattle.grpc_base.specs.declared.fields.Field.{Field}
 use Rattle.h2_frame.specs.Frames.{FrameSeen, has_flag}
@@ -76,9 +76,6 @@ far_by kind other is apart goaway =
     let same : other ≡ goaway_type = sym (eqb-true kind other is) ∙ eqb-true kind goaway_type goaway in
     let both : true ≡ false = sym (eq-eqb other goaway_type same) ∙ apart in (cc)
 
-far_from : (b : Bool) → b ≡ false → b ≡ true → ⊥
-far_from b off on = (let both : false ≡ true = sym off ∙ on in (cc))
-
 same_if : (w : Wire) (b : Bool) (x y : Told) → Same w x.wire → Same w y.wire → Same w (if b then x else y).wire
 same_if w true x y p q = p
 same_if w false x y p q = q
@@ -129,7 +126,7 @@ same_continuation w f seen (Some b) =
 goaway_turns : (w : Wire) (f : FrameSeen) (seen : ℕ) → (f.kind == goaway_type) ≡ true → Turns w f (goaway_told w (last_stream f.payload) seen)
 goaway_turns w f seen is = record {
   comes = λ e. (refl, refl);
-  other = λ off. absurd (far_from (f.kind == goaway_type) off is);
+  other = λ off. absurd (both_ways (f.kind == goaway_type) off is);
   tells = λ e off. last_any (map (unseen_stream seen) (filter (is_above (last_stream f.payload)) w.live) ++ map (unseen seen) w.waiting) w.retiring off;
   whole = refl;
 }
@@ -142,8 +139,8 @@ turns_plain w f seen =
     turns_where w f (f.kind == settings_type) _ _ (λ is. turns_beside w f _ (far_by f.kind settings_type is refl) (same_if w (has_flag f.flags ack_flag) _ _ (refl, refl) (refl, refl))) (λ n3.
     turns_where w f (f.kind == ping_type) _ _ (λ is. turns_beside w f _ (far_by f.kind ping_type is refl) (same_if w (has_flag f.flags ack_flag) _ _ (refl, refl) (refl, refl))) (λ n4.
     turns_where w f (f.kind == goaway_type) _ _ (λ is. goaway_turns w f seen is) (λ n5.
-    turns_where w f (f.kind == window_update_type) _ _ (λ is. turns_beside w f _ (far_from (f.kind == goaway_type) n5) (same_if w (f.stream == 0) _ _ (refl, refl) (same_window w (increment f.payload) seen at)))
-    (λ n6. turns_beside w f _ (far_from (f.kind == goaway_type) n5) (refl, refl)))))))
+    turns_where w f (f.kind == window_update_type) _ _ (λ is. turns_beside w f _ (both_ways (f.kind == goaway_type) n5) (same_if w (f.stream == 0) _ _ (refl, refl) (same_window w (increment f.payload) seen at)))
+    (λ n6. turns_beside w f _ (both_ways (f.kind == goaway_type) n5) (refl, refl)))))))
 
 abbrev AllTurn : Wire → FrameSeen → Result Told ℕ → Type 0
 AllTurn w f r = IfOk r (λ t. Turns w f t)
@@ -314,7 +311,7 @@ retires_told came went w f unbroken h some = by (is_goaway f) refl
     by true is = (turns.comes is).0
     by false is = elim (one_of (list_any is_goaway came) (is_goaway f) (sym (list_any-append is_goaway came (f ∷ [])) ∙ some)) [
       | inl before ↦ turns.other is ∙ h before
-      | inr now ↦ absurd (far_from (is_goaway f) is now)
+      | inr now ↦ absurd (both_ways (is_goaway f) is now)
     ]
 
 pub cut_same_at : (w : Wire) (tag code : ℕ) (o : Option (ℕ × LiveStream)) → Same w (cut_at w tag code o)

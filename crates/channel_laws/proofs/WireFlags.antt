@@ -2,6 +2,7 @@
 use Rattle.std.proofs.Common.{◌≡◌, ◌∙◌, ℕ, ◌+◌, ◌==◌, Bool, true, false, ◌||◌, if◌then◌else◌, Option, Some, None, List, [], ◌∷◌, ◌++◌, length, map, refl, ap, sym, subst}
 use Rattle.std.specs.Prelude.{IfOk, Result, Ok, Err, slice_get}
 use Rattle.std.specs.List.{filter, list_any}
+use Rattle.std.proofs.lemmas.Bool.{or_parts}
 use Rattle.grpc_base.specs.ErrorCodes.{cancel}
 use Rattle.grpc_base.specs.declared.fields.Field.{Field}
 use Rattle.attempt_ledger.specs.declared.news.News.{News}
@@ -207,10 +208,6 @@ pub same_all : (g : GrpcSeen) (ns : List LinkNews) → Same g.link.wire (told_al
 same_all g [] = (refl, refl)
 same_all g (n ∷ ns) = same_then g.link.wire (grpc.told g n).link.link.wire (told_all (grpc.told g n).link ns).link.link.wire (same_told g n) (same_all (grpc.told g n).link ns)
 
-or_false : (a b : Bool) → (a || b) ≡ false → (a ≡ false) × (b ≡ false)
-or_false true b e = both e
-or_false false b e = (refl, e)
-
 stop_told : (g : GrpcSeen) (n : LinkNews) → stops_of (grpc.told g n).news ≡ false → is_stop n ≡ false
 stop_told g link.Ready e = refl
 stop_told g link.Retiring e = e
@@ -224,7 +221,7 @@ stop_told g (link.Unseen tag seen) e = refl
 stop_front : (xs ys : List News) → stops_of (xs ++ ys) ≡ false → (stops_of xs ≡ false) × (stops_of ys ≡ false)
 stop_front [] ys e = (refl, e)
 stop_front (x ∷ xs) ys e =
-    let two = or_false (is_stop_of x) (stops_of (xs ++ ys)) e in
+    let two = or_parts (is_stop_of x) (stops_of (xs ++ ys)) e in
     let rest = stop_front xs ys two.1 in
     (ap (λ (b : Bool). b || stops_of xs) two.0 ∙ rest.0, rest.1)
 

@@ -1,8 +1,2 @@
-// The laws of channels: what journal and ledger keep whatever events a channel was given, proved.
+// The laws of channels: what journal and ledger keep whatever events a channel was given. Definitions, and what their proofs share.
 #![tactic(auto)]
-
-mod laws;
-mod steps;
-
-pub use laws::channels_are_lawful;
-pub use steps::step;

@@ -6,9 +6,9 @@ ghost use Rattle.channel_top.specs.Live.{EndsFullLawfully, IsLawfulLiveText, IsL
 ghost use Rattle.session_text.specs.Writing.{WritesAll, WritesFront, WritesSome};
 ghost use Rattle.policy_rack.specs.Kinds.{are_ready};
 
-use channel_laws::channels_are_lawful;
 use dns_watch::NamedWorld;
 use gate_io::{Sink, Source};
+use lawful_channel::channels_are_lawful;
 use lb_policy::Balancer;
 use live_mode::{LiveSettings, run_live};
 use std::alloc::Global;

@@ -7,9 +7,9 @@ ghost use Rattle.load_plan.specs.Lines.{summary_line};
 ghost use Rattle.policy_rack.specs.Kinds.{are_ready, kinds_of};
 
 use crate::tell::WORDS_FAULT;
-use channel_laws::channels_are_lawful;
 use gate_io::{Sink, write_whole};
 use grpc_base::{Kind, NoMemory, Text};
+use lawful_channel::channels_are_lawful;
 use lb_policy::Balancer;
 use load_plan::{Load, LoadSummary};
 use load_session::{LoadFault, summarize};

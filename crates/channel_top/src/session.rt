@@ -9,9 +9,9 @@ ghost use Rattle.resolver_core.specs.AnyTargets.{IsTarget, authority_of};
 
 use crate::run::run_events;
 use channel_core::ChannelCore;
-use channel_laws::channels_are_lawful;
 use gate_io::Sink;
 use grpc_base::{NoMemory, Stamped, Text};
+use lawful_channel::channels_are_lawful;
 use lb_policy::Balancer;
 use resolver_core::Target;
 use script_input::Script;

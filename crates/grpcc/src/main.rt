@@ -3,9 +3,11 @@
 #![tactic(auto)]
 
 mod announced;
+mod places;
 mod remember;
 
 use crate::announced::Announced;
+use crate::places::hold_places;
 use crate::remember::{Fronted, Remembering, tell};
 use channel_top::run_channel;
 use dns_watch::TcpNamedWorld;
@@ -124,6 +126,7 @@ where
 }
 
 fn main(rt: HostRuntime) -> ExitCode {
+    let _places = hold_places(&rt);
     let alloc: Global = rt.alloc();
     let (words, are_text) = match words(&rt) {
         Ok(words) => (words, true),

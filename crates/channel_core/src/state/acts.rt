@@ -183,12 +183,13 @@ impl<P: Balancer> State<P> {
     pub fn set_timers(&mut self, call: u32) -> Result<(), NoMemory>
         ensures { OnOk result (self.new ≡ steps.timers_moved call self.old) }
     {
-        let due = self.book.due_at(call);
-        let deadline = self.book.deadline_of(call);
-        let due_set = self.book.due_set(call);
-        let deadline_set = self.book.deadline_set(call);
-        move_timer(&mut self.dues, call, due_set, due)?;
-        move_timer(&mut self.deadlines, call, deadline_set, deadline)?;
+        let Some(slot) = self.book.calls.get(call) else {
+            return Ok(());
+        };
+        let due = slot.due_at();
+        let deadline = slot.deadline_at();
+        move_timer(&mut self.dues, call, slot.due, due)?;
+        move_timer(&mut self.deadlines, call, slot.deadline, deadline)?;
         self.book.set_timers(call, due, deadline);
         Ok(())
     }

@@ -1,12 +1,12 @@
 // The calls and the ledger of a channel, as its links are lent them for the requests of their attempts.
 ghost use Rattle.std.specs.Prelude.{◌≡◌, ◌≢◌, ◌≤◌, ◌+◌, [], length, IfOk, OnOk};
-ghost use Rattle.std.specs.Option.{option_copied, option_map};
+ghost use Rattle.std.specs.Option.{option_copied};
 ghost use Rattle.attempt_ledger.specs.declared.ledger.Ledger.{Ledger};
 ghost use Rattle.grpc_base.specs.Authorities.{IsAuthority};
 ghost use Rattle.call_core.specs.Steps as step;
 ghost use Rattle.h2_hpack.specs.Tables.{list_size};
 ghost use Rattle.channel_core.specs.Tables.{cancel_reply_of, finish_reply_of, no_buckets, send_reply_of, take_reply_of};
-ghost use Rattle.channel_core.specs.Books.{begun_step, blank_request, book_acted, book_asked, book_begun, book_configured, book_finished, book_followed, book_placed, book_taken, can_send_at, can_take_at, head_for, no_ledger, bucket_at, call_of, deadline_of, deadline_set, due_at, due_forgotten, due_set, has_drawn, has_ended, has_stream, head_of, is_live_at, lacks_call, left_until, limit_at, lines_of, link_at, link_of, row_at, slot_at, timers_set, waits_at};
+ghost use Rattle.channel_core.specs.Books.{begun_step, blank_request, book_acted, book_asked, book_begun, book_configured, book_finished, book_followed, book_placed, book_taken, bucket_set, call_of, can_send_at, can_take_at, has_drawn, has_ended, has_stream, head_for, head_of, lacks_call, left_until, limit_at, lines_of, link_at, link_of, no_ledger, row_at, slot_at, timers_set, waits_at};
 
 use crate::state::authority::Authority;
 use crate::state::buckets::Buckets;
@@ -60,30 +60,14 @@ impl Book {
     pub fn row(&self, place: u64) -> Option<&Row>
         ensures { option_copied result ≡ row_at self.now place }
     {
-        if place == 0 {
-            return None;
-        }
-        self.ledger.rows.get(place as usize - 1)
+        self.ledger.rows.get((place as usize).checked_sub(1)?)
     }
 
     /// The link of a number, as the ledger has it.
     pub fn link(&self, link: u32) -> Option<&LinkSeen>
         ensures { option_copied result ≡ link_at self.now link }
     {
-        if link == 0 {
-            return None;
-        }
-        self.ledger.links.get(link as usize - 1)
-    }
-
-    /// The call of a number.
-    pub fn call(&self, call: u32) -> Option<&Call>
-        ensures { option_copied result ≡ option_map (λ slot. slot.call) (slot_at self.now call) }
-    {
-        match self.calls.at(call) {
-            Some(slot) => Some(&slot.call),
-            None => None,
-        }
+        self.ledger.links.get((link as usize).checked_sub(1)?)
     }
 
     /// The call of the row at a place; 0, which is no call's number, where there is no row.
@@ -143,7 +127,7 @@ impl Book {
     pub fn lacks_call(&self, call: u32) -> Option<Refusal>
         ensures { result ≡ lacks_call (slot_at self.now call) }
     {
-        match self.calls.at(call) {
+        match self.calls.get(call) {
             Some(_) => None,
             None => Some(Refusal::NoSuchCall),
         }
@@ -152,7 +136,7 @@ impl Book {
     pub fn waits(&self, call: u32) -> bool
         ensures { result ≡ waits_at (slot_at self.now call) }
     {
-        match self.calls.at(call) {
+        match self.calls.get(call) {
             Some(slot) => slot.call.waits(),
             None => false,
         }
@@ -162,7 +146,7 @@ impl Book {
     pub fn response_limit(&self, call: u32) -> u32
         ensures { result ≡ limit_at (slot_at self.now call) }
     {
-        match self.calls.at(call) {
+        match self.calls.get(call) {
             Some(slot) => match slot.call.chosen() {
                 Some(chosen) => chosen.response.bytes(),
                 None => 0,
@@ -171,84 +155,14 @@ impl Book {
         }
     }
 
-    pub fn is_live(&self, call: u32) -> bool
-        ensures { result ≡ is_live_at (slot_at self.now call) }
-    {
-        match self.calls.at(call) {
-            Some(slot) => slot.call.ended().is_none(),
-            None => false,
-        }
-    }
-
-    fn bucket_of(&self, call: u32) -> usize
-        ensures { result ≡ bucket_at (slot_at self.now call) }
-    {
-        match self.calls.at(call) {
-            Some(slot) => slot.bucket,
-            None => 0,
-        }
-    }
-
-    /// The due moment of a call that has not ended, and its deadline.
-    pub fn due_at(&self, call: u32) -> Option<u64>
-        ensures { result ≡ due_at (slot_at self.now call) }
-    {
-        match self.calls.at(call) {
-            Some(slot) => {
-                if slot.call.ended().is_none() {
-                    slot.call.next_due()
-                } else {
-                    None
-                }
-            }
-            None => None,
-        }
-    }
-
-    pub fn deadline_of(&self, call: u32) -> Option<u64>
-        ensures { result ≡ deadline_of (slot_at self.now call) }
-    {
-        match self.calls.at(call) {
-            Some(slot) => {
-                if slot.call.ended().is_none() {
-                    slot.call.deadline_at()
-                } else {
-                    None
-                }
-            }
-            None => None,
-        }
-    }
-
-    /// The moments for which timers stand.
-    pub fn due_set(&self, call: u32) -> Option<u64>
-        ensures { result ≡ due_set (slot_at self.now call) }
-    {
-        match self.calls.at(call) {
-            Some(slot) => slot.due,
-            None => None,
-        }
-    }
-
-    pub fn deadline_set(&self, call: u32) -> Option<u64>
-        ensures { result ≡ deadline_set (slot_at self.now call) }
-    {
-        match self.calls.at(call) {
-            Some(slot) => slot.deadline,
-            None => None,
-        }
-    }
-
+    /// Notes the moments for which the timers of a call stand.
     pub fn set_timers(&mut self, call: u32, due: Option<u64>, deadline: Option<u64>)
         ensures { self.new ≡ timers_set due deadline call self.old }
     {
-        self.calls.set_timers(call, due, deadline);
-    }
-
-    pub fn forget_due(&mut self, call: u32)
-        ensures { self.new ≡ due_forgotten call self.old }
-    {
-        self.calls.forget_due(call);
+        if let Some(slot) = self.calls.get_mut(call) {
+            slot.due = due;
+            slot.deadline = deadline;
+        }
     }
 
     pub fn begin(&mut self, request: &Request) -> Result<u32, NoMemory>
@@ -268,54 +182,64 @@ impl Book {
         self.buckets.follow(throttle)
     }
 
+    /// A call that has no configuration yet gets the bucket of the config that is held.
+    fn set_bucket(&mut self, call: u32)
+        ensures { self.new ≡ record self.old { calls = bucket_set call self.old } }
+    {
+        if let Some(slot) = self.calls.get_mut(call) {
+            slot.set_bucket(self.buckets.last());
+        }
+    }
+
     pub fn configure(&mut self, call: u32, chosen: Chosen) -> Result<Items<CallAct>, NoMemory>
         ensures book { OnOk result (self.new ≡ (book_configured chosen call self.old).book) }
         ensures acts { IfOk result (λ acts. acts ≡ (book_configured chosen call self.old).acts) }
     {
-        self.calls.set_bucket(call, self.buckets.last());
-        self.calls
-            .configure(call, &mut self.ledger, chosen, self.moment)
+        self.set_bucket(call);
+        let Some(slot) = self.calls.get_mut(call) else {
+            return Ok(Items::new(self.alloc));
+        };
+        slot.call.configure(&mut self.ledger, chosen, self.moment)
     }
 
     pub fn close(&mut self, call: u32, cause: EndCause) -> Result<Items<CallAct>, NoMemory>
         ensures book { OnOk result (self.new ≡ (book_asked (step.closed_by cause self.old.moment) call self.old).book) }
         ensures acts { IfOk result (λ acts. acts ≡ (book_asked (step.closed_by cause self.old.moment) call self.old).acts) }
     {
-        let bucket = self.bucket_of(call);
-        let tokens = self.buckets.lift(bucket);
-        let acts = self
-            .calls
-            .close(call, &mut self.ledger, cause, self.moment, &tokens)?;
-        self.buckets.lay(bucket, tokens);
-        Ok(acts)
+        let Some(slot) = self.calls.get_mut(call) else {
+            return Ok(Items::new(self.alloc));
+        };
+        let none = None;
+        let tokens = self.buckets.tokens(slot.bucket, &none);
+        slot.call
+            .close(&mut self.ledger, cause, self.moment, tokens)
     }
 
     pub fn deadline(&mut self, call: u32) -> Result<Items<CallAct>, NoMemory>
         ensures book { OnOk result (self.new ≡ (book_asked (step.timed_out self.old.moment) call self.old).book) }
         ensures acts { IfOk result (λ acts. acts ≡ (book_asked (step.timed_out self.old.moment) call self.old).acts) }
     {
-        let bucket = self.bucket_of(call);
-        let tokens = self.buckets.lift(bucket);
-        let acts = self
-            .calls
-            .deadline(call, &mut self.ledger, self.moment, &tokens)?;
-        self.buckets.lay(bucket, tokens);
-        Ok(acts)
+        let Some(slot) = self.calls.get_mut(call) else {
+            return Ok(Items::new(self.alloc));
+        };
+        let none = None;
+        let tokens = self.buckets.tokens(slot.bucket, &none);
+        slot.call.deadline(&mut self.ledger, self.moment, tokens)
     }
 
     pub fn due(&mut self, call: u32) -> Result<Items<CallAct>, NoMemory>
         ensures book { OnOk result (self.new ≡ (book_asked (step.made_due self.old.moment) call self.old).book) }
         ensures acts { IfOk result (λ acts. acts ≡ (book_asked (step.made_due self.old.moment) call self.old).acts) }
     {
-        let bucket = self.bucket_of(call);
-        let tokens = self.buckets.lift(bucket);
-        let acts = self
-            .calls
-            .due(call, &mut self.ledger, self.moment, &tokens)?;
-        self.buckets.lay(bucket, tokens);
-        Ok(acts)
+        let Some(slot) = self.calls.get_mut(call) else {
+            return Ok(Items::new(self.alloc));
+        };
+        let none = None;
+        let tokens = self.buckets.tokens(slot.bucket, &none);
+        slot.call.due(&mut self.ledger, self.moment, tokens)
     }
 
+    #[tactic(auto, using(crate::proofs::BookLaws::put_back))]
     pub fn picked_fail(
         &mut self,
         call: u32,
@@ -325,20 +249,18 @@ impl Book {
         ensures book { OnOk result (self.new ≡ (book_acted (step.pick_failed row self.old.moment word) call self.old).book) }
         ensures acts { IfOk result (λ acts. acts ≡ (book_acted (step.pick_failed row self.old.moment word) call self.old).acts) }
     {
-        let bucket = self.bucket_of(call);
-        let mut tokens = self.buckets.lift(bucket);
-        let acts = self.calls.picked_fail(
-            call,
-            &mut self.ledger,
-            row,
-            self.moment,
-            word,
-            &mut tokens,
-        )?;
-        self.buckets.lay(bucket, tokens);
+        let Some(slot) = self.calls.get_mut(call) else {
+            return Ok(Items::new(self.alloc));
+        };
+        let mut tokens = self.buckets.take(slot.bucket);
+        let acts = slot
+            .call
+            .picked_fail(&mut self.ledger, row, self.moment, word, &mut tokens)?;
+        self.buckets.put(slot.bucket, tokens);
         Ok(acts)
     }
 
+    #[tactic(auto, using(crate::proofs::BookLaws::put_back))]
     pub fn news(
         &mut self,
         call: u32,
@@ -349,18 +271,12 @@ impl Book {
         ensures book { OnOk result (self.new ≡ (book_acted (step.heard_news row news self.old.moment word) call self.old).book) }
         ensures acts { IfOk result (λ acts. acts ≡ (book_acted (step.heard_news row news self.old.moment word) call self.old).acts) }
     {
-        let bucket = self.bucket_of(call);
-        let mut tokens = self.buckets.lift(bucket);
-        let acts = self.calls.news(
-            call,
-            &mut self.ledger,
-            row,
-            news,
-            self.moment,
-            word,
-            &mut tokens,
-        )?;
-        self.buckets.lay(bucket, tokens);
+        let Some(slot) = self.calls.get_mut(call) else {
+            return Ok(Items::new(self.alloc));
+        };
+        let mut tokens = self.buckets.take(slot.bucket);
+        let acts = slot.call.news(&mut self.ledger, row, news, self.moment, word, &mut tokens)?;
+        self.buckets.put(slot.bucket, tokens);
         Ok(acts)
     }
 
@@ -369,13 +285,13 @@ impl Book {
         ensures book { OnOk result (self.new ≡ (book_asked (step.sent message self.old.moment) call self.old).book) }
         ensures acts { IfOk result (λ r. r.1 ≡ (book_asked (step.sent message self.old.moment) call self.old).acts) }
     {
-        let bucket = self.bucket_of(call);
-        let tokens = self.buckets.lift(bucket);
-        let sent = self
-            .calls
-            .send(call, &mut self.ledger, message, self.moment, &tokens)?;
-        self.buckets.lay(bucket, tokens);
-        Ok(sent)
+        let Some(slot) = self.calls.get_mut(call) else {
+            return Ok((Reply::Done, Items::new(self.alloc)));
+        };
+        let none = None;
+        let tokens = self.buckets.tokens(slot.bucket, &none);
+        slot.call
+            .send(&mut self.ledger, message, self.moment, tokens)
     }
 
     pub fn cancel(&mut self, call: u32) -> Result<(Reply, Items<CallAct>), NoMemory>
@@ -383,40 +299,48 @@ impl Book {
         ensures book { OnOk result (self.new ≡ (book_asked (step.cancelled self.old.moment) call self.old).book) }
         ensures acts { IfOk result (λ r. r.1 ≡ (book_asked (step.cancelled self.old.moment) call self.old).acts) }
     {
-        let bucket = self.bucket_of(call);
-        let tokens = self.buckets.lift(bucket);
-        let cancelled = self
-            .calls
-            .cancel(call, &mut self.ledger, self.moment, &tokens)?;
-        self.buckets.lay(bucket, tokens);
-        Ok(cancelled)
+        let Some(slot) = self.calls.get_mut(call) else {
+            return Ok((Reply::Done, Items::new(self.alloc)));
+        };
+        let none = None;
+        let tokens = self.buckets.tokens(slot.bucket, &none);
+        slot.call.cancel(&mut self.ledger, self.moment, tokens)
     }
 
     pub fn placed(&mut self, call: u32, row: u64, at: Placed) -> Result<Items<CallAct>, NoMemory>
         ensures book { OnOk result (self.new ≡ (book_placed row at call self.old).book) }
         ensures acts { IfOk result (λ acts. acts ≡ (book_placed row at call self.old).acts) }
     {
-        self.calls.placed(call, &mut self.ledger, row, at)
+        let Some(slot) = self.calls.get_mut(call) else {
+            return Ok(Items::new(self.alloc));
+        };
+        slot.call.placed(&mut self.ledger, row, at)
     }
 
     pub fn finish(&mut self, call: u32) -> Reply
         ensures reply { result ≡ finish_reply_of (slot_at self.old call) }
         ensures book { self.new ≡ book_finished call self.old }
     {
-        self.calls.finish(call)
+        match self.calls.get_mut(call) {
+            Some(slot) => slot.call.finish(),
+            None => Reply::Done,
+        }
     }
 
     pub fn take(&mut self, call: u32) -> Result<Reply, NoMemory>
         ensures reply { IfOk result (λ r. r ≡ take_reply_of self.old.ledger (slot_at self.old call)) }
         ensures book { OnOk result (self.new ≡ book_taken call self.old) }
     {
-        self.calls.take(call, &self.ledger)
+        match self.calls.get_mut(call) {
+            Some(slot) => slot.call.take(&self.ledger),
+            None => Ok(Reply::Done),
+        }
     }
 
     pub fn can_take(&self, call: u32) -> bool
         ensures { result ≡ can_take_at (slot_at self.now call) }
     {
-        match self.calls.at(call) {
+        match self.calls.get(call) {
             Some(slot) => slot.call.can_take(&self.ledger),
             None => true,
         }
@@ -425,7 +349,7 @@ impl Book {
     pub fn can_send(&self, call: u32, len: u32) -> bool
         ensures { result ≡ can_send_at len (slot_at self.now call) }
     {
-        match self.calls.at(call) {
+        match self.calls.get(call) {
             Some(slot) => slot.call.can_send(len),
             None => true,
         }
@@ -437,7 +361,7 @@ impl Book {
         ensures some { IfOk result (λ f. f ≢ []) }
         ensures size { IfOk result (λ f. list_size f ≤ 16384) }
     {
-        let Some(slot) = self.calls.at(row.call) else {
+        let Some(slot) = self.calls.get(row.call) else {
             return blank_request(self.alloc);
         };
         request_fields(
@@ -497,7 +421,7 @@ impl Feed for Book {
     }
 
     fn ready(&self, tag: u64) -> (u64, bool) {
-        match self.calls.at(self.call_of_row(tag)) {
+        match self.calls.get(self.call_of_row(tag)) {
             Some(slot) => slot.call.ready(tag),
             None => (0, false),
         }

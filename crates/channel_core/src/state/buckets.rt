@@ -8,7 +8,6 @@ use a6_numbers::Tokens;
 use grpc_base::{NoMemory, Throttle};
 use std::alloc::Global;
 use std::marker::Model;
-use std::mem;
 
 /// The token buckets, one for each run of valid configs with equal throttling; None for a run without. Behind that of calls
 /// without a configuration, which has no tokens.
@@ -57,19 +56,30 @@ impl Buckets {
         self.runs.len().saturating_sub(1)
     }
 
-    /// Lends the tokens of a bucket; None takes their place.
-    pub fn lift(&mut self, bucket: usize) -> Option<Tokens>
+    /// The tokens of a bucket; `none` where it has none, or names none.
+    pub fn tokens<'a>(&'a self, bucket: usize, none: &'a Option<Tokens>) -> &'a Option<Tokens>
+        requires { none.now ≡ None }
+        ensures { result.now ≡ tokens_in self.now bucket }
+    {
+        match self.runs.get(bucket) {
+            Some(tokens) => tokens,
+            None => none,
+        }
+    }
+
+    /// Takes the tokens of a bucket, to be put back once a call has counted an end.
+    pub fn take(&mut self, bucket: usize) -> Option<Tokens>
         ensures tokens { result ≡ tokens_in self.old bucket }
         ensures after { self.new ≡ with_tokens bucket None self.old }
     {
-        if bucket >= self.runs.len() {
-            return None;
+        match self.runs.get_mut(bucket) {
+            Some(tokens) => tokens.take(),
+            None => None,
         }
-        mem::replace(&mut self.runs[bucket], None)
     }
 
-    /// Puts tokens that were lent back.
-    pub fn lay(&mut self, bucket: usize, tokens: Option<Tokens>)
+    /// Puts tokens that were taken back.
+    pub fn put(&mut self, bucket: usize, tokens: Option<Tokens>)
         ensures { self.new ≡ with_tokens bucket tokens self.old }
     {
         if bucket < self.runs.len() {

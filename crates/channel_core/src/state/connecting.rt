@@ -219,7 +219,7 @@ impl<P: Balancer> State<P> {
     pub fn lacks_link(&self, link: u32) -> Option<Refusal>
         ensures { result ≡ applying.link_refusal link self.now }
     {
-        if !self.links.has(link) {
+        if self.links.get(link).is_none() {
             Some(Refusal::NoSuchLink)
         } else if self.is_gone(link) {
             Some(Refusal::LinkGone)

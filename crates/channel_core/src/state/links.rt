@@ -1,14 +1,14 @@
 // The links of a channel.
-ghost use Rattle.std.specs.Prelude.{◌≡◌, ◌<◌, ◌≤◌, ◌++◌, ◌∷◌, ℕ, [], Some, min, true, length, IfOk, IfSome, OnOk, slice_get, if◌then◌else◌};
-ghost use Rattle.std.specs.Option.{option_copied, option_map};
-ghost use Rattle.ledger_stamps.specs.Steps.{changed};
-ghost use Rattle.channel_core.specs.Tables.{DrainGives, SlotDrains, SlotGives, arrival_at, arrival_of, buried, buried_in, can_drain_at, fresh_link, has_link, heard_in, heard_link, hears_at, is_dead, is_retiring, links_heard, new_slot, numbered, pinged_in, pinged_link, placed_in, placed_link, reset_in, reset_link, retired, retired_in, sealed_in, sealed_link, takes_rows, takes_rows_at, with_link};
+ghost use Rattle.std.specs.Borrow.{sem};
+ghost use Rattle.std.specs.Option.{option_copied, option_copied_mut, option_map};
+ghost use Rattle.std.specs.Prelude.{◌≡◌, ◌<◌, ◌≤◌, ◌++◌, ◌∷◌, ℕ, [], Some, min, true, length, IfOk, IfSome, OnOk, if◌then◌else◌};
+ghost use Rattle.channel_core.specs.Lending.{lends_link};
+ghost use Rattle.channel_core.specs.Tables.{DrainGives, SlotGives, arrival_at, arrival_of, buried_in, can_drain_at, fresh_link, heard_in, heard_link, hears_at, is_dead, is_retiring, links_heard, new_slot, numbered, pinged_in, placed_in, placed_link, reset_in, retired_in, sealed_in, takes_rows, takes_rows_at, with_link};
 
 use grpc_base::NoMemory;
 use grpc_base::error_code::CANCEL;
 use grpc_link::{GrpcArrival, GrpcLink};
 use h2_link::{DrainFault, Drained, Feed, LinkFault, PlaceFault};
-use ledger_stamps::index_of;
 use std::alloc::Global;
 use std::marker::Model;
 
@@ -21,18 +21,6 @@ pub struct LinkSlot {
 }
 
 impl LinkSlot {
-    fn bury(&mut self)
-        ensures { self.new ≡ buried self.old }
-    {
-        self.dead = true;
-    }
-
-    fn retire(&mut self)
-        ensures { self.new ≡ retired self.old }
-    {
-        self.retiring = true;
-    }
-
     fn place(&mut self, row: u64, limit: u32) -> Result<bool, NoMemory>
         ensures answer { IfOk result (λ placed. placed ≡ takes_rows_at (Some self.old)) }
         ensures after { OnOk result (self.new ≡ (if takes_rows_at (Some self.old) then with_link (placed_link row limit) self.old else self.old)) }
@@ -42,24 +30,6 @@ impl LinkSlot {
             Err(PlaceFault::Gone) => Ok(false),
             Err(PlaceFault::NoMemory) => Err(NoMemory),
         }
-    }
-
-    fn reset(&mut self, row: u64) -> Result<(), NoMemory>
-        ensures { OnOk result (self.new ≡ with_link (reset_link row) self.old) }
-    {
-        self.link.reset(row, CANCEL)
-    }
-
-    fn seal(&mut self)
-        ensures { self.new ≡ with_link sealed_link self.old }
-    {
-        self.link.seal();
-    }
-
-    fn ping(&mut self, word: u64) -> Result<(), NoMemory>
-        ensures { OnOk result (self.new ≡ with_link (pinged_link word) self.old) }
-    {
-        self.link.ping(word)
     }
 
     fn arrived(&mut self, piece: &[u8]) -> Result<Option<GrpcArrival>, NoMemory>
@@ -146,24 +116,26 @@ impl LinkTable {
         self.slots.len().min(u32::MAX as usize) as u32
     }
 
-    fn at(&self, link: u32) -> Option<&LinkSlot>
+    /// The link of a number.
+    pub fn get(&self, link: u32) -> Option<&LinkSlot>
         ensures { option_copied result ≡ numbered self.now link }
     {
-        let place = link.checked_sub(1)?;
-        self.slots.as_slice().get(place as usize)
+        self.slots.get((link as usize).checked_sub(1)?)
     }
 
-    pub fn has(&self, link: u32) -> bool
-        ensures { result ≡ has_link self.now link }
+    fn get_mut(&mut self, link: u32) -> Option<&mut LinkSlot>
+        ensures* writes_back { sem 𝓛 (lends_link self.entry link result) }
+        ensures slot { option_copied_mut result ≡ numbered self.old link }
     {
-        self.at(link).is_some()
+        let index = (link as usize).checked_sub(1)?;
+        self.slots.get_mut(index)
     }
 
     /// Whether the link is lost, broken or timed out, or there is none.
     pub fn is_dead(&self, link: u32) -> bool
         ensures { result ≡ is_dead self.now link }
     {
-        match self.at(link) {
+        match self.get(link) {
             Some(slot) => slot.dead,
             None => true,
         }
@@ -173,25 +145,27 @@ impl LinkTable {
     pub fn is_retiring(&self, link: u32) -> bool
         ensures { result ≡ is_retiring self.now link }
     {
-        match self.at(link) {
+        match self.get(link) {
             Some(slot) => slot.retiring,
             None => true,
         }
     }
 
+    #[tactic(auto, using(crate::proofs::Places::put_changed, crate::proofs::Places::none_changed))]
     pub fn bury(&mut self, link: u32)
         ensures { self.new ≡ buried_in link self.old }
     {
-        if let Some(index) = index_of(u64::from(link), self.slots.len()) {
-            bury_at(&mut self.slots, index);
+        if let Some(slot) = self.get_mut(link) {
+            slot.dead = true;
         }
     }
 
+    #[tactic(auto, using(crate::proofs::Places::put_changed, crate::proofs::Places::none_changed))]
     pub fn retire(&mut self, link: u32)
         ensures { self.new ≡ retired_in link self.old }
     {
-        if let Some(index) = index_of(u64::from(link), self.slots.len()) {
-            retire_at(&mut self.slots, index);
+        if let Some(slot) = self.get_mut(link) {
+            slot.retiring = true;
         }
     }
 
@@ -200,36 +174,39 @@ impl LinkTable {
         ensures answer { IfOk result (λ placed. placed ≡ takes_rows link self.old) }
         ensures after { OnOk result (self.new ≡ placed_in link row limit self.old) }
     {
-        match index_of(u64::from(link), self.slots.len()) {
-            Some(index) => place_at(&mut self.slots, index, row, limit),
+        match self.get_mut(link) {
+            Some(slot) => slot.place(row, limit),
             None => Ok(false),
         }
     }
 
     /// Gives up the attempt of a row.
+    #[tactic(auto, using(crate::proofs::Places::put_on, crate::proofs::Places::none_changed))]
     pub fn reset(&mut self, link: u32, row: u64) -> Result<(), NoMemory>
         ensures { OnOk result (self.new ≡ reset_in link row self.old) }
     {
-        match index_of(u64::from(link), self.slots.len()) {
-            Some(index) => reset_at(&mut self.slots, index, row),
+        match self.get_mut(link) {
+            Some(slot) => slot.link.reset(row, CANCEL),
             None => Ok(()),
         }
     }
 
     /// The effects of the link's last frame are complete.
+    #[tactic(auto, using(crate::proofs::Places::put_changed, crate::proofs::Places::none_changed))]
     pub fn seal(&mut self, link: u32)
         ensures { self.new ≡ sealed_in link self.old }
     {
-        if let Some(index) = index_of(u64::from(link), self.slots.len()) {
-            seal_at(&mut self.slots, index);
+        if let Some(slot) = self.get_mut(link) {
+            slot.link.seal();
         }
     }
 
+    #[tactic(auto, using(crate::proofs::Places::put_on, crate::proofs::Places::none_changed))]
     pub fn ping(&mut self, link: u32, word: u64) -> Result<(), NoMemory>
         ensures { OnOk result (self.new ≡ pinged_in link word self.old) }
     {
-        match index_of(u64::from(link), self.slots.len()) {
-            Some(index) => ping_at(&mut self.slots, index, word),
+        match self.get_mut(link) {
+            Some(slot) => slot.link.ping(word),
             None => Ok(()),
         }
     }
@@ -241,8 +218,8 @@ impl LinkTable {
         ensures within { IfOk result (λ a. IfSome a (λ a. (1 ≤ a.taken) × (a.taken ≤ length piece.now))) }
         ensures after { OnOk result (self.new ≡ links_heard self.old (heard_in link piece.now self.old)) }
     {
-        match index_of(u64::from(link), self.slots.len()) {
-            Some(index) => arrived_at(&mut self.slots, index, piece),
+        match self.get_mut(link) {
+            Some(slot) => slot.arrived(piece),
             None => Ok(None),
         }
     }
@@ -259,8 +236,8 @@ impl LinkTable {
         ensures drains { IfOk result (λ d. DrainGives room self.old link (F.lines feed.old) d self.new (F.lines feed.new)) }
         ensures same { F.same feed.old feed.new }
     {
-        match index_of(u64::from(link), self.slots.len()) {
-            Some(index) => drain_at(&mut self.slots, index, room, feed),
+        match self.get_mut(link) {
+            Some(slot) => slot.drain(room, feed),
             None => Ok(None),
         }
     }
@@ -270,88 +247,9 @@ impl LinkTable {
         requires { (t : ℕ) → (F.lines feed.now t).held ≡ true }
         ensures { result ≡ can_drain_at (F.lines feed.now) (numbered self.now link) }
     {
-        match self.at(link) {
+        match self.get(link) {
             Some(slot) => slot.can_drain(feed),
             None => false,
         }
     }
-}
-
-fn bury_at(slots: &mut Vec<LinkSlot>, index: usize)
-    requires { index < length slots.old.items }
-    ensures { slots.new.items ≡ changed buried slots.old.items index }
-{
-    let chosen = &mut slots[index];
-    chosen.bury();
-}
-
-fn retire_at(slots: &mut Vec<LinkSlot>, index: usize)
-    requires { index < length slots.old.items }
-    ensures { slots.new.items ≡ changed retired slots.old.items index }
-{
-    let chosen = &mut slots[index];
-    chosen.retire();
-}
-
-fn place_at(slots: &mut Vec<LinkSlot>, index: usize, row: u64, limit: u32) -> Result<bool, NoMemory>
-    requires { index < length slots.old.items }
-    ensures answer { IfOk result (λ placed. placed ≡ takes_rows_at (slice_get slots.old.items index)) }
-    ensures after { OnOk result (slots.new.items ≡ (if takes_rows_at (slice_get slots.old.items index) then changed (with_link (placed_link row limit)) slots.old.items index else slots.old.items)) }
-{
-    let chosen = &mut slots[index];
-    chosen.place(row, limit)
-}
-
-fn reset_at(slots: &mut Vec<LinkSlot>, index: usize, row: u64) -> Result<(), NoMemory>
-    requires { index < length slots.old.items }
-    ensures { OnOk result (slots.new.items ≡ changed (with_link (reset_link row)) slots.old.items index) }
-{
-    let chosen = &mut slots[index];
-    chosen.reset(row)
-}
-
-fn seal_at(slots: &mut Vec<LinkSlot>, index: usize)
-    requires { index < length slots.old.items }
-    ensures { slots.new.items ≡ changed (with_link sealed_link) slots.old.items index }
-{
-    let chosen = &mut slots[index];
-    chosen.seal();
-}
-
-fn ping_at(slots: &mut Vec<LinkSlot>, index: usize, word: u64) -> Result<(), NoMemory>
-    requires { index < length slots.old.items }
-    ensures { OnOk result (slots.new.items ≡ changed (with_link (pinged_link word)) slots.old.items index) }
-{
-    let chosen = &mut slots[index];
-    chosen.ping(word)
-}
-
-fn arrived_at(
-    slots: &mut Vec<LinkSlot>,
-    index: usize,
-    piece: &[u8],
-) -> Result<Option<GrpcArrival>, NoMemory>
-    requires some { 0 < length piece.now }
-    requires inside { index < length slots.old.items }
-    ensures arrival { IfOk result (λ a. a ≡ arrival_at piece.now (slice_get slots.old.items index)) }
-    ensures within { IfOk result (λ a. IfSome a (λ a. (1 ≤ a.taken) × (a.taken ≤ length piece.now))) }
-    ensures after { OnOk result (slots.new.items ≡ (if hears_at (slice_get slots.old.items index) then changed (with_link (heard_link piece.now)) slots.old.items index else slots.old.items)) }
-{
-    let chosen = &mut slots[index];
-    chosen.arrived(piece)
-}
-
-fn drain_at<F: Feed>(
-    slots: &mut Vec<LinkSlot>,
-    index: usize,
-    room: u32,
-    feed: &mut F,
-) -> Result<Option<Drained>, NoMemory>
-    requires inside { index < length slots.old.items }
-    requires held { (t : ℕ) → (F.lines feed.old t).held ≡ true }
-    ensures drains { IfOk result (λ d. SlotDrains room slots.old.items index (F.lines feed.old) d slots.new.items (F.lines feed.new)) }
-    ensures same { F.same feed.old feed.new }
-{
-    let chosen = &mut slots[index];
-    chosen.drain(room, feed)
 }

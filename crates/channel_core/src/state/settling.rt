@@ -149,7 +149,7 @@ impl<P: Balancer> State<P> {
         let Some(config) = &self.held else {
             return None;
         };
-        match self.book.calls.at(call) {
+        match self.book.calls.get(call) {
             Some(slot) => Some(config.chosen(slot.call.request().path())),
             None => None,
         }
@@ -202,7 +202,9 @@ impl<P: Balancer> State<P> {
     fn forget_due(&mut self, call: u32)
         ensures { self.new ≡ steps.due_gone call self.old }
     {
-        self.book.forget_due(call);
+        if let Some(slot) = self.book.calls.get_mut(call) {
+            slot.due = None;
+        }
     }
 
     fn make_all(&mut self, calls: Items<u64>) -> Result<(), NoMemory>
