@@ -4,6 +4,8 @@
 mod clock;
 mod copied;
 mod draws;
+mod first_answer;
+mod given_up;
 mod lately;
 mod link;
 mod memory;
@@ -16,12 +18,14 @@ mod std_clock;
 mod steady;
 mod tcp;
 mod tcp_dialer;
+mod waiting;
 mod whole;
 mod wire;
 mod world;
 
 pub use clock::{Clock, ListClock};
 pub use draws::{Draws, PcgDraws};
+pub use given_up::GivenUp;
 pub use link::{Dialed, Dialer, LinkIn, LinkOut, LinkRead, Listener};
 pub use memory::{MemSink, MemSource};
 pub use memory_dialer::{MemDialer, MemLink, MemListener};

@@ -93,6 +93,12 @@ pub trait Dialer: Send + Drop {
     /// Dials an address, and gives up at the moment `until`.
     fn dial(&mut self, to: Address, until: u64) -> Dialed<Self::In, Self::Out>
         ensures { DialGives Self.In.LinkIn.left (coming self.old) (coming self.new) (faults self.old) (faults self.new) result };
+
+    /// Waits until bytes come on a link that it opened, or until one takes some again, and at most as long as a pause. False where it
+    /// waited for nothing, so that its user pauses otherwise.
+    fn wait(&self, _: Pause) -> bool {
+        false
+    }
 }
 
 /// What accepts links.

@@ -2,6 +2,7 @@
 ghost use Rattle.std.specs.Prelude.{◌≡◌, ◌<◌, ◌≤◌, ℕ, None, Some, IfSome, length, false, true};
 ghost use Rattle.gate_io.specs.declared.wire.Received.TheVariants as received;
 
+use crate::first_answer::FirstAnswer;
 use crate::wire::{Received, Wire};
 use crate::{LinkIn, LinkOut, LinkRead, Pause, WriteAnswer};
 use std::alloc::Global;
@@ -21,8 +22,8 @@ pub struct TcpIn {
 }
 
 /// What goes over a TCP connection. A write over one that was dialled does not wait: what the peer does not take at once is held, and goes
-/// out in later reads and writes; only one that finds 16,777,216 bytes held waits, for at most 20 s, as each write over a connection does
-/// that was accepted. Whoever reads the same connection does so in the same thread.
+/// out in later reads and writes; one that finds 268,435,456 bytes held fails. A write over a connection that was accepted waits, for at most
+/// 20 s. Whoever reads the same connection does so in the same thread.
 #[derive(Drop)]
 pub struct TcpOut {
     wire: Arc<Mutex<Wire>>,
@@ -35,8 +36,10 @@ pub(crate) fn link_over(
     alloc: Global,
     stream: TcpStream,
     waits: bool,
+    answer: FirstAnswer,
 ) -> io::Result<(TcpIn, TcpOut)> {
-    let wire = Arc::new(alloc, Mutex::new(Wire::new(alloc, stream, waits)?))?;
+    let wire = Wire::new(alloc, stream, waits, answer)?;
+    let wire = Arc::new(alloc, Mutex::new(wire))?;
     let input = TcpIn {
         wire: wire.clone()?,
         pause: Pause::Long,

@@ -1,11 +1,13 @@
 // A dialer and a listener over TCP.
 ghost use Rattle.std.specs.Prelude.{◌≡◌, None, Some, true, false};
 
-use crate::lately::Lately;
+use crate::first_answer::FirstAnswer;
+use crate::lately::{Lately, Turn};
 use crate::standard::TRIES;
 use crate::std_clock::nanos_now;
 use crate::tcp::link_over;
-use crate::{Dialed, Dialer, Listener, TcpIn, TcpOut};
+use crate::waiting::Waiting;
+use crate::{Dialed, Dialer, Listener, Pause, TcpIn, TcpOut};
 use grpc_base::Address;
 use std::alloc::Global;
 use std::io::ErrorKind;
@@ -20,6 +22,8 @@ pub struct TcpDialer<R> {
     rt: R,
     alloc: Global,
     lately: Option<Arc<Mutex<Lately>>>,
+    /// Its links, from the first dial on.
+    waiting: Option<Waiting>,
     faults: u64,
 }
 
@@ -30,41 +34,63 @@ impl<R: Net<Stream = TcpStream> + time::Clock> TcpDialer<R> {
             rt,
             alloc,
             lately: None,
+            waiting: None,
             faults: 0,
         }
     }
 
     /// One of several dialers, which know together what was dialled: a dial that nobody answered to its end is followed by one that fails at
-    /// once. So an address that answers nothing is seen to fail, and the next one gets its turn.
+    /// once, and so are three connections that were over right behind their SETTINGS. So such an address is seen to fail: the next one gets
+    /// its turn, and it is dialled again after the wait behind a failed dial.
     pub(crate) fn beside(rt: R, alloc: Global, lately: Arc<Mutex<Lately>>) -> TcpDialer<R> {
         TcpDialer {
             rt,
             alloc,
             lately: Some(lately),
+            waiting: None,
             faults: 0,
         }
     }
 
-    /// Whether a dial is not to be made now.
-    fn is_too_soon(&self, to: Address, until: u64, now: u64) -> bool {
+    /// Whether a dial is made now. Where another dialer notes one at this moment, it is, with no note.
+    fn turn(&self, to: Address, until: u64, now: u64) -> Turn {
         let Some(lately) = &self.lately else {
-            return false;
+            return Turn::Made(None);
         };
         match lately.try_lock() {
-            Some(mut lately) => lately.is_too_soon(to, until, now),
-            None => false,
+            Some(mut lately) => lately.dial(to, until, now),
+            None => Turn::Made(None),
+        }
+    }
+
+    /// Has its user wait for a link too. Where that can't be, the link is looked at as often as its user pauses.
+    fn wait_for(&mut self, stream: &mut mio::net::TcpStream)
+        ensures { self.new.faults ≡ self.old.faults }
+    {
+        if self.waiting.is_none() {
+            self.waiting = Waiting::new(&self.rt, self.alloc).ok();
+        }
+        if let Some(waiting) = &self.waiting {
+            let _ = waiting.add(stream);
         }
     }
 
     /// A connection to an address that begins before the moment `until`.
-    fn connect(&self, to: Address, until: u64) -> io::Result<(TcpIn, TcpOut)> {
+    fn connect(&mut self, to: Address, until: u64) -> io::Result<(TcpIn, TcpOut)>
+        ensures { self.new.faults ≡ self.old.faults }
+    {
         let now = nanos_now(&self.rt);
-        if until <= now || self.is_too_soon(to, until, now) {
+        if until <= now {
             return Err(io::Error::from(ErrorKind::TimedOut));
         }
+        let Turn::Made(told) = self.turn(to, until, now) else {
+            return Err(io::Error::from(ErrorKind::TimedOut));
+        };
         let addr = SocketAddr::V4(SocketAddrV4::new(Ipv4Addr::from_bits(to.ip), to.port));
-        let stream = mio::net::TcpStream::connect(&self.rt, addr)?;
-        link_over(self.alloc, TcpStream::from(stream), false)
+        let mut stream = mio::net::TcpStream::connect(&self.rt, addr)?;
+        self.wait_for(&mut stream);
+        let answer = FirstAnswer::new(told);
+        link_over(self.alloc, TcpStream::from(stream), false, answer)
     }
 }
 
@@ -85,6 +111,24 @@ impl<R: Net<Stream = TcpStream> + time::Clock + Send + Drop> Dialer for TcpDiale
                 Dialed::Failed
             }
         }
+    }
+
+    fn wait(&self, pause: Pause) -> bool {
+        match &self.waiting {
+            Some(waiting) => wait_as_long(waiting, pause),
+            None => false,
+        }
+    }
+}
+
+/// Waits for links as long as a pause, and says whether it did. The system's wait is in milliseconds, so a brief pause is none for it.
+fn wait_as_long(waiting: &Waiting, pause: Pause) -> bool {
+    match pause {
+        Pause::None | Pause::Brief => false,
+        Pause::Short | Pause::Long => match pause.time() {
+            Some(time) => waiting.wait(time),
+            None => false,
+        },
     }
 }
 
@@ -122,7 +166,9 @@ impl<R: Net<Stream = TcpStream, Listener = TcpListener>> TcpListen<R> {
         };
         for _ in 0..TRIES {
             match listener.accept() {
-                Ok((stream, _)) => return link_over(self.alloc, stream, true),
+                Ok((stream, _)) => {
+                    return link_over(self.alloc, stream, true, FirstAnswer::new(None));
+                }
                 Err(error) => match error.kind() {
                     ErrorKind::ConnectionAborted | ErrorKind::Interrupted => {}
                     _ => return Err(error),

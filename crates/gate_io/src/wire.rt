@@ -6,6 +6,7 @@ ghost use Rattle.gate_io.specs.declared.wire.Sent.{Sent};
 ghost use Rattle.gate_io.specs.declared.wire.Sent.TheVariants as sent;
 
 use crate::Pause;
+use crate::first_answer::FirstAnswer;
 use crate::standard::{TRIES, write_some};
 use std::alloc::Global;
 use std::io;
@@ -17,10 +18,10 @@ use std::time::Duration;
 /// for an answer where nothing else is set.
 const WRITE_WAIT: u64 = 20_000;
 
-/// So many bytes that a peer did not take are held for it; a write that finds more waits.
-const HELD_BYTES: usize = 16_777_216;
+/// So many bytes that a peer did not take are held for it, as many as a session has at most; a write that finds more fails.
+const HELD_BYTES: usize = 268_435_456;
 
-/// So many bytes that were sent stay in front of those that are held.
+/// So many bytes that were sent may stay in front of those that are held.
 const FORGOTTEN_BYTES: usize = 1_048_576;
 
 /// What one read of a stream gave.
@@ -50,11 +51,18 @@ pub(crate) struct Wire {
     held: Vec<u8>,
     sent: usize,
     broken: bool,
+    /// Whether an answer came, for the dialer.
+    answer: FirstAnswer,
 }
 
 impl Wire {
     /// A connection that was accepted, or one that was dialled, which stands as soon as the peer answers.
-    pub(crate) fn new(alloc: Global, stream: TcpStream, waits: bool) -> io::Result<Wire> {
+    pub(crate) fn new(
+        alloc: Global,
+        stream: TcpStream,
+        waits: bool,
+        answer: FirstAnswer,
+    ) -> io::Result<Wire> {
         stream.set_nodelay(true)?;
         stream.set_read_timeout(Pause::Long.time())?;
         stream.set_write_timeout(Some(Duration::from_millis(WRITE_WAIT)))?;
@@ -65,6 +73,7 @@ impl Wire {
             held: Vec::new(alloc),
             sent: 0,
             broken: false,
+            answer,
         })
     }
 
@@ -81,6 +90,17 @@ impl Wire {
         ensures { (n : ℕ) → result ≡ received.Count n → n ≤ length buf.new }
     {
         self.send_held();
+        let got = self.receive_within(pause, buf);
+        if let Received::Count(count) = got {
+            self.answer.hear(&buf[..count]);
+        }
+        got
+    }
+
+    /// One read, which waits unless the pause is none.
+    fn receive_within(&mut self, pause: Pause, buf: &mut [u8]) -> Received
+        ensures { (n : ℕ) → result ≡ received.Count n → n ≤ length buf.new }
+    {
         let waits = pause != Pause::None;
         if waits == self.waits {
             return receive_some(&mut self.stream, buf);
@@ -136,12 +156,12 @@ impl Wire {
         }
     }
 
-    /// Holds a piece; where too much is held already, it waits until the peer takes some.
+    /// Holds a piece. None where too much is held already.
     fn hold(&mut self, piece: &[u8]) -> Option<usize>
         requires { 0 < length piece.now }
         ensures { IfSome result (λ n. (0 < n) × (n ≤ length piece.now)) }
     {
-        if self.held.len().saturating_sub(self.sent) >= HELD_BYTES && !self.wait_for_room() {
+        if self.held.len().saturating_sub(self.sent) >= HELD_BYTES {
             return None;
         }
         self.forget_sent();
@@ -151,32 +171,12 @@ impl Wire {
         }
     }
 
-    /// Forgets what was sent, where that is much.
+    /// Forgets what was sent, where that is much, and more than what is left, which is moved then.
     fn forget_sent(&mut self) {
-        if FORGOTTEN_BYTES <= self.sent && self.sent <= self.held.len() {
+        let left = self.held.len().saturating_sub(self.sent);
+        if FORGOTTEN_BYTES.max(left) <= self.sent && self.sent <= self.held.len() {
             drop(self.held.drain(..self.sent));
             self.sent = 0;
-        }
-    }
-
-    /// Waits until the peer takes some of what is held, and says whether it did.
-    fn wait_for_room(&mut self) -> bool {
-        if self.sent >= self.held.len() {
-            return true;
-        }
-        if self.stream.set_nonblocking(false).is_err() {
-            return false;
-        }
-        let took = write_some(&mut self.stream, &self.held[self.sent..]);
-        if self.stream.set_nonblocking(true).is_err() {
-            return false;
-        }
-        match took {
-            Some(count) => {
-                self.sent = self.sent.saturating_add(count);
-                true
-            }
-            None => false,
         }
     }
 

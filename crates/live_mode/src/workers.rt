@@ -6,10 +6,10 @@ ghost use Rattle.turn_lock.specs.History.{SeatSeen};
 
 use crate::settings::LiveSettings;
 use dns_watch::{DnsWatch, Lookup};
-use gate_io::{Clock, Dialer, Draws};
+use gate_io::{Clock, Dialer, Draws, GivenUp};
 use grpc_base::{CallLine, NoMemory, Octets};
 use lb_policy::Balancer;
-use live_run::{CallJob, LinkJob, NameJob, NetJob, Outcome, Tending};
+use live_run::{CallJob, LinkJob, NameJob, NetJob, Outcome, Tending, Watching};
 use shared_channel::{ChannelSeat, Seat, SharedChannel};
 use std::alloc::Global;
 
@@ -90,11 +90,15 @@ fn add_net<'a, R, P: Balancer, C: Clock, D: Draws, N: Dialer, L: Lookup>(
     ensures parts { seat.old.parts ≡ seat.new.parts + 1 }
     ensures splits { OnOk result ((start : SeatSeen Entry) → Splits start (seats_in (λ h. h.seat) links.old.items) seat.old → Splits start (seats_in (λ h. h.seat) links.new.items) seat.new) }
 {
+    let mut post = bench.own_handle(seat, draws);
+    let given_up = GivenUp::new(bench.alloc)?;
+    post.note_given_up(given_up.share()?);
+    let tending = Tending::new(bench.alloc, bench.settings.keep);
     let job = NetJob {
         alloc: bench.alloc,
-        post: bench.own_handle(seat, draws),
+        post,
         dialer,
-        tender: Tending::new(bench.alloc, bench.settings.keep),
+        tender: Watching::new(tending, given_up),
         outcome: Outcome::Whole,
     };
     links.push(LinkJob::Net(job))?;

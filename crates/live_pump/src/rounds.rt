@@ -136,12 +136,15 @@ fn is_shut(state: Conn) -> bool
     matches!(state, Conn::Shutdown)
 }
 
-/// Pauses as long as no bytes came lately. A round without links found nothing.
-fn rest<C: Clock>(clock: &C, patience: &mut Patience, links: usize) {
+/// Pauses as long as no bytes came lately, where the dialer can, until some come. A round without links found nothing.
+fn rest<N: Dialer, C: Clock>(dialer: &N, clock: &C, patience: &mut Patience, links: usize) {
     if links == 0 {
         patience.miss();
     }
-    clock.pause(patience.pause());
+    let pause = patience.pause();
+    if !dialer.wait(pause) {
+        clock.pause(pause);
+    }
 }
 
 /// One round: a look, a dial, a turn of each link, and a tick.
@@ -169,7 +172,7 @@ fn round<P: Post + Glance, N: Dialer, C: Clock, T: Tender>(
     if let Some(error) = links_part(alloc, post, clock, tender, patience, links) {
         return Some(Pumped::Failed(error));
     }
-    rest(clock, patience, links.len());
+    rest(dialer, clock, patience, links.len());
     let ticked = tick_if_due(post, clock);
     match ticked {
         Ok(_) => None,
@@ -225,7 +228,7 @@ fn run_rounds<W: Wait, P: Post + Glance, N: Dialer, C: Clock, T: Tender>(
 
 /// Keeps links open for a channel: in rounds it looks at the channel, dials, writes and reads each of its links,
 /// asks the tender about each, and ticks. Its reads wait for nothing: the longer no bytes come, the longer it pauses
-/// between rounds, up to 5 ms. It ends with Shut where the channel was shut down when it looked, and with
+/// between rounds, up to 5 ms, where the dialer can, until bytes come. It ends with Shut where the channel was shut down when it looked, and with
 /// Failed where a post failed or it found no memory itself. It closes a link that is lost or gone, and at its end
 /// those that are left. It may never return.
 pub fn net_worker<W: Wait, P: Post + Glance, N: Dialer, C: Clock, T: Tender>(

@@ -6,7 +6,7 @@ ghost use Rattle.live_pump.specs.Pumps.{HandleSeen};
 ghost use Rattle.live_run.specs.Outcomes.{KeepsLinks, MakesCalls, ended_with};
 ghost use Rattle.live_run.specs.Sides.{IsOfNames};
 
-use crate::{Outcome, Tending};
+use crate::{Outcome, Watching};
 use dns_watch::{DnsOnce, DnsWatch, Lookup, dns_once};
 use gate_io::{Clock, Dialer, Draws, Patience};
 use grpc_base::{CallLine, Caller, Glance, Octets, Post};
@@ -20,7 +20,7 @@ pub struct NetJob<H, N> {
     pub alloc: Global,
     pub post: H,
     pub dialer: N,
-    pub tender: Tending,
+    pub tender: Watching,
     pub outcome: Outcome,
 }
 

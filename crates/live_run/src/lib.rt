@@ -7,6 +7,7 @@ mod link_job;
 mod outcome;
 mod sides;
 mod tending;
+mod watching;
 
 pub use calls::by_worker;
 pub use jobs::{CallJob, NameJob, NetJob};
@@ -14,3 +15,4 @@ pub use link_job::LinkJob;
 pub use outcome::Outcome;
 pub use sides::{work_calls, work_links};
 pub use tending::Tending;
+pub use watching::Watching;

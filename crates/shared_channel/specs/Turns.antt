@@ -1,6 +1,7 @@
 -- What a turn does to the channel under the lock, and what its handle then knows.
 use Rattle.std.specs.Prelude.{◌≡◌, ◌↔◌, ◌⊎◌, ℕ, zero, suc, Bool, true, false, Option, Some, None, Result, Ok, Err, List, ◌∷◌, ◌++◌, length, map, IfOk}
 use Rattle.grpc_base.specs.Posts.{MayReply, is_full, is_not_yet}
+use Rattle.grpc_base.specs.declared.event.Conn.TheVariants as conn
 use Rattle.grpc_base.specs.declared.event.Entry.{Entry}
 use Rattle.grpc_base.specs.declared.event.Event.{Event}
 use Rattle.grpc_base.specs.declared.event.Event.TheVariants as event
@@ -9,10 +10,20 @@ use Rattle.grpc_base.specs.declared.event.Reply.TheVariants as reply
 use Rattle.grpc_base.specs.declared.event.Stamped.{Stamped}
 use Rattle.grpc_base.specs.declared.post.PostError.{PostError}
 use Rattle.grpc_base.specs.declared.post.PostError.TheVariants as failed
+use Rattle.grpc_base.specs.declared.post.View.{View}
 use Rattle.atomic_table.specs.Seated.{TableId}
 use Rattle.turn_lock.specs.History.{SeatSeen, StartsWith, places}
 use Rattle.turn_lock.specs.Turn.{FoundHolder}
-use Rattle.channel_core.specs.Core.{CoreSeen, IsFull, Steps, WouldReply}
+use Rattle.channel_core.specs.Core.{CoreSeen, IsFull, Steps, WouldReply, view_of}
+use Rattle.shared_channel.specs.Histories.{IsNearlyFull}
+
+-- a channel in which nothing more happens: its session is nearly full, or it ran out of memory half way through a step
+abbrev pub CannotGoOn : CoreSeen → Type 0
+CannotGoOn core = IsNearlyFull core.journal.entries ⊎ (core.spent ≡ true)
+
+-- what a look shows: the channel's state and what it waits for; SHUTDOWN only where that is its state, or where it can't go on
+abbrev pub ShowsView : CoreSeen → View → Type 0
+ShowsView core view = (view ≡ view_of core) ⊎ (CannotGoOn core × (view ≡ record (view_of core) { state = conn.Shutdown }))
 
 -- a step that makes no entry leaves the channel as before, but for one that ran out of memory half way
 abbrev pub Fails : Event → CoreSeen → PostError → CoreSeen → Type 0

@@ -6,6 +6,7 @@ ghost use Rattle.shared_channel.specs.Histories.{conn_of, state_in};
 ghost use Rattle.shared_channel.specs.Running.{HasRun, IsRunning};
 ghost use Rattle.shared_channel.specs.Turns.{Looks, words_of};
 
+use crate::bell::Bell;
 use crate::channel_seat::ChannelSeat;
 use crate::jobs::Lend;
 use crate::reading::Reading;
@@ -27,6 +28,7 @@ use turn_lock::TurnLock;
 #[derive(Drop)]
 pub struct SharedChannel<P: Balancer> {
     lock: TurnLock<Shared<P>>,
+    bell: Bell,
 }
 
 impl<P: Balancer> Model for SharedChannel<P> {
@@ -65,7 +67,11 @@ impl<P: Balancer> SharedChannel<P> {
     {
         let watched = Watched::new(core, authority);
         let (lock, seat) = TurnLock::new(alloc, Shared { watched })?;
-        Ok((SharedChannel { lock }, seat))
+        let channel = SharedChannel {
+            lock,
+            bell: Bell::new(),
+        };
+        Ok((channel, seat))
     }
 
     /// A new handle, which has seen as much and has no entries. It gets one of the parts, of which there are two at least.
@@ -105,11 +111,13 @@ impl<P: Balancer> SharedChannel<P> {
         ChannelSeat {
             rt,
             lock: &self.lock,
+            bell: &self.bell,
             seat,
             clock,
             draws,
             next,
             tally: Tally::new(),
+            given_up: None,
         }
     }
 

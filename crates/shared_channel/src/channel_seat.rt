@@ -5,15 +5,15 @@ ghost use Rattle.grpc_base.specs.Posts.{CountsErrors, Posts, is_full, is_not_yet
 ghost use Rattle.grpc_base.specs.declared.event.Event.TheVariants as event;
 ghost use Rattle.grpc_base.specs.declared.post.Look.TheVariants as look;
 ghost use Rattle.channel_core.specs.Applying.{can_drain_in};
-ghost use Rattle.channel_core.specs.Core.{view_of};
-ghost use Rattle.shared_channel.specs.Turns.{CanSend, CanTake, Looks, TakesPlace, entries_of, share_of, words_of};
+ghost use Rattle.shared_channel.specs.Turns.{CanSend, CanTake, Looks, ShowsView, TakesPlace, entries_of, share_of, words_of};
 ghost use Rattle.turn_lock.specs.History.{Ascends, Stands, merged};
 ghost use Rattle.turn_lock.specs.Turn.{Sees};
 
+use crate::bell::{Bell, is_news};
 use crate::jobs::{AtDrain, AtSend, AtTake, AtView, SendStep, Step, TakeStep, moment_of};
 use crate::shared::{Seat, Shared};
 use crate::tally::Tally;
-use gate_io::{Clock, Draws, Patience};
+use gate_io::{Clock, Draws, GivenUp, Patience};
 use grpc_base::{Caller, Event, Glance, Look, Octets, Post, PostError, Reply, Stamped, View};
 use lb_policy::Balancer;
 use std::sync::Wait;
@@ -28,12 +28,15 @@ where
 {
     pub(crate) rt: &'a W,
     pub(crate) lock: &'a TurnLock<Shared<P>>,
+    pub(crate) bell: &'a Bell,
     pub(crate) seat: Seat<P>,
     pub(crate) clock: &'a C,
     pub(crate) draws: D,
     /// The word of its next entry.
     pub(crate) next: u64,
     pub(crate) tally: Tally,
+    /// Where its looks note that a link is given up.
+    pub(crate) given_up: Option<GivenUp>,
     ghost own: { seat.lock ≡ lock.now },
 }
 
@@ -43,6 +46,13 @@ impl<'a, P: Balancer, W, C: Clock, D: Draws> ChannelSeat<'a, P, W, C, D> {
         ensures { result ≡ self.entry.seat }
     {
         self.seat
+    }
+
+    /// From now on it notes here each link of which `can_drain` finds that it is given up.
+    pub fn note_given_up(&mut self, note: GivenUp)
+        ensures kept { (self.new.seat ≡ self.old.seat) × (self.new.clock.now ≡ self.old.clock.now) × (self.new.next ≡ self.old.next) × (self.new.draws ≡ self.old.draws) × (self.new.tally ≡ self.old.tally) }
+    {
+        self.given_up = Some(note);
     }
 
     /// Takes in another handle of the channel: its parts and its own entries, which stand in order in what is then seen. Waits for nobody.
@@ -56,6 +66,15 @@ impl<'a, P: Balancer, W, C: Clock, D: Draws> ChannelSeat<'a, P, W, C, D> {
         // The look tells the order of the other's entries, which the joined lists don't.
         self.lock.front(&mut other);
         self.lock.join_seat(&mut self.seat, other);
+    }
+}
+
+/// Notes a link that is given up, where that is wanted.
+fn note_link(note: &Option<GivenUp>, link: u32, is_given_up: bool) {
+    if let Some(note) = note {
+        if is_given_up {
+            note.note(link);
+        }
     }
 }
 
@@ -82,6 +101,7 @@ impl<P: Balancer, W: Wait, C: Clock, D: Draws> Post for ChannelSeat<'_, P, W, C,
         ensures place { TakesPlace (C.may_give self.old.clock.now) (words_of self.old.next (D.words self.old.draws) 0) event result self.old.seat self.new.seat }
         ensures words { (k : ℕ) → words_of self.new.next (D.words self.new.draws) k ≡ words_of self.old.next (D.words self.old.draws) (k + 1) }
     {
+        let is_news = is_news(&event);
         let mut step = Step {
             stamped: Stamped {
                 moment: moment_of(self.clock.now()),
@@ -91,18 +111,21 @@ impl<P: Balancer, W: Wait, C: Clock, D: Draws> Post for ChannelSeat<'_, P, W, C,
         };
         self.next = self.draws.word();
         let result = self.lock.turn(self.rt, &mut self.seat, &mut step);
+        self.bell.ring_if(is_news);
         self.tally.posted(&result);
         result
     }
 }
 
 impl<P: Balancer, W: Wait, C: Clock, D: Draws> Glance for ChannelSeat<'_, P, W, C, D> {
+    /// The channel's state, and what it waits for. Its state is SHUTDOWN too where nothing more happens in it: a step found no room for
+    /// what came of a link, or for a Shutdown, or ran out of memory half way.
     fn glance(&mut self) -> View
         ensures made { entries_of self.new.seat.own ≡ entries_of self.old.seat.own }
         ensures errors { (self.new.tally.errors ≡ self.old.tally.errors) × (self.new.tally.last_error ≡ self.old.tally.last_error) }
         ensures looks { (self.new.tally.looks ≡ one_more self.old.tally.looks) × (self.new.tally.last_look ≡ Some (look.Glance result)) }
         ensures share { share_of self.new.seat ≡ share_of self.old.seat }
-        ensures told { Looks (λ core. result ≡ view_of core) self.old.seat self.new.seat }
+        ensures told { Looks (λ core. ShowsView core result) self.old.seat self.new.seat }
     {
         let view = self.lock.turn(self.rt, &mut self.seat, &mut AtView);
         self.tally.looked(Look::Glance { view });
@@ -116,9 +139,12 @@ impl<P: Balancer, W: Wait, C: Clock, D: Draws> Glance for ChannelSeat<'_, P, W, 
         ensures share { share_of self.new.seat ≡ share_of self.old.seat }
         ensures told { Looks (λ core. result ≡ can_drain_in link core.state) self.old.seat self.new.seat }
     {
-        let answer = self
-            .lock
-            .turn(self.rt, &mut self.seat, &mut AtDrain { link });
+        let mut look = AtDrain {
+            link,
+            is_given_up: false,
+        };
+        let answer = self.lock.turn(self.rt, &mut self.seat, &mut look);
+        note_link(&self.given_up, link, look.is_given_up);
         self.tally.looked(Look::CanDrain { link, answer });
         answer
     }
@@ -153,7 +179,9 @@ impl<P: Balancer, W: Wait, C: Clock, D: Draws> Glance for ChannelSeat<'_, P, W, 
 }
 
 impl<P: Balancer, W: Wait, C: Clock, D: Draws> Caller for ChannelSeat<'_, P, W, C, D> {
-    /// One Take, as soon as something has come for the call: it looks again and again, the more seldom the longer it waits.
+    /// One Take, as soon as something has come for the call: it looks again and again, first every few microseconds, and then
+    /// when an event of another thread may have brought something, and every 20 ms. Where nothing has
+    /// come, and a look finds that nothing more happens in the channel, the answer is NoMemory, and all is as before.
     /// The clock is read at each look, and the entry has the last of these moments and the next random word.
     fn await_take(&mut self, call: u32) -> Result<Reply, PostError>
         ensures made { Posts (entries_of self.old.seat.own) (entries_of self.new.seat.own) (event.Take call) result }
@@ -166,6 +194,7 @@ impl<P: Balancer, W: Wait, C: Clock, D: Draws> Caller for ChannelSeat<'_, P, W, 
     {
         let mut patience = Patience::new();
         for _ in self.rt.forever() {
+            let rings = self.bell.rings();
             let mut take = TakeStep {
                 moment: moment_of(self.clock.now()),
                 word: self.next,
@@ -177,12 +206,13 @@ impl<P: Balancer, W: Wait, C: Clock, D: Draws> Caller for ChannelSeat<'_, P, W, 
                 return result;
             }
             patience.miss();
-            self.clock.pause(patience.pause());
+            let left = self.bell.sleep(self.rt, rings, patience.pause());
+            self.clock.pause(left);
         }
         unreachable!()
     }
 
-    /// One Send, as soon as the call has room for the message: it looks again and again, as for a Take. The clock is read
+    /// One Send, as soon as the call has room for the message: it looks again and again, and ends without, as for a Take. The clock is read
     /// at each look, and the entry has the last of these moments and the next random word.
     fn await_send(&mut self, call: u32, message: Octets) -> Result<Reply, PostError>
         ensures made { Posts (entries_of self.old.seat.own) (entries_of self.new.seat.own) (event.Send call message) result }
@@ -201,6 +231,7 @@ impl<P: Balancer, W: Wait, C: Clock, D: Draws> Caller for ChannelSeat<'_, P, W, 
         };
         let mut patience = Patience::new();
         for _ in self.rt.forever() {
+            let rings = self.bell.rings();
             send.moment = moment_of(self.clock.now());
             if let Some(result) = self.lock.turn(self.rt, &mut self.seat, &mut send) {
                 self.next = self.draws.word();
@@ -208,7 +239,8 @@ impl<P: Balancer, W: Wait, C: Clock, D: Draws> Caller for ChannelSeat<'_, P, W, 
                 return result;
             }
             patience.miss();
-            self.clock.pause(patience.pause());
+            let left = self.bell.sleep(self.rt, rings, patience.pause());
+            self.clock.pause(left);
         }
         unreachable!()
     }

@@ -1,9 +1,10 @@
 // What is done in one turn at the channel under the lock.
-ghost use Rattle.std.specs.Prelude.{◌≡◌, ◌≤◌};
+ghost use Rattle.std.specs.Prelude.{◌≡◌, ◌≤◌, Err, option_map};
 ghost use Rattle.grpc_base.specs.Limits.{moment_limit};
 
 use crate::reading::Reading;
 use crate::shared::Shared;
+use attempt_ledger::Ledger;
 use grpc_base::{Event, Moment, Octets, PostError, Reply, Stamped, View};
 use lb_policy::Balancer;
 use std::mem;
@@ -40,7 +41,17 @@ impl<P: Balancer> Job<Shared<P>> for Step {
     }
 }
 
-/// A Take, where something has come for the call.
+/// The answer of a call that waits: none as long as the channel can go on.
+fn refused(end: Option<PostError>) -> Option<Result<Reply, PostError>>
+    ensures { result ≡ option_map (λ error. Err error) end }
+{
+    match end {
+        Some(error) => Some(Err(error)),
+        None => None,
+    }
+}
+
+/// A Take, where something has come for the call, or nothing more comes.
 #[derive(Drop)]
 pub struct TakeStep {
     pub moment: Moment,
@@ -57,7 +68,7 @@ impl<P: Balancer> Job<Shared<P>> for TakeStep {
 
     fn run(&mut self, state: &mut Shared<P>) -> Option<Result<Reply, PostError>> {
         if !state.watched.core().can_take(self.call) {
-            return None;
+            return refused(state.watched.end());
         }
         Some(
             state.watched.step(Stamped {
@@ -69,7 +80,7 @@ impl<P: Balancer> Job<Shared<P>> for TakeStep {
     }
 }
 
-/// A Send, where the call has room for the message. The message is taken by the turn that sends it.
+/// A Send, where the call has room for the message, or nothing makes room any more. The message is taken by the turn that sends it.
 #[derive(Drop)]
 pub struct SendStep {
     pub moment: Moment,
@@ -89,7 +100,7 @@ impl<P: Balancer> Job<Shared<P>> for SendStep {
     fn run(&mut self, state: &mut Shared<P>) -> Option<Result<Reply, PostError>> {
         if let Ok(len) = u32::try_from(self.message.len()) {
             if !state.watched.core().can_send(self.call, len) {
-                return None;
+                return refused(state.watched.end());
             }
         }
         let message = mem::replace(&mut self.message, Octets::new());
@@ -112,21 +123,33 @@ pub struct AtView;
 
 impl<P: Balancer> Job<Shared<P>> for AtView {
     ghost use Rattle.std.specs.Prelude.{◌≡◌};
-    ghost use Rattle.channel_core.specs.Core.{view_of};
+    ghost use Rattle.shared_channel.specs.Turns.{ShowsView};
 
     type Answer = View;
 
-    ghost runs = { λ job state answer job_after after. (after ≡ state) × (answer ≡ view_of state.watched.core) };
+    ghost runs = { λ job state answer job_after after. (after ≡ state) × ShowsView state.watched.core answer };
 
     fn run(&mut self, state: &mut Shared<P>) -> View {
-        state.watched.core().view()
+        state.watched.view()
     }
 }
 
-/// Whether a Drain of this link would give bytes.
+/// Whether a Drain of this link would give bytes, and whether the channel has given the link up.
 #[derive(Drop)]
 pub struct AtDrain {
     pub link: u32,
+    pub is_given_up: bool,
+}
+
+/// Whether a link was opened and is gone.
+fn is_given_up(ledger: &Ledger, link: u32) -> bool {
+    let Some(place) = link.checked_sub(1) else {
+        return false;
+    };
+    match ledger.links.get(place as usize) {
+        Some(seen) => seen.gone.is_some(),
+        None => false,
+    }
 }
 
 impl<P: Balancer> Job<Shared<P>> for AtDrain {
@@ -138,7 +161,9 @@ impl<P: Balancer> Job<Shared<P>> for AtDrain {
     ghost runs = { λ job state answer job_after after. (after ≡ state) × (answer ≡ can_drain_in job.link state.watched.core.state) };
 
     fn run(&mut self, state: &mut Shared<P>) -> bool {
-        state.watched.core().can_drain(self.link)
+        let core = state.watched.core();
+        self.is_given_up = is_given_up(core.ledger(), self.link);
+        core.can_drain(self.link)
     }
 }
 

@@ -1,6 +1,7 @@
 // One channel for all threads: its core under a lock at which handles take turns.
 #![tactic(auto)]
 
+mod bell;
 mod channel;
 mod channel_seat;
 mod jobs;

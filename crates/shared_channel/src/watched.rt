@@ -1,16 +1,18 @@
-// The channel under the lock, whether it was shut down, and whether it was found nearly full.
-ghost use Rattle.std.specs.Prelude.{◌≡◌, ◌≤◌, ◌||◌, true, length, OnOk};
+// The channel under the lock, whether it was shut down, whether it was found nearly full, and whether it is over.
+ghost use Rattle.std.specs.Prelude.{◌≡◌, ◌≤◌, ◌||◌, true, length, IfSome, OnOk, if◌then◌else◌};
+ghost use Rattle.grpc_base.specs.declared.event.Conn.TheVariants as conn;
 ghost use Rattle.grpc_base.specs.Posts.{HasNoRoom};
 ghost use Rattle.turn_lock.specs.History.{StartsWith};
 ghost use Rattle.channel_core.specs.Sizes.{counted, journal_bytes};
 ghost use Rattle.shared_channel.specs.Errors.{FindsNearlyFull, error_of};
 ghost use Rattle.shared_channel.specs.Histories.{IsNearlyFull, has_shutdown, is_shutdown, state_in};
 ghost use Rattle.shared_channel.specs.Running.{HasRun, IsRunning};
-ghost use Rattle.shared_channel.specs.Turns.{StepGives};
+ghost use Rattle.grpc_base.specs.declared.event.Event.{Event};
+ghost use Rattle.shared_channel.specs.Turns.{CannotGoOn, Fails, ShowsView, StepGives};
 
 use channel_core::{ChannelCore, CoreError};
 use grpc_base::limits::MESSAGE_BYTES;
-use grpc_base::{Conn, Entry, Event, PostError, Reply, Stamped, Text};
+use grpc_base::{Conn, Entry, Event, PostError, Reply, Stamped, Text, View};
 use lb_policy::Balancer;
 use std::marker::Model;
 
@@ -30,6 +32,8 @@ pub struct Watched<P: Balancer> {
     core: ChannelCore<P>,
     shut: bool,
     nearly_full: bool,
+    /// Whether a step found no room for what came of a link or for a Shutdown, or ran out of memory half way.
+    stopped: bool,
     // That of the channel's requests, which the core does not show.
     authority: Text,
 }
@@ -73,6 +77,49 @@ fn has_shutdown(entries: &[Entry]) -> bool
     false
 }
 
+/// Whether nothing more comes to a channel in which this event finds no room: one of a dial, of a link or of the clock, which a worker
+/// posts that keeps links open, or a Shutdown.
+fn is_needed(event: &Event) -> bool {
+    matches!(
+        event,
+        Event::TakeDial
+            | Event::LinkUp { .. }
+            | Event::DialFailed { .. }
+            | Event::Arrived { .. }
+            | Event::LinkLost { .. }
+            | Event::Drain { .. }
+            | Event::Ping { .. }
+            | Event::Tick
+            | Event::Shutdown
+    )
+}
+
+/// Whether a channel goes on no more after this error of a step of an event that is needed so.
+fn stops(error: &CoreError, needed: bool) -> bool {
+    match error {
+        CoreError::NoMemory { spent } => *spent,
+        CoreError::SessionFull { .. } => needed,
+    }
+}
+
+/// One of both that is so.
+fn one_of(one: bool, other: bool) -> bool {
+    one || other
+}
+
+/// What a look shows of a channel that can go on, or can't.
+fn shown(view: View, over: bool) -> View
+    ensures { result ≡ (if over then record view { state = conn.Shutdown } else view) }
+{
+    if !over {
+        return view;
+    }
+    View {
+        state: Conn::Shutdown,
+        ..view
+    }
+}
+
 /// The error of a post whose step failed so.
 fn post_error(error: CoreError) -> PostError
     ensures { result ≡ error_of error }
@@ -107,6 +154,7 @@ impl<P: Balancer> Watched<P> {
             core,
             shut,
             nearly_full: false,
+            stopped: false,
             authority,
         }
     }
@@ -123,6 +171,38 @@ impl<P: Balancer> Watched<P> {
         ensures { result ≡ true → IsNearlyFull self.now.core.journal.entries }
     {
         self.nearly_full
+    }
+
+    /// Whether the channel can't go on: the session has no room for what its links bring, or a step ran out of memory half way.
+    pub fn is_over(&self) -> bool
+        ensures { result ≡ true → CannotGoOn self.now.core }
+    {
+        if !self.stopped {
+            return false;
+        }
+        if self.nearly_full {
+            return true;
+        }
+        self.core.view().spent
+    }
+
+    /// The error of a call that waits: none as long as the channel can go on.
+    pub fn end(&self) -> Option<PostError>
+        ensures when { IfSome result (λ _. CannotGoOn self.now.core) }
+        ensures fails { IfSome result (λ error. (e : Event) → Fails e self.now.core error self.now.core) }
+    {
+        if !self.is_over() {
+            return None;
+        }
+        let spent = self.core.view().spent;
+        Some(PostError::NoMemory { spent })
+    }
+
+    /// What a look tells: SHUTDOWN too where the channel can't go on.
+    pub fn view(&self) -> View
+        ensures { ShowsView self.now.core result }
+    {
+        shown(self.core.view(), self.is_over())
     }
 
     /// How many entries there are.
@@ -151,6 +231,7 @@ impl<P: Balancer> Watched<P> {
         ensures room { OnOk result (HasNoRoom (length self.old.core.journal.entries) (counted (journal_bytes self.old.core.journal.entries)) stamped.event → ⊥) }
     {
         let shuts = is_shutdown(&stamped.event);
+        let needed = is_needed(&stamped.event);
         match self.core.step(stamped) {
             Ok(reply) => {
                 self.shut = either(self.shut, shuts);
@@ -158,6 +239,7 @@ impl<P: Balancer> Watched<P> {
             }
             Err(error) => {
                 self.nearly_full = either(self.nearly_full, finds_nearly_full(&error));
+                self.stopped = one_of(self.stopped, stops(&error, needed));
                 Err(post_error(error))
             }
         }
