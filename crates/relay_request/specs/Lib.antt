@@ -1,0 +1,4 @@
+pub mod Heads
+pub mod Pairs
+pub mod Timeouts
+pub mod Incoming
