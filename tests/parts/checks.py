@@ -1,5 +1,6 @@
 """What the runners of tests/runners share: where the program lies, which tests are asked for, the count, and the line of a failure."""
 import os
+import signal
 import sys
 import traceback
 
@@ -53,6 +54,8 @@ def case(name):
 
 def run_cases(count, *given, needs_program=True):
     """Runs the marked functions that are asked for, if the program that they need is there, and gives the status."""
+    # (a shell that starts this in the background has it ignore interrupts, and the programs that are tried would inherit that)
+    signal.signal(signal.SIGINT, signal.default_int_handler)
     for name, function in CASES:
         if count.asks_for(name):
             if needs_program and not is_built():
