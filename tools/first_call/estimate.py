@@ -56,9 +56,9 @@ class Estimate:
                 jobs = max(1, spare)
                 running[name] = now + seconds / (1 + SPEED * (jobs - 1)), memory * (1 + MEMORY * (jobs - 1)), jobs
 
-    def rest(self, done=()):
-        """The seconds until all is proved, where these crates are."""
-        done, running, now = set(done), {}, 0.0
+    def ends(self, done=()):
+        """The seconds after which one crate after the other is proved, where these are proved already."""
+        done, running, now, ends = set(done), {}, 0.0, []
         while len(done) < len(self.needs):
             ready = [it for it in self.needs if it not in done and it not in running and done.issuperset(self.needs[it])]
             self.start(ready, running, now)
@@ -67,9 +67,14 @@ class Estimate:
             now = min(it[0] for it in running.values())
             ended = [it for it in running if running[it][0] <= now]
             done.update(ended)
+            ends += [now] * len(ended)
             for it in ended:
                 del running[it]
-        return now
+        return ends
+
+    def rest(self, done=()):
+        """The seconds until all is proved, where these crates are."""
+        return max(self.ends(done), default=0.0)
 
 
 def in_words(seconds):

@@ -151,18 +151,21 @@ class Progress:
     def __init__(self, needs):
         self.estimate, self.done, self.kept = Estimate(needs), [], 0
         self.begun = self.changed = self.told = time.monotonic()
-        self.whole = self.left = self.estimate.rest()
+        self.ends = self.estimate.ends()
+        self.left = self.ends[-1]
         self.is_terminal = sys.stderr.isatty()
 
     def ended(self, name, is_kept):
-        """Notes that a crate is proved; the times of those before it say how fast this machine is."""
+        """Notes that a crate is proved. So many were foreseen to be proved by some moment: how late it is then says how fast this machine is."""
         self.done.append(name)
         self.kept += is_kept
         self.changed = time.monotonic()
-        rest, elapsed = self.estimate.rest(self.done), self.changed - self.begun
-        foreseen = self.whole - rest
-        rate = elapsed / foreseen if not self.kept and foreseen > 120 else 1
-        self.left = rest * min(max(rate, 0.3), 5)
+        foreseen = self.ends[min(len(self.done), len(self.ends)) - 1]
+        if self.kept or foreseen <= 120:
+            self.left = self.estimate.rest(self.done)
+        else:
+            rate = (self.changed - self.begun) / foreseen
+            self.left = (self.ends[-1] - foreseen) * min(max(rate, 0.3), 5)
 
     def tell(self):
         """Rewrites one line on a terminal, and else writes one now and then."""
@@ -267,7 +270,7 @@ def build(crates, words):
     need_disk()
     sweep()
     progress = Progress({name: needs for name, (_, needs) in crates.items()})
-    time_here = f"{in_words(progress.whole)} on {processors()} processors"
+    time_here = f"{in_words(progress.left)} on {processors()} processors"
     say(f"the program is not built from these files: proving it, {len(crates)} crates, {time_here}")
     say(f"for a first look without the proof, in a few minutes: ./grpcc --unproved {' '.join(words)}")
     with tempfile.TemporaryDirectory(prefix=f"{PREFIX}{os.getpid()}-") as room:
