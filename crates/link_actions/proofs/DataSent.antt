@@ -160,7 +160,7 @@ tail_other l n content ends first bound (x ∷ xs) (a ∷ others) low opened are
 tail_other l n content ends first bound [] (a ∷ others) low opened are = absurd are
 tail_other l n content ends first bound (x ∷ xs) [] low opened are = absurd are
 
-number_in : (first bound i : ℕ) (xs : List LiveStream) (y : LiveStream) → AreOpened first bound xs → slice_get xs i ≡ Some y → first ≤ y.number
+pub number_in : (first bound i : ℕ) (xs : List LiveStream) (y : LiveStream) → AreOpened first bound xs → slice_get xs i ≡ Some y → first ≤ y.number
 number_in first bound i [] y opened e = absurd (cc)
 number_in first bound zero (x ∷ xs) y opened e = subst (λ (z : LiveStream). first ≤ z.number) (let same : x ≡ y = (cc) in same) opened.0
 number_in first bound (suc i) (x ∷ xs) y opened e =
@@ -295,7 +295,7 @@ own_fed l s g y a content len ends size within is fed_ =
     } in
     subst L (sym (if_true (y.tag == y.tag) (record (g y.tag) { left = drop len (g y.tag).left }) (g y.tag) (both_same y.tag))) own
 
-tag_in : (i : ℕ) (xs : List LiveStream) (y : LiveStream) (ns : List ℕ) (k : ℕ) → slice_get xs i ≡ Some y → is_one_of (map (λ (z : LiveStream). z.tag) xs ++ ns) k ≡ false → (y.tag == k) ≡ false
+pub tag_in : (i : ℕ) (xs : List LiveStream) (y : LiveStream) (ns : List ℕ) (k : ℕ) → slice_get xs i ≡ Some y → is_one_of (map (λ (z : LiveStream). z.tag) xs ++ ns) k ≡ false → (y.tag == k) ≡ false
 tag_in i [] y ns k e apart = absurd (cc)
 tag_in zero (x ∷ xs) y ns k e apart =
     let is : x ≡ y = (cc) in

@@ -71,7 +71,7 @@ opened_more first bound number (y ∷ live) x is low above opened =
 number_is : (l : Link) (x : LiveStream) (a : Attempt) → IsLive l x a → stream_number a ≡ x.number
 number_is l x a is = ap (λ (o : Option ℕ). unwrap_or o 0) is.stream
 
-below_all : (l : Link) (first bound : ℕ) (live : List LiveStream) (others : List Attempt) → AreOpened first bound live → AreLive l live others → AreBelow bound others
+pub below_all : (l : Link) (first bound : ℕ) (live : List LiveStream) (others : List Attempt) → AreOpened first bound live → AreLive l live others → AreBelow bound others
 below_all l first bound [] [] opened are = tt
 below_all l first bound (x ∷ live) (a ∷ others) opened are =
     (subst (λ (n : ℕ). n < bound) (sym (number_is l x a are.0)) opened.1, below_all l (x.number + 1) bound live others opened.2 are.1)

@@ -67,7 +67,7 @@ pub no_raise : (b c : Bool) (n : ℕ) → b ≡ false → (if b && c then n else
 no_raise false c n e = refl
 no_raise true c n e = absurd (cc)
 
-quiet_by : (f : FrameSeen) → (f.kind == settings_type) ≡ false → (f.kind == goaway_type) ≡ false → (f.kind == headers_type) ≡ false
+pub quiet_by : (f : FrameSeen) → (f.kind == settings_type) ≡ false → (f.kind == goaway_type) ≡ false → (f.kind == headers_type) ≡ false
     → (f.kind == continuation_type) ≡ false → (f.kind == window_update_type) ≡ false → IsQuiet f
 quiet_by f settings goaway headers continuation update = record {
   settings = of_settings f.kind f.flags settings;
@@ -175,7 +175,7 @@ settings_heard w f open_ live is block fits =
     })
 
 -- GOAWAY
-goaway_heard : (w : Wire) (f : FrameSeen) (open_ : Option OpenBlock) (seen : ℕ) → (f.kind == goaway_type) ≡ true → IsBlock w.block open_
+pub goaway_heard : (w : Wire) (f : FrameSeen) (open_ : Option OpenBlock) (seen : ℕ) → (f.kind == goaway_type) ≡ true → IsBlock w.block open_
     → Heard f open_ w (goaway_told w (last_stream f.payload) seen).wire
 goaway_heard w f open_ seen is block =
     let e : f.kind ≡ goaway_type = eqb-true f.kind goaway_type is in
@@ -209,7 +209,7 @@ raises_by true true n e h = refl
 raises_by false b n e h = absurd (cc)
 raises_by true false n e h = absurd (cc)
 
-raises_none : (a b : Bool) (n : ℕ) → b ≡ false → (if a && b then n else 0) ≡ 0
+pub raises_none : (a b : Bool) (n : ℕ) → b ≡ false → (if a && b then n else 0) ≡ 0
 raises_none true false n h = refl
 raises_none false false n h = refl
 raises_none a true n h = absurd (cc)

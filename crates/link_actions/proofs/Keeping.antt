@@ -33,11 +33,11 @@ opening_by : (l : Link) (s : Seen) (tag : ℕ) (xs : List Attempt) → waiting_o
 opening_by l s tag [] e is = absurd (cc)
 opening_by l s tag (a ∷ xs) e is = record { attempt = a; first = ap (λ (ys : List Attempt). slice_get ys 0) e; place = (cc) }
 
-opens_by : (b : Bool) (o : Option ℕ) (tag : ℕ) → (if b then o else None) ≡ Some tag → o ≡ Some tag
+pub opens_by : (b : Bool) (o : Option ℕ) (tag : ℕ) → (if b then o else None) ≡ Some tag → o ≡ Some tag
 opens_by true o tag e = e
 opens_by false o tag e = absurd (cc)
 
-opening : (l : Link) (s : Seen) (w : Wire) (g : ℕ → Line) (tag : ℕ) → SeesLink l s w g → opens w ≡ Some tag → IsOpening l s tag
+pub opening : (l : Link) (s : Seen) (w : Wire) (g : ℕ → Line) (tag : ℕ) → SeesLink l s w g → opens w ≡ Some tag → IsOpening l s tag
 opening l s w g tag is e =
     opening_by l s tag (waiting_on l s) refl
     (sym (ap (λ (ns : List ℕ). slice_get ns 0) is.waits) ∙ opens_by (may_open w) (slice_get w.waiting 0) tag e)

@@ -145,7 +145,7 @@ pub record IsPlain (x : Sent) (l : Link) : Type 0 where
   pub unwritten : IsUnwritten l (with_written x l)
   pub stays : (s : Seen) → stream_opened_by x l s ≡ s
 
-is_plain : (x : Sent) (l : Link) (c : Control) → outgoing_of x ≡ outgoing c → IsPlain x l
+pub is_plain : (x : Sent) (l : Link) (c : Control) → outgoing_of x ≡ outgoing c → IsPlain x l
 is_plain sent.Preface l c e = record { unwritten = preface_unwritten l; stays = λ s. refl }
 is_plain (sent.Frame f) l c e =
     let is : IsControlFrame f = is_frame c f (sym e) in

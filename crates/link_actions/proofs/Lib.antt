@@ -19,3 +19,6 @@ pub mod Draining
 pub mod Quiet
 pub mod QuietReads
 pub mod QuietKept
+pub mod Without
+pub mod Ended
+pub mod Queued

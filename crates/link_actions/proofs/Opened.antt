@@ -152,7 +152,7 @@ pub unsorted : (P : Attempt → Type 0) (xs : List Attempt) → AllByRecursion P
 unsorted P [] all = tt
 unsorted P (a ∷ xs) all = (let parts = unput P a (by_stream xs) all in (parts.0, unsorted P xs parts.1))
 
-put_all : (P : Attempt → Type 0) (a : Attempt) (bs : List Attempt) → P a → AllByRecursion P bs → AllByRecursion P (put_by_stream a bs)
+pub put_all : (P : Attempt → Type 0) (a : Attempt) (bs : List Attempt) → P a → AllByRecursion P bs → AllByRecursion P (put_by_stream a bs)
 put_all P a [] p all = (p, tt)
 put_all P a (b ∷ bs) p all =
     on_if (AllByRecursion P) (nat_lt (stream_number b) (stream_number a)) (b ∷ put_by_stream a bs) (a ∷ b ∷ bs) (λ e. (all.0, put_all P a bs p all.1)) (λ e. (p, all))

@@ -10,21 +10,21 @@ use Rattle.session_actions.specs.Words.{earlier, first_of, foremost}
 use Rattle.session_actions.specs.declared.attempt.Attempt.{Attempt}
 
 -- all from a stream on, and in rising order
-abbrev AreFrom : ℕ → List Attempt → Type 0
+abbrev pub AreFrom : ℕ → List Attempt → Type 0
 AreFrom n [] = Unit {0}
 AreFrom n (a ∷ rest) = (n ≤ stream_number a) × AreFrom n rest
 
-abbrev AreRising : List Attempt → Type 0
+abbrev pub AreRising : List Attempt → Type 0
 AreRising [] = Unit {0}
 AreRising (a ∷ rest) = AreFrom (stream_number a) rest × AreRising rest
 
 less_so : (m n : ℕ) → nat_lt m n ≡ true → m ≤ n
 less_so m n e = grind (arith, nat_tests, e)
 
-not_less : (m n : ℕ) → nat_lt m n ≡ false → n ≤ m
+pub not_less : (m n : ℕ) → nat_lt m n ≡ false → n ≤ m
 not_less m n e = grind (arith, nat_tests, e)
 
-from_lower : (m n : ℕ) (rest : List Attempt) → m ≤ n → AreFrom n rest → AreFrom m rest
+pub from_lower : (m n : ℕ) (rest : List Attempt) → m ≤ n → AreFrom n rest → AreFrom m rest
 from_lower m n [] h are = tt
 from_lower m n (a ∷ rest) h are = (let low : n ≤ stream_number a = are.0 in omega (arith, h, low), from_lower m n rest h are.1)
 
@@ -43,7 +43,7 @@ put_rises a (b ∷ bs) are =
     let low : stream_number a ≤ stream_number b = not_less (stream_number b) (stream_number a) e in
     ((low, from_lower (stream_number a) (stream_number b) bs low are.0), are))
 
-by_stream_rises : (xs : List Attempt) → AreRising (by_stream xs)
+pub by_stream_rises : (xs : List Attempt) → AreRising (by_stream xs)
 by_stream_rises [] = tt
 by_stream_rises (a ∷ xs) = put_rises a (by_stream xs) (by_stream_rises xs)
 

@@ -53,11 +53,11 @@ last_false false b e = refl
 abbrev ends_in : ℕ → List FrameSeen → Bool
 ends_in n fs = list_any (λ f. (f.kind == data_type) && (f.stream == n) && has_flag f.flags end_stream_flag) fs
 
-ends_still : (l : Link) (r : ReadFrame) (frames : List FrameSeen) (n : ℕ) → has_written_end n (with_frame_read r frames l) ≡ has_written_end n l
+pub ends_still : (l : Link) (r : ReadFrame) (frames : List FrameSeen) (n : ℕ) → has_written_end n (with_frame_read r frames l) ≡ has_written_end n l
 ends_still l r frames n = ap (ends_in n) (writes_same l r frames)
 
 -- windows of other streams
-raise_none : (f : FrameSeen) (k : ℕ) → (f.stream == k) ≡ false → raise_by k f ≡ 0
+pub raise_none : (f : FrameSeen) (k : ℕ) → (f.stream == k) ≡ false → raise_by k f ≡ 0
 raise_none f k e = (let o : ℕ = 0 in if_false ((f.kind == window_update_type) && (f.stream == k)) (increment f.payload) o (last_false (f.kind == window_update_type) (f.stream == k) e))
 
 turned : (n k : ℕ) → (n == k) ≡ false → (k == n) ≡ false
@@ -92,7 +92,7 @@ for_same l r frames (Some n) = used_same n l r frames
 linked : (f : Link → Link) (k : ℕ) (m : Link) (s : Seen) (a : Attempt) (line : Line) → IsFed m s a line → IsFed m (with_link f k s) a line
 linked f k m s a line is = record { call = is.call; call_is = is.call_is; fields = is.fields; written = is.written; left = is.left; finished = is.finished }
 
-fed_quiet : (l : Link) (s : Seen) (g : ℕ → Line) (r : ReadFrame) (frames : List FrameSeen) (h : Link → Link) (xs : List LiveStream) (others : List Attempt) → AreFed l s g xs others
+pub fed_quiet : (l : Link) (s : Seen) (g : ℕ → Line) (r : ReadFrame) (frames : List FrameSeen) (h : Link → Link) (xs : List LiveStream) (others : List Attempt) → AreFed l s g xs others
     → AreFed (with_frame_read r frames l) (with_link h l.number s) g xs others
 fed_quiet l s g r frames h [] [] are = tt
 fed_quiet l s g r frames h (x ∷ xs) (a ∷ others) are = (
@@ -102,7 +102,7 @@ fed_quiet l s g r frames h (x ∷ xs) (a ∷ others) are = (
 fed_quiet l s g r frames h [] (a ∷ others) are = absurd are
 fed_quiet l s g r frames h (x ∷ xs) [] are = absurd are
 
-wait_quiet : (l : Link) (s : Seen) (g : ℕ → Line) (r : ReadFrame) (frames : List FrameSeen) (h : Link → Link) (xs : List Attempt) → WaitFed l s g xs
+pub wait_quiet : (l : Link) (s : Seen) (g : ℕ → Line) (r : ReadFrame) (frames : List FrameSeen) (h : Link → Link) (xs : List Attempt) → WaitFed l s g xs
     → WaitFed (with_frame_read r frames l) (with_link h l.number s) g xs
 wait_quiet l s g r frames h [] are = tt
 wait_quiet l s g r frames h (a ∷ xs) are = (
@@ -111,7 +111,7 @@ wait_quiet l s g r frames h (a ∷ xs) are = (
 )
 
 -- what is owed
-drop_more : {X : Type 0} (n : ℕ) (xs ys : List X) → n ≤ length xs → drop n (xs ++ ys) ≡ drop n xs ++ ys
+pub drop_more : {X : Type 0} (n : ℕ) (xs ys : List X) → n ≤ length xs → drop n (xs ++ ys) ≡ drop n xs ++ ys
 drop_more zero xs ys low = refl
 drop_more (suc n) [] ys low = absurd (let never : ⊥ = omega (arith, low) in never)
 drop_more (suc n) (x ∷ xs) ys low = drop_more n xs ys (let less : n ≤ length xs = omega (arith, low) in less)
@@ -152,15 +152,15 @@ later_names ns more owes (f ∷ fs) low =
     later_by (f.kind == settings_type) (f.kind == headers_type) ns more owes fs (subst (λ (n : ℕ). n ≤ length ns) (counts_first f fs (f.kind == settings_type) refl) low)
     (λ ms o less. later_names ms more o fs less)
 
-joined : {X : Type 0} (xs ys zs : List X) → (xs ++ ys) ++ zs ≡ xs ++ (ys ++ zs)
+pub joined : {X : Type 0} (xs ys zs : List X) → (xs ++ ys) ++ zs ≡ xs ++ (ys ++ zs)
 joined [] ys zs = refl
 joined (x ∷ xs) ys zs = ap (λ (us : List _). x ∷ us) (joined xs ys zs)
 
-owed_quiet : (l : Link) (s : Seen) (w v : Wire) (r : ReadFrame) → SeesOwed l w → map outgoing (owed_controls r.frame) ≡ map (λ h. AFrame h) (owed_for r.frame l s)
-    → v.resizes ≡ w.resizes → v.queue.items ≡ w.queue.items ++ owed_controls r.frame → SeesOwed (with_frame_read r (owed_for r.frame l s) l) v
-owed_quiet l s w v r owes controls resizes items =
+pub owed_read : (l : Link) (s : Seen) (w v : Wire) (r : ReadFrame) (cs : List Control) → SeesOwed l w → map outgoing cs ≡ map (λ h. AFrame h) (owed_for r.frame l s)
+    → filter_map named_in cs ≡ (if is_settings r.frame then list_any (is_setting 1) (settings_of r.frame) ∷ [] else [])
+    → v.resizes ≡ w.resizes → v.queue.items ≡ w.queue.items ++ cs → SeesOwed (with_frame_read r (owed_for r.frame l s) l) v
+owed_read l s w v r cs owes controls named resizes items =
     let m : Link = with_frame_read r (owed_for r.frame l s) l in
-    let cs : List Control = owed_controls r.frame in
     let fs : frames_written m ≡ frames_written l = writes_same l r (owed_for r.frame l s) in
     let ns : List Bool = table_sizes_named l in
     let more : List Bool = if is_settings r.frame then list_any (is_setting 1) (settings_of r.frame) ∷ [] else [] in
@@ -182,7 +182,7 @@ owed_quiet l s w v r owes controls resizes items =
           ∙ ap (λ (n : ℕ). front ++ map (λ h. AFrame h) (drop n (l.owed ++ owed_for r.frame l s))) (sym count)
           ∙ ap (λ (b : Bool). (if b then [] else Opening ∷ []) ++ map (λ h. AFrame h) (drop (controls_written m) (l.owed ++ owed_for r.frame l s))) (sym begun);
       names = ap (filter_map named_in) items ∙ filter_map-append named_in w.queue.items cs ∙ ap (λ (bs : List Bool). bs ++ filter_map named_in cs) owes.names
-          ∙ ap (λ (bs : List Bool). drop (acknowledged l) ns ++ bs) (same_names r.frame) ∙ sym (drop_more (acknowledged l) ns more least)
+          ∙ ap (λ (bs : List Bool). drop (acknowledged l) ns ++ bs) named ∙ sym (drop_more (acknowledged l) ns more least)
           ∙ ap (λ (n : ℕ). drop n (ns ++ more)) (sym acks) ∙ ap (drop (acknowledged m)) (sym names);
       resizes = resizes ∙ owes.resizes ∙ sym (later_names ns more false (frames_written l) least)
           ∙ ap (λ (hs : List FrameSeen). owes_update_from (ns ++ more) false hs) (sym fs) ∙ ap (λ (bs : List Bool). owes_update_from bs false (frames_written m)) (sym names);
@@ -191,7 +191,7 @@ owed_quiet l s w v r owes controls resizes items =
     }
 
 -- streams that were not opened
-opened_of_error : (early push bad misplaced unopened lifts wide : Bool) → first_error early push bad misplaced unopened lifts wide ≡ None → unopened ≡ false
+pub opened_of_error : (early push bad misplaced unopened lifts wide : Bool) → first_error early push bad misplaced unopened lifts wide ≡ None → unopened ≡ false
 opened_of_error false false false false false lifts wide e = refl
 opened_of_error true push bad misplaced unopened lifts wide e = absurd (cc)
 opened_of_error false true bad misplaced unopened lifts wide e = absurd (cc)
@@ -207,19 +207,19 @@ apart_of opened stream k true true is e above = less_apart stream k opened is ab
 apart_of opened stream k true false is e above = absurd (cc)
 apart_of opened stream k false less is e above = absurd (cc)
 
-below_opened : (opened stream k : ℕ) → was_opened opened stream ≡ true → 2 * opened < k → (stream == k) ≡ false
+pub below_opened : (opened stream k : ℕ) → was_opened opened stream ≡ true → 2 * opened < k → (stream == k) ≡ false
 below_opened opened stream k e above = apart_of opened stream k (stream % 2 == 1) (nat_lt stream (2 * opened)) refl e above
 
 zero_apart : (k : ℕ) → 0 < k → (0 == k) ≡ false
 zero_apart k h = grind (arith, nat_tests, h)
 
-bad_by : (a b c : Bool) → a ≡ true → b ≡ false → c ≡ false → (a && not b && not c) ≡ false → ⊥
+pub bad_by : (a b c : Bool) → a ≡ true → b ≡ false → c ≡ false → (a && not b && not c) ≡ false → ⊥
 bad_by true false false e h i bad = (cc)
 bad_by false b c e h i bad = (cc)
 bad_by true true c e h i bad = (cc)
 bad_by true false true e h i bad = (cc)
 
-of_update : (kind : ℕ) → (kind == window_update_type) ≡ true → is_of_opened kind ≡ true
+pub of_update : (kind : ℕ) → (kind == window_update_type) ≡ true → is_of_opened kind ≡ true
 of_update kind e = ap is_of_opened (eqb-true kind window_update_type e)
 
 fresh_by : (update zero_ was : Bool) (f : FrameSeen) (opened k : ℕ) → (f.kind == window_update_type) ≡ update → (f.stream == 0) ≡ zero_ → was_opened opened f.stream ≡ was
@@ -233,7 +233,7 @@ fresh_by true false true f opened k is none is_opened above no_error_ = raise_no
 fresh_by true false false f opened k is none is_opened above no_error_ =
     absurd (bad_by (is_of_opened f.kind) (f.stream == 0) (was_opened opened f.stream) (of_update f.kind is) none is_opened no_error_)
 
-fresh_quiet : (l : Link) (opened : ℕ) (r : ReadFrame) (frames : List FrameSeen) → link.is_unopened opened r.frame ≡ false → AreFresh l opened → AreFresh (with_frame_read r frames l) opened
+pub fresh_quiet : (l : Link) (opened : ℕ) (r : ReadFrame) (frames : List FrameSeen) → link.is_unopened opened r.frame ≡ false → AreFresh l opened → AreFresh (with_frame_read r frames l) opened
 fresh_quiet l opened r frames no_error_ fresh k above =
     let was = fresh k above in
     let zero_ : raised k l ≡ 0 = was.2 in
@@ -243,7 +243,7 @@ fresh_quiet l opened r frames no_error_ fresh k above =
     (used_same k l r frames ∙ was.0, ends_still l r frames k ∙ was.1, omega (arith, none, more, zero_))
 
 -- whole
-heard_of : (end : ℕ) (f : FrameSeen) (o : Option OpenBlock) (w : Wire) (n : NextRead) (t : Told) → SameAs end f o w n (Ok t) → Heard f o w t.wire
+pub heard_of : (end : ℕ) (f : FrameSeen) (o : Option OpenBlock) (w : Wire) (n : NextRead) (t : Told) → SameAs end f o w n (Ok t) → Heard f o w t.wire
 heard_of end f o w (nextread.Frame r) t same = same.2
 heard_of end f o w nextread.Nothing t same = absurd same
 heard_of end f o w (nextread.Broken code) t same = absurd same
@@ -286,7 +286,7 @@ kept_by l s w g r (Ok t) is allowed end no_error_ apart e whole =
         reads = after_frame l w t.wire r frames is.sees.reads heard end;
         live = subst (λ xs. AreLive m xs bs) (sym live_is) (live_quiet l r frames w.live bs apart.1 is.sees.live);
       };
-      owes = owed_quiet l s w (record t.wire { read = seen }) r is.owes controls left.resizes left.queue;
+      owes = owed_read l s w (record t.wire { read = seen }) r (owed_controls f) is.owes controls (same_names f) left.resizes left.queue;
       waits = left.waiting ∙ is.waits;
       fed = subst (λ xs. AreFed m (frame_read_on r s l) g xs bs) (sym live_is) (fed_quiet l s g r frames (with_frame_read r frames) w.live bs is.fed);
       wait_fed = wait_quiet l s g r frames (with_frame_read r frames) (waiting_on l s) is.wait_fed;

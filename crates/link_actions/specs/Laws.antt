@@ -2,23 +2,36 @@
 -- code; and what the next bytes show is the same. What else a frame does (an attempt gets a head, or ends) is other actions, which come after this
 -- one; they do not change what was read.
 -- Example: PING comes before SETTINGS. The link is broken with PROTOCOL_ERROR in both.
+-- The laws, in the order of this file, with what is still to be stated:
+-- 1. New links, frames that break the link, and what the next bytes show.
+-- 2. What is written: control frames, HEADERS, DATA; drains.
+-- 3. Frames of no attempt's stream.
+-- 4. Ends: an attempt that ends, for whatever cause, is on its link no more; RST_STREAM is queued for its stream; PING of the environment is queued.
 use Rattle.std.specs.List.{list_any}
-use Rattle.std.specs.Prelude.{List, None, Option, Some, [], drop, false, flat_map, length, option_map, slice_get, true, ℕ, ◌+◌, ◌++◌, ◌==◌, ◌<◌, ◌≤◌, ◌^◌, ◌∷◌, ◌≡◌}
+use Rattle.std.specs.Prelude.{List, None, Option, Some, [], drop, false, filter, flat_map, length, not, option_map, slice_get, true, ℕ, ◌+◌, ◌++◌, ◌==◌, ◌<◌, ◌≤◌, ◌^◌, ◌∷◌, ◌≡◌}
+use Rattle.attempt_ledger.specs.declared.row.RowEnd.{RowEnd}
+use Rattle.grpc_base.specs.declared.event.Reply.TheVariants as reply
 use Rattle.h2_frame.specs.Frames.{FrameSeen, is_allowed}
 use Rattle.h2_frame.specs.Numbers.{goaway_type}
+use Rattle.h2_frame.specs.Sent.{ping_frame, rst_stream_frame}
 use Rattle.h2_link.specs.Drains.{Drains, next, outgoing, sent_control}
 use Rattle.h2_link.specs.Drains.{Sent as Sending}
 use Rattle.h2_link.specs.Feeds.{Line}
 use Rattle.h2_link.specs.Heard.{front_of}
 use Rattle.h2_link.specs.LinkErrors as link
-use Rattle.h2_link.specs.Steps.{broke, told}
+use Rattle.h2_link.specs.Queues.{reset_queued}
+use Rattle.h2_link.specs.Steps.{broke, pinged, told}
 use Rattle.h2_link.specs.Wire.{Told, Wire, fresh_wire}
 use Rattle.h2_link.specs.declared.control.Control.{Control}
 use Rattle.link_actions.specs.Sees.{Sees, SeesLink, SeesOwed, SeesRead, outgoing_of}
-use Rattle.session_actions.specs.Links.{read_bytes}
+use Rattle.session_actions.specs.AttemptEnds.{attempt_ended, stream_reset}
+use Rattle.session_actions.specs.Entries.{replied}
+use Rattle.session_actions.specs.Links.{link_number, owed, read_bytes}
 use Rattle.session_actions.specs.Reading.{link_error, next_read}
 use Rattle.session_actions.specs.Subchannels.{new_link}
+use Rattle.session_actions.specs.Words.{numbered}
 use Rattle.session_actions.specs.Writing.{bytes_of, frame_read, frame_written, has_begun, next_control, owed_for, sendable, with_frame_read}
+use Rattle.session_actions.specs.declared.attempt.Attempt.{Attempt}
 use Rattle.session_actions.specs.declared.link.Link.{Link}
 use Rattle.session_actions.specs.declared.link.NextRead.{NextRead}
 use Rattle.session_actions.specs.declared.link.ReadFrame.{ReadFrame}
@@ -120,3 +133,29 @@ QuietFramesKeep =
     (l : Link) (s : Seen) (w : Wire) (g : ℕ → Line) (r : ReadFrame) → SeesLink l s w g → is_allowed r.frame ≡ true
     → r.end ≡ read_bytes l + (9 + length r.frame.payload) → link.link_error w r.frame ≡ None → (told w r.frame).wire.broken ≡ None → IsApart r.frame w
     → SeesLink (with_frame_read r (owed_for r.frame l s) l) (frame_read l.number r s) (told w r.frame).wire g
+
+-- an attempt ends, for whatever cause: its link has its stream no more, nor does it wait there; all else stays (RFC 9113, section 5.1.2: what counts as open
+-- are the streams of attempts that are outstanding)
+abbrev pub without_tag : ℕ → Wire → Wire
+without_tag t w = record w { live = filter (λ x. not (x.tag == t)) w.live; waiting = filter (λ n. not (n == t)) w.waiting }
+
+abbrev pub EndsKeep : Type 0
+EndsKeep =
+    (l : Link) (s : Seen) (w : Wire) (g : ℕ → Line) (t : ℕ) (a : Attempt) (e : RowEnd) → SeesLink l s w g → numbered s.attempts t ≡ Some a
+    → SeesLink l (attempt_ended t e s) (without_tag t w) g
+
+-- RST_STREAM is queued for the stream of an attempt that ended, behind all that was owed before (RFC 9113, section 6.4)
+abbrev pub with_owed : List FrameSeen → Link → Link
+with_owed frames l = record l { owed = l.owed ++ frames }
+
+abbrev pub ResetsKeep : Type 0
+ResetsKeep =
+    (l : Link) (s : Seen) (w : Wire) (g : ℕ → Line) (t n code : ℕ) (a : Attempt) (e : RowEnd) → SeesLink l s w g → numbered s.attempts t ≡ Some a
+    → a.row.ended ≡ Some e → a.row.stream ≡ Some n → link_number a ≡ l.number → w.queue.fresh ≡ 0
+    → SeesLink (with_owed (rst_stream_frame n code ∷ []) l) (stream_reset t code s) (record w { queue = reset_queued n code w.queue }) g
+
+-- a PING of the environment is queued behind all that is owed, and answered with Done (RFC 9113, section 6.7)
+abbrev pub PingsKeep : Type 0
+PingsKeep =
+    (l : Link) (s : Seen) (w : Wire) (g : ℕ → Line) (word : ℕ) → SeesLink l s w g
+    → SeesLink (with_owed (ping_frame word ∷ []) l) (replied reply.Done (owed (ping_frame word ∷ []) l.number s)) (pinged w word) g

@@ -1,5 +1,5 @@
 // What a link reads and writes, as actions of a session; nothing runs.
-ghost use Rattle.link_actions.specs.Laws.{ControlsAreSame, DrainsAreWritten, FramesAreJudged, NewOnesAgree, NoneIsOwed, QuietFramesKeep, ReadsAreSame, WritesAreSame, WritesKeep};
+ghost use Rattle.link_actions.specs.Laws.{ControlsAreSame, DrainsAreWritten, EndsKeep, FramesAreJudged, NewOnesAgree, NoneIsOwed, PingsKeep, QuietFramesKeep, ReadsAreSame, ResetsKeep, WritesAreSame, WritesKeep};
 
 /// A new link is what a new link of a session is; a whole frame breaks the link by the same rule, with the same code (RFC 9113, section 5.4.1); and
 /// what the bytes show next is the same: nothing yet, a frame that both have read, or a link that is broken. A frame of no attempt's stream makes the same
@@ -30,4 +30,16 @@ pub fn writing_is_actions()
 /// where the next does not fit into the room.
 pub fn drains_are_actions()
     ensures { DrainsAreWritten }
+{}
+
+/// An attempt that ends in the session, for whatever cause, has neither a stream on its link any more, nor does it wait there; and RST_STREAM for its stream
+/// is queued behind what was owed (RFC 9113, sections 5.1.2 and 6.4).
+pub fn ends_are_actions()
+    ensures end { EndsKeep }
+    ensures reset { ResetsKeep }
+{}
+
+/// A PING of the environment is queued behind what is owed (RFC 9113, section 6.7).
+pub fn pings_are_actions()
+    ensures { PingsKeep }
 {}

@@ -4,5 +4,6 @@
 mod laws;
 
 pub use laws::{
-    control_frames_are_actions, drains_are_actions, reading_is_actions, writing_is_actions,
+    control_frames_are_actions, drains_are_actions, ends_are_actions, pings_are_actions,
+    reading_is_actions, writing_is_actions,
 };
