@@ -1,5 +1,5 @@
 -- Control frames that are queued beside what is read: RST_STREAM for a stream whose attempt ended, and PING of the environment.
-use Rattle.std.proofs.Common.{◌≡◌, ◌≤◌, ◌∷◌, ◌++◌, ◌&&◌, ◌==◌, ap, arith, refl, subst, sym, ◌∙◌, Bool, true, false, List, [], Option, None, Some, ℕ, ◌+◌, ◌-◌, ◌*◌, zero, suc, append-nil, drop, filter, filter_map, if◌then◌else◌, is_none, is_some, length, length-append, map, option_map, slice_get, slice_set}
+use Rattle.std.proofs.Common.{◌≡◌, ◌≤◌, ◌∷◌, ◌++◌, ◌&&◌, ◌==◌, ap, arith, refl, subst, sym, ◌∙◌, Bool, false, List, [], Option, None, Some, ℕ, ◌+◌, ◌-◌, zero, suc, append-nil, drop, filter, filter_map, if◌then◌else◌, is_none, is_some, length, length-append, map, option_map}
 use Rattle.std.specs.Option.{option_map_or, unwrap_or}
 use Rattle.std.proofs.lemmas.List.{map-append}
 use Rattle.std.proofs.lemmas.List.Edits.{insert_end}
@@ -13,7 +13,6 @@ use Rattle.h2_frame.specs.Sent.{ping_frame, rst_stream_frame}
 use Rattle.h2_link.specs.Drains.{AFrame, Opening, Outgoing, outgoing}
 use Rattle.h2_link.specs.Feeds.{Line}
 use Rattle.h2_link.specs.Queues.{Queue, first_place, is_behind, queued, reset_place, reset_queued}
-use Rattle.h2_link.specs.Steps.{pinged}
 use Rattle.h2_link.specs.Wire.{Wire}
 use Rattle.h2_link.specs.declared.control.Control.{Control}
 use Rattle.h2_link.specs.declared.control.Control.TheVariants as control
@@ -24,12 +23,12 @@ use Rattle.link_actions.proofs.QuietKept.{drop_more, joined}
 use Rattle.link_actions.proofs.Without.{changed_at, place_is, places_at, same_kept}
 use Rattle.link_actions.proofs.Written.{IsUnwritten, all_still, changed_here, live_still, waits_still}
 use Rattle.link_actions.specs.Laws.{PingsKeep, ResetsKeep, with_owed}
-use Rattle.link_actions.specs.Sees.{AreFed, AreLive, ArePlaced, IsFed, SeesLink, SeesOwed, SeesRead, WaitFed, acknowledged, by_stream, named_in, still_owed}
+use Rattle.link_actions.specs.Sees.{AreFed, AreLive, ArePlaced, IsFed, SeesLink, SeesOwed, SeesRead, WaitFed, acknowledged, by_stream, named_in}
 use Rattle.session_actions.specs.AttemptEnds.{stream_reset, stream_reset_of, with_reset_queued}
 use Rattle.session_actions.specs.Attempts.{with_attempt}
 use Rattle.session_actions.specs.Configs.{deadline}
 use Rattle.session_actions.specs.Entries.{now, replied}
-use Rattle.session_actions.specs.Links.{link_number, owed, stream_number}
+use Rattle.session_actions.specs.Links.{link_number, owed}
 use Rattle.session_actions.specs.Reading.{is_outstanding_on, outstanding_on}
 use Rattle.session_actions.specs.Words.{changed, changed_if, holds, numbered}
 use Rattle.session_actions.specs.Writing.{controls_written, has_begun, streaming_on, table_sizes_named, waiting_on}

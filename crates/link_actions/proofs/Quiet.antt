@@ -1,10 +1,10 @@
 -- A frame that is of no attempt's stream changes no stream, and makes the same owed in both.
-use Rattle.std.proofs.Common.{◌≡◌, ◌<◌, ◌≤◌, ◌∷◌, ◌++◌, ◌||◌, ◌&&◌, ◌==◌, not, ap, arith, refl, subst, sym, ◌∙◌, Bool, true, false, List, [], Option, None, Some, Ok, Err, Result, IfOk, ℕ, ◌+◌, append-nil, filter_map, if◌then◌else◌, is_some, length, map, nat_le}
+use Rattle.std.proofs.Common.{◌≡◌, ◌∷◌, ◌++◌, ◌||◌, ◌&&◌, ◌==◌, not, ap, refl, subst, sym, ◌∙◌, Bool, true, false, List, [], Option, None, Some, Ok, Err, Result, IfOk, ℕ, ◌+◌, append-nil, if◌then◌else◌, length, nat_le}
 use Rattle.std.specs.List.{list_any}
 use Rattle.std.proofs.lemmas.Bool.{eqb-true}
 use Rattle.grpc_base.specs.declared.fields.Field.{Field}
 use Rattle.h2_frame.specs.Frames.{FrameSeen, has_flag}
-use Rattle.h2_frame.specs.Numbers.{ack_flag, continuation_type, data_type, end_headers_flag, end_stream_flag, goaway_type, headers_type, ping_type, rst_stream_type, settings_type, window_update_type}
+use Rattle.h2_frame.specs.Numbers.{ack_flag, continuation_type, data_type, end_headers_flag, goaway_type, headers_type, ping_type, rst_stream_type, settings_type, window_update_type}
 use Rattle.h2_frame.specs.Payloads.{increment, last_stream, ping_word, reset_code, settings_in}
 use Rattle.h2_frame.specs.declared.payload.Setting.{Setting}
 use Rattle.h2_hpack.specs.Blocks as hpack

@@ -1,15 +1,14 @@
 -- After a frame that is of no attempt's stream a link and its session still agree.
-use Rattle.std.proofs.Common.{◌≡◌, ◌<◌, ◌≤◌, ◌∷◌, ◌++◌, ◌||◌, ◌&&◌, ◌==◌, ◌%◌, not, ap, arith, refl, subst, sym, ◌∙◌, Bool, true, false, List, [], Option, None, Some, Ok, Err, Result, IfOk, ℕ, ℤ, pos, ◌+ℤ◌, ◌+◌, ◌*◌, zero, suc, append-nil, cond, count_by, drop, filter, filter_map, if◌then◌else◌, length, length-append, map, nat_lt, option_map}
-use Rattle.std.specs.List.{AllByRecursion, list_any}
+use Rattle.std.proofs.Common.{◌≡◌, ◌<◌, ◌≤◌, ◌∷◌, ◌++◌, ◌||◌, ◌&&◌, ◌==◌, ◌%◌, not, ap, arith, refl, subst, sym, ◌∙◌, Bool, true, false, List, [], Option, None, Some, Ok, Err, Result, IfOk, ℕ, pos, ◌+ℤ◌, ◌+◌, ◌*◌, zero, suc, cond, count_by, drop, filter, filter_map, if◌then◌else◌, length, length-append, map, nat_lt}
+use Rattle.std.specs.List.{list_any}
 use Rattle.std.specs.Option.{option_map_or}
 use Rattle.std.proofs.lemmas.Bool.{eqb-true}
 use Rattle.std.proofs.lemmas.Bool.Decides.{nat_tests}
 use Rattle.std.proofs.lemmas.List.{map-append}
 use Rattle.std.proofs.lemmas.List.Elements.{filter_map-append}
 use Rattle.std.proofs.lemmas.List.Folds.{list_any-append}
-use Rattle.grpc_meta.specs.RequestFields.{fields_of_request}
 use Rattle.h2_frame.specs.Frames.{FrameSeen, has_flag, is_allowed}
-use Rattle.h2_frame.specs.Numbers.{data_type, end_stream_flag, goaway_type, headers_type, push_promise_type, settings_type, window_update_type}
+use Rattle.h2_frame.specs.Numbers.{data_type, end_stream_flag, headers_type, push_promise_type, settings_type, window_update_type}
 use Rattle.h2_frame.specs.Payloads.{increment}
 use Rattle.h2_frame.specs.declared.payload.Setting.{Setting}
 use Rattle.h2_link.specs.Drains.{AFrame, Opening, Outgoing, outgoing}
@@ -17,7 +16,7 @@ use Rattle.h2_link.specs.Feeds.{Line}
 use Rattle.h2_link.specs.LinkErrors as link
 use Rattle.h2_link.specs.LinkErrors.{is_bad_setting, overflows_link, overflows_streams, was_opened}
 use Rattle.h2_link.specs.Queues.{sealed}
-use Rattle.h2_link.specs.Steps.{applied, broke, judged, outcome, read_after, told}
+use Rattle.h2_link.specs.Steps.{applied, broke, judged, outcome, read_after}
 use Rattle.h2_link.specs.Wire.{Told, Wire}
 use Rattle.h2_link.specs.declared.control.Control.{Control}
 use Rattle.h2_link.specs.declared.live.LiveStream.{LiveStream}
@@ -25,18 +24,17 @@ use Rattle.link_actions.proofs.Blocks.{SameAs}
 use Rattle.link_actions.proofs.Hearing.{Heard}
 use Rattle.link_actions.proofs.History.{raised_more, reads_more, used_same, writes_same}
 use Rattle.link_actions.proofs.Judged.{first_error, settings_same}
-use Rattle.link_actions.proofs.Lists.{if_false, if_true, none_of, or_none}
+use Rattle.link_actions.proofs.Lists.{if_false, none_of, or_none}
 use Rattle.link_actions.proofs.Owed.{first_counts, settings_in_}
 use Rattle.link_actions.proofs.Quiet.{IsUntouched, applied_leaves, owed_controls}
 use Rattle.link_actions.proofs.QuietReads.{none_goes, none_going, same_names, same_owed}
 use Rattle.link_actions.proofs.Reading.{NoError, after_frame, applied_same, no_error, unsealed}
 use Rattle.link_actions.proofs.Written.{changed_here, fed_still}
 use Rattle.link_actions.specs.Laws.{IsApart, QuietFramesKeep}
-use Rattle.link_actions.specs.Sees.{AreDistinct, AreFed, AreFresh, AreLive, AreOpened, IsFed, IsLive, SeesLink, SeesOwed, SeesRead, WaitFed, acknowledged, by_stream, named_in, still_owed, written_for}
+use Rattle.link_actions.specs.Sees.{AreDistinct, AreFed, AreFresh, AreLive, AreOpened, IsFed, SeesLink, SeesOwed, WaitFed, acknowledged, by_stream, named_in}
 use Rattle.session_actions.specs.Links.{frames_read, frames_written, has_written_end, is_settings, read_bytes, settings_of, with_link}
 use Rattle.session_actions.specs.Reading.{frame_read_by, is_of_opened, is_setting, open_block, outstanding_on, raise_by, raised, used}
-use Rattle.session_actions.specs.Words.{numbered}
-use Rattle.session_actions.specs.Writing.{controls_written, frame_read, frame_read_on, has_begun, is_control, is_first_named, is_preface_of, owed_for, owes_update, owes_update_from, streaming_on, table_sizes_named, waiting_on, with_frame_read}
+use Rattle.session_actions.specs.Writing.{controls_written, frame_read, frame_read_on, has_begun, is_control, is_first_named, is_preface_of, owed_for, owes_update_from, streaming_on, table_sizes_named, waiting_on, with_frame_read}
 use Rattle.session_actions.specs.declared.attempt.Attempt.{Attempt}
 use Rattle.session_actions.specs.declared.link.Link.{Link}
 use Rattle.session_actions.specs.declared.link.NextRead.{NextRead}

@@ -1,36 +1,26 @@
 -- After a frame that is of no attempt's stream a link and its session still agree.
-use Rattle.std.proofs.Common.{◌≡◌, ◌<◌, ◌≤◌, ◌∷◌, ◌++◌, ◌||◌, ◌&&◌, ◌==◌, not, ap, arith, refl, subst, sym, ◌∙◌, Bool, true, false, List, [], Option, None, Some, Ok, Err, Result, IfOk, ℕ, ℤ, pos, ◌+ℤ◌, ◌+◌, ◌*◌, zero, suc, append-nil, count_by, drop, filter, filter_map, if◌then◌else◌, is_none, is_some, length, map, option_map}
-use Rattle.std.specs.List.{AllByRecursion, list_any}
-use Rattle.std.specs.Option.{option_map_or}
-use Rattle.std.proofs.lemmas.Bool.{eqb-true}
+use Rattle.std.proofs.Common.{◌≡◌, ◌∷◌, ◌||◌, ◌&&◌, ◌==◌, not, ap, arith, refl, sym, ◌∙◌, Bool, true, false, List, [], Option, None, Some, ℕ, filter_map, if◌then◌else◌, is_some, length, map}
+use Rattle.std.specs.List.{list_any}
 use Rattle.std.proofs.lemmas.Bool.Decides.{nat_tests}
-use Rattle.std.proofs.lemmas.List.Elements.{filter_map-append}
-use Rattle.h2_frame.specs.Frames.{FrameSeen, has_flag, is_allowed}
-use Rattle.h2_frame.specs.Numbers.{ack_flag, data_type, end_stream_flag, ping_type, settings_type, window_update_type}
-use Rattle.h2_frame.specs.Payloads.{increment, ping_word, settings_in}
+use Rattle.h2_frame.specs.Frames.{FrameSeen, has_flag}
+use Rattle.h2_frame.specs.Numbers.{ack_flag, data_type, end_stream_flag, ping_type, settings_type}
+use Rattle.h2_frame.specs.Payloads.{ping_word, settings_in}
 use Rattle.h2_frame.specs.Sent.{ping_ack, settings_ack, window_update_frame}
 use Rattle.h2_frame.specs.declared.payload.Setting.{Setting}
-use Rattle.h2_link.specs.Drains.{AFrame, Opening, Outgoing, outgoing}
-use Rattle.h2_link.specs.Feeds.{Line}
-use Rattle.h2_link.specs.LinkErrors as link
-use Rattle.h2_link.specs.Wire.{Wire}
+use Rattle.h2_link.specs.Drains.{AFrame, outgoing}
 use Rattle.h2_link.specs.declared.control.Control.{Control}
 use Rattle.h2_link.specs.declared.control.Control.TheVariants as control
 use Rattle.h2_link.specs.declared.live.LiveStream.{LiveStream}
-use Rattle.link_actions.proofs.History.{reads_more, raised_more, used_same, writes_same}
-use Rattle.link_actions.proofs.Lists.{any_kept, if_false, if_true, none_of, or_none}
-use Rattle.link_actions.proofs.Owed.{settings_in_}
-use Rattle.link_actions.proofs.Quiet.{IsUntouched, names_one, owed_controls}
+use Rattle.link_actions.proofs.Lists.{any_kept, if_true, none_of}
+use Rattle.link_actions.proofs.Quiet.{names_one, owed_controls}
 use Rattle.link_actions.proofs.Streams.{any_by_stream}
-use Rattle.link_actions.specs.Sees.{AreLive, IsLive, SeesOwed, acknowledged, by_stream, named_in, still_owed}
-use Rattle.session_actions.specs.Links.{frames_read, frames_written, has_written_end, is_settings, settings_of}
-use Rattle.session_actions.specs.Reading.{is_setting, outstanding_on, raise_by, raised, used}
-use Rattle.session_actions.specs.Words.{holds, is_number}
-use Rattle.session_actions.specs.Writing.{controls_written, has_begun, is_going_on, is_preface_of, owed_for, owes_update, owes_update_from, streaming_on, table_sizes_named, updates_for, with_frame_read}
+use Rattle.link_actions.specs.Sees.{AreLive, by_stream, named_in}
+use Rattle.session_actions.specs.Links.{is_settings, settings_of}
+use Rattle.session_actions.specs.Reading.{is_setting, outstanding_on}
+use Rattle.session_actions.specs.Words.{is_number}
+use Rattle.session_actions.specs.Writing.{is_going_on, owed_for, streaming_on, updates_for}
 use Rattle.session_actions.specs.declared.attempt.Attempt.{Attempt}
 use Rattle.session_actions.specs.declared.link.Link.{Link}
-use Rattle.session_actions.specs.declared.link.ReadFrame.{ReadFrame}
-use Rattle.session_actions.specs.declared.link.Traffic.TheVariants as traffic
 use Rattle.session_actions.specs.declared.seen.Seen.{Seen}
 
 -- no attempt has the stream of a frame that no stream of the link has
