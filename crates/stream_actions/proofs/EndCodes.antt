@@ -16,7 +16,7 @@ use Rattle.grpc_meta.specs.ResponseFields.{values_of}
 use Rattle.grpc_status.specs.StatusMaps.{looked_up, reset_codes}
 use Rattle.h2_frame.specs.Frames.{FrameSeen, has_flag}
 use Rattle.h2_frame.specs.Numbers.{continuation_type, data_type, end_stream_flag, goaway_type, headers_type, rst_stream_type, settings_type}
-use Rattle.h2_frame.specs.Payloads.{content_of, reset_code}
+use Rattle.h2_frame.specs.Payloads.{content_of, last_stream, reset_code}
 use Rattle.h2_link.specs.Feeds.{Line}
 use Rattle.h2_link.specs.Wire.{Wire}
 use Rattle.link_actions.proofs.Hearing.{not_kind, of_settings}
@@ -24,9 +24,9 @@ use Rattle.link_actions.proofs.Lists.{if_false, if_true, on_if}
 use Rattle.link_actions.proofs.QuietKept.{ends_still}
 use Rattle.link_actions.proofs.Written.{changed_here}
 use Rattle.session_actions.specs.AttemptEnds.{code_to_reset, is_framing, is_reset}
-use Rattle.session_actions.specs.Links.{has_written_end}
+use Rattle.session_actions.specs.Links.{has_written_end, is_settings}
 use Rattle.session_actions.specs.Reading.{is_last_of_block, is_of_block}
-use Rattle.session_actions.specs.Responses.{block_end, ended, ended_by_block, http_status, is_interim, limit_of_attempt, plain_end, response, status_end, trailers_end, with_block, with_data, with_fault, with_head, with_messages, with_own_frame, with_reset, with_stream_frame, with_trailers}
+use Rattle.session_actions.specs.Responses.{block_end, ended, ended_by_block, http_status, initial_after, is_interim, limit_of_attempt, plain_end, response, status_end, trailers_end, with_block, with_data, with_fault, with_head, with_messages, with_own_frame, with_reset, with_stream_frame, with_trailers}
 use Rattle.session_actions.specs.Words.{numbered}
 use Rattle.session_actions.specs.Writing.{frame_read_on, owed_for, with_frame_read}
 use Rattle.session_actions.specs.declared.attempt.Attempt.{Attempt}
@@ -42,11 +42,12 @@ use Rattle.stream_actions.proofs.DataRead.{own_data}
 use Rattle.stream_actions.proofs.Going.{response_is}
 use Rattle.stream_actions.proofs.HeadersRead.{IsGot, IsPart, got_by, is_part, none_of_some, own_response, then_of}
 use Rattle.stream_actions.proofs.PlainRead.{on_after, still_response, of_kind, IsStill}
-use Rattle.stream_actions.proofs.Responses.{response_own}
+use Rattle.stream_actions.proofs.Responses.{goes_on, response_own, response_read}
 use Rattle.stream_actions.proofs.StreamGoes.{Stands, stands}
 use Rattle.stream_actions.proofs.StreamRead.{read_is}
 use Rattle.stream_actions.proofs.Unheard.{no_list}
-use Rattle.stream_actions.specs.Laws.{BlocksEndAlike, DataEndsAlike, EndsAlike, EndsAs, IsOn, ResetsEndAlike, block_then, closed_code, data_then, read_link}
+use Rattle.stream_actions.specs.Laws.{BlocksEndAlike, DataEndsAlike, EndsAlike, EndsAs, GoawaysEndAlike, IsOn, ResetsEndAlike, block_then, closed_code, data_then, read_link}
+use Rattle.session_actions.specs.declared.link.Traffic.TheVariants as traffic
 use Rattle.stream_actions.specs.Sees.{SeesStreams, response_of}
 
 -- the code of a reset, by cause, by whether both sides closed the stream, and by what the outcome says
@@ -68,13 +69,12 @@ code_is l s n a e p o here on over same end is =
     ∙ ap (λ (x : Option Outcome). if is_reset o.cause || (has_written_end n l && p.closes) then None else if is_framing o.cause then option_and_then (λ t. t.reset) x else Some cancel) end
 
 -- an end of the response after a frame
-ends_as : (l : Link) (s : Seen) (w : Wire) (g : ℕ → Line) (r : ReadFrame) (a : Attempt) (p : Response) (o : Outcome) (number : Option ℕ) → SeesStreams l s w g
-    → IsOn l s r.frame.stream a → l.over ≡ None → response_of (read_link r l s) (frame_read_on r s l) r.frame.stream a ≡ p → p.end ≡ Some o
-    → code_by o.cause (has_written_end r.frame.stream l && p.closes) o.reset ≡ number
-    → EndsAs (read_link r l s) (frame_read_on r s l) a r.frame.stream number
-ends_as l s w g r a p o number is on over same end number_is =
+ends_as : (l : Link) (s : Seen) (w : Wire) (g : ℕ → Line) (r : ReadFrame) (a : Attempt) (n : ℕ) (p : Response) (o : Outcome) (number : Option ℕ) → SeesStreams l s w g
+    → IsOn l s n a → l.over ≡ None → response_of (read_link r l s) (frame_read_on r s l) n a ≡ p → p.end ≡ Some o
+    → code_by o.cause (has_written_end n l && p.closes) o.reset ≡ number
+    → EndsAs (read_link r l s) (frame_read_on r s l) a n number
+ends_as l s w g r a n p o number is on over same end number_is =
     let m : Link = read_link r l s in
-    let n : ℕ = r.frame.stream in
     let here : numbered (frame_read_on r s l).links m.number ≡ Some m = changed_here (with_frame_read r (owed_for r.frame l s)) l.number s.links l is.sees.at in
     record {
       outcome = o;
@@ -126,7 +126,7 @@ resets_end_alike l s w g r a is comes on over kind =
     = if_false (f.kind == data_type) (with_data limit p f) _ no_data ∙ if_true (f.kind == rst_stream_type) (with_reset p number) _ kind in
     let none : Option ℕ = None in
     subst (λ (z : Seen). EndsAs (read_link r l s) z a n none) (sym (read_is l s r is.sees.at))
-    (ends_as l s w g r a (ended o p) o none is on over (still_response l s w r a comes st still ∙ own) refl refl)
+    (ends_as l s w g r a r.frame.stream (ended o p) o none is on over (still_response l s w r a comes st still ∙ own) refl refl)
 
 -- DATA
 fault_ends : (l : Link) (s : Seen) (w : Wire) (g : ℕ → Line) (r : ReadFrame) (a : Attempt) (q : Response) (x : Option MessageFault) → SeesStreams l s w g
@@ -135,11 +135,11 @@ fault_ends : (l : Link) (s : Seen) (w : Wire) (g : ℕ → Line) (r : ReadFrame)
 fault_ends l s w g r a q (Some (flaw.TooLarge len)) is on over same closes small = absurd (let never : ⊥ = (cc) in never)
 fault_ends l s w g r a q (Some flaw.BadFlag) is on over same closes small =
     let o : Outcome = plain_end code.Internal cause.Framing false (Some cancel) in
-    ends_as l s w g r a (ended o q) o (closed_code (has_written_end r.frame.stream l)) is on over same refl
+    ends_as l s w g r a r.frame.stream (ended o q) o (closed_code (has_written_end r.frame.stream l)) is on over same refl
     (ap (λ (b : Bool). code_by cause.Framing (has_written_end r.frame.stream l && b) (Some cancel)) closes ∙ closed_by (has_written_end r.frame.stream l))
 fault_ends l s w g r a q None is on over same closes small =
     let o : Outcome = plain_end code.Unknown cause.Http false (Some cancel) in
-    ends_as l s w g r a (ended o q) o (closed_code (has_written_end r.frame.stream l)) is on over (same ∙ if_true q.closes (ended o q) q closes) refl
+    ends_as l s w g r a r.frame.stream (ended o q) o (closed_code (has_written_end r.frame.stream l)) is on over (same ∙ if_true q.closes (ended o q) q closes) refl
     (ap (λ (b : Bool). code_by cause.Http (has_written_end r.frame.stream l && b) (Some cancel)) closes ∙ closed_http (has_written_end r.frame.stream l) (Some cancel))
 
 data_ends : (l : Link) (s : Seen) (w : Wire) (g : ℕ → Line) (r : ReadFrame) (a : Attempt) (h b : Bool) → SeesStreams l s w g → IsOn l s r.frame.stream a → l.over ≡ None
@@ -153,7 +153,7 @@ data_ends l s w g r a false b is on over st head flag same small =
     let o : Outcome = plain_end code.Internal cause.Framing false (Some protocol_error) in
     let m : Messages = messages_of (limit_of_attempt a s) (p.rest ++ content_of r.frame) in
     let open_ : p.closes ≡ false = goes_open (limit_of_attempt a s) n l.traffic (goes_of l s w a n st) (small_of l s w a n st) in
-    ends_as l s w g r a (ended o p) o (Some protocol_error) is on over
+    ends_as l s w g r a r.frame.stream (ended o p) o (Some protocol_error) is on over
     (same ∙ if_true (is_none p.head) (ended o p) (with_fault m.fault (with_messages p m (has_flag r.frame.flags end_stream_flag))) (none_of_some p.head false head)) refl
     (framing_code (has_written_end n l) p.closes (Some protocol_error) open_)
 data_ends l s w g r a true true is on over st head flag same small =
@@ -195,7 +195,7 @@ broken_ends l s w g r a b is on over st same =
     let p : Response = response_of l s n a in
     let o : Outcome = block_end code.Internal cause.Framing protocol_error b in
     let open_ : p.closes ≡ false = goes_open (limit_of_attempt a s) n l.traffic (goes_of l s w a n st) (small_of l s w a n st) in
-    ends_as l s w g r a (ended o p) o (Some protocol_error) is on over same refl (framing_code (has_written_end n l) p.closes (Some protocol_error) open_)
+    ends_as l s w g r a r.frame.stream (ended o p) o (Some protocol_error) is on over same refl (framing_code (has_written_end n l) p.closes (Some protocol_error) open_)
 
 status_code : (we : Bool) (vs : List (List ℕ)) (b : Block) → code_by (status_end vs b).cause (we && true) (status_end vs b).reset ≡ closed_code we
 status_code we [] b = closed_http we (Some cancel)
@@ -215,7 +215,7 @@ trailers_end_as l s w g r a b is on over same =
     let n : ℕ = r.frame.stream in
     let p : Response = response_of l s n a in
     let vs : List (List ℕ) = values_of (codes "grpc-status") b.fields in
-    ends_as l s w g r a (with_trailers p b) (trailers_end p b (status_end vs b)) (closed_code (has_written_end n l)) is on over same refl
+    ends_as l s w g r a r.frame.stream (with_trailers p b) (trailers_end p b (status_end vs b)) (closed_code (has_written_end n l)) is on over same refl
     (trailers_code (has_written_end n l) p b (status_end vs b) (status_code (has_written_end n l) vs b))
 
 block_ends_by : (l : Link) (s : Seen) (w : Wire) (g : ℕ → Line) (r : ReadFrame) (a : Attempt) (b : Block) (h im ends none : Bool) → SeesStreams l s w g → IsOn l s r.frame.stream a → l.over ≡ None
@@ -252,3 +252,22 @@ blocks_end_alike l s w g r a b is comes on over block =
     else if b.ends then with_trailers p b else if is_some p.head || none then ended_by_block b p else with_head p b) (none_of_some p.head (is_some p.head) refl) in
     subst (λ (z : Seen). EndsAlike (read_link r l s) z a n (block_then (is_some p.head) (http_status b.fields) b.ends (has_written_end n l))) (sym (read_is l s r is.sees.at))
     (block_ends_by l s w g r a b (is_some p.head) im b.ends none is on over st refl refl refl refl (same ∙ by))
+
+-- GOAWAY
+pub goaways_end_alike : GoawaysEndAlike
+goaways_end_alike l s w g r a n is comes on over goes low =
+    let f : FrameSeen = r.frame in
+    let kind : f.kind ≡ goaway_type = eqb-true f.kind goaway_type goes in
+    let st : Stands l s w n a = stands l s w g n a is on in
+    let p : Response = response_of l s n a in
+    let limit : ℕ = limit_of_attempt a s in
+    let o : Outcome = plain_end code.Unavailable cause.Goaway true (Some cancel) in
+    let number : Option ℕ = Some cancel in
+    let open_ : p.closes ≡ false = goes_open limit n l.traffic (goes_of l s w a n st) (small_of l s w a n st) in
+    let no_settings_ : is_settings f ≡ false = of_settings f.kind f.flags (not_kind f.kind goaway_type settings_type false kind refl) in
+    let after : response_of (read_link r l s) (frame_read_on r s l) n a ≡ ended o p
+    = response_read limit n l r (owed_for f l s) ∙ goes_on limit n p (traffic.Read r) (goes_of l s w a n st) (small_of l s w a n st)
+    ∙ if_false (is_settings f) (record p { initial = initial_after p.initial f }) _ no_settings_
+    ∙ if_true ((f.kind == goaway_type) && nat_lt (last_stream f.payload) n) (ended o p) _ (ap (λ (b : Bool). b && nat_lt (last_stream f.payload) n) goes ∙ low) in
+    subst (λ (z : Seen). EndsAs (read_link r l s) z a n number) (sym (read_is l s r is.sees.at))
+    (ends_as l s w g r a n (ended o p) o number is on over after refl (ap (λ (b : Bool). code_by cause.Goaway b number) (never_both (has_written_end n l) p.closes open_)))

@@ -360,6 +360,22 @@ got_by l s w g r b true true is_of_ is_last_ is comes block =
           (is_listed l w r seen is.sees.sees.reads is_last_ (is_of l w f seen is.sees.sees.reads is_of_ (fair_rules w f comes.fair).placed) x);
     }
 
+-- what was read is the same whatever becomes of the stream
+list_heard : (l : Link) (w : Wire) (r : ReadFrame) (b : Whole) (kept : Option Block) (table : hpack.State) (i : ℕ) (y : LiveStream) (seen : ℕ)
+    → Heard r.frame (open_block l) w (listed (record w { queue = sealed w.queue; block = kept; table = table }) b.fields b.ends seen (Some (i, y))).wire
+    → Heard r.frame (open_block l) w (record w { queue = sealed w.queue; block = kept; table = table })
+list_heard l w r b kept table i y seen is = record {
+  whole = is.whole;
+  ready = is.ready;
+  retiring = is.retiring;
+  limit = is.limit;
+  initial = is.initial;
+  window = is.window;
+  opened = is.opened;
+  block = is.block;
+  table = is.table;
+}
+
 pub blocks_are_read : BlocksAreRead
 blocks_are_read l s w g r a b is comes on block =
     let f : FrameSeen = r.frame in
@@ -376,17 +392,7 @@ blocks_are_read l s w g r a b is comes on block =
     let applied_is : applied (record w { queue = sealed w.queue }) f seen ≡ Ok t
     = li.applied_is ∙ ap (λ (o : Option (ℕ × LiveStream)). Ok (listed u b.fields b.ends seen o)) st.found in
     let told_ : Heard f (open_block l) w t.wire = heard_by l w r t is.sees.sees.reads comes applied_is in
-    let heard : Heard f (open_block l) w u = record {
-      whole = told_.whole;
-      ready = told_.ready;
-      retiring = told_.retiring;
-      limit = told_.limit;
-      initial = told_.initial;
-      window = told_.window;
-      opened = told_.opened;
-      block = told_.block;
-      table = told_.table;
-    } in
+    let heard : Heard f (open_block l) w u = list_heard l w r b li.kept li.table st.index y seen told_ in
     let o : Option ℕ = link.http_status b.fields in
     let we : Bool = has_written_end n l in
     let known : is_some (response_of l s n a).head ≡ y.head = sym (st.heard.head ∙ ap (λ (k : ℕ). is_some (response_of l s k a).head) st.number) in

@@ -9,8 +9,9 @@
 -- 4. A whole header block: the head, trailers, interim responses; and a part of one.
 -- 5. RST_STREAM; WINDOW_UPDATE of the stream; PRIORITY and frames of unknown types.
 -- 6. GOAWAY.
--- Still to be stated: other ends of one frame (those that are cut off), whose resets go by stream; what is told of the response is what came of it (a head, messages, the
--- end with its code and metadata); breaks in mid-piece; a link that is lost.
+-- 7. Ends are those of the session's responses, with the codes that it resets streams with: DATA, header blocks, RST_STREAM, GOAWAY.
+-- Still to be stated: other ends of one frame (those that are cut off), whose resets go by stream; that what is told of a response is what came of it (a
+-- head, messages, the end with its code and metadata); breaks in mid-piece; a link that is lost.
 use Rattle.std.specs.List.{AllByRecursion}
 use Rattle.std.specs.Prelude.{Bool, List, None, Option, Some, [], false, filter, if◌then◌else◌, is_none, is_some, length, map, nat_lt, not, true, ℕ, ◌&&◌, ◌+◌, ◌==◌, ◌<◌, ◌^◌, ◌||◌, ◌∷◌, ◌≡◌}
 use Rattle.attempt_ledger.specs.declared.row.RowEnd.{RowEnd}
@@ -248,3 +249,9 @@ abbrev pub ResetsEndAlike : Type 0
 ResetsEndAlike =
     (l : Link) (s : Seen) (w : Wire) (g : ℕ → Line) (r : ReadFrame) (a : Attempt) → SeesStreams l s w g → Comes l w r → IsOn l s r.frame.stream a → l.over ≡ None
     → (r.frame.kind == rst_stream_type) ≡ true → EndsAs (read_link r l s) (frame_read l.number r s) a r.frame.stream None
+
+-- of GOAWAY, for a stream that it leaves out
+abbrev pub GoawaysEndAlike : Type 0
+GoawaysEndAlike =
+    (l : Link) (s : Seen) (w : Wire) (g : ℕ → Line) (r : ReadFrame) (a : Attempt) (n : ℕ) → SeesStreams l s w g → Comes l w r → IsOn l s n a → l.over ≡ None
+    → (r.frame.kind == goaway_type) ≡ true → nat_lt (last_stream r.frame.payload) n ≡ true → EndsAs (read_link r l s) (frame_read l.number r s) a n (Some cancel)

@@ -1,5 +1,5 @@
 // Frames of an attempt's stream, as actions of a session; nothing runs.
-ghost use Rattle.stream_actions.specs.Laws.{BlocksAreRead, BlocksEndAlike, CutsKeep, DataEndsAlike, DataIsRead, GoawaysAreRead, NewLinksAgree, OthersAreRead, PartsAreRead, QuietFramesKeepStreams, ResetsAreRead, ResetsEndAlike, UpdatesAreRead, WritesKeepStreams};
+ghost use Rattle.stream_actions.specs.Laws.{BlocksAreRead, BlocksEndAlike, CutsKeep, DataEndsAlike, DataIsRead, GoawaysAreRead, GoawaysEndAlike, NewLinksAgree, OthersAreRead, PartsAreRead, QuietFramesKeepStreams, ResetsAreRead, ResetsEndAlike, UpdatesAreRead, WritesKeepStreams};
 
 /// What a link knows of the responses on its streams is what the session says of a new link, and stays so with whatever is written, and with frames of no
 /// attempt's stream.
@@ -33,4 +33,5 @@ pub fn ends_are_of_responses()
     ensures content { DataEndsAlike }
     ensures block { BlocksEndAlike }
     ensures reset { ResetsEndAlike }
+    ensures goaway { GoawaysEndAlike }
 {}

@@ -1,4 +1,4 @@
-use Rattle.stream_actions.proofs.EndCodes.{blocks_end_alike, data_ends_alike, resets_end_alike}
+use Rattle.stream_actions.proofs.EndCodes.{blocks_end_alike, data_ends_alike, goaways_end_alike, resets_end_alike}
 use Rattle.stream_actions.proofs.laws.ends_are_of_responses.Goals as goal
 
 pub returns-clause-content : goal.returns-clause-content
@@ -9,3 +9,6 @@ returns-clause-block c = blocks_end_alike
 
 pub returns-clause-reset : goal.returns-clause-reset
 returns-clause-reset c = resets_end_alike
+
+pub returns-clause-goaway : goal.returns-clause-goaway
+returns-clause-goaway c = goaways_end_alike
