@@ -52,20 +52,23 @@ def case(name):
     return lambda function: CASES.append((name, function)) or function
 
 
-def run_cases(count, *given, needs_program=True):
-    """Runs the marked functions that are asked for, if the program that they need is there, and gives the status."""
-    # (a shell that starts this in the background has it ignore interrupts, and the programs that are tried would inherit that)
+def run_cases(count, *given, needs_program=True, tries=1):
+    """Runs the marked functions that are asked for, if the program that they need is there, and gives the status. Where tests lean on the
+    clock of a machine that others use too, one that fails is tried again, so many times in all: the last time counts, and what failed
+    before it is told in lines of their own."""
+    # (who starts this may have it ignore or hold back signals, as a shell does in the background; the programs that are tried would
+    # inherit that)
     signal.signal(signal.SIGINT, signal.default_int_handler)
+    signal.signal(signal.SIGTERM, signal.SIG_DFL)
+    signal.pthread_sigmask(signal.SIG_UNBLOCK, {signal.SIGINT, signal.SIGTERM, signal.SIGHUP})
     for name, function in CASES:
         if count.asks_for(name):
             if needs_program and not is_built():
                 count.skip("the program is not built")
                 break
-            try:
-                function(*given)
-            except Exception as error:  # (the tests after it still run)
-                at = traceback.extract_tb(error.__traceback__)[-1]
-                count.count(name, f"{type(error).__name__}: {error} ({os.path.basename(at.filename)}:{at.lineno})", "a test that runs to its end")
+            left = tries
+            while not count.runs(name, lambda: function(*given), is_last=left <= 1):
+                left -= 1
     return count.end()
 
 
@@ -76,7 +79,7 @@ class Checks:
         words = sys.argv[1:] if words is None else words
         self.is_list = words[:1] == ["--list"]
         self.part = "" if self.is_list or not words else words[0]
-        self.names, self.asked, self.passed, self.failed = [], 0, 0, 0
+        self.names, self.asked, self.passed, self.failed, self.kept = [], 0, 0, 0, None
 
     def asks_for(self, name):
         """Whether the test of this name is to run."""
@@ -87,13 +90,33 @@ class Checks:
         self.asked += self.part in name
         return self.part in name
 
+    def runs(self, name, function, is_last=True):
+        """Runs a test, and answers whether its rows count: those of one that failed count only where it is not tried again."""
+        before, self.kept = (self.passed, self.failed), []
+        try:
+            function()
+        except Exception as error:  # (the tests after it still run)
+            at = traceback.extract_tb(error.__traceback__)[-1]
+            self.count(name, f"{type(error).__name__}: {error} ({os.path.basename(at.filename)}:{at.lineno})", "a test that runs to its end")
+        lines, self.kept = self.kept, None
+        has_passed = self.failed == before[1]
+        if not has_passed and not is_last:
+            self.passed, self.failed = before
+        for line in lines:
+            print(f"{'failed' if is_last else 'tried again'}: {line}", flush=True)
+        return has_passed or is_last
+
     def count(self, name, came, want):
         """Counts a comparison, and says of one that fails where it differs first."""
         if came == want:
             self.passed += 1
+            return
+        self.failed += 1
+        line = f"{name}: {difference(came, want)}"
+        if self.kept is None:
+            print(f"failed: {line}", flush=True)
         else:
-            self.failed += 1
-            print(f"failed: {name}: {difference(came, want)}", flush=True)
+            self.kept.append(line)
 
     def skip(self, why):
         """Says of what cannot run here why it does not."""
