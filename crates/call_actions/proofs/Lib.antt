@@ -1,4 +1,6 @@
 pub mod Lists
+pub mod Ranks
+pub mod Places
 pub mod Bare
 pub mod Begun
 pub mod Ended
@@ -6,3 +8,8 @@ pub mod Configured
 pub mod Frames
 pub mod Told
 pub mod Dues
+pub mod Added
+pub mod Made
+pub mod Columns
+pub mod PlacedFrames
+pub mod Placing

@@ -1,36 +1,57 @@
 -- What is done to a call is an action of the session, and leaves the call as what the session then is: until it has its configuration, and of any call
--- that its request is finished, when its next attempt is due, and that a hedge is withheld. Each is stated of a session and a call that agree (`Sees`),
--- apart from all other calls and from the rest of the entry.
+-- that its request is finished, when its next attempt is due, that this is made and placed, and that a hedge is withheld. Each is stated of a session
+-- and a call that agree (`Sees`), apart from all other calls and from the rest of the entry; attempts also of what a session keeps in order (`IsInOrder`).
 -- Example: a call begins; its application finishes its request; then the config comes. In the session CallBegins, RequestFinished and CallConfigured; in
 -- the channel a new call, `finished` and `configured`; and the two agree after each.
 use Rattle.std.specs.List.{list_any}
-use Rattle.std.specs.Option.{option_and_then, option_map}
-use Rattle.std.specs.Prelude.{Bool, List, None, Option, Some, [], false, length, map, not, true, ℕ, ◌&&◌, ◌++◌, ◌+◌, ◌≡◌, ◌∷◌}
+use Rattle.std.specs.Option.{option_and_then, option_map, option_map_or}
+use Rattle.std.specs.Prelude.{Bool, List, None, Option, Some, [], false, filter, is_some, length, map, not, true, ℕ, ◌&&◌, ◌++◌, ◌+◌, ◌==◌, ◌≤◌, ◌≡◌, ◌∷◌}
 use Rattle.a6_numbers.specs.Throttling.{Bucket}
+use Rattle.attempt_ledger.specs.Ends.{is_cut}
 use Rattle.attempt_ledger.specs.Hedging.{is_hedge}
 use Rattle.attempt_ledger.specs.declared.ledger.Ledger.{Ledger}
-use Rattle.call_core.specs.Parts.{has_none, is_above, is_tested, is_too_long}
+use Rattle.attempt_ledger.specs.declared.news.EndNews.{EndNews}
+use Rattle.attempt_ledger.specs.declared.row.Placed.{Placed}
+use Rattle.attempt_ledger.specs.declared.row.RowEnd.{RowEnd}
+use Rattle.attempt_ledger.specs.declared.row.RowKind.{RowKind}
+use Rattle.attempt_ledger.specs.declared.row.RowKind.TheVariants as kind
+use Rattle.call_core.specs.Parts.{count_of, has_none, is_above, is_tested, is_too_long, stopped_attempts, without}
 use Rattle.call_core.specs.Steps as steps
 use Rattle.call_core.specs.Steps.{Stepped, lent, new_call}
 use Rattle.call_core.specs.declared.act.CallAct.{CallAct}
+use Rattle.call_core.specs.declared.act.CallAct.TheVariants as act
+use Rattle.grpc_base.specs.Codes.{has_code}
 use Rattle.grpc_base.specs.Requests.{RequestSeen}
 use Rattle.grpc_base.specs.declared.event.EndCause.{EndCause}
 use Rattle.grpc_base.specs.declared.event.EndCause.TheVariants as ending
 use Rattle.grpc_base.specs.declared.event.Event.TheVariants as event
+use Rattle.grpc_base.specs.declared.plan.CallPlan.{CallPlan}
+use Rattle.grpc_base.specs.declared.plan.CallPlan.TheVariants as plan
+use Rattle.grpc_base.specs.declared.plan.HedgePolicy.{HedgePolicy}
+use Rattle.grpc_base.specs.declared.plan.RetryPolicy.{RetryPolicy}
 use Rattle.ledger_stamps.specs.Steps as stamps
 use Rattle.service_config.specs.Choice.{chosen_for}
-use Rattle.call_actions.specs.Sees.{Sees, bucket_of}
-use Rattle.session_actions.specs.Attempts.{is_of}
+use Rattle.call_actions.specs.Order.{IsInOrder, IsInTurn, Keeps}
+use Rattle.call_actions.specs.Sees.{Sees, bucket_of, is_live}
+use Rattle.session_actions.specs.AttemptEnds.{attempt_ended, cut, end_of, tokens_at_end}
+use Rattle.session_actions.specs.Attempts.{commitment, is_of, is_queued, is_to_follow, wants_follower}
 use Rattle.session_actions.specs.CallEnds.{call_ended}
-use Rattle.session_actions.specs.Configs.{call_configured, held_config}
+use Rattle.session_actions.specs.Commitments.{call_committed}
+use Rattle.session_actions.specs.Configs.{call_configured, held_config, plan_of}
 use Rattle.session_actions.specs.Deliveries.{begun_call, call_begun_by, request_finished}
-use Rattle.session_actions.specs.DueAttempts.{kind_of_next, next_due}
-use Rattle.session_actions.specs.Entries.{entry, now}
-use Rattle.session_actions.specs.Making.{hedge_withheld}
+use Rattle.session_actions.specs.DueAttempts.{is_licensed, kind_of_next, next_due}
+use Rattle.session_actions.specs.Entries.{entry, next_word, now}
+use Rattle.session_actions.specs.Links.{link_of, read_bytes}
+use Rattle.session_actions.specs.Making.{attempt_made, due_action, hedge_withheld}
+use Rattle.session_actions.specs.Policies.{attempt_placed}
+use Rattle.session_actions.specs.Sessions.{link_seen}
 use Rattle.session_actions.specs.Tokens.{has_tokens}
 use Rattle.session_actions.specs.Words.{numbered}
+use Rattle.session_actions.specs.declared.action.Action.TheVariants as action
+use Rattle.session_actions.specs.declared.attempt.Attempt.{Attempt}
 use Rattle.session_actions.specs.declared.call.Call.{Call}
 use Rattle.session_actions.specs.declared.config.HeldConfig.{HeldConfig}
+use Rattle.session_actions.specs.declared.response.Outcome.{Outcome}
 use Rattle.session_actions.specs.declared.seen.Seen.{Seen}
 
 -- an open call without a configuration: nothing happened to it, and it has no attempt
@@ -108,3 +129,28 @@ abbrev pub HedgesAreWithheld : Type 0
 HedgesAreWithheld =
     (s : Seen) (c : Call) (x : Stepped) → Sees s c x → has_none x.call.live ≡ false
     → Agrees (hedge_withheld c.number s) c.number (steps.refused_due (now s) x)
+
+-- its next attempt is made, where the session's own line gives it: the same row in the ledger, of the same number and kind, due at the same moment.
+-- (Numbers of attempts do not end, which no session reaches.)
+abbrev pub AttemptsAreMade : Type 0
+AttemptsAreMade =
+    (s : Seen) (c : Call) (x : Stepped) (number : ℕ) (why : RowKind) (due : ℕ) → Sees s c x → IsInOrder s c
+    → due_action s c ≡ Some (action.AttemptMade c.number number why due) → number ≤ 4294967295
+    → Keeps (attempt_made c.number number why due s) c.number (steps.made_due (now s) x)
+
+-- where that line gives nothing, nothing is made
+abbrev pub NoneIsMade : Type 0
+NoneIsMade = (s : Seen) (c : Call) (x : Stepped) → Sees s c x → due_action s c ≡ None → c.end ≡ None → steps.made_due (now s) x ≡ x
+
+-- and where it withholds a hedge, the channel refuses it
+abbrev pub HedgesAreRefused : Type 0
+HedgesAreRefused =
+    (s : Seen) (c : Call) (x : Stepped) → Sees s c x → due_action s c ≡ Some (action.HedgeWithheld c.number)
+    → steps.made_due (now s) x ≡ steps.refused_due (now s) x
+
+-- an attempt that waits for a pick is placed on a link
+abbrev pub AttemptsArePlaced : Type 0
+AttemptsArePlaced =
+    (s : Seen) (c : Call) (x : Stepped) (place : ℕ) (a : Attempt) (at : Placed) → Sees s c x → IsInOrder s c → numbered s.attempts place ≡ Some a
+    → is_of c a ≡ true → is_queued a s ≡ true → at.moment ≡ now s
+    → Keeps (attempt_placed place at s) c.number (steps.placed_at place at x)

@@ -1,5 +1,5 @@
 // What is done to a call, as actions of a session; nothing runs.
-ghost use Rattle.call_actions.specs.Laws.{AttemptsAreDue, CallsBegin, CallsEnd, ConfigsCome, HedgesAreTested, HedgesAreWithheld, LongMessagesEnd, RequestsFinish};
+ghost use Rattle.call_actions.specs.Laws.{AttemptsAreDue, AttemptsAreMade, AttemptsArePlaced, CallsBegin, CallsEnd, ConfigsCome, HedgesAreRefused, HedgesAreTested, HedgesAreWithheld, LongMessagesEnd, NoneIsMade, RequestsFinish};
 
 /// A call until it has its configuration (gRPC, "Core concepts"; "Service Config in gRPC"): it begins, the channel ends it, or the configuration comes;
 /// and a message that was too long for it ends it at once. Session and channel make the same of it.
@@ -17,4 +17,13 @@ pub fn calls_go_on_alike()
     ensures due { AttemptsAreDue }
     ensures tested { HedgesAreTested }
     ensures withheld { HedgesAreWithheld }
+{}
+
+/// Where the session makes the next attempt of a call, the channel makes the same, and where it makes none, neither does the channel (gRFC A6, "Retry
+/// Policy", "Hedging Policy" and "Throttling Retry Attempts and Hedged RPCs"); and an attempt that waits for a pick is placed on a link in both.
+pub fn attempts_are_made_alike()
+    ensures made { AttemptsAreMade }
+    ensures none { NoneIsMade }
+    ensures refused { HedgesAreRefused }
+    ensures placed { AttemptsArePlaced }
 {}
