@@ -13,3 +13,11 @@ pub mod Made
 pub mod Columns
 pub mod PlacedFrames
 pub mod Placing
+pub mod Judging
+pub mod EndFrames
+pub mod Delays
+pub mod EndTokens
+pub mod EndRows
+pub mod Ending
+pub mod Retried
+pub mod Hedged

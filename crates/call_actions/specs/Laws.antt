@@ -154,3 +154,47 @@ AttemptsArePlaced =
     (s : Seen) (c : Call) (x : Stepped) (place : ℕ) (a : Attempt) (at : Placed) → Sees s c x → IsInOrder s c → numbered s.attempts place ≡ Some a
     → is_of c a ≡ true → is_queued a s ≡ true → at.moment ≡ now s
     → Keeps (attempt_placed place at s) c.number (steps.placed_at place at x)
+
+-- an attempt ends: what its outcome is told as, with the bytes of its link that were read
+abbrev pub news_of : Attempt → Outcome → Seen → EndNews
+news_of a out s = record {
+  code = out.code;
+  text = out.text;
+  meta = out.meta;
+  pushback = out.pushback;
+  unseen = out.unseen;
+  seen = option_map_or read_bytes (link_of a s) 0;
+  cause = out.cause;
+}
+
+-- an attempt of a call that goes on, and ends by something else than that it is cut
+pub record IsEnding (s : Seen) (c : Call) (place : ℕ) (a : Attempt) (out : Outcome) : Type 0 where
+  pub there : numbered s.attempts place ≡ Some a
+  pub own : is_of c a ≡ true
+  pub lives : is_live s c a ≡ true
+  pub uncut : is_cut out.cause ≡ false
+
+-- its end counts, in a call that goes on: no transparent retry is to follow it
+pub record IsCounting (s : Seen) (c : Call) (out : Outcome) : Type 0 where
+  pub goes_on : c.end ≡ None
+  pub alone : is_to_follow c out.cause out.unseen s ≡ false
+
+abbrev pub ends_alike : Seen → Call → Stepped → ℕ → Attempt → Outcome → Type 0
+ends_alike s c x place a out =
+    Keeps (attempt_ended place (end_of a out s) s) c.number (steps.ended_at place (news_of a out s) (now s) (next_word s) x)
+
+-- an end that licenses a retry: it is due at the same moment, after the same wait, and the bucket has the same tokens
+abbrev pub RetriesAreSet : Type 0
+RetriesAreSet =
+    (s : Seen) (c : Call) (x : Stepped) (place : ℕ) (a : Attempt) (out : Outcome) (p : RetryPolicy) → Sees s c x → IsInOrder s c → IsInTurn s c
+    → IsEnding s c place a out → IsCounting s c out → commitment c s ≡ None → plan_of c s ≡ plan.Retry p
+    → is_licensed c a.row.number out.code out.pushback (tokens_at_end a out s) s ≡ true
+    → ends_alike s c x place a out
+
+-- an end of a hedged call, with a code of its policy, while another attempt goes on
+abbrev pub HedgesGoOn : Type 0
+HedgesGoOn =
+    (s : Seen) (c : Call) (x : Stepped) (place : ℕ) (a : Attempt) (out : Outcome) (p : HedgePolicy) → Sees s c x → IsInOrder s c → IsInTurn s c
+    → IsEnding s c place a out → IsCounting s c out → commitment c s ≡ None → plan_of c s ≡ plan.Hedge p
+    → has_code p.codes out.code ≡ true → list_any (λ q. is_live s c q && not (q.place == place)) s.attempts ≡ true
+    → ends_alike s c x place a out

@@ -1,5 +1,5 @@
 // What is done to a call, as actions of a session; nothing runs.
-ghost use Rattle.call_actions.specs.Laws.{AttemptsAreDue, AttemptsAreMade, AttemptsArePlaced, CallsBegin, CallsEnd, ConfigsCome, HedgesAreRefused, HedgesAreTested, HedgesAreWithheld, LongMessagesEnd, NoneIsMade, RequestsFinish};
+ghost use Rattle.call_actions.specs.Laws.{AttemptsAreDue, AttemptsAreMade, AttemptsArePlaced, CallsBegin, CallsEnd, ConfigsCome, HedgesAreRefused, HedgesAreTested, HedgesAreWithheld, HedgesGoOn, LongMessagesEnd, NoneIsMade, RequestsFinish, RetriesAreSet};
 
 /// A call until it has its configuration (gRPC, "Core concepts"; "Service Config in gRPC"): it begins, the channel ends it, or the configuration comes;
 /// and a message that was too long for it ends it at once. Session and channel make the same of it.
@@ -26,4 +26,11 @@ pub fn attempts_are_made_alike()
     ensures none { NoneIsMade }
     ensures refused { HedgesAreRefused }
     ensures placed { AttemptsArePlaced }
+{}
+
+/// An attempt ends, its end counts, and its call goes on (gRFC A6, "Retry Policy", "Exponential Backoff", "Pushback" and "Throttling Retry Attempts and
+/// Hedged RPCs"): the same end stands in the ledger, with the same count of tokens and the same random word, and the next attempt is due at one moment.
+pub fn calls_go_on_after_ends()
+    ensures retry { RetriesAreSet }
+    ensures hedge { HedgesGoOn }
 {}
