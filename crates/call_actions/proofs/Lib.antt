@@ -21,3 +21,5 @@ pub mod EndRows
 pub mod Ending
 pub mod Retried
 pub mod Hedged
+pub mod Uncounted
+pub mod Cutting

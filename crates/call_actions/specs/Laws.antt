@@ -198,3 +198,20 @@ HedgesGoOn =
     → IsEnding s c place a out → IsCounting s c out → commitment c s ≡ None → plan_of c s ≡ plan.Hedge p
     → has_code p.codes out.code ≡ true → list_any (λ q. is_live s c q && not (q.place == place)) s.attempts ≡ true
     → ends_alike s c x place a out
+
+-- an attempt that is over for its call is cut off: where the session's line gives that, its row ends in the ledger, by the bytes of its link that were
+-- read, and it is live no more. (`links`: the ledger has the links of the session.)
+abbrev pub cut_off : ℕ → ℕ → ℕ → Stepped → Stepped
+cut_off place link moment x = record {
+  call = record x.call { live = without place x.call.live };
+  ledger = steps.cut_row moment (count_of x.tokens) place x.ledger (Some link);
+  tokens = x.tokens;
+  acts = x.acts ++ steps.given_up_act place (Some link) ∷ [];
+}
+
+abbrev pub AttemptsAreCut : Type 0
+AttemptsAreCut =
+    (s : Seen) (c : Call) (x : Stepped) (place : ℕ) (a : Attempt) (at : Placed) (end : RowEnd) → Sees s c x → IsInOrder s c → IsInTurn s c
+    → numbered s.attempts place ≡ Some a → is_of c a ≡ true → a.row.placed ≡ Some at → map link_seen s.links ≡ x.ledger.links
+    → cut s a ≡ Some (action.AttemptEnds a.place end)
+    → Keeps (attempt_ended place end s) c.number (cut_off place at.link (now s) x)

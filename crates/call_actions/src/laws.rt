@@ -1,5 +1,5 @@
 // What is done to a call, as actions of a session; nothing runs.
-ghost use Rattle.call_actions.specs.Laws.{AttemptsAreDue, AttemptsAreMade, AttemptsArePlaced, CallsBegin, CallsEnd, ConfigsCome, HedgesAreRefused, HedgesAreTested, HedgesAreWithheld, HedgesGoOn, LongMessagesEnd, NoneIsMade, RequestsFinish, RetriesAreSet};
+ghost use Rattle.call_actions.specs.Laws.{AttemptsAreCut, AttemptsAreDue, AttemptsAreMade, AttemptsArePlaced, CallsBegin, CallsEnd, ConfigsCome, HedgesAreRefused, HedgesAreTested, HedgesAreWithheld, HedgesGoOn, LongMessagesEnd, NoneIsMade, RequestsFinish, RetriesAreSet};
 
 /// A call until it has its configuration (gRPC, "Core concepts"; "Service Config in gRPC"): it begins, the channel ends it, or the configuration comes;
 /// and a message that was too long for it ends it at once. Session and channel make the same of it.
@@ -33,4 +33,10 @@ pub fn attempts_are_made_alike()
 pub fn calls_go_on_after_ends()
     ensures retry { RetriesAreSet }
     ensures hedge { HedgesGoOn }
+{}
+
+/// An attempt that is over, since its call has ended or is committed to another one, is cut off in both (gRFC A6, "Hedging Policy" and "When Retries are
+/// Valid"; gRPC, "Core concepts": Cancelling an RPC), with the same end and the same count of tokens.
+pub fn attempts_are_cut_alike()
+    ensures { AttemptsAreCut }
 {}
