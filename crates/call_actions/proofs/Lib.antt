@@ -23,3 +23,6 @@ pub mod Retried
 pub mod Hedged
 pub mod Uncounted
 pub mod Cutting
+pub mod Again
+pub mod Transparent
+pub mod Followed

@@ -215,3 +215,12 @@ AttemptsAreCut =
     → numbered s.attempts place ≡ Some a → is_of c a ≡ true → a.row.placed ≡ Some at → map link_seen s.links ≡ x.ledger.links
     → cut s a ≡ Some (action.AttemptEnds a.place end)
     → Keeps (attempt_ended place end s) c.number (cut_off place at.link (now s) x)
+
+-- an attempt that the server did not process, or that was never sent, ends; and a transparent retry follows it at once, of its number. No token is
+-- taken, and no word is drawn. (`calm`: no other attempt of the call waits for its follower.)
+abbrev pub RefusedAreRetried : Type 0
+RefusedAreRetried =
+    (s : Seen) (c : Call) (x : Stepped) (place : ℕ) (a : Attempt) (out : Outcome) → Sees s c x → IsInOrder s c → IsInTurn s c → IsEnding s c place a out
+    → c.end ≡ None → commitment c s ≡ None → is_to_follow c out.cause out.unseen s ≡ true → list_any (λ q. is_of c q && wants_follower q s) s.attempts ≡ false
+    → Keeps (attempt_made c.number a.row.number kind.Transparent (now s) (attempt_ended place (end_of a out s) s)) c.number
+    (steps.ended_at place (news_of a out s) (now s) (next_word s) x)

@@ -1,5 +1,5 @@
 // What is done to a call, as actions of a session; nothing runs.
-ghost use Rattle.call_actions.specs.Laws.{AttemptsAreCut, AttemptsAreDue, AttemptsAreMade, AttemptsArePlaced, CallsBegin, CallsEnd, ConfigsCome, HedgesAreRefused, HedgesAreTested, HedgesAreWithheld, HedgesGoOn, LongMessagesEnd, NoneIsMade, RequestsFinish, RetriesAreSet};
+ghost use Rattle.call_actions.specs.Laws.{AttemptsAreCut, AttemptsAreDue, AttemptsAreMade, AttemptsArePlaced, CallsBegin, CallsEnd, ConfigsCome, HedgesAreRefused, HedgesAreTested, HedgesAreWithheld, HedgesGoOn, LongMessagesEnd, NoneIsMade, RefusedAreRetried, RequestsFinish, RetriesAreSet};
 
 /// A call until it has its configuration (gRPC, "Core concepts"; "Service Config in gRPC"): it begins, the channel ends it, or the configuration comes;
 /// and a message that was too long for it ends it at once. Session and channel make the same of it.
@@ -39,4 +39,10 @@ pub fn calls_go_on_after_ends()
 /// Valid"; gRPC, "Core concepts": Cancelling an RPC), with the same end and the same count of tokens.
 pub fn attempts_are_cut_alike()
     ensures { AttemptsAreCut }
+{}
+
+/// An attempt that the server did not process, or that was never sent, ends, and a transparent retry of its number follows it at once in both (gRFC A6,
+/// "Transparent Retries").
+pub fn refused_attempts_are_retried()
+    ensures { RefusedAreRetried }
 {}
