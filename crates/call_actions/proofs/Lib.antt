@@ -26,3 +26,4 @@ pub mod Cutting
 pub mod Again
 pub mod Transparent
 pub mod Followed
+pub mod Closing

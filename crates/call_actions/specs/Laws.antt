@@ -224,3 +224,28 @@ RefusedAreRetried =
     → c.end ≡ None → commitment c s ≡ None → is_to_follow c out.cause out.unseen s ≡ true → list_any (λ q. is_of c q && wants_follower q s) s.attempts ≡ false
     → Keeps (attempt_made c.number a.row.number kind.Transparent (now s) (attempt_ended place (end_of a out s) s)) c.number
     (steps.ended_at place (news_of a out s) (now s) (next_word s) x)
+
+-- a call ends, whatever its attempts do: those that wait for a pick are given up, and those that are outstanding are still to be cut off
+abbrev pub call_closed : EndCause → ℕ → Stepped → Stepped
+call_closed why moment x = record {
+  call = record x.call {
+    live = filter (λ r. is_some r.link) x.call.live;
+    buffer = steps.fresh_buffer;
+    attempts = stopped_attempts x.call.attempts;
+    ended = Some why;
+  };
+  ledger = steps.end_stamped x.call.number why moment x.ledger;
+  tokens = x.tokens;
+  acts = x.acts ++ act.End why ∷ [];
+}
+
+abbrev pub CallsClose : Type 0
+CallsClose =
+    (s : Seen) (c : Call) (x : Stepped) (why : EndCause) → Sees s c x → IsInOrder s c → c.end ≡ None
+    → Keeps (call_ended c.number why s) c.number (call_closed why (now s) x)
+
+-- where none of its attempts goes on, that is all: session and channel agree after it
+abbrev pub QuietCallsEnd : Type 0
+QuietCallsEnd =
+    (s : Seen) (c : Call) (x : Stepped) (why : EndCause) → Sees s c x → IsInOrder s c → c.end ≡ None → x.call.live ≡ []
+    → Keeps (call_ended c.number why s) c.number (steps.closed_by why (now s) x)

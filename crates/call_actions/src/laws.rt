@@ -1,5 +1,5 @@
 // What is done to a call, as actions of a session; nothing runs.
-ghost use Rattle.call_actions.specs.Laws.{AttemptsAreCut, AttemptsAreDue, AttemptsAreMade, AttemptsArePlaced, CallsBegin, CallsEnd, ConfigsCome, HedgesAreRefused, HedgesAreTested, HedgesAreWithheld, HedgesGoOn, LongMessagesEnd, NoneIsMade, RefusedAreRetried, RequestsFinish, RetriesAreSet};
+ghost use Rattle.call_actions.specs.Laws.{AttemptsAreCut, AttemptsAreDue, AttemptsAreMade, AttemptsArePlaced, CallsBegin, CallsClose, CallsEnd, ConfigsCome, HedgesAreRefused, HedgesAreTested, HedgesAreWithheld, HedgesGoOn, LongMessagesEnd, NoneIsMade, QuietCallsEnd, RefusedAreRetried, RequestsFinish, RetriesAreSet};
 
 /// A call until it has its configuration (gRPC, "Core concepts"; "Service Config in gRPC"): it begins, the channel ends it, or the configuration comes;
 /// and a message that was too long for it ends it at once. Session and channel make the same of it.
@@ -45,4 +45,11 @@ pub fn attempts_are_cut_alike()
 /// "Transparent Retries").
 pub fn refused_attempts_are_retried()
     ensures { RefusedAreRetried }
+{}
+
+/// A call ends, whatever its attempts do (gRPC, "Core concepts": Deadlines/Timeouts, Cancelling an RPC): those that wait for a pick are given up, no further
+/// one is made, and where none is outstanding session and channel agree at once.
+pub fn calls_end_alike()
+    ensures closed { CallsClose }
+    ensures quiet { QuietCallsEnd }
 {}
