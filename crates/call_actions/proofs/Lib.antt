@@ -27,3 +27,4 @@ pub mod Again
 pub mod Transparent
 pub mod Followed
 pub mod Closing
+pub mod CommittedEnd

@@ -249,3 +249,11 @@ abbrev pub QuietCallsEnd : Type 0
 QuietCallsEnd =
     (s : Seen) (c : Call) (x : Stepped) (why : EndCause) → Sees s c x → IsInOrder s c → c.end ≡ None → x.call.live ≡ []
     → Keeps (call_ended c.number why s) c.number (steps.closed_by why (now s) x)
+
+-- the committed attempt ends, and by it its call, with its code: no other attempt of a committed call goes on
+abbrev pub CommittedEndsClose : Type 0
+CommittedEndsClose =
+    (s : Seen) (c : Call) (x : Stepped) (place : ℕ) (a k : Attempt) (out : Outcome) → Sees s c x → IsInOrder s c → IsInTurn s c → IsEnding s c place a out
+    → IsCounting s c out → commitment c s ≡ Some k → list_any (λ q. is_live s c q && not (q.place == place)) s.attempts ≡ false
+    → Keeps (call_ended c.number ending.Row (attempt_ended place (end_of a out s) s)) c.number
+    (steps.ended_at place (news_of a out s) (now s) (next_word s) x)

@@ -1,5 +1,5 @@
 // What is done to a call, as actions of a session; nothing runs.
-ghost use Rattle.call_actions.specs.Laws.{AttemptsAreCut, AttemptsAreDue, AttemptsAreMade, AttemptsArePlaced, CallsBegin, CallsClose, CallsEnd, ConfigsCome, HedgesAreRefused, HedgesAreTested, HedgesAreWithheld, HedgesGoOn, LongMessagesEnd, NoneIsMade, QuietCallsEnd, RefusedAreRetried, RequestsFinish, RetriesAreSet};
+ghost use Rattle.call_actions.specs.Laws.{AttemptsAreCut, AttemptsAreDue, AttemptsAreMade, AttemptsArePlaced, CallsBegin, CallsClose, CallsEnd, CommittedEndsClose, ConfigsCome, HedgesAreRefused, HedgesAreTested, HedgesAreWithheld, HedgesGoOn, LongMessagesEnd, NoneIsMade, QuietCallsEnd, RefusedAreRetried, RequestsFinish, RetriesAreSet};
 
 /// A call until it has its configuration (gRPC, "Core concepts"; "Service Config in gRPC"): it begins, the channel ends it, or the configuration comes;
 /// and a message that was too long for it ends it at once. Session and channel make the same of it.
@@ -52,4 +52,9 @@ pub fn refused_attempts_are_retried()
 pub fn calls_end_alike()
     ensures closed { CallsClose }
     ensures quiet { QuietCallsEnd }
+{}
+
+/// The committed attempt of a call ends, and by it the call, in both (gRPC, "Core concepts": RPC life cycle; gRFC A6, "When Retries are Valid").
+pub fn committed_ends_close_calls()
+    ensures { CommittedEndsClose }
 {}
