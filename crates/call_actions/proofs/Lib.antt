@@ -28,3 +28,5 @@ pub mod Transparent
 pub mod Followed
 pub mod Closing
 pub mod CommittedEnd
+pub mod Committing
+pub mod Final

@@ -257,3 +257,18 @@ CommittedEndsClose =
     → IsCounting s c out → commitment c s ≡ Some k → list_any (λ q. is_live s c q && not (q.place == place)) s.attempts ≡ false
     → Keeps (call_ended c.number ending.Row (attempt_ended place (end_of a out s) s)) c.number
     (steps.ended_at place (news_of a out s) (now s) (next_word s) x)
+
+-- an end that no further attempt follows: without a plan; where it licenses no retry; of a hedged call with a code that its policy does not name
+abbrev pub is_last_end : CallPlan → Call → Attempt → Outcome → Seen → Bool
+is_last_end plan.None c a out s = true
+is_last_end (plan.Retry p) c a out s = not (is_licensed c a.row.number out.code out.pushback (tokens_at_end a out s) s)
+is_last_end (plan.Hedge p) c a out s = not (has_code p.codes out.code)
+
+-- where no other attempt of its call goes on, the call is committed to the attempt, and ends by it
+abbrev pub FinalEndsClose : Type 0
+FinalEndsClose =
+    (s : Seen) (c : Call) (x : Stepped) (place : ℕ) (a : Attempt) (out : Outcome) → Sees s c x → IsInOrder s c → IsInTurn s c → IsEnding s c place a out
+    → IsCounting s c out → commitment c s ≡ None → is_last_end (plan_of c s) c a out s ≡ true
+    → list_any (λ q. is_live s c q && not (q.place == place)) s.attempts ≡ false
+    → Keeps (call_ended c.number ending.Row (call_committed place (attempt_ended place (end_of a out s) s))) c.number
+    (steps.ended_at place (news_of a out s) (now s) (next_word s) x)
