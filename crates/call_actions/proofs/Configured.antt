@@ -1,6 +1,6 @@
 -- A call gets its configuration, with the tokens of its run; where it was sent a message that is too long for it, it ends at once.
-use Rattle.std.proofs.Common.{◌≡◌, ◌∷◌, ◌++◌, ◌||◌, ◌==◌, not, ap, refl, subst, sym, ◌∙◌, Bool, true, false, List, [], Option, None, Some, ℕ, zero, suc, if◌then◌else◌, is_some, length, slice_get}
-use Rattle.std.proofs.lemmas.Bool.{eqb-false, or_parts}
+use Rattle.std.proofs.Common.{◌≡◌, ◌∷◌, ◌++◌, ◌||◌, ◌==◌, not, ap, refl, subst, sym, ◌∙◌, Bool, true, false, List, [], Option, None, Some, ℕ, if◌then◌else◌, is_some, length}
+use Rattle.std.proofs.lemmas.Bool.{eqb-false}
 use Rattle.std.specs.List.{list_any}
 use Rattle.std.specs.Option.{option_and_then, option_map, option_map_or}
 use Rattle.std.specs.Prelude.{fold}
@@ -9,7 +9,7 @@ use Rattle.attempt_ledger.specs.declared.ledger.CallSeen.{CallSeen}
 use Rattle.attempt_ledger.specs.declared.row.RowEnd.{RowEnd}
 use Rattle.call_actions.proofs.Bare.{Had, bare_attempts, counted_of_marks, due_from, due_of_marks, had, none_live}
 use Rattle.call_actions.proofs.Ended.{closed_mark, ended_call, ended_with, ends_now, marked_calls, none_due, over}
-use Rattle.call_actions.proofs.Lists.{changed_away, changed_here, stamped_here}
+use Rattle.call_actions.proofs.Lists.{changed_away, changed_here, numbered_not, stamped_here}
 use Rattle.call_actions.specs.Laws.{Agrees, ConfigsCome, IsBare, LongMessagesEnd, configured_by, tokens_of_config}
 use Rattle.call_actions.specs.Sees.{AreAttempts, Sees, bucket_of}
 use Rattle.call_core.specs.Parts.{configured_attempts, is_too_long, stopped_attempts}
@@ -41,19 +41,6 @@ use Rattle.session_actions.specs.declared.call.MarkKind.TheVariants as mark
 -- the tokens of a run are the same, whatever happens to a call without attempts
 abbrev pub with_calls : List Call → Seen → Seen
 with_calls calls s = record s { calls = calls }
-
-passes_not : (test : Attempt → Bool) (xs : List Attempt) (i : ℕ) (a : Attempt) → list_any test xs ≡ false → slice_get xs i ≡ Some a → test a ≡ false
-passes_not test [] i a none e = absurd (cc)
-passes_not test (x ∷ xs) zero a none e =
-    let parts : (test x ≡ false) × (list_any test xs ≡ false) = or_parts (test x) (list_any test xs) none in
-    let one : x ≡ a = (cc) in subst (λ (y : Attempt). test y ≡ false) one parts.0
-passes_not test (x ∷ xs) (suc i) a none e =
-    let parts : (test x ≡ false) × (list_any test xs ≡ false) = or_parts (test x) (list_any test xs) none in
-    passes_not test xs i a parts.1 e
-
-numbered_not : (test : Attempt → Bool) (xs : List Attempt) (n : ℕ) (a : Attempt) → list_any test xs ≡ false → numbered xs n ≡ Some a → test a ≡ false
-numbered_not test xs zero a none e = absurd (cc)
-numbered_not test xs (suc i) a none e = passes_not test xs i a none e
 
 module _ (s : Seen) (calls : List Call) (c : Call) (none : list_any (is_of c) s.attempts ≡ false)
     (others : (k : ℕ) → (k ≡ c.number → ⊥) → numbered calls k ≡ numbered s.calls k) (run : ThrottleRun) where

@@ -33,7 +33,7 @@ plan_by : (o : Option HeldConfig) (path : List ℕ)
 plan_by None path = refl
 plan_by (Some h) path = refl
 
-plan_is : (s : Seen) (c : Call) (x : Stepped) → Sees s c x → plan_of c s ≡ call_plan x.call
+pub plan_is : (s : Seen) (c : Call) (x : Stepped) → Sees s c x → plan_of c s ≡ call_plan x.call
 plan_is s c x h = plan_by (config_of_call c s) c.request.path ∙ ap parts.plan_of h.chosen
 
 -- a moment that is set
@@ -84,7 +84,7 @@ attempts_are_due s c x h =
     ∙ due_is (due_state c s) x.call.attempts h.attempts.due h.attempts.unplaced (call_plan x.call)
 
 -- whether the next one is a hedge
-one_by : (n : ℕ) (x y : Bool) → (n + 1 == 1) ≡ x → (n == 0) ≡ y → x ≡ y
+pub one_by : (n : ℕ) (x y : Bool) → (n + 1 == 1) ≡ x → (n == 0) ≡ y → x ≡ y
 one_by n true true e f = refl
 one_by n false false e f = refl
 one_by n true false e f =

@@ -5,13 +5,14 @@ use Rattle.std.specs.Option.{option_map, option_map_or}
 use Rattle.std.specs.Prelude.{filter_map, fold}
 use Rattle.attempt_ledger.specs.Ends.{delay_of, is_cut}
 use Rattle.attempt_ledger.specs.Throttling.{codes_of}
+use Rattle.attempt_ledger.specs.declared.ledger.CallEnd.{CallEnd}
 use Rattle.attempt_ledger.specs.declared.row.RowEnd.{RowEnd}
 use Rattle.call_actions.proofs.Lists.{changed_away, changed_here}
 use Rattle.call_actions.specs.Sees.{bucket_of, is_live, live_row, live_rows}
 use Rattle.grpc_base.specs.Codes.{has_code}
 use Rattle.grpc_base.specs.declared.plan.CallPlan.{CallPlan}
 use Rattle.grpc_base.specs.declared.plan.CallPlan.TheVariants as plan
-use Rattle.session_actions.specs.Attempts.{counts_by, is_counted, is_followed, is_of, is_outstanding, is_over, is_over_in, is_to_follow, wants_follower_by}
+use Rattle.session_actions.specs.Attempts.{commitment, counts_by, is_counted, is_followed, is_of, is_outstanding, is_over, is_over_in, is_to_follow, wants_follower_by}
 use Rattle.session_actions.specs.Configs.{plan_of}
 use Rattle.session_actions.specs.DueAttempts.{counted_row, due_after_end, due_after_mark, due_by_plan, is_licensed, last_delayed, retry_due, was_delayed}
 use Rattle.session_actions.specs.Tokens.{tokens_after, tokens_by}
@@ -27,19 +28,19 @@ use Rattle.session_actions.specs.declared.seen.Seen.{Seen}
 use Rattle.session_actions.specs.declared.call.MarkKind.TheVariants as mark
 use Rattle.a6_numbers.specs.Throttling.{Bucket}
 
-abbrev bucket_by : ThrottleRun → ℕ → Bucket
+abbrev pub bucket_by : ThrottleRun → ℕ → Bucket
 bucket_by run k = record { start = run.throttle.start; ratio = run.throttle.ratio; count = k }
 
 -- tests and functions that agree
-holds_same : {X : Type 0} (p q : X → Bool) → ((x : X) → p x ≡ q x) → (o : Option X) → holds p o ≡ holds q o
+pub holds_same : {X : Type 0} (p q : X → Bool) → ((x : X) → p x ≡ q x) → (o : Option X) → holds p o ≡ holds q o
 holds_same p q same None = refl
 holds_same p q same (Some x) = same x
 
-or_same : {X Y : Type 0} (g h : X → Y) (d : Y) → ((x : X) → g x ≡ h x) → (o : Option X) → option_map_or g o d ≡ option_map_or h o d
+pub or_same : {X Y : Type 0} (g h : X → Y) (d : Y) → ((x : X) → g x ≡ h x) → (o : Option X) → option_map_or g o d ≡ option_map_or h o d
 or_same g h d same None = refl
 or_same g h d same (Some x) = same x
 
-filter_same : (p q : Attempt → Bool) → ((x : Attempt) → p x ≡ q x) → (xs : List Attempt) → filter p xs ≡ filter q xs
+pub filter_same : (p q : Attempt → Bool) → ((x : Attempt) → p x ≡ q x) → (xs : List Attempt) → filter p xs ≡ filter q xs
 filter_same p q same [] = refl
 filter_same p q same (x ∷ xs) =
     ap (λ (b : Bool). cond b (x ∷ filter p xs) (filter p xs)) (same x) ∙ ap (λ (l : List Attempt). cond (q x) (x ∷ l) l) (filter_same p q same xs)
@@ -49,23 +50,23 @@ rows_by : (m : Mark) (g h : Mark → Option ℕ) (marks : List Mark) (o : Option
 rows_by m g h marks None e f rest = (cc)
 rows_by m g h marks (Some row) e f rest = (cc)
 
-rows_same : (g h : Mark → Option ℕ) → ((m : Mark) → g m ≡ h m) → (marks : List Mark) → filter_map g marks ≡ filter_map h marks
+pub rows_same : (g h : Mark → Option ℕ) → ((m : Mark) → g m ≡ h m) → (marks : List Mark) → filter_map g marks ≡ filter_map h marks
 rows_same g h same [] = refl
 rows_same g h same (m ∷ marks) = rows_by m g h marks (h m) (same m) refl (rows_same g h same marks)
 
 -- a call of which this was told
-abbrev pub retold : (Call → List (List ℕ)) → (Call → Bool) → (Call → ℕ) → (Call → Bool) → (Call → List Mark) → Call → Call
-retold messages finished taken end_taken marks c =
-    record c { messages = messages c; finished = finished c; taken = taken c; end_taken = end_taken c; marks = marks c }
+abbrev pub retold : (Call → List (List ℕ)) → (Call → Bool) → (Call → ℕ) → (Call → Bool) → (Call → List Mark) → (Call → Option CallEnd) → Call → Call
+retold messages finished taken end_taken marks end c =
+    record c { messages = messages c; finished = finished c; taken = taken c; end_taken = end_taken c; marks = marks c; end = end c }
 
 changed_map_by : (f : Call → Call) (n : ℕ) (xs : List Call) (o : Option Call) → numbered xs n ≡ o → numbered (changed f n xs) n ≡ option_map f o
 changed_map_by f n xs None e = ap (λ (o : Option Call). numbered (changed_if f n xs o) n) e ∙ e
 changed_map_by f n xs (Some c) e = changed_here f n xs c e
 
 module _ (s : Seen) (n : ℕ) (messages : Call → List (List ℕ)) (finished : Call → Bool) (taken : Call → ℕ) (end_taken : Call → Bool) (marks : Call → List Mark)
-    (current : Option OpenEntry) where
+    (end : Call → Option CallEnd) (current : Option OpenEntry) where
   abbrev pub told : Call → Call
-  told c = retold messages finished taken end_taken marks c
+  told c = retold messages finished taken end_taken marks end c
 
   abbrev pub then_seen : Seen
   then_seen = record s { calls = changed told n s.calls; current = current }
@@ -98,11 +99,11 @@ module _ (s : Seen) (n : ℕ) (messages : Call → List (List ℕ)) (finished : 
   plan_by g same k false e = ap (λ (o : Option Call). option_map_or g o plan.None) (changed_away told n k s.calls (eqb-false k n e))
 
   -- which ends count
-  wants_same : (a : Attempt) (e : RowEnd) → wants_follower_by a then_seen e ≡ wants_follower_by a s e
+  pub wants_same : (a : Attempt) (e : RowEnd) → wants_follower_by a then_seen e ≡ wants_follower_by a s e
   wants_same a e =
       ap (λ (x : Bool). not (is_followed a s) && x) (lookup (λ (c : Call). is_to_follow c e.cause e.unseen s) (λ c. refl) a.row.call)
 
-  counts_same : (a : Attempt) (e : RowEnd) → counts_by a then_seen e ≡ counts_by a s e
+  pub counts_same : (a : Attempt) (e : RowEnd) → counts_by a then_seen e ≡ counts_by a s e
   counts_same a e = ap (λ (x : Bool). (not (is_cut e.cause) && not (is_followed a s)) && not x) (wants_same a e)
 
   counted_same : (a : Attempt) → is_counted a then_seen ≡ is_counted a s
@@ -116,16 +117,18 @@ module _ (s : Seen) (n : ℕ) (messages : Call → List (List ℕ)) (finished : 
   delayed_same c k =
       ap (fold (λ (j : ℕ) (a : Attempt). max j a.row.number) 0) (filter_same (was_delayed c k then_seen) (was_delayed c k s) (delayed_one c k) s.attempts)
 
-  -- which rows are live
-  over_same : (a : Attempt) → is_over a then_seen ≡ is_over a s
-  over_same a = lookup (λ (c : Call). is_over_in c a s) (λ c. refl) a.row.call
+  -- which rows are live, where it does not end
+  over_same : (open_still : (c : Call) → end c ≡ c.end) (a : Attempt) → is_over a then_seen ≡ is_over a s
+  over_same open_still a =
+      lookup (λ (c : Call). is_over_in c a s)
+      (λ c. ap (λ (e : Option CallEnd). is_some e || holds (λ (k : Attempt). not (k.row.number == a.row.number)) (commitment c s)) (open_still c)) a.row.call
 
-  live_one : (c : Call) (a : Attempt) → is_live then_seen c a ≡ is_live s c a
-  live_one c a =
-      ap (λ (x : Bool). is_of c a && (is_outstanding a || ((is_none a.row.placed && is_none a.row.ended) && not x))) (over_same a)
+  live_one : (open_still : (c : Call) → end c ≡ c.end) (c : Call) (a : Attempt) → is_live then_seen c a ≡ is_live s c a
+  live_one open_still c a =
+      ap (λ (x : Bool). is_of c a && (is_outstanding a || ((is_none a.row.placed && is_none a.row.ended) && not x))) (over_same open_still a)
 
-  pub live_same : (c : Call) → live_rows then_seen c ≡ live_rows s c
-  live_same c = ap (map live_row) (filter_same (is_live then_seen c) (is_live s c) (live_one c) s.attempts)
+  pub live_same_by : (open_still : (c : Call) → end c ≡ c.end) (c : Call) → live_rows then_seen c ≡ live_rows s c
+  live_same_by open_still c = ap (map live_row) (filter_same (is_live then_seen c) (is_live s c) (live_one open_still c) s.attempts)
 
   -- when the next attempt is due
   plan_same : (c : Call) (a : Attempt) (d : DueState) (e : RowEnd) (p : CallPlan) → due_by_plan p (told c) a then_seen d e ≡ due_by_plan p c a s d e
@@ -135,7 +138,7 @@ module _ (s : Seen) (n : ℕ) (messages : Call → List (List ℕ)) (finished : 
       (delayed_same c a.row.number)
   plan_same c a d e (plan.Hedge p) = refl
 
-  end_same : (c : Call) (d : DueState) (a : Attempt) (e : RowEnd) → due_after_end (told c) then_seen d a e ≡ due_after_end c s d a e
+  pub end_same : (c : Call) (d : DueState) (a : Attempt) (e : RowEnd) → due_after_end (told c) then_seen d a e ≡ due_after_end c s d a e
   end_same c d a e =
       ap (λ (x : Bool). if (not d.stopped && x) && has_code (codes_of (plan_of c s)) e.code then due_by_plan (plan_of c s) (told c) a then_seen d e else d) (counts_same a e)
       ∙ ap (λ (y : DueState). if (not d.stopped && counts_by a s e) && has_code (codes_of (plan_of c s)) e.code then y else d) (plan_same c a d e (plan_of c s))
@@ -191,3 +194,9 @@ module _ (s : Seen) (n : ℕ) (messages : Call → List (List ℕ)) (finished : 
   bucket_told None = refl
   bucket_told (Some run) =
       ap (λ (k : ℕ). Some (bucket_by run k)) (tokens_all run run.throttle.start run.ends)
+
+-- which rows are live, where it does not end
+pub live_same : (s : Seen) (n : ℕ) (messages : Call → List (List ℕ)) (finished : Call → Bool) (taken : Call → ℕ) (end_taken : Call → Bool) (marks : Call → List Mark)
+    (current : Option OpenEntry) (c : Call) → live_rows (then_seen s n messages finished taken end_taken marks (λ (k : Call). k.end) current) c ≡ live_rows s c
+live_same s n messages finished taken end_taken marks current c =
+    live_same_by s n messages finished taken end_taken marks (λ (k : Call). k.end) current (λ k. refl) c

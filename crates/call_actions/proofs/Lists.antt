@@ -1,8 +1,8 @@
 -- Changes of the thing of a number; and what a list has of which none passes a test.
-use Rattle.std.proofs.Common.{◌≡◌, ◌<◌, ◌+◌, ◌∷◌, ◌++◌, ◌||◌, ap, arith, refl, ◌∙◌, Bool, false, List, [], Option, None, Some, ℕ, zero, suc, cond, if◌then◌else◌, filter, length, slice_get}
+use Rattle.std.proofs.Common.{◌≡◌, ◌<◌, ◌+◌, ◌∷◌, ◌++◌, ◌||◌, ap, arith, refl, sym, ◌∙◌, Bool, false, List, [], Option, None, Some, ℕ, zero, suc, cond, if◌then◌else◌, filter, length, slice_get}
 use Rattle.std.proofs.lemmas.Bool.{lt-ltb, or_parts}
 use Rattle.std.specs.List.{list_any}
-use Rattle.std.specs.Option.{option_map_or, option_or}
+use Rattle.std.specs.Option.{option_map, option_map_or, option_or}
 use Rattle.std.specs.Prelude.{count_by, fold, slice_set}
 use Rattle.ledger_stamps.specs.Steps as stamps
 use Rattle.ledger_stamps.specs.Steps.{changed_at}
@@ -33,6 +33,29 @@ away_by f i (suc j) xs (Some x) away = set_away xs i j (f x) (λ e. away (ap suc
 pub changed_away : {X : Type 0} (f : X → X) (n k : ℕ) (xs : List X) → (k ≡ n → ⊥) → numbered (changed f n xs) k ≡ numbered xs k
 changed_away f zero k xs away = refl
 changed_away f (suc i) k xs away = away_by f i k xs (slice_get xs i) away
+
+changed_by : {X : Type 0} (f : X → X) (n : ℕ) (xs : List X) (o : Option X) → numbered xs n ≡ o → numbered (changed f n xs) n ≡ option_map f o
+changed_by f n xs None e = ap (λ (z : Option _). numbered (changed_if f n xs z) n) e ∙ e
+changed_by f n xs (Some x) e = changed_here f n xs x e
+
+pub changed_map : {X : Type 0} (f : X → X) (n : ℕ) (xs : List X) → numbered (changed f n xs) n ≡ option_map f (numbered xs n)
+changed_map f n xs = changed_by f n xs (numbered xs n) refl
+
+set_twice : {X : Type 0} (xs : List X) (i : ℕ) (y z : X) → slice_set (slice_set xs i y) i z ≡ slice_set xs i z
+set_twice [] i y z = refl
+set_twice (x ∷ xs) zero y z = refl
+set_twice (x ∷ xs) (suc i) y z = ap (λ (l : List _). x ∷ l) (set_twice xs i y z)
+
+twice_by : {X : Type 0} (f g : X → X) (n : ℕ) (xs : List X) (o : Option X) → numbered xs n ≡ o → changed g n (changed f n xs) ≡ changed (λ (x : X). g (f x)) n xs
+twice_by f g n xs None e =
+    ap (λ (z : Option _). changed g n (changed_if f n xs z)) e ∙ ap (changed_if g n xs) e ∙ sym (ap (changed_if (λ (x : _). g (f x)) n xs) e)
+twice_by f g zero xs (Some x) e = absurd (cc)
+twice_by f g (suc i) xs (Some x) e =
+    ap (λ (z : Option _). changed g (suc i) (changed_if f (suc i) xs z)) e ∙ ap (changed_if g (suc i) (slice_set xs i (f x))) (set_here xs i x (f x) e)
+    ∙ set_twice xs i (f x) (g (f x)) ∙ sym (ap (changed_if (λ (x : _). g (f x)) (suc i) xs) e)
+
+pub changed_twice : {X : Type 0} (f g : X → X) (n : ℕ) (xs : List X) → changed g n (changed f n xs) ≡ changed (λ (x : X). g (f x)) n xs
+changed_twice f g n xs = twice_by f g n xs (numbered xs n) refl
 
 -- of the ledger
 stamp_get : {X : Type 0} (f : X → X) (xs : List X) (i : ℕ) (x : X) → slice_get xs i ≡ Some x → slice_get (stamps.changed f xs i) i ≡ Some (f x)
@@ -92,3 +115,17 @@ count_from test wide narrow k (x ∷ xs) e =
 
 pub count_none : {X : Type 0} (test wide : X → Bool) → ((x : X) → wide x ≡ false → test x ≡ false) → (xs : List X) → list_any wide xs ≡ false → count_by test xs ≡ 0
 count_none test wide narrow xs e = count_from test wide narrow 0 xs e
+
+-- where none of a list passes a test, the thing of no number does
+passes_not : {X : Type 0} (test : X → Bool) (xs : List X) (i : ℕ) (a : X) → list_any test xs ≡ false → slice_get xs i ≡ Some a → test a ≡ false
+passes_not test [] i a none e = absurd (cc)
+passes_not test (x ∷ xs) zero a none e =
+    let parts : (test x ≡ false) × (list_any test xs ≡ false) = or_parts (test x) (list_any test xs) none in
+    let one : a ≡ x = (cc) in ap test one ∙ parts.0
+passes_not test (x ∷ xs) (suc i) a none e =
+    let parts : (test x ≡ false) × (list_any test xs ≡ false) = or_parts (test x) (list_any test xs) none in
+    passes_not test xs i a parts.1 e
+
+pub numbered_not : {X : Type 0} (test : X → Bool) (xs : List X) (n : ℕ) (a : X) → list_any test xs ≡ false → numbered xs n ≡ Some a → test a ≡ false
+numbered_not test xs zero a none e = absurd (cc)
+numbered_not test xs (suc i) a none e = passes_not test xs i a none e

@@ -54,13 +54,13 @@ requests_finish s c x h is_open unfinished =
     let same : steps.finished x.call ≡ done_call x.call
     = finished_by x.call x.call.ended x.call.is_finished (sym h.ended ∙ ap (option_map (λ (e : CallEnd). e.cause)) is_open) (sym h.finished ∙ unfinished) in
     let due : due_state d t ≡ due_state c s
-    = due_same s n (λ k. k.messages) (λ k. true) (λ k. k.taken) (λ k. k.end_taken) (λ k. k.marks) now_open c no_due c.marks in
+    = due_same s n (λ k. k.messages) (λ k. true) (λ k. k.taken) (λ k. k.end_taken) (λ k. k.marks) (λ k. k.end) now_open c no_due c.marks in
     let attempts : AreAttempts t d x.call.attempts = record {
       sent = a.sent;
       due = subst (λ (z : DueState). AreDue z x.call.attempts) (sym due) a.due;
       unplaced = a.unplaced;
-      delayed = λ keeps free. delayed_same s n (λ k. k.messages) (λ k. true) (λ k. k.taken) (λ k. k.end_taken) (λ k. k.marks) now_open c x.call.attempts.sent ∙ a.delayed keeps free;
-      last = λ free. ap last_of (counted_rows_same s n (λ k. k.messages) (λ k. true) (λ k. k.taken) (λ k. k.end_taken) (λ k. k.marks) now_open c.marks) ∙ a.last free;
+      delayed = λ keeps free. delayed_same s n (λ k. k.messages) (λ k. true) (λ k. k.taken) (λ k. k.end_taken) (λ k. k.marks) (λ k. k.end) now_open c x.call.attempts.sent ∙ a.delayed keeps free;
+      last = λ free. ap last_of (counted_rows_same s n (λ k. k.messages) (λ k. true) (λ k. k.taken) (λ k. k.end_taken) (λ k. k.marks) (λ k. k.end) now_open c.marks) ∙ a.last free;
       refused = a.refused;
       committed = a.committed;
     } in
@@ -75,7 +75,7 @@ requests_finish s c x h is_open unfinished =
       ended = h.ended;
       attempts = attempts;
       live = live_same s n (λ k. k.messages) (λ k. true) (λ k. k.taken) (λ k. k.end_taken) (λ k. k.marks) now_open c ∙ h.live;
-      tokens = bucket_told s n (λ k. k.messages) (λ k. true) (λ k. k.taken) (λ k. k.end_taken) (λ k. k.marks) now_open (run_of c s) ∙ h.tokens;
+      tokens = bucket_told s n (λ k. k.messages) (λ k. true) (λ k. k.taken) (λ k. k.end_taken) (λ k. k.marks) (λ k. k.end) now_open (run_of c s) ∙ h.tokens;
       entry_is = entry_replied s reply.Done ∙ h.entry_is;
       rows = h.rows;
       call_is = h.call_is;
@@ -83,7 +83,7 @@ requests_finish s c x h is_open unfinished =
     record { call = d; number_is = refl; sees = subst (λ (k : CallState). Sees t d (record x { call = k })) (sym same) sees }
 
 -- one mark more
-fold_last : (f : DueState → Mark → DueState) (d : DueState) (marks : List Mark) (m : Mark) → fold f d (marks ++ m ∷ []) ≡ f (fold f d marks) m
+pub fold_last : (f : DueState → Mark → DueState) (d : DueState) (marks : List Mark) (m : Mark) → fold f d (marks ++ m ∷ []) ≡ f (fold f d marks) m
 fold_last f d [] m = refl
 fold_last f d (x ∷ marks) m = fold_last f (f d x) marks m
 
@@ -105,15 +105,15 @@ hedges_are_withheld s c x h going =
     let due : due_state d t ≡ record (due_state c s) { stopped = true }
     = fold_last (λ (z : DueState) (m : Mark). due_after_mark d t m.what m.moment z) no_due c.marks w
     ∙ ap (λ (z : DueState). record z { stopped = true })
-    (due_same s n (λ k. k.messages) (λ k. k.finished) (λ k. k.taken) (λ k. k.end_taken) (λ k. k.marks ++ w ∷ []) now_open c no_due c.marks) in
+    (due_same s n (λ k. k.messages) (λ k. k.finished) (λ k. k.taken) (λ k. k.end_taken) (λ k. k.marks ++ w ∷ []) (λ k. k.end) now_open c no_due c.marks) in
     let rows : last_counted d t ≡ last_counted c s
     = ap last_of (filter_map-append (λ (m : Mark). counted_row t m.what) c.marks (w ∷ []) ∙ append-nil (filter_map (λ (m : Mark). counted_row t m.what) c.marks)
-    ∙ counted_rows_same s n (λ k. k.messages) (λ k. k.finished) (λ k. k.taken) (λ k. k.end_taken) (λ k. k.marks ++ w ∷ []) now_open c.marks) in
+    ∙ counted_rows_same s n (λ k. k.messages) (λ k. k.finished) (λ k. k.taken) (λ k. k.end_taken) (λ k. k.marks ++ w ∷ []) (λ k. k.end) now_open c.marks) in
     let attempts : AreAttempts t d (stopped_attempts x.call.attempts) = record {
       sent = a.sent;
       due = subst (λ (z : DueState). AreDue z (stopped_attempts x.call.attempts)) (sym due) (none_due (due_state c s) x.call.attempts a.due.newest a.due.placed);
       unplaced = a.unplaced;
-      delayed = λ keeps free. delayed_same s n (λ k. k.messages) (λ k. k.finished) (λ k. k.taken) (λ k. k.end_taken) (λ k. k.marks ++ w ∷ []) now_open c x.call.attempts.sent ∙ a.delayed keeps free;
+      delayed = λ keeps free. delayed_same s n (λ k. k.messages) (λ k. k.finished) (λ k. k.taken) (λ k. k.end_taken) (λ k. k.marks ++ w ∷ []) (λ k. k.end) now_open c x.call.attempts.sent ∙ a.delayed keeps free;
       last = λ free. rows ∙ a.last free;
       refused = a.refused;
       committed = a.committed;
@@ -129,7 +129,7 @@ hedges_are_withheld s c x h going =
       ended = h.ended;
       attempts = attempts;
       live = live_same s n (λ k. k.messages) (λ k. k.finished) (λ k. k.taken) (λ k. k.end_taken) (λ k. k.marks ++ w ∷ []) now_open c ∙ h.live;
-      tokens = bucket_told s n (λ k. k.messages) (λ k. k.finished) (λ k. k.taken) (λ k. k.end_taken) (λ k. k.marks ++ w ∷ []) now_open (run_of c s) ∙ h.tokens;
+      tokens = bucket_told s n (λ k. k.messages) (λ k. k.finished) (λ k. k.taken) (λ k. k.end_taken) (λ k. k.marks ++ w ∷ []) (λ k. k.end) now_open (run_of c s) ∙ h.tokens;
       entry_is = ap (λ (b : Bool). length s.entries + (if b then 1 else 0)) (some_still (λ (o : OpenEntry). record o { turn = None }) s.current) ∙ h.entry_is;
       rows = h.rows;
       call_is = h.call_is;

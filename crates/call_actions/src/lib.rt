@@ -3,4 +3,8 @@
 
 mod laws;
 
-pub use laws::{calls_before_configuration, calls_go_on_alike};
+pub use laws::{
+    attempts_are_cut_alike, attempts_are_made_alike, calls_before_configuration, calls_end_alike,
+    calls_go_on_after_ends, calls_go_on_alike, committed_ends_close_calls, final_ends_close_calls,
+    refused_attempts_are_retried,
+};
