@@ -1,10 +1,9 @@
 -- The attempts of a call that is committed to one of them, once the others are cut off: what a session says of them.
-use Rattle.std.proofs.Common.{◌≡◌, ◌+◌, ◌==◌, ◌∷◌, ◌++◌, ◌&&◌, ◌||◌, not, ap, refl, subst, sym, ◌∙◌, Bool, true, false, List, [], Option, None, Some, ℕ, zero, suc, filter, fold, if◌then◌else◌, is_none, is_some, length, map}
+use Rattle.std.proofs.Common.{◌≡◌, ◌==◌, ◌∷◌, ◌++◌, ◌&&◌, not, ap, refl, subst, sym, ◌∙◌, Bool, true, false, List, [], Option, None, Some, ℕ, fold, if◌then◌else◌, is_none, is_some, map}
 use Rattle.std.proofs.lemmas.Grind.{fold-append}
-use Rattle.std.specs.List.{AllByRecursion, list_any}
+use Rattle.std.specs.List.{list_any}
 use Rattle.std.specs.Option.{option_map, option_map_or}
 use Rattle.std.specs.Prelude.{count_by}
-use Rattle.attempt_ledger.specs.Ends.{is_cut}
 use Rattle.attempt_ledger.specs.Numbering.{is_transparent}
 use Rattle.attempt_ledger.specs.Throttling.{codes_of}
 use Rattle.attempt_ledger.specs.TransparentRows.{is_refused}
@@ -17,19 +16,18 @@ use Rattle.grpc_base.specs.declared.plan.CallPlan.{CallPlan}
 use Rattle.grpc_base.specs.declared.plan.CallPlan.TheVariants as plan
 use Rattle.grpc_base.specs.declared.plan.Pushback.{Pushback}
 use Rattle.grpc_base.specs.declared.plan.Pushback.TheVariants as pushback
-use Rattle.session_actions.specs.Attempts.{counts_by, is_followed, is_later_of, is_of, is_outstanding, was_refused, was_retried_so}
+use Rattle.session_actions.specs.Attempts.{counts_by, is_later_of, is_of, is_outstanding, was_refused}
 use Rattle.session_actions.specs.Configs.{plan_of}
-use Rattle.session_actions.specs.DueAttempts.{attempts_made, due_after_end, due_after_making, due_after_mark, due_by_plan, due_state, hedge_forced, no_due}
+use Rattle.session_actions.specs.DueAttempts.{due_after_end, due_after_making, due_after_mark, due_by_plan, due_state, hedge_forced, no_due}
 use Rattle.session_actions.specs.Links.{link_of, read_bytes}
 use Rattle.session_actions.specs.Tokens.{allows_attempt}
-use Rattle.session_actions.specs.Words.{changed, holds, is_number, numbered}
+use Rattle.session_actions.specs.Words.{holds, is_number, numbered}
 use Rattle.session_actions.specs.declared.attempt.Attempt.{Attempt}
 use Rattle.session_actions.specs.declared.call.Call.{Call}
 use Rattle.session_actions.specs.declared.call.Mark.{Mark}
 use Rattle.session_actions.specs.declared.call.MarkKind.{MarkKind}
 use Rattle.session_actions.specs.declared.call.MarkKind.TheVariants as mark
 use Rattle.session_actions.specs.declared.due.DueState.{DueState}
-use Rattle.session_actions.specs.declared.entry.OpenEntry.{OpenEntry}
 use Rattle.session_actions.specs.declared.seen.Seen.{Seen}
 use Rattle.take_actions.proofs.Maps.{any_map, count_map, numbered_each}
 

@@ -1,14 +1,12 @@
 -- One attempt is cut off in a session.
-use Rattle.std.proofs.Common.{◌≡◌, ◌<◌, ◌+◌, ◌==◌, ◌∷◌, ◌++◌, ◌&&◌, ◌||◌, not, append_assoc, ap, arith, refl, subst, sym, ◌∙◌, Bool, true, false, List, [], Option, None, Some, ℕ, zero, suc, if◌then◌else◌, is_none, is_some, length, map, pred, slice_get, slice_set}
-use Rattle.std.proofs.lemmas.Bool.{eqb-true}
+use Rattle.std.proofs.Common.{◌≡◌, ◌+◌, ◌∷◌, ◌++◌, append_assoc, ap, refl, sym, ◌∙◌, Bool, false, List, [], Option, None, Some, ℕ, zero, suc, if◌then◌else◌, length, pred, slice_get, slice_set}
 use Rattle.std.specs.Option.{option_and_then, option_map, option_map_or}
 use Rattle.attempt_ledger.specs.declared.ledger.CallEnd.{CallEnd}
 use Rattle.attempt_ledger.specs.declared.row.RowEnd.{RowEnd}
 use Rattle.attempt_ledger.specs.declared.row.RowCause.TheVariants as cause
-use Rattle.call_core.specs.Parts as parts
 use Rattle.grpc_base.specs.declared.code.Code.TheVariants as code
 use Rattle.grpc_base.specs.declared.plan.Pushback.TheVariants as pushback
-use Rattle.session_actions.specs.AttemptEnds.{attempt_ended, attempt_ended_as, cut_end, end_of, is_drawing, tokens_at, tokens_at_end, with_end, with_end_in_run}
+use Rattle.session_actions.specs.AttemptEnds.{attempt_ended, attempt_ended_as, cut_end, end_of, is_drawing, tokens_at, with_end, with_end_in_run}
 use Rattle.session_actions.specs.Attempts.{call_of, of_its_call, with_attempt}
 use Rattle.session_actions.specs.Calls.{marked}
 use Rattle.session_actions.specs.Entries.{drawn_if, entry, next_word, now}

@@ -1,22 +1,22 @@
 -- From the commitment of a call to the state in which its other attempts are cut off, one by one.
-use Rattle.std.proofs.Common.{◌≡◌, ◌<◌, ◌+◌, ◌==◌, ◌∷◌, ◌++◌, ◌&&◌, ◌||◌, not, append-nil, append_assoc, ap, arith, refl, subst, sym, ◌∙◌, Bool, true, false, List, [], Option, None, Some, ℕ, zero, suc, cond, filter, fold, if◌then◌else◌, is_none, is_some, length, map, slice_get, slice_set}
-use Rattle.std.proofs.lemmas.Bool.{and_parts, eq-eqb, eqb-true, ne_eqb}
+use Rattle.std.proofs.Common.{◌≡◌, ◌+◌, ◌==◌, ◌∷◌, ◌++◌, ◌&&◌, ◌||◌, not, append-nil, append_assoc, ap, refl, subst, sym, ◌∙◌, Bool, true, false, List, [], Option, None, Some, ℕ, zero, suc, cond, filter, fold, if◌then◌else◌, is_none, is_some, length, map, slice_get}
+use Rattle.std.proofs.lemmas.Bool.{and_parts, eqb-true}
 use Rattle.std.proofs.lemmas.List.{length-map, map-append}
 use Rattle.std.proofs.lemmas.List.Elements.{filter-append}
 use Rattle.std.specs.List.{list_all}
-use Rattle.std.specs.Option.{option_and_then, option_map, option_map_or, option_or}
+use Rattle.std.specs.Option.{option_map, option_map_or, option_or}
 use Rattle.attempt_ledger.specs.declared.ledger.CallEnd.{CallEnd}
 use Rattle.attempt_ledger.specs.declared.row.RowEnd.{RowEnd}
 use Rattle.call_actions.proofs.Lists.{changed_here}
 use Rattle.grpc_base.specs.declared.plan.CallPlan.{CallPlan}
 use Rattle.grpc_base.specs.declared.plan.CallPlan.TheVariants as plan
-use Rattle.session_actions.specs.Actions.{after, after_if}
-use Rattle.session_actions.specs.AttemptEnds.{attempt_ended, cut, cut_end, end_of, with_end}
+use Rattle.session_actions.specs.Actions.{after}
+use Rattle.session_actions.specs.AttemptEnds.{cut, cut_end, end_of, with_end}
 use Rattle.session_actions.specs.Attempts.{call_of, commitment, is_commitment, is_of, is_outstanding, is_over, is_over_in}
 use Rattle.session_actions.specs.Configs.{plan_of}
 use Rattle.session_actions.specs.Entries.{entry, last_moment, now}
 use Rattle.session_actions.specs.Tokens.{plan_of_attempt, run_of, tokens_after, tokens_by, tokens_in}
-use Rattle.session_actions.specs.Words.{changed, changed_if, find_last, first_of, holds, numbered}
+use Rattle.session_actions.specs.Words.{changed, find_last, first_of, holds, numbered}
 use Rattle.session_actions.specs.declared.action.Action.{Action}
 use Rattle.session_actions.specs.declared.action.Action.TheVariants as action
 use Rattle.session_actions.specs.declared.attempt.Attempt.{Attempt}

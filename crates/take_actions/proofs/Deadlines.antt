@@ -1,5 +1,5 @@
 -- The deadline of a call comes at one moment in session and channel.
-use Rattle.std.proofs.Common.{◌≡◌, ◌+◌, ◌&&◌, not, ap, min, refl, subst, sym, ◌∙◌, Bool, true, false, List, Option, None, Some, ℕ, if◌then◌else◌, is_none, is_some, nat_le}
+use Rattle.std.proofs.Common.{◌≡◌, ◌+◌, ◌&&◌, not, ap, refl, subst, sym, ◌∙◌, Bool, true, false, List, Option, None, Some, ℕ, if◌then◌else◌, is_none, is_some, nat_le}
 use Rattle.std.proofs.lemmas.Bool.{and_parts}
 use Rattle.std.specs.Option.{option_map, option_map_or}
 use Rattle.attempt_ledger.specs.declared.ledger.CallEnd.{CallEnd}

@@ -1,12 +1,11 @@
 -- A call ends, and its attempts are cut off: in the session one by one, in the channel at once.
-use Rattle.std.proofs.Common.{◌≡◌, ◌+◌, ◌==◌, ◌∷◌, ◌++◌, ◌&&◌, ◌||◌, append-nil, ap, map-id, not, refl, subst, sym, ◌∙◌, Bool, true, false, List, [], Option, None, Some, ℕ, filter, if◌then◌else◌, is_none, is_some, length, map}
+use Rattle.std.proofs.Common.{◌≡◌, ◌∷◌, ◌&&◌, ◌||◌, append-nil, ap, map-id, not, refl, subst, sym, ◌∙◌, Bool, true, false, List, [], Option, None, Some, ℕ, filter, if◌then◌else◌, is_none, is_some, length, map}
 use Rattle.std.proofs.lemmas.Bool.{both_ways, eq-eqb, or_right}
 use Rattle.std.specs.List.{list_any}
-use Rattle.std.specs.Option.{option_map, option_map_or}
+use Rattle.std.specs.Option.{option_map}
 use Rattle.attempt_ledger.specs.declared.ledger.CallEnd.{CallEnd}
 use Rattle.call_actions.proofs.Bare.{some_still}
 use Rattle.call_actions.proofs.Ended.{end_by}
-use Rattle.call_core.specs.Parts as parts
 use Rattle.call_core.specs.Parts.{count_of}
 use Rattle.call_core.specs.Steps as steps
 use Rattle.call_core.specs.Steps.{Stepped, closed_by, ended_as}
@@ -16,7 +15,6 @@ use Rattle.grpc_base.specs.declared.event.Event.{Event}
 use Rattle.grpc_base.specs.declared.event.Event.TheVariants as event
 use Rattle.grpc_base.specs.declared.event.Refusal.{Refusal}
 use Rattle.grpc_base.specs.declared.event.Refusal.TheVariants as refusal
-use Rattle.grpc_base.specs.declared.event.Reply.{Reply}
 use Rattle.grpc_base.specs.declared.event.Reply.TheVariants as reply
 use Rattle.session_actions.specs.Actions.{after, after_if}
 use Rattle.session_actions.specs.CallEnds.{call_ended, cancels, has_long_request, is_after_event, is_cancelled, sends_too_long}
@@ -27,7 +25,6 @@ use Rattle.session_actions.specs.Events.{event_action, event_action_by}
 use Rattle.session_actions.specs.Refusals.{cancel_refusal, refused_if}
 use Rattle.session_actions.specs.Tokens.{run_of, tokens_in}
 use Rattle.session_actions.specs.Words.{changed, numbered}
-use Rattle.session_actions.specs.declared.action.Action.{Action}
 use Rattle.session_actions.specs.declared.action.Action.TheVariants as action
 use Rattle.session_actions.specs.declared.attempt.Attempt.{Attempt}
 use Rattle.session_actions.specs.declared.call.Call.{Call}

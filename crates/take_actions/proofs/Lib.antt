@@ -21,3 +21,4 @@ pub mod EndCounts
 pub mod EndSees
 pub mod Ends
 pub mod Deadlines
+pub mod Begins

@@ -1,12 +1,10 @@
 -- A message for which an uncommitted call has no room is accepted while an attempt is outstanding, and commits the call to the one drained furthest.
-use Rattle.std.proofs.Common.{◌≡◌, ◌<◌, ◌+◌, ◌-◌, ◌==◌, ◌∷◌, ◌++◌, ◌&&◌, ◌||◌, not, ap, arith, length-append, refl, subst, sym, ◌∙◌, Bool, true, false, List, [], Option, None, Some, ℕ, filter, if◌then◌else◌, is_none, is_some, length, map, max, nat_le, nat_lt}
+use Rattle.std.proofs.Common.{◌≡◌, ◌<◌, ◌+◌, ◌-◌, ◌==◌, ◌∷◌, ◌++◌, ◌&&◌, ◌||◌, not, ap, arith, length-append, refl, subst, sym, ◌∙◌, Bool, true, false, List, [], Option, None, Some, ℕ, if◌then◌else◌, is_none, is_some, length, max, nat_le, nat_lt}
 use Rattle.std.proofs.lemmas.Bool.{leb-false, lt-ltb, or_right}
-use Rattle.std.specs.List.{list_any}
 use Rattle.std.specs.Option.{option_map, option_map_or}
-use Rattle.attempt_buffer.specs.Buffers.{Buffered, held, is_open}
+use Rattle.attempt_buffer.specs.Buffers.{Buffered, held}
 use Rattle.attempt_ledger.specs.declared.ledger.CallEnd.{CallEnd}
 use Rattle.call_actions.proofs.Bare.{some_still}
-use Rattle.call_actions.specs.Sees.{is_live}
 use Rattle.call_core.specs.Laws as channel
 use Rattle.call_core.specs.Parts as parts
 use Rattle.call_core.specs.Parts.{committed_buffer, pushed_buffer, pushed_over}
@@ -21,12 +19,10 @@ use Rattle.session_actions.specs.Actions.{after, after_if}
 use Rattle.session_actions.specs.Attempts.{commitment, is_of, is_outstanding, is_over, is_over_in}
 use Rattle.session_actions.specs.Commitments.{furthest, overflow_row}
 use Rattle.session_actions.specs.Deliveries.{held_bytes, is_accepted, message_accepted, response_items}
-use Rattle.session_actions.specs.Entries.{entry, last_moment, now, replied}
-use Rattle.session_actions.specs.Events.{event_action}
+use Rattle.session_actions.specs.Entries.{last_moment, now}
 use Rattle.session_actions.specs.Responses.{response}
-use Rattle.session_actions.specs.Words.{changed, holds, numbered}
+use Rattle.session_actions.specs.Words.{numbered}
 use Rattle.session_actions.specs.Writing.{accepted_bytes, drained}
-use Rattle.session_actions.specs.declared.action.Action.{Action}
 use Rattle.session_actions.specs.declared.action.Action.TheVariants as action
 use Rattle.session_actions.specs.declared.attempt.Attempt.{Attempt}
 use Rattle.session_actions.specs.declared.call.Call.{Call}

@@ -1,5 +1,5 @@
 -- Whether a call has room for a message, and what it holds after it: the same in session and channel.
-use Rattle.std.proofs.Common.{◌≡◌, ◌≤◌, ◌<◌, ◌+◌, ◌-◌, ◌==◌, ◌∷◌, ◌++◌, ◌&&◌, ◌||◌, append-nil, ap, arith, length-append, length-drop, not, refl, subst, sym, ◌∙◌, Bool, true, false, List, [], Option, None, Some, Result, Ok, Err, ℕ, suc, drop, filter, flat_map, if◌then◌else◌, is_some, length, nat_le, nat_lt}
+use Rattle.std.proofs.Common.{◌≡◌, ◌≤◌, ◌<◌, ◌+◌, ◌-◌, ◌∷◌, ◌++◌, ◌||◌, append-nil, ap, arith, length-append, length-drop, not, refl, subst, sym, ◌∙◌, Bool, true, false, List, [], Option, None, Some, Result, Ok, Err, ℕ, suc, filter, if◌then◌else◌, is_some, length, nat_le, nat_lt}
 use Rattle.std.proofs.Math.Dec.{eqb-suc-zero}
 use Rattle.std.proofs.lemmas.Bool.{le-leb, lt-leb, ltb-false, ltb-true}
 use Rattle.std.proofs.lemmas.List.{drop-append-le}
@@ -19,13 +19,13 @@ use Rattle.grpc_frame.specs.Messages.{framed, framed_all}
 use Rattle.session_actions.specs.Attempts.{commitment, is_of, is_outstanding}
 use Rattle.session_actions.specs.Commitments.{furthest}
 use Rattle.session_actions.specs.Deliveries.{held_bytes, is_accepted}
-use Rattle.session_actions.specs.Writing.{accepted_bytes, drained}
+use Rattle.session_actions.specs.Writing.{drained}
 use Rattle.session_actions.specs.declared.attempt.Attempt.{Attempt}
 use Rattle.session_actions.specs.declared.call.Call.{Call}
 use Rattle.session_actions.specs.declared.seen.Seen.{Seen}
 use Rattle.take_actions.proofs.Furthest.{furthest_is}
 use Rattle.take_actions.proofs.Maps.{all_by}
-use Rattle.take_actions.specs.Serves.{AreFed, Holds, IsAt, IsFed, Serves, drained_so_far, passed}
+use Rattle.take_actions.specs.Serves.{Holds, IsAt, IsFed, Serves, drained_so_far, passed}
 
 -- the prefix of a message has five bytes
 pub framed_length : (m : List ℕ) → length (framed m) ≡ length m + 5

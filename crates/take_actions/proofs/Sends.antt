@@ -1,5 +1,5 @@
 -- The application sends a message that its call's config allows, and that does not commit the call.
-use Rattle.std.proofs.Common.{◌≡◌, ◌+◌, ◌∷◌, ◌++◌, ◌&&◌, ap, refl, subst, sym, ◌∙◌, Bool, true, false, List, [], Option, None, Some, ℕ, fold, if◌then◌else◌, is_some, length, max, nat_lt}
+use Rattle.std.proofs.Common.{◌≡◌, ◌∷◌, ◌++◌, ◌&&◌, ap, refl, subst, sym, ◌∙◌, Bool, true, false, List, [], Option, None, Some, ℕ, if◌then◌else◌, is_some, length, max, nat_lt}
 use Rattle.std.proofs.lemmas.Grind.{fold-append}
 use Rattle.std.specs.Option.{option_map, option_map_or}
 use Rattle.attempt_buffer.specs.Buffers.{Buffered, held}
@@ -11,7 +11,6 @@ use Rattle.call_core.specs.Parts as parts
 use Rattle.call_core.specs.Parts.{has_room, pushed_buffer, pushed_over}
 use Rattle.call_core.specs.Steps as steps
 use Rattle.call_core.specs.Steps.{Stepped, accepted, accepted_if, committed_over, full_reply, full_with, sent_free, sent_free_reply, with_message}
-use Rattle.call_core.specs.declared.state.CallState.{CallState}
 use Rattle.grpc_base.specs.declared.event.EndCause.TheVariants as ending
 use Rattle.grpc_base.specs.declared.event.Event.{Event}
 use Rattle.grpc_base.specs.declared.event.Event.TheVariants as event
@@ -22,12 +21,10 @@ use Rattle.grpc_base.specs.declared.event.Reply.TheVariants as reply
 use Rattle.grpc_base.specs.declared.plan.Chosen.{Chosen}
 use Rattle.grpc_frame.specs.Messages.{framed}
 use Rattle.service_config.specs.Choice.{chosen_for}
-use Rattle.session_actions.specs.Attempts.{commitment}
 use Rattle.session_actions.specs.Configs.{config_of_call, is_too_long, no_choice}
-use Rattle.session_actions.specs.Deliveries.{held_bytes, is_accepted, message_accepted, send_action, with_message as with_sent}
-use Rattle.session_actions.specs.Entries.{now, replied}
+use Rattle.session_actions.specs.Deliveries.{held_bytes, is_accepted, message_accepted, send_action}
+use Rattle.session_actions.specs.Entries.{now}
 use Rattle.session_actions.specs.Events.{event_action, event_action_by}
-use Rattle.session_actions.specs.declared.action.Action.{Action}
 use Rattle.session_actions.specs.declared.action.Action.TheVariants as action
 use Rattle.session_actions.specs.declared.call.Call.{Call}
 use Rattle.session_actions.specs.declared.config.HeldConfig.{HeldConfig}

@@ -1,5 +1,5 @@
 -- The application takes what came: the next item of the session is what the channel gives.
-use Rattle.std.proofs.Common.{◌≡◌, ◌+◌, ◌∷◌, ◌++◌, ap, refl, subst, sym, ◌∙◌, append_assoc, Bool, true, false, List, [], Option, None, Some, ℕ, if◌then◌else◌, is_some, length}
+use Rattle.std.proofs.Common.{◌≡◌, ◌+◌, ◌∷◌, ◌++◌, ap, refl, subst, sym, ◌∙◌, append_assoc, Bool, true, false, List, [], Option, None, Some, ℕ, if◌then◌else◌, is_some}
 use Rattle.std.proofs.lemmas.Bool.{both_ways}
 use Rattle.std.specs.Option.{option_and_then, option_map, option_map_or}
 use Rattle.attempt_ledger.specs.declared.ledger.CallEnd.{CallEnd}
@@ -15,7 +15,6 @@ use Rattle.grpc_base.specs.declared.event.EndCause.{EndCause}
 use Rattle.grpc_base.specs.declared.event.EndCause.TheVariants as ending
 use Rattle.grpc_base.specs.declared.event.Event.{Event}
 use Rattle.grpc_base.specs.declared.event.Event.TheVariants as event
-use Rattle.grpc_base.specs.declared.event.Refusal.{Refusal}
 use Rattle.grpc_base.specs.declared.event.Refusal.TheVariants as refusal
 use Rattle.grpc_base.specs.declared.event.Reply.{Reply}
 use Rattle.grpc_base.specs.declared.event.Reply.TheVariants as reply
@@ -26,7 +25,6 @@ use Rattle.session_actions.specs.Deliveries.{end_by_channel, end_by_row, end_ite
 use Rattle.session_actions.specs.Entries.{replied}
 use Rattle.session_actions.specs.Events.{event_action, event_action_by}
 use Rattle.session_actions.specs.Refusals.{refused_if, take_refusal}
-use Rattle.session_actions.specs.Words.{numbered}
 use Rattle.session_actions.specs.declared.action.Action.{Action}
 use Rattle.session_actions.specs.declared.action.Action.TheVariants as action
 use Rattle.session_actions.specs.declared.attempt.Attempt.{Attempt}
@@ -36,7 +34,7 @@ use Rattle.session_actions.specs.declared.entry.Stage.TheVariants as stage
 use Rattle.session_actions.specs.declared.seen.Seen.{Seen}
 use Rattle.take_actions.proofs.Items.{end_is, next_end, next_is, waits_head, waits_messages}
 use Rattle.take_actions.proofs.Lists.{longer}
-use Rattle.take_actions.proofs.Retold.{came_same, sees_told, serves_still, told, told_now}
+use Rattle.take_actions.proofs.Retold.{came_same, sees_told, serves_still, told}
 use Rattle.take_actions.specs.Laws.{Agrees, IsDone, IsPosted, TakesAreItems, reply_of}
 use Rattle.take_actions.specs.Serves.{Holds, IsLeft, Serves, came}
 

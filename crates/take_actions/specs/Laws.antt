@@ -2,12 +2,17 @@
 -- Each is stated of a session that makes an entry of this event, and a call that agrees with it (`Serves`).
 -- Example: the head of a response came, and its application takes. In the session ItemTaken with the head; the channel answers the head; and in both
 -- nothing is left to take.
-use Rattle.std.specs.Prelude.{Bool, List, None, Option, Some, [], false, is_some, length, option_and_then, true, ℕ, ◌++◌, ◌≡◌}
+use Rattle.std.specs.List.{list_all, list_any}
+use Rattle.std.specs.Prelude.{Bool, List, None, Option, Some, [], false, is_some, length, map, option_and_then, true, ℕ, ◌++◌, ◌+◌, ◌≡◌}
+use Rattle.attempt_ledger.specs.declared.ledger.Ledger.{Ledger}
+use Rattle.call_actions.specs.Laws.{begun_ledger}
 use Rattle.call_core.specs.Laws as channel
 use Rattle.call_core.specs.Parts.{committed_buffer, furthest as channel_furthest, is_too_long, pushed_over}
 use Rattle.call_core.specs.Steps as steps
-use Rattle.call_core.specs.Steps.{Stepped}
+use Rattle.call_core.specs.Steps.{Stepped, lent}
+use Rattle.call_core.specs.declared.act.CallAct.{CallAct}
 use Rattle.call_core.specs.declared.inbox.Inbox.{Inbox}
+use Rattle.grpc_base.specs.Requests.{RequestSeen}
 use Rattle.grpc_base.specs.declared.event.EndCause.{EndCause}
 use Rattle.grpc_base.specs.declared.event.EndCause.TheVariants as ending
 use Rattle.grpc_base.specs.declared.event.Event.{Event}
@@ -17,12 +22,15 @@ use Rattle.grpc_base.specs.declared.event.Reply.TheVariants as reply
 use Rattle.grpc_base.specs.declared.fields.Field.{Field}
 use Rattle.grpc_frame.specs.Messages.{framed}
 use Rattle.session_actions.specs.Actions.{after}
+use Rattle.session_actions.specs.Attempts.{is_of}
 use Rattle.session_actions.specs.CallEnds.{call_ended, has_long_request, is_cancelled, is_past_deadline}
 use Rattle.session_actions.specs.Commitments.{call_committed, furthest, overflow_row}
-use Rattle.session_actions.specs.Deliveries.{response_items}
-use Rattle.session_actions.specs.Entries.{now}
+use Rattle.session_actions.specs.Deliveries.{begun_call, call_begun_by, response_items}
+use Rattle.session_actions.specs.Entries.{entry, now}
 use Rattle.session_actions.specs.Events.{event_action}
-use Rattle.session_actions.specs.Responses.{response}
+use Rattle.session_actions.specs.Links.{read_bytes}
+use Rattle.session_actions.specs.Responses.{is_read_by, response}
+use Rattle.session_actions.specs.Sessions.{link_seen}
 use Rattle.session_actions.specs.declared.action.Action.{Action}
 use Rattle.session_actions.specs.declared.action.Action.TheVariants as action
 use Rattle.session_actions.specs.declared.attempt.Attempt.{Attempt}
@@ -30,7 +38,7 @@ use Rattle.session_actions.specs.declared.call.Call.{Call}
 use Rattle.session_actions.specs.declared.entry.OpenEntry.{OpenEntry}
 use Rattle.session_actions.specs.declared.seen.Seen.{Seen}
 use Rattle.take_actions.specs.Cuts.{AreCut, CanCommit}
-use Rattle.take_actions.specs.Serves.{Serves}
+use Rattle.take_actions.specs.Serves.{ArePlaced, Serves}
 
 -- an entry of this event is being made
 pub record IsPosted (e : Event) (s : Seen) : Type 0 where
@@ -54,6 +62,16 @@ pub record IsDone (e : Event) (s : Seen) (number : ℕ) (r : Reply) (x : Stepped
   pub next : event_action e s ≡ Some does
   pub replied : reply_of (after does s) ≡ Some r
   pub agrees : Agrees (after does s) number x
+
+-- it begins a call: nothing came, and nothing was accepted. (The session keeps its attempts at their places, its links as the ledger has them, and no
+-- frame was read behind what was read; no attempt is of a call to come.)
+abbrev pub CallsBeginAlike : Type 0
+CallsBeginAlike =
+    (s : Seen) (request : RequestSeen) (ledger : Ledger) (acts : List CallAct) → entry s ≡ ledger.entry → map (λ a. a.row) s.attempts ≡ ledger.rows
+    → length s.calls ≡ length ledger.calls → list_any (is_of (begun_call (length s.calls + 1) (entry s) (now s) request)) s.attempts ≡ false
+    → ArePlaced 1 s.attempts → map link_seen s.links ≡ ledger.links → list_all (λ l. list_all (is_read_by (read_bytes l)) l.traffic) s.links ≡ true
+    → Agrees (call_begun_by (event.Begin request) s) (length s.calls + 1)
+    (lent (steps.new_call (length s.calls + 1) request (now s)) (begun_ledger ledger) None acts)
 
 -- the application takes: the head of the response, its messages in their order, and then the end of the call, each once; nothing while nothing has come;
 -- and it is refused once the end was taken

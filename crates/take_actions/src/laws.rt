@@ -1,5 +1,5 @@
 // What an application posts to a call, and what commits and ends it, as actions of a session; nothing runs.
-ghost use Rattle.take_actions.specs.Laws.{CancelsAreAnswered, CancelsEnd, CommitsCutOthers, DeadlinesEnd, DeadlinesWait, EndsCutAttempts, FinishesAreDone, HeadsCommit, LongSendsEnd, SendsAreAnswered, SendsOverflow, TakesAreItems};
+ghost use Rattle.take_actions.specs.Laws.{CallsBeginAlike, CancelsAreAnswered, CancelsEnd, CommitsCutOthers, DeadlinesEnd, DeadlinesWait, EndsCutAttempts, FinishesAreDone, HeadsCommit, LongSendsEnd, SendsAreAnswered, SendsOverflow, TakesAreItems};
 
 /// An application takes what came of a response, in its order, and then the end (gRPC, "Core concepts": RPC life cycle; gRFC A6, "When Retries are
 /// Valid": what it gets is of one attempt). Session and channel give the same, and agree after it.
@@ -7,9 +7,10 @@ pub fn responses_are_taken()
     ensures { TakesAreItems }
 {}
 
-/// An application sends, finishes or gives up its request (gRPC, "Core concepts": RPC life cycle, Cancelling an RPC; gRFC A6, "Memory Management
+/// An application begins a call, sends, finishes or gives up its request (gRPC, "Core concepts": RPC life cycle, Cancelling an RPC; gRFC A6, "Memory Management
 /// (Buffering)"). Session and channel answer the same, and agree after it.
 pub fn requests_are_sent()
+    ensures begun { CallsBeginAlike }
     ensures finished { FinishesAreDone }
     ensures cancelled { CancelsAreAnswered }
     ensures sent { SendsAreAnswered }
