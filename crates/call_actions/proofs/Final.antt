@@ -1,15 +1,11 @@
 -- An attempt ends, no further attempt follows it and none goes on: the call is committed to it, and ends by it.
-use Rattle.std.proofs.Common.{◌≡◌, ◌≤◌, ◌∷◌, ◌++◌, ◌&&◌, ◌||◌, ◌==◌, not, ap, arith, refl, subst, sym, ◌∙◌, Bool, true, false, List, [], Option, None, Some, ℕ, zero, suc, ◌-◌, if◌then◌else◌, is_none, is_some, map, option_map}
-use Rattle.std.proofs.Math.Nat.{max-eq_left}
-use Rattle.std.proofs.lemmas.Bool.{and_right, eqb-false, not-true}
+use Rattle.std.proofs.Common.{◌≡◌, ◌∷◌, ◌++◌, ◌&&◌, ◌==◌, not, ap, refl, subst, sym, ◌∙◌, Bool, true, false, List, [], Option, None, Some, ℕ, if◌then◌else◌, is_none, is_some, map, option_map}
+use Rattle.std.proofs.lemmas.Bool.{and_right}
 use Rattle.std.specs.List.{list_any}
 use Rattle.std.specs.Prelude.{option_and_then}
-use Rattle.attempt_ledger.specs.Ends as reads
 use Rattle.attempt_ledger.specs.Ends.{delay_of}
 use Rattle.attempt_ledger.specs.Throttling.{codes_of}
 use Rattle.attempt_ledger.specs.declared.ledger.CallEnd.{CallEnd}
-use Rattle.attempt_ledger.specs.declared.next.Next.{Next}
-use Rattle.attempt_ledger.specs.declared.next.Next.TheVariants as next
 use Rattle.attempt_ledger.specs.declared.row.RowEnd.{RowEnd}
 use Rattle.call_actions.proofs.Closing.{quiet_calls_end}
 use Rattle.call_actions.proofs.Columns as columns
@@ -20,13 +16,11 @@ use Rattle.call_actions.proofs.EndFrames as ending
 use Rattle.call_actions.proofs.EndFrames.{ended_by, with_end_at}
 use Rattle.call_actions.proofs.EndRows as endrows
 use Rattle.call_actions.proofs.EndTokens.{bucket_now, run_now}
-use Rattle.call_actions.proofs.Ending.{after, base, channel_is, count_then, d, due_then, e, ends, is_ended, its_call, its_end, its_place, judges, last_then, lent_then, like_then, marks_then, order_then, runs, t, tokens_end, tokens_same, told}
+use Rattle.call_actions.proofs.Ending.{after, base, channel_is, d, due_then, e, ends, is_ended, its_call, its_end, its_place, judges, last_then, lent_then, like_then, marks_then, order_then, runs, t, tokens_same, told}
 use Rattle.call_actions.proofs.Frames as frames
-use Rattle.call_actions.proofs.Judging.{above_is}
-use Rattle.call_actions.proofs.Lists.{changed_here, filter_none, numbered_not}
-use Rattle.call_actions.proofs.Dues.{plan_is}
+use Rattle.call_actions.proofs.Lists.{changed_here, filter_none}
 use Rattle.call_actions.proofs.Ranks.{numbered_map}
-use Rattle.call_actions.specs.Laws.{FinalEndsClose, IsCounting, IsEnding, is_last_end, news_of}
+use Rattle.call_actions.specs.Laws.{IsCounting, IsEnding, news_of}
 use Rattle.call_actions.specs.Order.{IsInOrder, IsInTurn, Keeps}
 use Rattle.call_actions.specs.Sees.{AreAttempts, Sees, bucket_of, is_live, live_row}
 use Rattle.call_core.specs.Parts as parts
@@ -39,32 +33,22 @@ use Rattle.call_core.specs.declared.live.LiveRow.{LiveRow}
 use Rattle.grpc_base.specs.Codes.{has_code}
 use Rattle.grpc_base.specs.declared.event.EndCause.{EndCause}
 use Rattle.grpc_base.specs.declared.event.EndCause.TheVariants as endcause
-use Rattle.grpc_base.specs.declared.plan.CallPlan.{CallPlan}
-use Rattle.grpc_base.specs.declared.plan.CallPlan.TheVariants as plan
-use Rattle.grpc_base.specs.declared.plan.RetryPolicy.{RetryPolicy}
-use Rattle.hedge_core.specs.DueMoments as hedging
 use Rattle.ledger_stamps.specs.Steps as stamps
-use Rattle.retry_core.specs.Retries as retries
 use Rattle.session_actions.specs.AttemptEnds.{attempt_ended, is_drawing, tokens_at, tokens_at_end, will_count}
-use Rattle.session_actions.specs.Attempts.{commitment, is_of}
+use Rattle.session_actions.specs.Attempts.{commitment}
 use Rattle.session_actions.specs.CallEnds.{call_ended}
 use Rattle.session_actions.specs.Commitments.{call_committed}
 use Rattle.session_actions.specs.Configs.{plan_of}
-use Rattle.session_actions.specs.DueAttempts.{due_by_plan, due_state, is_licensed, is_licensed_by, last_delayed}
+use Rattle.session_actions.specs.DueAttempts.{due_by_plan, due_state, is_licensed, last_delayed}
 use Rattle.session_actions.specs.Entries.{last_moment, next_word, now}
-use Rattle.session_actions.specs.Tokens.{allows_attempt, run_of}
+use Rattle.session_actions.specs.Tokens.{run_of}
 use Rattle.session_actions.specs.Words.{holds, numbered}
 use Rattle.session_actions.specs.declared.attempt.Attempt.{Attempt}
 use Rattle.session_actions.specs.declared.call.Call.{Call}
 use Rattle.session_actions.specs.declared.call.Mark.{Mark}
-use Rattle.session_actions.specs.declared.config.ThrottleRun.{ThrottleRun}
 use Rattle.session_actions.specs.declared.due.DueState.{DueState}
 use Rattle.session_actions.specs.declared.response.Outcome.{Outcome}
 use Rattle.session_actions.specs.declared.seen.Seen.{Seen}
-
-positive : (k : ℕ) → (k ≡ 0 → ⊥) → 1 ≤ k
-positive zero off = absurd (off refl)
-positive (suc k) off = omega arith
 
 -- what the channel keeps of attempts hangs on less, once the call has ended by one
 record AreSwapped (a b : Attempts) : Type 0 where
@@ -117,16 +101,18 @@ swapped t n y b w k =
     }
 
 -- what the channel judges
-record ClosesNow (j : Judged) (known : Attempts) : Type 0 where
-  closes : j.closes ≡ true
-  word : j.word ≡ None
-  sent : j.attempts.sent ≡ known.sent
-  newest : j.attempts.newest ≡ known.newest
-  placed : j.attempts.placed ≡ known.placed
-  refused : j.attempts.is_refusal_followed ≡ known.is_refusal_followed
+pub record ClosesNow (j : Judged) (known : Attempts) : Type 0 where
+  pub closes : j.closes ≡ true
+  pub word : j.word ≡ None
+  pub sent : j.attempts.sent ≡ known.sent
+  pub newest : j.attempts.newest ≡ known.newest
+  pub placed : j.attempts.placed ≡ known.placed
+  pub refused : j.attempts.is_refusal_followed ≡ known.is_refusal_followed
 
 module _ (s : Seen) (c : Call) (x : Stepped) (place : ℕ) (a : Attempt) (out : Outcome) (h : Sees s c x) (o : IsInOrder s c) (turn : IsInTurn s c)
-    (g : IsEnding s c place a out) (n : IsCounting s c out) (free : commitment c s ≡ None) (final : is_last_end (plan_of c s) c a out s ≡ true)
+    (g : IsEnding s c place a out) (n : IsCounting s c out) (free : commitment c s ≡ None)
+    (not_licensed : is_licensed c a.row.number out.code out.pushback (tokens_at_end a out s) s ≡ false)
+    (closes_now : ClosesNow (judges s c x place a out h o turn g n) x.call.attempts)
     (others : list_any (λ (q : Attempt). is_live s c q && not (q.place == place)) s.attempts ≡ false) where
   abbrev its : RowEnd
   its = e s c x place a out h o turn g n
@@ -155,15 +141,6 @@ module _ (s : Seen) (c : Call) (x : Stepped) (place : ℕ) (a : Attempt) (out : 
   abbrev number : ℕ
   number = a.row.number
 
-  -- it licenses no retry
-  not_by : (p : CallPlan) → plan_of c s ≡ p → is_last_end p c a out s ≡ true → is_licensed c number out.code out.pushback (tokens_at_end a out s) s ≡ false
-  not_by plan.None same last = ap (λ (q : CallPlan). is_licensed_by q number out.code out.pushback (allows_attempt c (tokens_at_end a out s) s)) same
-  not_by (plan.Retry p) same last = not-true (is_licensed c number out.code out.pushback (tokens_at_end a out s) s) last
-  not_by (plan.Hedge p) same last = ap (λ (q : CallPlan). is_licensed_by q number out.code out.pushback (allows_attempt c (tokens_at_end a out s) s)) same
-
-  not_licensed : is_licensed c number out.code out.pushback (tokens_at_end a out s) s ≡ false
-  not_licensed = not_by (plan_of c s) refl final
-
   not_drawing : holds (is_drawing a out s) (Some c) ≡ false
   not_drawing =
       and_right (will_count a out s && is_none (commitment c s) && is_none (delay_of out.pushback)) (is_licensed c number out.code out.pushback (tokens_at a out s c) s)
@@ -174,53 +151,8 @@ module _ (s : Seen) (c : Call) (x : Stepped) (place : ℕ) (a : Attempt) (out : 
       ap (λ (z : Option Call). if holds (is_drawing a out s) z then Some (next_word s) else None) (its_call s c x place a out h o turn g n)
       ∙ ap (λ (b : Bool). if b then Some (next_word s) else None) not_drawing
 
-  -- what the channel judges
-  some : 1 ≤ number
-  some =
-      let no : (is_of c a && (number == 0)) ≡ false = numbered_not (λ (q : Attempt). is_of c q && (q.row.number == 0)) s.attempts place a turn.numbers g.there in
-      let not_zero : (number == 0) ≡ false = sym (ap (λ (b : Bool). b && (number == 0)) g.own) ∙ no in
-      positive number (eqb-false number 0 not_zero)
-
-  above_same : allows_attempt c its.tokens s ≡ parts.is_above lent.tokens
-  above_same =
-      ap (reads.is_above (option_map (λ (u : ThrottleRun). u.throttle) (run_of c s))) (tokens_end s c x place a out h o turn g n)
-      ∙ above_is (count_then s c x place a out h o turn g n) (run_of c s) ∙ ap parts.is_above (sym (lent_then s c x place a out h o turn g n))
-
-  final_there : (p : RetryPolicy) → plan_of c s ≡ plan.Retry p → retry_after p known number there (parts.is_above lent.tokens) (next_word s) ≡ next.Final
-  final_there p same =
-      ap (λ (b : Bool). if b then next.Again (retries.retry_due p (from_one (from_one number - known.delayed)) there (next_word s)) else next.Final)
-      (ap (λ (k : ℕ). is_licensed_by (plan.Retry p) k out.code out.pushback (parts.is_above lent.tokens)) (max-eq_left some)
-      ∙ ap (is_licensed_by (plan.Retry p) number out.code out.pushback) (sym above_same)
-      ∙ ap (λ (q : CallPlan). is_licensed_by q number out.code out.pushback (allows_attempt c its.tokens s)) (sym same) ∙ not_licensed)
-
-  abbrev judged_on : CallPlan → Judged
-  judged_on q = judged q known number (has_none lent.call.live) there (parts.is_above lent.tokens) (next_word s)
-
-  closes_by : (p : CallPlan) → plan_of c s ≡ p → is_last_end p c a out s ≡ true → ClosesNow (judged_on p) known
-  closes_by plan.None same last = record { closes = refl; word = refl; sent = refl; newest = refl; placed = refl; refused = refl }
-  closes_by (plan.Retry p) same last = record {
-    closes = ap parts.is_final (final_there p same);
-    word = ap (λ (f : Next). parts.word_of f out.pushback (next_word s)) (final_there p same);
-    sent = refl;
-    newest = refl;
-    placed = refl;
-    refused = refl;
-  }
-  closes_by (plan.Hedge p) same last = record {
-    closes = ap (λ (b : Bool). b || (has_none lent.call.live && parts.is_final (hedging.next_of (hedging.next_due p (parts.hedge_after p known there (parts.is_above lent.tokens)))))) last;
-    word = refl;
-    sent = refl;
-    newest = refl;
-    placed = refl;
-    refused = refl;
-  }
-
   abbrev judge : Judged
   judge = judges s c x place a out h o turn g n
-
-  closes_now : ClosesNow judge known
-  closes_now =
-      subst (λ (q : CallPlan). ClosesNow (judged_on q) known) (plan_is s c x h) (closes_by (plan_of c s) refl final)
 
   -- the end in the ledger
   abbrev stamp : ℕ → Option ℕ → Option ℕ → RowEnd
@@ -377,6 +309,3 @@ module _ (s : Seen) (c : Call) (x : Stepped) (place : ℕ) (a : Attempt) (out : 
       (subst (λ (k : Stepped). Keeps (call_ended c.number endcause.Row last_seen) c.number k) (sym channel)
       (swapped (call_ended c.number endcause.Row last_seen) c.number (whole mid [] place None) (stopped_attempts (committed_attempts place lasted)) swaps
       (subst (λ (k : Stepped). Keeps (call_ended c.number endcause.Row last_seen) c.number k) virtual ends_there))))
-
-pub final_ends_close : FinalEndsClose
-final_ends_close s c x place a out h o turn g n free final others = ends_by_last s c x place a out h o turn g n free final others

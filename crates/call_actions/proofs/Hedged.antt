@@ -119,8 +119,7 @@ no_plan : (p : HedgePolicy) → plan.None ≡ plan.Hedge p → ⊥
 no_plan p e = absurd (cc)
 
 module _ (s : Seen) (c : Call) (x : Stepped) (place : ℕ) (a : Attempt) (out : Outcome) (p : HedgePolicy) (h : Sees s c x) (o : IsInOrder s c) (turn : IsInTurn s c)
-    (g : IsEnding s c place a out) (n : IsCounting s c out) (free : commitment c s ≡ None) (hp : plan_of c s ≡ plan.Hedge p) (says : has_code p.codes out.code ≡ true)
-    (others : list_any (λ (q : Attempt). is_live s c q && not (q.place == place)) s.attempts ≡ true) where
+    (g : IsEnding s c place a out) (n : IsCounting s c out) (free : commitment c s ≡ None) (hp : plan_of c s ≡ plan.Hedge p) (says : has_code p.codes out.code ≡ true) where
   abbrev its : RowEnd
   its = e s c x place a out h o turn g n
 
@@ -139,7 +138,7 @@ module _ (s : Seen) (c : Call) (x : Stepped) (place : ℕ) (a : Attempt) (out : 
   abbrev known : Attempts
   known = x.call.attempts
 
-  above_same : allows_attempt c its.tokens s ≡ parts.is_above lent.tokens
+  pub above_same : allows_attempt c its.tokens s ≡ parts.is_above lent.tokens
   above_same =
       ap (reads.is_above (option_map (λ (u : ThrottleRun). u.throttle) (run_of c s))) (tokens_end s c x place a out h o turn g n)
       ∙ above_is (count_then s c x place a out h o turn g n) (run_of c s) ∙ ap parts.is_above (sym (lent_then s c x place a out h o turn g n))
@@ -183,10 +182,10 @@ module _ (s : Seen) (c : Call) (x : Stepped) (place : ℕ) (a : Attempt) (out : 
   abbrev judged_on : CallPlan → Judged
   judged_on q = judged q known a.row.number (has_none lent.call.live) there (parts.is_above lent.tokens) (next_word s)
 
-  abbrev by_plan : Judged
+  abbrev pub by_plan : Judged
   by_plan = judged_on (plan.Hedge p)
 
-  judged_is : judges s c x place a out h o turn g n ≡ by_plan
+  pub judged_is : judges s c x place a out h o turn g n ≡ by_plan
   judged_is = ap judged_on (sym (plan_is s c x h) ∙ hp)
 
   abbrev hedged_if : Bool → Attempts
@@ -195,10 +194,10 @@ module _ (s : Seen) (c : Call) (x : Stepped) (place : ℕ) (a : Attempt) (out : 
     stopped = known.stopped || (not b || is_stop out.pushback || (is_none (delay_of out.pushback) && not (parts.is_above lent.tokens)));
   }
 
-  attempts_are : by_plan.attempts ≡ hedged out.pushback there (parts.is_above lent.tokens) known
+  pub attempts_are : by_plan.attempts ≡ hedged out.pushback there (parts.is_above lent.tokens) known
   attempts_are = ap hedged_if says
 
-  due_now : AreDue (due_state (d s c x place a out h o turn g n) (t s c x place a out h o turn g n)) by_plan.attempts
+  pub due_now : AreDue (due_state (d s c x place a out h o turn g n) (t s c x place a out h o turn g n)) by_plan.attempts
   due_now =
       subst (λ (z : DueState). AreDue z by_plan.attempts) (sym due_is)
       (subst (λ (z : Attempts). AreDue (if not m.stopped && true && true then hedge_forced out.pushback (parts.is_above lent.tokens) its m else m) z) (sym attempts_are)
@@ -220,23 +219,26 @@ module _ (s : Seen) (c : Call) (x : Stepped) (place : ℕ) (a : Attempt) (out : 
       (λ keeps. absurd (keeps_not c.config refl keeps))
       (word_same ∙ ap (λ (j : Judged). j.word) (sym judged_is))
 
-  not_alone : has_none lent.call.live ≡ false
-  not_alone =
+  abbrev HasOthers : Type 0
+  HasOthers = list_any (λ (q : Attempt). is_live s c q && not (q.place == place)) s.attempts ≡ true
+
+  not_alone : HasOthers → has_none lent.call.live ≡ false
+  not_alone others =
       ap has_none (sym (rest_is s c x place a out h o turn g n)) ∙ some_live (λ (q : Attempt). is_live s c q && not (q.place == place)) s.attempts others
 
-  stays : steps.ended_at place (news_of a out s) (now s) (next_word s) x ≡ after s c x place a out h o turn g n
-  stays =
+  stays : HasOthers → steps.ended_at place (news_of a out s) (now s) (next_word s) x ≡ after s c x place a out h o turn g n
+  stays others =
       channel_is s c x place a out h o turn g n free
       ∙ ap (λ (j : Judged). closed_if j.closes a.place (now s) (after s c x place a out h o turn g n)) judged_is
       ∙ ap (λ (b : Bool). closed_if (not b || (has_none lent.call.live && parts.is_final (hedging.next_of (hedging.next_due p (hedge_after p known there (parts.is_above lent.tokens)))))) a.place (now s)
       (after s c x place a out h o turn g n)) says
       ∙ ap (λ (b : Bool). closed_if (b && parts.is_final (hedging.next_of (hedging.next_due p (hedge_after p known there (parts.is_above lent.tokens))))) a.place (now s)
-      (after s c x place a out h o turn g n)) not_alone
+      (after s c x place a out h o turn g n)) (not_alone others)
 
-  pub hedge_goes_on : ends_alike s c x place a out
-  hedge_goes_on =
+  pub hedge_goes_on : HasOthers → ends_alike s c x place a out
+  hedge_goes_on others =
       subst (λ (z : Seen). Keeps z c.number (steps.ended_at place (news_of a out s) (now s) (next_word s) x)) (sym (is_ended s c x place a out h o turn g n))
-      (subst (λ (y : Stepped). Keeps (t s c x place a out h o turn g n) c.number y) (sym stays)
+      (subst (λ (y : Stepped). Keeps (t s c x place a out h o turn g n) c.number y) (sym (stays others))
       (record {
         call = d s c x place a out h o turn g n;
         number_is = refl;

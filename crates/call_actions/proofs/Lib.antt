@@ -30,3 +30,5 @@ pub mod Closing
 pub mod CommittedEnd
 pub mod Committing
 pub mod Final
+pub mod LastEnds
+pub mod LastHedge

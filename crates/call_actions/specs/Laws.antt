@@ -272,3 +272,13 @@ FinalEndsClose =
     → list_any (λ q. is_live s c q && not (q.place == place)) s.attempts ≡ false
     → Keeps (call_ended c.number ending.Row (call_committed place (attempt_ended place (end_of a out s) s))) c.number
     (steps.ended_at place (news_of a out s) (now s) (next_word s) x)
+
+-- and so it is by the end of a hedged call's last attempt, with a code of its policy, where no further attempt is due then
+abbrev pub LastHedgesClose : Type 0
+LastHedgesClose =
+    (s : Seen) (c : Call) (x : Stepped) (place : ℕ) (a : Attempt) (out : Outcome) (p : HedgePolicy) → Sees s c x → IsInOrder s c → IsInTurn s c
+    → IsEnding s c place a out → IsCounting s c out → commitment c s ≡ None → plan_of c s ≡ plan.Hedge p → has_code p.codes out.code ≡ true
+    → option_and_then (λ k. next_due k (attempt_ended place (end_of a out s) s)) (numbered (attempt_ended place (end_of a out s) s).calls c.number) ≡ None
+    → list_any (λ q. is_live s c q && not (q.place == place)) s.attempts ≡ false
+    → Keeps (call_ended c.number ending.Row (call_committed place (attempt_ended place (end_of a out s) s))) c.number
+    (steps.ended_at place (news_of a out s) (now s) (next_word s) x)

@@ -1,5 +1,5 @@
 // What is done to a call, as actions of a session; nothing runs.
-ghost use Rattle.call_actions.specs.Laws.{AttemptsAreCut, AttemptsAreDue, AttemptsAreMade, AttemptsArePlaced, CallsBegin, CallsClose, CallsEnd, CommittedEndsClose, ConfigsCome, FinalEndsClose, HedgesAreRefused, HedgesAreTested, HedgesAreWithheld, HedgesGoOn, LongMessagesEnd, NoneIsMade, QuietCallsEnd, RefusedAreRetried, RequestsFinish, RetriesAreSet};
+ghost use Rattle.call_actions.specs.Laws.{AttemptsAreCut, AttemptsAreDue, AttemptsAreMade, AttemptsArePlaced, CallsBegin, CallsClose, CallsEnd, CommittedEndsClose, ConfigsCome, FinalEndsClose, HedgesAreRefused, HedgesAreTested, HedgesAreWithheld, HedgesGoOn, LastHedgesClose, LongMessagesEnd, NoneIsMade, QuietCallsEnd, RefusedAreRetried, RequestsFinish, RetriesAreSet};
 
 /// A call until it has its configuration (gRPC, "Core concepts"; "Service Config in gRPC"): it begins, the channel ends it, or the configuration comes;
 /// and a message that was too long for it ends it at once. Session and channel make the same of it.
@@ -62,5 +62,6 @@ pub fn committed_ends_close_calls()
 /// An attempt ends, no further attempt follows its end and none goes on: in both the call is committed to it and ends by it (gRFC A6, "When Retries are
 /// Valid", "Retryable Status Codes" and "Hedging Policy").
 pub fn final_ends_close_calls()
-    ensures { FinalEndsClose }
+    ensures closed { FinalEndsClose }
+    ensures hedged { LastHedgesClose }
 {}
