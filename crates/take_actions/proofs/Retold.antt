@@ -61,7 +61,7 @@ resumed finished longest_is buffer inbox x =
 
 module _ (s : Seen) (c : Call) (messages : Call → List (List ℕ)) (finished : Call → Bool) (taken : Call → ℕ) (end_taken : Call → Bool) (current : Option OpenEntry) where
   abbrev pub told : Call → Call
-  told k = retold messages finished taken end_taken own_marks k
+  told k = retold messages finished taken end_taken own_marks (λ (z : Call). z.end) k
 
   abbrev pub told_now : Seen
   told_now = record s { calls = changed told c.number s.calls; current = current }
@@ -90,13 +90,13 @@ module _ (s : Seen) (c : Call) (messages : Call → List (List ℕ)) (finished :
       → is_some current ≡ is_some s.current → Sees s c x → Sees told_now (told c) (resumed done longest_is buffer inbox x)
   sees_told x done longest_is buffer inbox done_is most still h =
       let a : AreAttempts s c x.call.attempts = h.attempts in
-      let due : due_state (told c) told_now ≡ due_state c s = due_same s c.number messages finished taken end_taken own_marks current c no_due c.marks in
+      let due : due_state (told c) told_now ≡ due_state c s = due_same s c.number messages finished taken end_taken own_marks (λ (z : Call). z.end) current c no_due c.marks in
       let attempts : AreAttempts told_now (told c) x.call.attempts = record {
         sent = a.sent;
         due = subst (λ (z : DueState). AreDue z x.call.attempts) (sym due) a.due;
         unplaced = a.unplaced;
-        delayed = λ keeps free. delayed_same s c.number messages finished taken end_taken own_marks current c x.call.attempts.sent ∙ a.delayed keeps free;
-        last = λ free. ap last_of (counted_rows_same s c.number messages finished taken end_taken own_marks current c.marks) ∙ a.last free;
+        delayed = λ keeps free. delayed_same s c.number messages finished taken end_taken own_marks (λ (z : Call). z.end) current c x.call.attempts.sent ∙ a.delayed keeps free;
+        last = λ free. ap last_of (counted_rows_same s c.number messages finished taken end_taken own_marks (λ (z : Call). z.end) current c.marks) ∙ a.last free;
         refused = a.refused;
         committed = a.committed;
       } in
@@ -111,7 +111,7 @@ module _ (s : Seen) (c : Call) (messages : Call → List (List ℕ)) (finished :
         ended = h.ended;
         attempts = attempts;
         live = live_same s c.number messages finished taken end_taken own_marks current c ∙ h.live;
-        tokens = bucket_told s c.number messages finished taken end_taken own_marks current (run_of c s) ∙ h.tokens;
+        tokens = bucket_told s c.number messages finished taken end_taken own_marks (λ (z : Call). z.end) current (run_of c s) ∙ h.tokens;
         entry_is = ap (λ (b : Bool). length s.entries + (if b then 1 else 0)) still ∙ h.entry_is;
         rows = h.rows;
         call_is = h.call_is;
