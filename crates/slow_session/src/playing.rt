@@ -1,11 +1,10 @@
 // A session, from its events.
-ghost use Rattle.std.specs.Prelude.{◌≡◌, IfOk, IfSome, None, OnOk};
+ghost use Rattle.std.specs.Prelude.{◌≡◌, IfOk, IfSome, None, OnOk, false};
 ghost use Rattle.session_actions.specs.Actions.{after, following};
-ghost use Rattle.session_actions.specs.Sessions.{IsConsistent, IsNext, ledger_of, new_session};
+ghost use Rattle.session_actions.specs.Sessions.{IsNext, new_session};
 ghost use Rattle.session_actions.specs.declared.action.Action.TheVariants as action;
-ghost use Rattle.session_actions.specs.declared.seen.Seen.{Seen};
 ghost use Rattle.slow_session.specs.Parts.{is_opening};
-ghost use Rattle.slow_session.specs.Plays.{Makes, Plays, Settles};
+ghost use Rattle.slow_session.specs.Plays.{IsSessionOf, Makes, Plays, Settles};
 
 use crate::adding::after;
 use crate::following::following;
@@ -51,6 +50,7 @@ fn is_opening(action: &Action) -> bool
 pub fn next_action(alloc: Global, seen: &Seen) -> Result<Option<Action>, NoMemory>
     ensures exact { IfOk result (λ a. a ≡ following seen.now) }
     ensures next { IfOk result (λ a. IfSome a (λ x. IsNext x seen.now)) }
+    ensures unposted { IfOk result (λ a. IfSome a (λ x. is_opening x ≡ false)) }
 {
     match following(alloc, seen)? {
         Some(action) => {
@@ -131,11 +131,10 @@ pub fn play(alloc: Global, setup: Setup, events: Vec<Stamped>) -> Result<Seen, N
 }
 
 /// The journal and the ledger of the session of these events.
-#[tactic(auto, using(crate::proofs::RunLaws::consistent))]
 pub fn run(alloc: Global, setup: Setup, events: Vec<Stamped>) -> Result<Report, NoMemory>
-    ensures played { IfOk result (λ r. (t : Seen) × Plays events.items (new_session setup) t × (r.journal.entries ≡ t.entries) × (r.ledger ≡ ledger_of t)) }
-    ensures consistent { IfOk result (λ r. IsConsistent setup r.journal.entries r.ledger) }
+    ensures { IfOk result (λ r. IsSessionOf setup events.items r.journal.entries r.ledger) }
 {
     let seen = play(alloc, setup, events)?;
-    report_of(alloc, seen)
+    let report = report_of(alloc, seen)?;
+    Ok(report)
 }
