@@ -27,5 +27,9 @@ pub fn read_words<R: Env + AllocGlobal>(rt: &R) -> Option<Asked> {
             _ => return None,
         }
     }
-    Some(if prints { Asked::Actions(form) } else { Asked::Report(form) })
+    Some(if prints {
+        Asked::Actions(form)
+    } else {
+        Asked::Report(form)
+    })
 }

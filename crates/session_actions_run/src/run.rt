@@ -1,5 +1,5 @@
 // The report of a script's session, and the status of the program.
-ghost use Rattle.std.specs.Prelude.{◌≡◌, ◌⊎◌};
+ghost use Rattle.std.specs.Prelude.{◌≡◌, ◌<◌, ◌⊎◌, length};
 ghost use Rattle.gate_io.specs.Outside.{Rises};
 ghost use Rattle.resolver_core.specs.AnyTargets.{IsTarget};
 ghost use Rattle.session_actions_run.specs.Reports.{IsDone, IsFirstReport, IsOutput, IsReport, IsScriptReport, StopsAtRead, StopsLong, TellsBadLine};
@@ -8,6 +8,8 @@ ghost use Rattle.session_text.specs.Writing.{WritesAll, WritesFront, WritesSome}
 use crate::input::read_script;
 use crate::session::{MOST_EVENTS, write_first, write_session};
 use gate_io::{Sink, Source};
+use grpc_base::{Stamped, Text};
+use resolver_core::Target;
 use script_input::{Form, InputFault, Script};
 use session_text::{tell_bad, unwritten};
 use std::alloc::Global;
@@ -22,12 +24,7 @@ use std::alloc::Global;
 /// | 5 | a write failed | a front of the output |
 /// | 6 | out of memory | nothing, or a front of the output |
 /// | 7 | the script has more than 4,096 events | the report of the first 4,096, and `stopped after 4096 entries` |
-pub fn run_script<S: Source, K: Sink>(
-    alloc: Global,
-    form: Form,
-    source: &mut S,
-    sink: &mut K,
-) -> u8
+pub fn run_script<S: Source, K: Sink>(alloc: Global, form: Form, source: &mut S, sink: &mut K) -> u8
     ensures done { result ≡ 0 → WritesAll (IsDone form (S.left source.old) (S.left source.new)) (K.taken sink.old) (K.taken sink.new) }
     ensures line { result ≡ 3 → WritesAll (TellsBadLine form (S.left source.old) (S.left source.new)) (K.taken sink.old) (K.taken sink.new) }
     ensures reading { result ≡ 4 → StopsAtRead form (S.left source.old) (S.left source.new) (K.taken sink.old) (K.taken sink.new) (S.faults source.old) (S.faults source.new) }
@@ -62,13 +59,31 @@ fn report_script<K: Sink>(alloc: Global, script: Script, sink: &mut K) -> u8
         events,
     } = script;
     if MOST_EVENTS < events.len() {
-        return match write_first(alloc, &target, &value, events, sink) {
-            Ok(()) => 7,
-            Err(fault) => unwritten(fault),
-        };
+        return report_first(alloc, &target, &value, events, sink);
     }
     match write_session(alloc, &target, &value, events, sink) {
         Ok(()) => 0,
+        Err(fault) => unwritten(fault),
+    }
+}
+
+/// Writes the report of the session of the first of too many events, and gives the status of the program.
+fn report_first<K: Sink>(
+    alloc: Global,
+    target: &Text,
+    value: &Target,
+    events: Vec<Stamped>,
+    sink: &mut K,
+) -> u8
+    requires target { IsTarget value.now }
+    requires long { 4096 < length events.items }
+    ensures long { result ≡ 7 → WritesAll (IsFirstReport target.now value.now events.items) (K.taken sink.old) (K.taken sink.new) }
+    ensures writing { result ≡ 5 → Rises (K.faults sink.old) (K.faults sink.new) × WritesFront (IsFirstReport target.now value.now events.items) (K.taken sink.old) (K.taken sink.new) }
+    ensures memory { result ≡ 6 → WritesSome (IsFirstReport target.now value.now events.items) (K.taken sink.old) (K.taken sink.new) }
+    ensures known { (result ≡ 5) ⊎ (result ≡ 6) ⊎ (result ≡ 7) }
+{
+    match write_first(alloc, target, value, events, sink) {
+        Ok(()) => 7,
         Err(fault) => unwritten(fault),
     }
 }
