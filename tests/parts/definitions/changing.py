@@ -1,11 +1,16 @@
-"""Changed reports, journals and lists of actions, by a seeded list: each has to be refused at the changed place."""
+"""Changed reports, journals and lists of actions, by a seeded list: each has to be refused at the changed place.
+
+Reports and journals are held against what the program makes of their posts, where it is built, and else against what the transcription does.
+Lists of actions are followed by the transcription, up to the action that is not the next one; where the program is built its list has to differ
+there from the changed one, too.
+"""
 
 import random
 import re
 
 from .scripts import STATES, script_of
 from .sessions import first_difference
-from .words import CONSTANTS, Value, changed_record, plain
+from .words import Value, plain
 
 SEED, ROWS_OF_A_KIND = 20261129, 50
 ROW, DUE, PLACED, ENDED, CODE, COMMITTED, TOKENS = "row", 4, 5, 10, 11, 15, 16
@@ -102,19 +107,21 @@ A_STATE = "a state"
 class ChangedRows:
     """The changed rows over some sessions, each with its name and what tries it."""
 
-    def __init__(self, definitions, reports):
-        """`definitions` gives the definitions when they are asked for; reports are by their names."""
-        self.definitions, self.reports, self.known = definitions, reports, {}
+    def __init__(self, definitions, program, shown, reports):
+        """`definitions` and `shown` give the definitions, and what shows their actions, when they are asked for; reports are by their names."""
+        self.definitions, self.program, self.shown, self.reports = definitions, program, shown, reports
+        self.known, self.printed = {}, {}
 
     def rows(self):
-        """The name of each row, and a function that gives where it was refused and where it was changed."""
+        """Of each row its name, whether the program alone tries it, and a function that gives where it was refused and where it was changed."""
         rng, number = random.Random(SEED), 0
         for kind in (*IN_REPORTS, A_STATE, *IN_ACTIONS):
             names = self.fit(kind)
             for _ in range(ROWS_OF_A_KIND):
                 number += 1
                 name, seed = rng.choice(names), rng.random()
-                yield f"changed {number}: {kind} in {name}", lambda it=(kind, name, seed): self.tried(*it)
+                is_alone = kind in IN_REPORTS and self.program.is_built()
+                yield f"changed {number}: {kind} in {name}", is_alone, lambda it=(kind, name, seed): self.tried(*it)
 
     def fit(self, kind):
         """The sessions in which there is something of this kind to change."""
@@ -136,21 +143,33 @@ class ChangedRows:
             self.known[name] = self.definitions().session(script_of(self.reports[name]))
         return self.known[name]
 
+    def lines(self, name):
+        """The lines of the actions of a session, as the program prints them."""
+        if name not in self.printed:
+            self.printed[name] = [line for lines in self.program.entries(self.reports[name]) for line in lines]
+        return self.printed[name]
+
     def tried_report(self, change, name, rng):
         """A report with one line changed is held against the report that its own posts give."""
         lines = self.reports[name].split("\n")[:-1]
         place, line = rng.choice(list(change(lines, rng)))
         changed = [*lines[:place], line, *lines[place + 1 :]]
-        report = self.definitions().session(script_of("\n".join([*changed, ""]))).report
+        text = "\n".join([*changed, ""])
+        report = self.program.report(text) if self.program.is_built() else self.definitions().session(script_of(text)).report
         return f"line {first_difference(report, changed)}", f"line {place}"
+
+    def states(self, name):
+        """The states of the channel that are computed for the entries of a session."""
+        if not self.program.is_built():
+            return [STATES[entry.state.tag] for entry in self.session(name).seen.entries]
+        return [line.split(" ")[-1] for line in self.lines(name) if line.lstrip().startswith("EntryCloses")]
 
     def tried_state(self, name, rng):
         """A journal in which one entry tells another state."""
-        journal = self.session(name).seen.entries
+        journal = [STATES[entry.state.tag] for entry in self.session(name).seen.entries]
         place = rng.randrange(len(journal))
-        state = rng.choice([tag for tag in STATES if tag != journal[place].state.tag])
-        changed = [*journal[:place], changed_record(journal[place], state=CONSTANTS[state]), *journal[place + 1 :]]
-        return f"entry {first_difference([*map(plain, journal)], [*map(plain, changed)])}", f"entry {place}"
+        changed = [*journal[:place], rng.choice([state for state in STATES.values() if state != journal[place]]), *journal[place + 1 :]]
+        return f"entry {first_difference(self.states(name), changed)}", f"entry {place}"
 
     def tried_actions(self, change, name, rng):
         """A list of actions that is not that of the session: it is followed up to the action that is not next."""
@@ -158,4 +177,10 @@ class ChangedRows:
         actions = session.actions
         changed = change(actions, rng.randrange(len(actions)), rng)
         place = first_difference([*map(plain, changed)], [*map(plain, actions)])
-        return f"action {self.definitions().first_refused(session.script, changed)}", f"action {place}"
+        refused, wanted = [f"action {self.definitions().first_refused(session.script, changed)}"], [f"action {place}"]
+        if self.program.is_built():
+            # (of two frames of one length on one stream the lines are the same)
+            right, wrong = (self.shown().lines_of(those, session.seen.entries) for those in (actions, changed))
+            refused.append(f"line {first_difference(self.lines(name), wrong)}")
+            wanted.append(f"line {first_difference(right, wrong)}")
+        return refused, wanted

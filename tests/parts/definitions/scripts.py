@@ -170,11 +170,24 @@ def authority_of(target):
     return f"{found[1]}:{port}".encode()
 
 
+def is_report(text):
+    """Whether a text is a report, and no script: its second line has a reply, or is a row or what stands behind the rows."""
+    line = text.split("\n", 2)[1] if "\n" in text else ""
+    return " = " in line or line.startswith(BEHIND)
+
+
+def posts_of(text):
+    """The lines of a script or report up to their replies: what is posted."""
+    if not is_report(text):
+        return text
+    lines = text.split("\n")
+    end = next((at for at, line in enumerate(lines) if line.startswith(BEHIND)), len(lines))
+    return "\n".join(line.partition(" = ")[0] for line in lines[:end])
+
+
 def script_of(text):
     """The script that a script or report holds; a fault names the line. Behind the entries of a report stand its rows."""
-    lines = text.split("\n")
-    is_report = " = " in lines[1] or lines[1].startswith(BEHIND) if len(lines) > 1 else False
-    place = 1
+    lines, has_rows, place = text.split("\n"), is_report(text), 1
     try:
         words = lines[0].split(" ")
         if len(words) != 3 or words[0] != "channel" or words[1] not in ("1", "2"):
@@ -182,7 +195,7 @@ def script_of(text):
         authority = authority_of(words[2])
         posts = []
         for place, line in enumerate(lines[1:], 2):
-            if (is_report and line.startswith(BEHIND)) or (not line and place == len(lines)):
+            if (has_rows and line.startswith(BEHIND)) or (not line and place == len(lines)):
                 break
             if place == len(lines):
                 raise Fault("no line feed ends it")

@@ -1,21 +1,12 @@
-"""Actions for people: each with the names of what it holds, as the sources of the definitions have them."""
+"""Actions for people: each in a line, with its name and what it holds, as the sources of the definitions name that."""
 
-from .scripts import address_text
+from .scripts import STATES, address_text
 from .words import CONSTANTS, Record, Value
 
 ACTIONS = "session_actions.specs.declared.action.Action.TheVariants"
 FRAMES = "DATA HEADERS PRIORITY RST_STREAM SETTINGS PUSH_PROMISE PING GOAWAY WINDOW_UPDATE CONTINUATION".split()
-LONGEST_LINE, LONGEST_BYTES = 160, 24
-
-
-def is_printable(data):
-    return bool(data) and all(0x20 <= byte < 0x7F for byte in data)
-
-
-def bytes_text(data):
-    if is_printable(data):
-        return f'"{data.decode()}"' if len(data) <= 2 * LONGEST_BYTES else f'"{data[: 2 * LONGEST_BYTES].decode()}.." ({len(data)} bytes)'
-    return data.hex() if len(data) <= LONGEST_BYTES else f"{data[:LONGEST_BYTES].hex()}.. ({len(data)} bytes)"
+LONGEST_LINE = 160
+NAMED_ALONE, LEFT_OUT = ("event", "reply", "item"), ("text", "meta")
 
 
 def frame_text(frame):
@@ -24,54 +15,67 @@ def frame_text(frame):
     return f"{kind}{stream}, flags {frame.flags}, {len(frame.payload)} bytes"
 
 
-def record_text(record):
-    fields = vars(record)
-    if fields.keys() == {"ip", "port"}:
-        return address_text(record)
-    if fields.keys() == {"kind", "flags", "stream", "payload"}:
-        return frame_text(record)
-    if fields.keys() == {"name", "value"}:
-        return f"{bytes(record.name).decode('latin-1')}: {value_text(record.value)}"
-    return "{" + ", ".join(f"{name} {value_text(value)}" for name, value in fields.items()) + "}"
-
-
 def value_text(value):
     """A value for people: what is not there is a hyphen."""
     if isinstance(value, bool):
         return "yes" if value else "no"
     if isinstance(value, Record):
-        return record_text(value)
+        return address_text(value)
     if isinstance(value, Value):
         if value is CONSTANTS["None"]:
             return "-"
         inner = " ".join(map(value_text, value.held))
         return inner if value.tag == "Some" else f"{value.tag} {inner}".rstrip()
-    if isinstance(value, bytes):
-        return bytes_text(value) if value else "-"
-    if isinstance(value, tuple):
-        return f"[{', '.join(map(value_text, value))}]" if value else "-"
     return str(value)
 
 
+def parts_of(name, value):
+    """What an action holds by a name, in parts. Of what a report spells only the name stands there: of an event, a reply and a config."""
+    if name in NAMED_ALONE:
+        return [f"{name} {value.tag}"]
+    if name == "config" and isinstance(value, Value):
+        return [f"config {'valid' if value.tag == 'Ok' else value.held[0].tag}"]
+    if name == "read":
+        return [frame_text(value.frame), f"end {value.end}"]
+    if name == "sent":
+        return [frame_text(value.held[0]) if value.held else "the preface"]
+    if name in ("at", "end"):
+        return [f"{field} {value_text(held)}" for field, held in vars(value).items() if field not in LEFT_OUT]
+    return [f"{name} {value_text(value)}"]
+
+
+def merged(report, entries):
+    """The report of a session, and below the line of each entry its actions."""
+    yield report[0]
+    for number, lines in enumerate(entries, 1):
+        line = report[number]
+        yield line if len(line) <= LONGEST_LINE else f"{line[:LONGEST_LINE]}.. ({len(line)} characters)"
+        yield from lines
+    yield from report[len(entries) + 1 :]
+
+
 class Shown:
-    """Says the actions of a session."""
+    """Says the actions of a session, as the program crates/session_actions_run does."""
 
     def __init__(self, library):
         self.fields = library.fields(ACTIONS)
 
-    def action_line(self, action):
-        """An action: its name, and what it holds; of an event only its kind, since its line stands above."""
-        parts = []
-        for name, value in zip(self.fields[action.tag], action.held):
-            parts.append(f"{name} {value.tag if name == 'event' else value_text(value)}")
-        return f"{action.tag:<18} {', '.join(parts)}".rstrip()
+    def action_line(self, action, entry):
+        """An action: its name, and what it holds; of the one that closes an entry the state of that."""
+        held = [part for name, value in zip(self.fields[action.tag], action.held) for part in parts_of(name, value)]
+        if action.tag == "EntryCloses":
+            held = [f"state {STATES[entry.state.tag]}"]
+        return f"    {action.tag:<18} {', '.join(held)}".rstrip()
 
-    def lines(self, session):
-        """The report of a session, and below the line of each entry its actions."""
-        yield session.report[0]
-        for number, actions in enumerate(session.entries, 1):
-            line = session.report[number]
-            yield line if len(line) <= LONGEST_LINE else f"{line[:LONGEST_LINE]}.. ({len(line)} characters)"
-            for action in actions:
-                yield "    " + self.action_line(action)
-        yield from session.report[len(session.entries) + 1 :]
+    def lines_of(self, actions, journal):
+        """The lines of actions, one behind another; each that closes an entry has the state of the next of the journal."""
+        lines, closed = [], 0
+        for action in actions:
+            lines.append(self.action_line(action, journal[min(closed, len(journal) - 1)]))
+            closed += action.tag == "EntryCloses"
+        return lines
+
+    def entries(self, session):
+        """The lines of the actions of a session, entry by entry."""
+        journal = session.seen.entries
+        return [[self.action_line(action, journal[place]) for action in actions] for place, actions in enumerate(session.entries)]
