@@ -1,0 +1,8 @@
+use Rattle.calls_apart.proofs.Books.{books_begin, books_stay}
+use Rattle.calls_apart.proofs.laws.books_are_kept.Goals as goal
+
+pub returns-clause-begun : goal.returns-clause-begun
+returns-clause-begun c = books_begin
+
+pub returns-clause-after : goal.returns-clause-after
+returns-clause-after c = books_stay
