@@ -6,3 +6,4 @@ pub mod Plain
 pub mod Acts
 pub mod Moves
 pub mod Books
+pub mod Fair

@@ -3,7 +3,7 @@
 -- no other.
 -- Example: the attempts of the calls 1 and 2 are outstanding, and a head commits call 2. Its other attempts are cut off. Session and channel agree of call 1
 -- after each of these actions, with the ledger that there then is.
-use Rattle.std.specs.Prelude.{List, Option, Some, false, is_some, map, option_and_then, option_map, true, ℕ, ◌≡◌}
+use Rattle.std.specs.Prelude.{List, Option, Some, [], false, is_some, map, option_and_then, option_map, true, ℕ, ◌∷◌, ◌≡◌}
 use Rattle.a6_numbers.specs.Throttling.{Bucket}
 use Rattle.attempt_ledger.specs.declared.ledger.Ledger.{Ledger}
 use Rattle.call_actions.specs.Order.{IsInOrder, IsInTurn}
@@ -11,9 +11,9 @@ use Rattle.call_actions.specs.Sees.{Sees, bucket_of}
 use Rattle.call_core.specs.Steps.{Stepped, lent}
 use Rattle.call_core.specs.declared.act.CallAct.{CallAct}
 use Rattle.calls_apart.specs.Apart.{IsApart, IsBook, IsFair, acts_on, counts_in, run_number}
-use Rattle.session_actions.specs.Actions.{after}
+use Rattle.session_actions.specs.Actions.{after, following}
 use Rattle.session_actions.specs.Entries.{entry}
-use Rattle.session_actions.specs.Sessions.{call_seen, new_session}
+use Rattle.session_actions.specs.Sessions.{Does, call_seen, new_session}
 use Rattle.session_actions.specs.Words.{is_number, numbered}
 use Rattle.session_actions.specs.declared.action.Action.{Action}
 use Rattle.session_actions.specs.declared.call.Call.{Call}
@@ -27,6 +27,13 @@ BooksBegin = (setup : Setup) → IsBook (new_session setup)
 abbrev pub BooksStay : Type 0
 BooksStay = (s : Seen) (a : Action) → IsBook s → IsFair a s → IsBook (after a s)
 
+-- and each line of a session gives such actions alone: so it is after every list of actions
+abbrev pub LinesAreFair : Type 0
+LinesAreFair = (s : Seen) (a : Action) → IsBook s → following s ≡ Some a → IsFair a s
+
+abbrev pub BooksAlong : Type 0
+BooksAlong = (actions : List Action) (s t : Seen) → IsBook s → Does actions s t → IsBook t
+
 -- an action that is not of this call changes nothing of it
 abbrev pub OthersStay : Type 0
 OthersStay =
@@ -35,6 +42,15 @@ OthersStay =
 -- nor do several
 abbrev pub ApartJoins : Type 0
 ApartJoins = (s t u : Seen) (c : Call) → IsApart s t c → IsApart t u c → IsApart s u c
+
+-- nor does a list of actions of which none is of the call
+abbrev pub AreOfOthers : Call → List Action → Seen → Type 0
+AreOfOthers c [] s = Unit {0}
+AreOfOthers c (a ∷ actions) s = (is_number c.number (acts_on a s) ≡ false) × AreOfOthers c actions (after a s)
+
+abbrev pub OthersAlong : Type 0
+OthersAlong =
+    (c : Call) (actions : List Action) (s t : Seen) → IsBook s → numbered s.calls c.number ≡ Some c → Does actions s t → AreOfOthers c actions s → IsApart s t c
 
 -- where nothing changed of a call, session and channel agree of it as before, with a ledger that is of the later history, and the tokens that its bucket
 -- then has

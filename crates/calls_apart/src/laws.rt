@@ -1,11 +1,12 @@
 // What an action of one call leaves of every other one; nothing runs.
-ghost use Rattle.calls_apart.specs.Laws.{ApartJoins, BooksBegin, BooksStay, OthersAreInOrder, OthersAreInTurn, OthersAreSeen, OthersStay, TokensAreShared, TokensStay};
+ghost use Rattle.calls_apart.specs.Laws.{ApartJoins, BooksAlong, BooksBegin, BooksStay, LinesAreFair, OthersAlong, OthersAreInOrder, OthersAreInTurn, OthersAreSeen, OthersStay, TokensAreShared, TokensStay};
 
 /// An action of one call, or of a policy, a subchannel, a link or the entry, changes nothing of another call: neither its marks nor its attempts nor its
 /// config (gRPC, "Core concepts": RPC life cycle).
 pub fn others_are_apart()
     ensures one { OthersStay }
     ensures several { ApartJoins }
+    ensures along { OthersAlong }
 {}
 
 /// Where nothing changed of a call, session and channel agree of it as before, and what a session keeps in order of it is so still.
@@ -20,6 +21,8 @@ pub fn others_agree()
 pub fn books_are_kept()
     ensures begun { BooksBegin }
     ensures after { BooksStay }
+    ensures fair { LinesAreFair }
+    ensures along { BooksAlong }
 {}
 
 /// What calls share is the tokens of their run of throttle settings (gRFC A6, "Throttling Retry Attempts and Hedged RPCs"): an end that counts changes one
