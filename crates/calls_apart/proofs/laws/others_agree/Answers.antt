@@ -1,0 +1,11 @@
+use Rattle.calls_apart.proofs.Seen.{others_are_in_order, others_are_in_turn, others_are_seen}
+use Rattle.calls_apart.proofs.laws.others_agree.Goals as goal
+
+pub returns-clause-seen : goal.returns-clause-seen
+returns-clause-seen c = others_are_seen
+
+pub returns-clause-order : goal.returns-clause-order
+returns-clause-order c = others_are_in_order
+
+pub returns-clause-turn : goal.returns-clause-turn
+returns-clause-turn c = others_are_in_turn

@@ -1,0 +1,2 @@
+pub mod Withheld
+pub mod Going

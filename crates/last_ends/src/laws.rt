@@ -1,0 +1,14 @@
+// Ends of a hedged call's attempts where none goes on any more; nothing runs.
+ghost use Rattle.last_ends.specs.Laws.{DueHedgesGoOn, WithheldHedgesClose};
+
+/// An end of a hedged call's attempt, with a code of its policy, after which a further attempt is due (gRFC A6, "Hedging Policy"): the call goes on in session
+/// and channel, whether another attempt does or not.
+pub fn due_hedges_go_on()
+    ensures { DueHedgesGoOn }
+{}
+
+/// A hedge is withheld where no attempt goes on (gRFC A6, "Throttling Retry Attempts and Hedged RPCs"): session and channel commit the call to the attempt
+/// whose end counted last, and end the call by it.
+pub fn withheld_hedges_close()
+    ensures { WithheldHedgesClose }
+{}

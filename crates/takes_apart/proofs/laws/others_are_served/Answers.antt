@@ -1,0 +1,11 @@
+use Rattle.takes_apart.proofs.Served.{deadlines_stay, others_are_due, others_are_served}
+use Rattle.takes_apart.proofs.laws.others_are_served.Goals as goal
+
+pub returns-clause-served : goal.returns-clause-served
+returns-clause-served c = others_are_served
+
+pub returns-clause-due : goal.returns-clause-due
+returns-clause-due c = others_are_due
+
+pub returns-clause-deadline : goal.returns-clause-deadline
+returns-clause-deadline c = deadlines_stay
