@@ -1,5 +1,5 @@
 -- An end that counts settles the tokens, once, and no other news does.
-use Rattle.std.proofs.Common.{◌≡◌, ℕ, Bool, true, false, not, ◌&&◌, if◌then◌else◌, Option, Some, None, is_some, List, refl}
+use Rattle.std.proofs.Common.{◌≡◌, ◌∙◌, ℕ, Bool, true, false, not, ◌&&◌, if◌then◌else◌, Option, Some, None, is_some, Result, Ok, Err, OnOk, List, refl, sym, ap}
 use Rattle.grpc_base.specs.declared.event.EndCause.TheVariants as ends
 use Rattle.grpc_base.specs.declared.fields.Field.{Field}
 use Rattle.attempt_ledger.specs.declared.news.EndNews.{EndNews}
@@ -37,6 +37,15 @@ tokens_found (Some row) told moment word s = tokens_live (is_followed s.call.att
 
 pub tokens_ended : (row : ℕ) (told : EndNews) (moment word : ℕ) (s : Stepped) → (step.ended_at row told moment word s).tokens ≡ (if counts_end row told s.call then settled_by told s.call s.tokens else s.tokens)
 tokens_ended row told moment word s = tokens_found (find_live row s.call.live) told moment word s
+
+-- the tokens are those that an end leaves which no transparent retry follows
+pub tokens_settle : {T E : Type 0} (r : Result T E) (found : Option LiveRow) (row : LiveRow) (told : EndNews) (moment word : ℕ) (s : Stepped) (tokens : Option Bucket) → found ≡ Some row → is_followed s.call.attempts told.cause told.unseen ≡ false
+    → tokens ≡ (settled told (left_live row.place s)).tokens → OnOk r (tokens ≡ (step.ended_if_live found told moment word s).tokens)
+tokens_settle (Ok u) found row told moment word s tokens is counts settles =
+    let live : Bool → Stepped = λ b. if b then step.followed row told moment (left_live row.place s) else step.counted row told moment word (settled told (left_live row.place s)) in
+    settles ∙ sym (tokens_counted row told moment word (settled told (left_live row.place s)))
+    ∙ sym (ap (λ b. (live b).tokens) counts) ∙ sym (ap (λ (o : Option LiveRow). (step.ended_if_live o told moment word s).tokens) is)
+tokens_settle (Err e) found row told moment word s tokens is counts settles = tt
 
 pub tokens_head : (row : ℕ) (meta : List Field) (moment : ℕ) (s : Stepped) → (step.heard_head row meta moment s).tokens ≡ s.tokens
 tokens_head row meta moment s =

@@ -18,3 +18,4 @@ pub mod RowLicenses
 pub mod Rows
 pub mod Steps
 pub mod Stopping
+pub mod Turns

@@ -1,6 +1,6 @@
 // What a call knows of its attempts.
 ghost use Rattle.std.specs.Prelude.{◌≡◌};
-ghost use Rattle.call_core.specs.Parts.{committed_attempts, configured_attempts, followed_attempts, lasted_attempts, made_attempts, names, no_attempts, placed_attempts, stopped_attempts};
+ghost use Rattle.call_core.specs.Parts.{names, no_attempts};
 
 use grpc_base::Moment;
 
@@ -45,97 +45,11 @@ impl Attempts {
             committed: None,
         }
     }
-
-    /// The call has its configuration: the first attempt is due.
-    pub fn configured(self, moment: Moment) -> Attempts
-        ensures { result ≡ configured_attempts moment self }
-    {
-        Attempts {
-            forced: Some(moment.nanos()),
-            stopped: false,
-            ..self
-        }
-    }
-
-    /// An attempt was made, and no transparent retry.
-    pub fn made(self, place: u64) -> Attempts
-        ensures { result ≡ made_attempts place self }
-    {
-        Attempts {
-            sent: self.sent.saturating_add(1),
-            newest: Some(place),
-            placed: None,
-            forced: None,
-            ..self
-        }
-    }
-
-    /// A row was placed.
-    pub fn placed(self, place: u64, moment: Moment) -> Attempts
-        ensures { result ≡ placed_attempts place moment self }
-    {
-        let placed = if names(place, self.newest) {
-            Some(moment)
-        } else {
-            self.placed
-        };
-        Attempts { placed, ..self }
-    }
-
-    /// No further attempt is due.
-    pub fn stopped(self) -> Attempts
-        ensures { result ≡ stopped_attempts self }
-    {
-        Attempts {
-            stopped: true,
-            ..self
-        }
-    }
-
-    /// The call is committed to a row.
-    pub fn committed(self, place: u64) -> Attempts
-        ensures { result ≡ committed_attempts place self }
-    {
-        Attempts {
-            stopped: true,
-            committed: Some(place),
-            ..self
-        }
-    }
-
-    /// A transparent retry follows a row, maybe after a refusal by the server.
-    pub fn followed(self, row: u64, follower: u64, by_refusal: bool) -> Attempts
-        ensures { result ≡ followed_attempts row follower by_refusal self }
-    {
-        let committed = if names(row, self.committed) {
-            Some(follower)
-        } else {
-            self.committed
-        };
-        Attempts {
-            committed,
-            is_refusal_followed: self.is_refusal_followed || by_refusal,
-            ..self
-        }
-    }
-
-    /// The end of a row counts.
-    pub fn lasted(self, place: u64) -> Attempts
-        ensures { result ≡ lasted_attempts place self }
-    {
-        Attempts {
-            last: Some(place),
-            ..self
-        }
-    }
 }
 
 /// Whether a row is this one.
 pub fn names(place: u64, row: Option<u64>) -> bool
     ensures { result ≡ names place row }
 {
-    match row {
-        Some(row) => row == place,
-        None => false,
-    }
+    row.is_some_and(|row| row == place)
 }

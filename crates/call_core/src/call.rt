@@ -2,20 +2,20 @@
 ghost use Rattle.std.specs.Prelude.{◌≡◌, ◌≤◌, ◌==◌, ℕ, [], None, drop, if◌then◌else◌, length, IfOk, OnOk, OnErr};
 ghost use Rattle.std.specs.Option.{option_copied};
 ghost use Rattle.attempt_buffer.specs.Buffers.{left_of};
-ghost use Rattle.call_core.specs.Parts.{fed_out, pick_end};
+ghost use Rattle.call_core.specs.Parts.{fed_out};
 ghost use Rattle.call_core.specs.Steps.{can_send, can_take, cancel_reply, cancelled, closed_by, configured, deadline_at, fed_row, finish_reply, finished, heard_news, lent, made_due, new_call, next_due, pick_failed, placed_at, ready_of, send_reply, sent, take_reply, taken, timed_out, waits};
 
 use crate::act::CallAct;
-use crate::chosen::{deadline_at, waits};
-use crate::outbox::feed_row;
+use crate::chosen::{deadline_at, is_too_long, waits};
+use crate::new_rows::own_end;
 use crate::state::CallState;
+use crate::take::end_reply;
+use crate::turn::Turn;
 use a6_numbers::Tokens;
-use attempt_ledger::{EndNews, Ledger, News, Placed, RowCause};
+use attempt_ledger::{Ledger, News, Placed, RowCause};
 use bytes::BytesMut;
-use grpc_base::{
-    Chosen, Code, EndCause, Items, Metadata, Moment, NoMemory, Octets, Pushback, Reply, Request,
-    Text,
-};
+use grpc_base::{Chosen, Code, EndCause, Items, Moment, NoMemory, Octets, Refusal, Reply, Request};
+use ledger_stamps::configure_call;
 use std::alloc::Global;
 use std::marker::Model;
 
@@ -61,10 +61,24 @@ impl Call {
         ensures ledger { OnOk result (ledger.new ≡ (configured chosen moment (lent self.old ledger.old None [])).ledger) }
         ensures acts { IfOk result (λ acts. acts ≡ (configured chosen moment (lent self.old ledger.old None [])).acts) }
     {
-        let mut acts = Items::new(self.alloc);
-        self.state
-            .configure(self.alloc, ledger, chosen, moment, &None, &mut acts)?;
-        Ok(acts)
+        let mut turn = Turn::new(self.alloc, moment, 0);
+        if self.state.ended.is_some() || self.state.chosen.is_some() {
+            return Ok(turn.acts);
+        }
+        self.state.chosen = Some(chosen);
+        self.state.attempts.forced = Some(moment.nanos());
+        self.state.attempts.stopped = false;
+        configure_call(
+            self.alloc,
+            &mut ledger.calls,
+            self.state.number,
+            ledger.entry,
+        );
+        if is_too_long(&self.state.chosen, self.state.longest) {
+            self.state
+                .close(&mut turn, ledger, &None, EndCause::Request)?;
+        }
+        Ok(turn.acts)
     }
 
     /// The application sends a message.
@@ -80,11 +94,9 @@ impl Call {
         ensures call { OnOk result (self.new ≡ (sent message moment (lent self.old ledger.old tokens.now [])).call) }
         ensures ledger { OnOk result (ledger.new ≡ (sent message moment (lent self.old ledger.old tokens.now [])).ledger) }
     {
-        let mut acts = Items::new(self.alloc);
-        let reply = self
-            .state
-            .send(self.alloc, ledger, &message, moment, tokens, &mut acts)?;
-        Ok((reply, acts))
+        let mut turn = Turn::new(self.alloc, moment, 0);
+        let reply = self.state.send(&mut turn, ledger, tokens, &message)?;
+        Ok((reply, turn.acts))
     }
 
     /// The application sends no further message.
@@ -92,7 +104,11 @@ impl Call {
         ensures reply { result ≡ finish_reply self.old }
         ensures call { self.new ≡ finished self.old }
     {
-        self.state.finish()
+        if let Some(refusal) = self.state.send_refusal() {
+            return Reply::Refused { refusal };
+        }
+        self.state.is_finished = true;
+        Reply::Done
     }
 
     /// The application takes the head, the next message or the end. Bytes are given on and not copied.
@@ -100,7 +116,25 @@ impl Call {
         ensures reply { IfOk result (λ r. r ≡ take_reply ledger.now self.old) }
         ensures call { OnOk result (self.new ≡ taken self.old) }
     {
-        self.state.take(self.alloc, ledger)
+        let call = &mut self.state;
+        if call.inbox.is_end_taken {
+            return Ok(Reply::Refused {
+                refusal: Refusal::CallEnded,
+            });
+        }
+        if let Some(meta) = call.inbox.head.take() {
+            return Ok(Reply::Head { meta });
+        }
+        if let Some(octets) = call.inbox.messages.pop() {
+            return Ok(Reply::Message { octets });
+        }
+        let Some(cause) = call.ended else {
+            return Ok(Reply::NotYet);
+        };
+        let rows = ledger.rows.as_slice();
+        let reply = end_reply(self.alloc, rows, call.attempts.committed, cause)?;
+        call.inbox.is_end_taken = true;
+        Ok(reply)
     }
 
     /// The application gives the call up.
@@ -115,9 +149,12 @@ impl Call {
         ensures call { OnOk result (self.new ≡ (cancelled moment (lent self.old ledger.old tokens.now [])).call) }
         ensures ledger { OnOk result (ledger.new ≡ (cancelled moment (lent self.old ledger.old tokens.now [])).ledger) }
     {
-        let reply = self.state.cancel_reply();
+        if self.state.ended.is_some() {
+            let refusal = Refusal::CallEnded;
+            return Ok((Reply::Refused { refusal }, Items::new(self.alloc)));
+        }
         let acts = self.close(ledger, EndCause::Cancelled, moment, tokens)?;
-        Ok((reply, acts))
+        Ok((Reply::Done, acts))
     }
 
     /// The channel ends the call, unless it has ended.
@@ -132,12 +169,11 @@ impl Call {
         ensures ledger { OnOk result (ledger.new ≡ (closed_by cause moment (lent self.old ledger.old tokens.now [])).ledger) }
         ensures acts { IfOk result (λ acts. acts ≡ (closed_by cause moment (lent self.old ledger.old tokens.now [])).acts) }
     {
-        let mut acts = Items::new(self.alloc);
-        let is_live = !self.state.ended.is_some();
-        self.state.close_if(
-            self.alloc, ledger, is_live, cause, moment, tokens, &mut acts,
-        )?;
-        Ok(acts)
+        let mut turn = Turn::new(self.alloc, moment, 0);
+        if !self.state.ended.is_some() {
+            self.state.close(&mut turn, ledger, tokens, cause)?;
+        }
+        Ok(turn.acts)
     }
 
     /// The call ends where its deadline has passed.
@@ -152,14 +188,10 @@ impl Call {
         ensures acts { IfOk result (λ acts. acts ≡ (timed_out moment (lent self.old ledger.old tokens.now [])).acts) }
     {
         match self.deadline_at() {
-            Some(deadline) => {
-                if deadline <= moment.nanos() {
-                    self.close(ledger, EndCause::Deadline, moment, tokens)
-                } else {
-                    Ok(Items::new(self.alloc))
-                }
+            Some(deadline) if deadline <= moment.nanos() => {
+                self.close(ledger, EndCause::Deadline, moment, tokens)
             }
-            None => Ok(Items::new(self.alloc)),
+            Some(_) | None => Ok(Items::new(self.alloc)),
         }
     }
 
@@ -174,7 +206,7 @@ impl Call {
         ensures ledger { OnOk result (ledger.new ≡ (placed_at row at (lent self.old ledger.old None [])).ledger) }
         ensures acts { IfOk result (λ acts. acts ≡ (placed_at row at (lent self.old ledger.old None [])).acts) }
     {
-        self.state.place_at(self.alloc, ledger, row, at)?;
+        self.state.place(self.alloc, ledger, row, at)?;
         Ok(Items::new(self.alloc))
     }
 
@@ -192,12 +224,10 @@ impl Call {
         ensures acts { IfOk result (λ acts. acts ≡ (pick_failed row moment word (lent self.old ledger.old tokens.old [])).acts) }
         ensures tokens { OnOk result (tokens.new ≡ (pick_failed row moment word (lent self.old ledger.old tokens.old [])).tokens) }
     {
-        let mut acts = Items::new(self.alloc);
-        let end = pick_end(self.alloc);
-        self.state.end_at(
-            self.alloc, ledger, row, end, moment, word, tokens, &mut acts,
-        )?;
-        Ok(acts)
+        let mut turn = Turn::new(self.alloc, moment, word);
+        let end = own_end(self.alloc, Code::Unavailable, RowCause::Pick, 0);
+        self.state.end_at(&mut turn, ledger, tokens, row, end)?;
+        Ok(turn.acts)
     }
 
     /// News of a row from its link.
@@ -215,11 +245,9 @@ impl Call {
         ensures acts { IfOk result (λ acts. acts ≡ (heard_news row news moment word (lent self.old ledger.old tokens.old [])).acts) }
         ensures tokens { OnOk result (tokens.new ≡ (heard_news row news moment word (lent self.old ledger.old tokens.old [])).tokens) }
     {
-        let mut acts = Items::new(self.alloc);
-        self.state.hear(
-            self.alloc, ledger, row, news, moment, word, tokens, &mut acts,
-        )?;
-        Ok(acts)
+        let mut turn = Turn::new(self.alloc, moment, word);
+        self.state.hear(&mut turn, ledger, tokens, row, news)?;
+        Ok(turn.acts)
     }
 
     /// Makes the attempt that is due at this moment, if one is. Where the tokens forbid it none is due any more.
@@ -233,10 +261,13 @@ impl Call {
         ensures ledger { OnOk result (ledger.new ≡ (made_due moment (lent self.old ledger.old tokens.now [])).ledger) }
         ensures acts { IfOk result (λ acts. acts ≡ (made_due moment (lent self.old ledger.old tokens.now [])).acts) }
     {
-        let mut acts = Items::new(self.alloc);
-        self.state
-            .make_due(self.alloc, ledger, moment, tokens, &mut acts)?;
-        Ok(acts)
+        let mut turn = Turn::new(self.alloc, moment, 0);
+        match self.next_due() {
+            Some(due) if moment.nanos() < due => {}
+            Some(due) => self.state.make_at(&mut turn, ledger, tokens, due)?,
+            None => {}
+        }
+        Ok(turn.acts)
     }
 
     /// The moment at which the next attempt is due, in nanoseconds.
@@ -290,41 +321,39 @@ impl Call {
     }
 
     /// Appends the next bytes of a row; nothing where it hasn't so many to send.
+    #[tactic(auto, using(crate::proofs::Feeding::unfed_left))]
     pub fn feed(&mut self, row: u64, len: u32, out: &mut BytesMut) -> Result<(), NoMemory>
         ensures call { OnOk result (self.new ≡ fed_row row len self.old) }
         ensures out { OnOk result (out.new.items ≡ fed_out row len self.old.buffer out.old.items) }
         ensures left { OnOk result (len ≤ length (left_of row self.old.buffer) → (t : ℕ) → left_of t self.new.buffer ≡ (if t == row then drop len (left_of row self.old.buffer) else left_of t self.old.buffer)) }
         ensures err { OnErr result (self.new ≡ self.old) }
     {
-        feed_row(&mut self.state.buffer, row, len, out)
+        let buffer = &mut self.state.buffer;
+        if !buffer.is_open(row) || buffer.ready(row) < u64::from(len) {
+            return Ok(());
+        }
+        buffer.take(row, len, out)?;
+        Ok(())
     }
 
     /// Whether a take would not answer NotYet.
     pub fn can_take(&self, _ledger: &Ledger) -> bool
         ensures { result ≡ can_take self.now }
     {
-        self.state.can_take()
+        let call = &self.state;
+        call.inbox.is_end_taken
+            || call.inbox.head.is_some()
+            || !call.inbox.messages.is_empty()
+            || call.ended.is_some()
     }
 
     /// Whether a send of a message of so many bytes would not answer Full.
     pub fn can_send(&self, len: u32) -> bool
         ensures { result ≡ can_send len self.now }
     {
-        self.state.can_send(len as usize)
-    }
-}
-
-/// The end of a row whose pick failed.
-fn pick_end(alloc: Global) -> EndNews
-    ensures { result ≡ pick_end }
-{
-    EndNews {
-        code: Code::Unavailable,
-        text: Text::new(alloc),
-        meta: Metadata::new(alloc),
-        pushback: Pushback::None,
-        unseen: false,
-        seen: 0,
-        cause: RowCause::Pick,
+        let len = len as usize;
+        self.state.send_refusal().is_some()
+            || is_too_long(&self.state.chosen, len)
+            || !self.state.full(len).is_some()
     }
 }

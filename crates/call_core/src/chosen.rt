@@ -1,19 +1,9 @@
 // What a call's configuration says.
 ghost use Rattle.std.specs.Prelude.{◌≡◌, ◌≤◌, IfSome};
 ghost use Rattle.grpc_base.specs.Limits.{duration_limit};
-ghost use Rattle.call_core.specs.Parts.{config_timeout, config_wait, deadline_of, is_in_set, is_too_long, plan_of, sooner, waits_for};
+ghost use Rattle.call_core.specs.Parts.{config_timeout, deadline_of, is_in_set, is_too_long, sooner, waits_for};
 
 use grpc_base::{CallPlan, Chosen, Code, Moment, Request};
-
-/// The plan; none before the configuration.
-pub fn plan_of(chosen: &Option<Chosen>) -> CallPlan
-    ensures { result ≡ plan_of chosen.now }
-{
-    match chosen {
-        Some(chosen) => chosen.plan,
-        None => CallPlan::None,
-    }
-}
 
 /// Whether a code is in the call's set.
 pub fn is_in_set(plan: &CallPlan, code: Code) -> bool
@@ -30,10 +20,8 @@ pub fn is_in_set(plan: &CallPlan, code: Code) -> bool
 pub fn is_too_long(chosen: &Option<Chosen>, len: usize) -> bool
     ensures { result ≡ is_too_long chosen.now len }
 {
-    match chosen {
-        Some(chosen) => (chosen.request.bytes() as usize) < len,
-        None => false,
-    }
+    let limit = chosen.as_ref().map(|chosen| chosen.request.bytes());
+    limit.is_some_and(|limit| (limit as usize) < len)
 }
 
 /// Whether the call waits for ready: as the application says, or else the config.
@@ -42,16 +30,9 @@ pub fn waits(request: &Request, chosen: &Option<Chosen>) -> bool
 {
     match request.wait() {
         Some(wait) => wait,
-        None => config_waits(chosen),
-    }
-}
-
-fn config_waits(chosen: &Option<Chosen>) -> bool
-    ensures { result ≡ config_wait chosen.now }
-{
-    match chosen {
-        Some(chosen) => chosen.wait.unwrap_or(false),
-        None => false,
+        None => chosen
+            .as_ref()
+            .is_some_and(|chosen| chosen.wait.unwrap_or(false)),
     }
 }
 

@@ -1,124 +1,126 @@
-// Commitment, and the end of a call.
+// Commitment and the end of a call, and the rows that these give up.
 ghost use Rattle.std.specs.Prelude.{◌≡◌, OnOk};
-ghost use Rattle.call_core.specs.Steps.{commit_stamped, committed, end_stamped, ended_as, ended_by_row, ended_if, lent};
+ghost use Rattle.call_core.specs.Parts.{count_of, read_of};
+ghost use Rattle.call_core.specs.Steps.{committed, cut_all, cut_unless, ended_as, ended_by_row, told_all, told_unless};
+ghost use Rattle.call_core.specs.Turns.{goes, left, lent_at, told};
 
 use crate::act::CallAct;
-use crate::cut::cut_others;
-use crate::live::keep_alone;
+use crate::attempts::names;
+use crate::live::{LiveRow, keep_alone};
+use crate::new_rows::{own_end, row_end};
 use crate::state::CallState;
-use crate::tokens::count_of;
+use crate::turn::Turn;
 use a6_numbers::Tokens;
 use attempt_buffer::Buffer;
-use attempt_ledger::{CallEnd, Ledger};
-use grpc_base::{EndCause, Items, Moment, NoMemory};
-use ledger_stamps::{commit_row, end_call};
-use std::alloc::Global;
+use attempt_ledger::{CallEnd, Ledger, LinkSeen, RowCause};
+use grpc_base::{Code, EndCause, Items, NoMemory};
+use ledger_stamps::{commit_row, end_call, end_row, index_of};
 
-/// Stamps the commitment of a row.
-fn stamp_commit(alloc: Global, ledger: &mut Ledger, place: u64)
-    ensures { ledger.new ≡ commit_stamped place ledger.old }
+/// The bytes of a link up to the last frame that was applied; 0 where no link has that number.
+fn read_of(links: &[LinkSeen], link: u32) -> u64
+    ensures { result ≡ read_of links.now link }
 {
-    commit_row(alloc, &mut ledger.rows, place, ledger.entry);
+    match index_of(u64::from(link), links.len()) {
+        Some(index) => links[index].read,
+        None => 0,
+    }
 }
 
-/// Stamps the end of a call.
-fn stamp_end(alloc: Global, ledger: &mut Ledger, call: u32, cause: EndCause, moment: Moment)
-    ensures { ledger.new ≡ end_stamped call cause moment ledger.old }
+/// Gives a row up unless it is the one that is kept: an outstanding one is cut, a queued one is dropped.
+fn cut_unless(
+    turn: &mut Turn,
+    ledger: &mut Ledger,
+    tokens: &Option<Tokens>,
+    row: LiveRow,
+    kept: Option<u64>,
+) -> Result<(), NoMemory>
+    ensures ledger { OnOk result (ledger.new ≡ cut_unless kept turn.old.moment (count_of tokens.now) row ledger.old) }
+    ensures turn { OnOk result (turn.new ≡ told (told_unless kept row turn.old.acts) turn.old) }
 {
-    let end = CallEnd {
-        entry: ledger.entry,
-        moment: moment.nanos(),
-        cause,
+    if names(row.place, kept) {
+        return Ok(());
+    }
+    let Some(link) = row.link else {
+        return turn.acts.push(CallAct::Drop(row.place));
     };
-    end_call(alloc, &mut ledger.calls, call, end);
+    let seen = read_of(ledger.links.as_slice(), link);
+    let end = own_end(turn.alloc, Code::Cancelled, RowCause::Cut, seen);
+    let end = row_end(end, ledger.entry, turn, tokens);
+    end_row(turn.alloc, &mut ledger.rows, row.place, end);
+    turn.acts.push(CallAct::Cut(row.place))
+}
+
+/// Gives up every row but one.
+fn cut_others(
+    turn: &mut Turn,
+    ledger: &mut Ledger,
+    tokens: &Option<Tokens>,
+    live: &[LiveRow],
+    kept: Option<u64>,
+) -> Result<(), NoMemory>
+    ensures ledger { OnOk result (ledger.new ≡ cut_all kept turn.old.moment (count_of tokens.now) live.now ledger.old) }
+    ensures turn { OnOk result (turn.new ≡ told (told_all kept live.now turn.old.acts) turn.old) }
+{
+    for row in live {
+        cut_unless(turn, ledger, tokens, *row, kept)?;
+    }
+    Ok(())
 }
 
 impl CallState {
     /// The call is committed to a row: every other row is given up.
     pub fn commit(
         &mut self,
-        alloc: Global,
+        turn: &mut Turn,
         ledger: &mut Ledger,
-        place: u64,
-        moment: Moment,
         tokens: &Option<Tokens>,
-        acts: &mut Items<CallAct>,
+        place: u64,
     ) -> Result<(), NoMemory>
-        ensures call { OnOk result (self.new ≡ (committed place moment (lent self.old ledger.old tokens.now acts.old)).call) }
-        ensures ledger { OnOk result (ledger.new ≡ (committed place moment (lent self.old ledger.old tokens.now acts.old)).ledger) }
-        ensures acts { OnOk result (acts.new ≡ (committed place moment (lent self.old ledger.old tokens.now acts.old)).acts) }
+        ensures { OnOk result (left self.new ledger.new turn.new ≡ goes (committed place turn.old.moment (lent_at self.old ledger.old tokens.now turn.old)) turn.old) }
     {
-        let count = count_of(tokens);
-        stamp_commit(alloc, ledger, place);
-        let live = self.live.as_slice();
-        cut_others(alloc, ledger, live, Some(place), moment, count, acts)?;
-        keep_alone(alloc, &mut self.live, place);
-        self.attempts = self.attempts.committed(place);
+        commit_row(turn.alloc, &mut ledger.rows, place, ledger.entry);
+        cut_others(turn, ledger, tokens, self.live.as_slice(), Some(place))?;
+        keep_alone(turn.alloc, &mut self.live, place);
+        self.attempts.stopped = true;
+        self.attempts.committed = Some(place);
         Ok(())
     }
 
     /// The call ends: every row is given up, and the messages that it sends are let go.
     pub fn close(
         &mut self,
-        alloc: Global,
+        turn: &mut Turn,
         ledger: &mut Ledger,
-        cause: EndCause,
-        moment: Moment,
         tokens: &Option<Tokens>,
-        acts: &mut Items<CallAct>,
+        cause: EndCause,
     ) -> Result<(), NoMemory>
-        ensures call { OnOk result (self.new ≡ (ended_as cause moment (lent self.old ledger.old tokens.now acts.old)).call) }
-        ensures ledger { OnOk result (ledger.new ≡ (ended_as cause moment (lent self.old ledger.old tokens.now acts.old)).ledger) }
-        ensures acts { OnOk result (acts.new ≡ (ended_as cause moment (lent self.old ledger.old tokens.now acts.old)).acts) }
+        ensures { OnOk result (left self.new ledger.new turn.new ≡ goes (ended_as cause turn.old.moment (lent_at self.old ledger.old tokens.now turn.old)) turn.old) }
     {
-        let count = count_of(tokens);
-        let live = self.live.as_slice();
-        cut_others(alloc, ledger, live, None, moment, count, acts)?;
-        stamp_end(alloc, ledger, self.number, cause, moment);
-        self.live = Items::new(alloc);
-        self.buffer = Buffer::new(alloc);
-        self.attempts = self.attempts.stopped();
+        cut_others(turn, ledger, tokens, self.live.as_slice(), None)?;
+        let end = CallEnd {
+            entry: ledger.entry,
+            moment: turn.moment.nanos(),
+            cause,
+        };
+        end_call(turn.alloc, &mut ledger.calls, self.number, end);
+        self.live = Items::new(turn.alloc);
+        self.buffer = Buffer::new(turn.alloc);
+        self.attempts.stopped = true;
         self.ended = Some(cause);
-        acts.push(CallAct::End(cause))
-    }
-
-    /// The call ends where it is to.
-    pub fn close_if(
-        &mut self,
-        alloc: Global,
-        ledger: &mut Ledger,
-        ends: bool,
-        cause: EndCause,
-        moment: Moment,
-        tokens: &Option<Tokens>,
-        acts: &mut Items<CallAct>,
-    ) -> Result<(), NoMemory>
-        ensures call { OnOk result (self.new ≡ (ended_if ends cause moment (lent self.old ledger.old tokens.now acts.old)).call) }
-        ensures ledger { OnOk result (ledger.new ≡ (ended_if ends cause moment (lent self.old ledger.old tokens.now acts.old)).ledger) }
-        ensures acts { OnOk result (acts.new ≡ (ended_if ends cause moment (lent self.old ledger.old tokens.now acts.old)).acts) }
-    {
-        if ends {
-            self.close(alloc, ledger, cause, moment, tokens, acts)
-        } else {
-            Ok(())
-        }
+        turn.acts.push(CallAct::End(cause))
     }
 
     /// The call is committed to a row whose end is its own.
     pub fn close_by_row(
         &mut self,
-        alloc: Global,
+        turn: &mut Turn,
         ledger: &mut Ledger,
-        place: u64,
-        moment: Moment,
         tokens: &Option<Tokens>,
-        acts: &mut Items<CallAct>,
+        place: u64,
     ) -> Result<(), NoMemory>
-        ensures call { OnOk result (self.new ≡ (ended_by_row place moment (lent self.old ledger.old tokens.now acts.old)).call) }
-        ensures ledger { OnOk result (ledger.new ≡ (ended_by_row place moment (lent self.old ledger.old tokens.now acts.old)).ledger) }
-        ensures acts { OnOk result (acts.new ≡ (ended_by_row place moment (lent self.old ledger.old tokens.now acts.old)).acts) }
+        ensures { OnOk result (left self.new ledger.new turn.new ≡ goes (ended_by_row place turn.old.moment (lent_at self.old ledger.old tokens.now turn.old)) turn.old) }
     {
-        self.commit(alloc, ledger, place, moment, tokens, acts)?;
-        self.close(alloc, ledger, EndCause::Row, moment, tokens, acts)
+        self.commit(turn, ledger, tokens, place)?;
+        self.close(turn, ledger, tokens, EndCause::Row)
     }
 }

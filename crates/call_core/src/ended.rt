@@ -1,257 +1,111 @@
-// The end of a row.
-ghost use Rattle.std.specs.Prelude.{◌≡◌, OnOk, IfOk, length, ◌+◌};
-ghost use Rattle.call_core.specs.Parts.{row_end};
-ghost use Rattle.call_core.specs.Steps.{closed_if, counted, counted_free, ended_at, ended_if_live, followed, judged_of, left_live, lent, live_ended, new_row, next_place, row_added, row_ended, settled, stamp_if, with_judged};
+// What the end of an attempt means to its call (gRFC A6, "Retry Policy", "Hedging Policy", "Pushback", "Transparent Retries").
+//
+//   attempt ends --+-- the server cannot have seen it ----> a transparent retry takes its place
+//                  |
+//                  +-- it counts: the tokens are settled
+//                        +-- committed call ---------------> the call ends by this attempt
+//                        +-- else the plan decides --------> a further attempt is due, or the call ends by this one
+ghost use Rattle.std.specs.Prelude.{◌≡◌, OnOk};
+ghost use Rattle.call_core.specs.Steps.{counted, ended_at, followed};
+ghost use Rattle.call_core.specs.Turns.{goes, left, lent_at};
 
-use crate::act::CallAct;
-use crate::attempts::names;
+use crate::attempts::{Attempts, names};
 use crate::chosen::is_in_set;
-use crate::judge::{Judged, is_followed, is_refusal, judge};
+use crate::judge::{is_followed, is_refusal};
 use crate::live::{LiveRow, find_live, leave};
+use crate::new_rows::row_end;
 use crate::state::CallState;
-use crate::tokens::{count_of, is_above, settle};
+use crate::tokens::{is_above, settle};
+use crate::turn::Turn;
 use a6_numbers::Tokens;
-use attempt_ledger::{EndNews, Ledger, Row, RowEnd, RowKind};
-use grpc_base::{EndCause, Items, Moment, NoMemory};
-use ledger_stamps::{add_row, end_row, note_made};
-use std::alloc::Global;
-
-fn row_end(news: EndNews, entry: u64, moment: Moment, tokens: Option<u32>) -> RowEnd
-    ensures { result ≡ row_end news entry moment tokens }
-{
-    RowEnd {
-        entry,
-        moment,
-        code: news.code,
-        text: news.text,
-        meta: news.meta,
-        pushback: news.pushback,
-        unseen: news.unseen,
-        seen: news.seen,
-        cause: news.cause,
-        tokens,
-        word: None,
-    }
-}
-
-/// A row that is neither placed nor ended.
-fn new_row(call: u32, number: u32, kind: RowKind, due: u64, committed: Option<u64>) -> Row
-    ensures { result ≡ new_row call number kind due committed }
-{
-    Row {
-        call,
-        number,
-        kind,
-        due,
-        placed: None,
-        stream: None,
-        ended: None,
-        committed,
-    }
-}
-
-/// The entry as a stamp, where it is to be set.
-fn stamp_if(is_committed: bool, entry: u64) -> Option<u64>
-    ensures { result ≡ stamp_if is_committed entry }
-{
-    if is_committed { Some(entry) } else { None }
-}
+use attempt_ledger::{EndNews, Ledger, RowEnd, RowKind};
+use grpc_base::{EndCause, NoMemory};
+use ledger_stamps::end_row;
 
 impl CallState {
-    /// Makes a row, which joins the queue.
-    pub fn add(
+    /// A row ended. Nothing where it is none of the live ones, as one that was cut in the meantime.
+    pub fn end_at(
         &mut self,
-        alloc: Global,
+        turn: &mut Turn,
         ledger: &mut Ledger,
-        number: u32,
-        kind: RowKind,
-        due: u64,
-        committed: Option<u64>,
-        tokens: &Option<Tokens>,
-        acts: &mut Items<CallAct>,
-    ) -> Result<u64, NoMemory>
-        ensures place { IfOk result (λ place. place ≡ next_place ledger.old) }
-        ensures call { OnOk result (self.new ≡ (row_added number kind due committed (lent self.old ledger.old tokens.now acts.old)).call) }
-        ensures ledger { OnOk result (ledger.new ≡ (row_added number kind due committed (lent self.old ledger.old tokens.now acts.old)).ledger) }
-        ensures acts { OnOk result (acts.new ≡ (row_added number kind due committed (lent self.old ledger.old tokens.now acts.old)).acts) }
+        tokens: &mut Option<Tokens>,
+        row: u64,
+        end: EndNews,
+    ) -> Result<(), NoMemory>
+        ensures after { OnOk result (left self.new ledger.new turn.new ≡ goes (ended_at row end turn.old.moment turn.old.word (lent_at self.old ledger.old tokens.old turn.old)) turn.old) }
+        ensures tokens { OnOk result (tokens.new ≡ (ended_at row end turn.old.moment turn.old.word (lent_at self.old ledger.old tokens.old turn.old)).tokens) }
     {
-        let row = new_row(self.number, number, kind, due, committed);
-        let place = add_row(&mut ledger.rows, row)?;
-        note_made(alloc, &mut ledger.calls, self.number, ledger.entry)?;
-        self.live.push(LiveRow {
-            place,
-            number,
-            link: None,
-        })?;
-        acts.push(CallAct::Queue(place))?;
-        Ok(place)
+        let Some(row) = find_live(self.live.as_slice(), row) else {
+            return Ok(());
+        };
+        leave(turn.alloc, &mut self.live, row.place);
+        self.buffer.close(row.place);
+        if is_followed(&self.attempts, end.cause, end.unseen) {
+            return self.follow(turn, ledger, tokens, row, end);
+        }
+        let in_set = is_in_set(&self.plan(), end.code);
+        settle(tokens, end.code, end.pushback, in_set);
+        self.count_end(turn, ledger, tokens, row, end)
     }
 
-    /// A transparent retry follows a row that ended.
+    /// A transparent retry takes the place of a row that ended: it has the row's number, is due at once and takes over its commitment.
     fn follow(
         &mut self,
-        alloc: Global,
+        turn: &mut Turn,
         ledger: &mut Ledger,
-        row: LiveRow,
-        news: EndNews,
-        moment: Moment,
         tokens: &Option<Tokens>,
-        acts: &mut Items<CallAct>,
+        row: LiveRow,
+        end: EndNews,
     ) -> Result<(), NoMemory>
-        ensures call { OnOk result (self.new ≡ (followed row news moment (lent self.old ledger.old tokens.now acts.old)).call) }
-        ensures ledger { OnOk result (ledger.new ≡ (followed row news moment (lent self.old ledger.old tokens.now acts.old)).ledger) }
-        ensures acts { OnOk result (acts.new ≡ (followed row news moment (lent self.old ledger.old tokens.now acts.old)).acts) }
+        ensures { OnOk result (left self.new ledger.new turn.new ≡ goes (followed row end turn.old.moment (lent_at self.old ledger.old tokens.now turn.old)) turn.old) }
     {
-        let by_refusal = is_refusal(news.cause);
-        let end = row_end(news, ledger.entry, moment, count_of(tokens));
-        end_row(alloc, &mut ledger.rows, row.place, end);
-        let committed = stamp_if(names(row.place, self.attempts.committed), ledger.entry);
-        let due = moment.nanos();
-        let kind = RowKind::Transparent;
-        let follower = self.add(
-            alloc, ledger, row.number, kind, due, committed, tokens, acts,
-        )?;
-        self.attempts = self.attempts.followed(row.place, follower, by_refusal);
+        let by_refusal = is_refusal(end.cause);
+        let end = row_end(end, ledger.entry, turn, tokens);
+        end_row(turn.alloc, &mut ledger.rows, row.place, end);
+        let is_committed = names(row.place, self.attempts.committed);
+        let stamp = is_committed.then_some(ledger.entry);
+        let due = turn.moment.nanos();
+        let place = self.add(turn, ledger, row.number, RowKind::Transparent, due, stamp)?;
+        self.attempts = Attempts {
+            committed: if is_committed {
+                Some(place)
+            } else {
+                self.attempts.committed
+            },
+            is_refusal_followed: self.attempts.is_refusal_followed || by_refusal,
+            ..self.attempts
+        };
         Ok(())
     }
 
-    /// What an end that counts means, in a call that isn't committed.
-    fn judge_end(&self, row: LiveRow, end: &RowEnd, word: u64, tokens: &Option<Tokens>) -> Judged
-        ensures { result ≡ judged_of row end.now word self.now tokens.now }
-    {
-        let is_alone = self.is_idle();
-        judge(
-            &self.plan(),
-            self.attempts,
-            row.number,
-            is_alone,
-            end,
-            is_above(tokens),
-            word,
-        )
-    }
-
-    /// The call is committed to a row whose end is its own, where it is.
-    fn close_by_row_if(
-        &mut self,
-        alloc: Global,
-        ledger: &mut Ledger,
-        closes: bool,
-        place: u64,
-        moment: Moment,
-        tokens: &Option<Tokens>,
-        acts: &mut Items<CallAct>,
-    ) -> Result<(), NoMemory>
-        ensures call { OnOk result (self.new ≡ (closed_if closes place moment (lent self.old ledger.old tokens.now acts.old)).call) }
-        ensures ledger { OnOk result (ledger.new ≡ (closed_if closes place moment (lent self.old ledger.old tokens.now acts.old)).ledger) }
-        ensures acts { OnOk result (acts.new ≡ (closed_if closes place moment (lent self.old ledger.old tokens.now acts.old)).acts) }
-    {
-        if closes {
-            self.close_by_row(alloc, ledger, place, moment, tokens, acts)
-        } else {
-            Ok(())
-        }
-    }
-
-    /// An end that counts, in a call that isn't committed.
-    fn count_free(
-        &mut self,
-        alloc: Global,
-        ledger: &mut Ledger,
-        row: LiveRow,
-        end: RowEnd,
-        moment: Moment,
-        word: u64,
-        tokens: &Option<Tokens>,
-        acts: &mut Items<CallAct>,
-    ) -> Result<(), NoMemory>
-        ensures call { OnOk result (self.new ≡ (counted_free row end moment word (lent self.old ledger.old tokens.now acts.old)).call) }
-        ensures ledger { OnOk result (ledger.new ≡ (counted_free row end moment word (lent self.old ledger.old tokens.now acts.old)).ledger) }
-        ensures acts { OnOk result (acts.new ≡ (counted_free row end moment word (lent self.old ledger.old tokens.now acts.old)).acts) }
-    {
-        let after = self.judge_end(row, &end, word, tokens);
-        let end = RowEnd {
-            word: after.word,
-            ..end
-        };
-        end_row(alloc, &mut ledger.rows, row.place, end);
-        self.attempts = after.attempts.lasted(row.place);
-        self.close_by_row_if(alloc, ledger, after.closes, row.place, moment, tokens, acts)
-    }
-
-    /// An end that counts, after the tokens took it.
+    /// An end that counts, after the tokens took it: the end of a committed call. Of one that isn't the plan decides: a further attempt is
+    /// due, or the call is committed to this row and ends.
     fn count_end(
         &mut self,
-        alloc: Global,
+        turn: &mut Turn,
         ledger: &mut Ledger,
-        row: LiveRow,
-        news: EndNews,
-        moment: Moment,
-        word: u64,
         tokens: &Option<Tokens>,
-        acts: &mut Items<CallAct>,
-    ) -> Result<(), NoMemory>
-        ensures call { OnOk result (self.new ≡ (counted row news moment word (lent self.old ledger.old tokens.now acts.old)).call) }
-        ensures ledger { OnOk result (ledger.new ≡ (counted row news moment word (lent self.old ledger.old tokens.now acts.old)).ledger) }
-        ensures acts { OnOk result (acts.new ≡ (counted row news moment word (lent self.old ledger.old tokens.now acts.old)).acts) }
-    {
-        let end = row_end(news, ledger.entry, moment, count_of(tokens));
-        if self.attempts.committed.is_some() {
-            end_row(alloc, &mut ledger.rows, row.place, end);
-            self.close(alloc, ledger, EndCause::Row, moment, tokens, acts)
-        } else {
-            self.count_free(alloc, ledger, row, end, moment, word, tokens, acts)
-        }
-    }
-
-    /// A live row ended.
-    fn end_live(
-        &mut self,
-        alloc: Global,
-        ledger: &mut Ledger,
         row: LiveRow,
-        news: EndNews,
-        moment: Moment,
-        word: u64,
-        tokens: &mut Option<Tokens>,
-        acts: &mut Items<CallAct>,
-    ) -> Result<(), NoMemory>
-        ensures call { OnOk result (self.new ≡ (live_ended row news moment word (lent self.old ledger.old tokens.old acts.old)).call) }
-        ensures ledger { OnOk result (ledger.new ≡ (live_ended row news moment word (lent self.old ledger.old tokens.old acts.old)).ledger) }
-        ensures acts { OnOk result (acts.new ≡ (live_ended row news moment word (lent self.old ledger.old tokens.old acts.old)).acts) }
-        ensures tokens { OnOk result (tokens.new ≡ (live_ended row news moment word (lent self.old ledger.old tokens.old acts.old)).tokens) }
-    {
-        leave(alloc, &mut self.live, row.place);
-        self.buffer.close(row.place);
-        if is_followed(&self.attempts, news.cause, news.unseen) {
-            self.follow(alloc, ledger, row, news, moment, tokens, acts)
-        } else {
-            let in_set = is_in_set(&self.plan(), news.code);
-            settle(tokens, news.code, news.pushback, in_set);
-            self.count_end(alloc, ledger, row, news, moment, word, tokens, acts)
-        }
-    }
-
-    /// A row ended; nothing where it is none of the live ones.
-    pub fn end_at(
-        &mut self,
-        alloc: Global,
-        ledger: &mut Ledger,
-        row: u64,
         end: EndNews,
-        moment: Moment,
-        word: u64,
-        tokens: &mut Option<Tokens>,
-        acts: &mut Items<CallAct>,
     ) -> Result<(), NoMemory>
-        ensures call { OnOk result (self.new ≡ (ended_at row end moment word (lent self.old ledger.old tokens.old acts.old)).call) }
-        ensures ledger { OnOk result (ledger.new ≡ (ended_at row end moment word (lent self.old ledger.old tokens.old acts.old)).ledger) }
-        ensures acts { OnOk result (acts.new ≡ (ended_at row end moment word (lent self.old ledger.old tokens.old acts.old)).acts) }
-        ensures tokens { OnOk result (tokens.new ≡ (ended_at row end moment word (lent self.old ledger.old tokens.old acts.old)).tokens) }
+        ensures { OnOk result (left self.new ledger.new turn.new ≡ goes (counted row end turn.old.moment turn.old.word (lent_at self.old ledger.old tokens.now turn.old)) turn.old) }
     {
-        match find_live(self.live.as_slice(), row) {
-            Some(live) => self.end_live(alloc, ledger, live, end, moment, word, tokens, acts),
-            None => Ok(()),
+        let end = row_end(end, ledger.entry, turn, tokens);
+        if self.attempts.committed.is_some() {
+            end_row(turn.alloc, &mut ledger.rows, row.place, end);
+            return self.close(turn, ledger, tokens, EndCause::Row);
         }
+        let next = self.judge(row.number, &end, is_above(tokens), turn.word);
+        let end = RowEnd {
+            word: next.word,
+            ..end
+        };
+        end_row(turn.alloc, &mut ledger.rows, row.place, end);
+        self.attempts = next.attempts;
+        self.attempts.last = Some(row.place);
+        if next.closes {
+            self.close_by_row(turn, ledger, tokens, row.place)?;
+        }
+        Ok(())
     }
 }

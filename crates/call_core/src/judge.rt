@@ -1,8 +1,10 @@
 // What the end of an attempt means for its call.
-ghost use Rattle.std.specs.Prelude.{◌≡◌, ◌≤◌, max};
-ghost use Rattle.call_core.specs.Parts.{delayed_after, drawn, due_of, from_one, is_final, is_followed, is_refusal, is_unsent, judged, judged_hedge, judged_retry, word_of};
+ghost use Rattle.std.specs.Prelude.{◌≡◌};
+ghost use Rattle.call_core.specs.Parts.{delayed_after, due_of, has_none, is_final, is_followed, is_refusal, is_unsent, judged, judged_hedge, judged_retry, word_of};
+ghost use Rattle.call_core.specs.Steps.{call_plan};
 
 use crate::attempts::Attempts;
+use crate::state::CallState;
 use attempt_ledger::{Next, RowCause, RowEnd};
 use grpc_base::{CallPlan, HedgePolicy, Pushback, RetryPolicy};
 use hedge_core::HedgeState;
@@ -17,6 +19,24 @@ pub struct Judged {
     pub closes: bool,
 }
 
+impl CallState {
+    /// What the end of a row with this number means, where it counts and the call isn't committed.
+    pub fn judge(&self, number: u32, end: &RowEnd, above: bool, word: u64) -> Judged
+        ensures { result ≡ judged (call_plan self.now) self.now.attempts number (has_none self.now.live) end.now above word }
+    {
+        let attempts = self.attempts;
+        match self.plan() {
+            CallPlan::None => Judged {
+                attempts,
+                word: None,
+                closes: true,
+            },
+            CallPlan::Retry(policy) => judged_retry(&policy, attempts, number, end, above, word),
+            CallPlan::Hedge(policy) => judged_hedge(&policy, attempts, self.is_idle(), end, above),
+        }
+    }
+}
+
 /// Whether a transparent retry follows the end of a row.
 pub fn is_followed(attempts: &Attempts, cause: RowCause, unseen: bool) -> bool
     ensures { result ≡ is_followed attempts.now cause unseen }
@@ -29,7 +49,7 @@ pub fn is_followed(attempts: &Attempts, cause: RowCause, unseen: bool) -> bool
 }
 
 /// Whether the request never left the client.
-fn is_unsent(cause: RowCause) -> bool
+pub fn is_unsent(cause: RowCause) -> bool
     ensures { result ≡ is_unsent cause }
 {
     matches!(cause, RowCause::Unsent)
@@ -42,29 +62,6 @@ pub fn is_refusal(cause: RowCause) -> bool
     matches!(cause, RowCause::Goaway | RowCause::Reset)
 }
 
-/// The end of a row that counts, in a call that isn't committed. `is_alone` says that no other row is queued or outstanding.
-pub fn judge(
-    plan: &CallPlan,
-    attempts: Attempts,
-    number: u32,
-    is_alone: bool,
-    end: &RowEnd,
-    above: bool,
-    word: u64,
-) -> Judged
-    ensures { result ≡ judged plan.now attempts number is_alone end.now above word }
-{
-    match plan {
-        CallPlan::None => Judged {
-            attempts,
-            word: None,
-            closes: true,
-        },
-        CallPlan::Retry(policy) => judged_retry(policy, attempts, number, end, above, word),
-        CallPlan::Hedge(policy) => judged_hedge(policy, attempts, is_alone, end, above),
-    }
-}
-
 fn judged_retry(
     policy: &RetryPolicy,
     attempts: Attempts,
@@ -75,8 +72,8 @@ fn judged_retry(
 ) -> Judged
     ensures { result ≡ judged_retry policy.now attempts number end.now above word }
 {
-    let number = from_one(number);
-    let since = from_one(number.saturating_sub(attempts.delayed));
+    let number = number.max(1);
+    let since = number.saturating_sub(attempts.delayed).max(1);
     let next = retry_core::after_end(policy, number, since, end, above, word);
     Judged {
         attempts: Attempts {
@@ -87,13 +84,6 @@ fn judged_retry(
         word: word_of(next, end.pushback, word),
         closes: is_final(next),
     }
-}
-
-fn from_one(number: u32) -> u32
-    ensures value { result ≡ from_one number }
-    ensures least { 1 ≤ result }
-{
-    number.max(1)
 }
 
 fn is_final(next: Next) -> bool
@@ -120,22 +110,13 @@ fn delayed_after(pushback: Pushback, number: u32, delayed: u32) -> u32
     }
 }
 
+/// The word of a wait, unless the server asks for a delay.
 fn word_of(next: Next, pushback: Pushback, word: u64) -> Option<u64>
     ensures { result ≡ word_of next pushback word }
 {
-    match next {
-        Next::Again { due: _ } => drawn(pushback, word),
-        Next::Final => None,
-    }
-}
-
-/// The word of a wait, unless the server asks for a delay.
-fn drawn(pushback: Pushback, word: u64) -> Option<u64>
-    ensures { result ≡ drawn pushback word }
-{
-    match pushback {
-        Pushback::After(_) => None,
-        Pushback::None | Pushback::Stop => Some(word),
+    match (next, pushback) {
+        (Next::Final, _) | (Next::Again { .. }, Pushback::After(_)) => None,
+        (Next::Again { .. }, Pushback::None | Pushback::Stop) => Some(word),
     }
 }
 
@@ -149,14 +130,13 @@ fn judged_hedge(
     ensures { result ≡ judged_hedge policy.now attempts is_alone end.now above }
 {
     let mut state = HedgeState {
-        sent: from_one(attempts.sent),
+        sent: attempts.sent.max(1),
         last_placed: None,
         forced: attempts.forced,
         stopped: attempts.stopped,
         outstanding: 1,
     };
     let next = hedge_core::after_end(policy, &mut state, end, above);
-    let closes = !policy.codes.has(end.code) || (is_alone && is_final(next));
     Judged {
         attempts: Attempts {
             forced: state.forced,
@@ -164,6 +144,6 @@ fn judged_hedge(
             ..attempts
         },
         word: None,
-        closes,
+        closes: !policy.codes.has(end.code) || (is_alone && is_final(next)),
     }
 }

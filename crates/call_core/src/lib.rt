@@ -6,7 +6,6 @@ mod attempts;
 mod call;
 mod chosen;
 mod commit;
-mod cut;
 mod due;
 mod ended;
 mod hear;
@@ -14,12 +13,14 @@ mod inbox;
 mod judge;
 mod laws;
 mod live;
+mod new_rows;
 mod outbox;
 mod outcomes;
 mod row_laws;
 mod state;
 mod take;
 mod tokens;
+mod turn;
 
 pub use act::CallAct;
 pub use attempts::Attempts;
@@ -33,6 +34,7 @@ pub use laws::{
     retries_follow_their_license, tokens_count_ends,
 };
 pub use live::LiveRow;
+pub use new_rows::own_end;
 pub use outcomes::{
     calls_are_committed_once, calls_go_on, committed_calls_hear_one_row,
     due_moments_follow_each_step, ended_rows_hold_tokens, limits_end_calls, other_rows_are_over,

@@ -1,7 +1,7 @@
 // The rows of a call that are queued or outstanding.
 ghost use Rattle.std.specs.Prelude.{◌≡◌, None, IfSome, true, map};
 ghost use Rattle.attempt_buffer.specs.Buffers.{is_open};
-ghost use Rattle.call_core.specs.Parts.{find_live, further, further_than, furthest, furthest_from, is_further, kept_alone, linked, without};
+ghost use Rattle.call_core.specs.Parts.{find_live, further, furthest, furthest_from, is_further, kept_alone, linked, without};
 
 use attempt_buffer::Buffer;
 use grpc_base::Items;
@@ -36,14 +36,8 @@ pub fn leave(alloc: Global, live: &mut Items<LiveRow>, place: u64)
     ensures { live.new ≡ without place live.old }
 {
     let mut list = mem::replace(live, Items::new(alloc)).into_vec();
-    drop_row(&mut list, place);
+    list.retain(|row| row.place != place);
     *live = Items::of_vec(list);
-}
-
-fn drop_row(live: &mut Vec<LiveRow>, place: u64)
-    ensures { live.new.items ≡ without place live.old.items }
-{
-    live.retain(|row| row.place != place);
 }
 
 /// Leaves out every other row.
@@ -51,14 +45,8 @@ pub fn keep_alone(alloc: Global, live: &mut Items<LiveRow>, place: u64)
     ensures { live.new ≡ kept_alone place live.old }
 {
     let mut list = mem::replace(live, Items::new(alloc)).into_vec();
-    keep_row(&mut list, place);
+    list.retain(|row| row.place == place);
     *live = Items::of_vec(list);
-}
-
-fn keep_row(live: &mut Vec<LiveRow>, place: u64)
-    ensures { live.new.items ≡ kept_alone place live.old.items }
-{
-    live.retain(|row| row.place == place);
 }
 
 /// The row of a place got its link.
@@ -95,25 +83,10 @@ fn linked(row: LiveRow, place: u64, link: u32) -> LiveRow
 fn further(buffer: &Buffer, best: Option<LiveRow>, row: LiveRow) -> Option<LiveRow>
     ensures { result ≡ further buffer.now best row }
 {
-    if buffer.is_open(row.place) {
-        further_than(buffer, best, row)
-    } else {
-        best
-    }
-}
-
-fn further_than(buffer: &Buffer, best: Option<LiveRow>, row: LiveRow) -> Option<LiveRow>
-    ensures { result ≡ further_than buffer.now best row }
-{
     match best {
-        None => Some(row),
-        Some(other) => {
-            if is_further(buffer, row, other) {
-                Some(row)
-            } else {
-                Some(other)
-            }
-        }
+        _ if !buffer.is_open(row.place) => best,
+        Some(other) if !is_further(buffer, row, other) => best,
+        _ => Some(row),
     }
 }
 

@@ -4,7 +4,6 @@ ghost use Rattle.call_core.specs.Parts.{has_none};
 ghost use Rattle.call_core.specs.Steps.{call_plan, new_call};
 
 use crate::attempts::Attempts;
-use crate::chosen::plan_of;
 use crate::inbox::Inbox;
 use crate::live::LiveRow;
 use attempt_buffer::Buffer;
@@ -58,7 +57,8 @@ impl CallState {
     pub fn plan(&self) -> CallPlan
         ensures { result ≡ call_plan self.now }
     {
-        plan_of(&self.chosen)
+        let chosen = self.chosen.as_ref();
+        chosen.map_or(CallPlan::None, |chosen| chosen.plan)
     }
 
     /// Whether no row is queued or outstanding.

@@ -1,12 +1,15 @@
 -- What comes on links: a piece frame by frame, ends of attempts, the loss of a link.
 use Rattle.std.proofs.Common.{◌≡◌, ◌∙◌, ◌≤◌, ◌<◌, ℕ, zero, suc, ◌+◌, ◌-◌, Bool, false, if◌then◌else◌, List, [], ◌∷◌, length, drop, refl, sym, ap, arith, Option, Some, None, IfSome}
 use Rattle.std.specs.Option.{option_map}
+use Rattle.std.specs.Set.{remove_key}
+use Rattle.picker_gate.specs.Pairs.{is_same}
 use Rattle.attempt_ledger.specs.declared.news.EndNews.{EndNews}
+use Rattle.attempt_ledger.specs.declared.news.News.{News}
 use Rattle.attempt_ledger.specs.declared.news.News.TheVariants as news
 use Rattle.channel_core.specs.Arrivals.{ended_on, frame_heard_if, frames_after, frames_from, lost_row, most_rows, rows_lost, rows_lost_on}
-use Rattle.channel_core.specs.Books.{has_ended, row_at}
+use Rattle.channel_core.specs.Books.{call_of, has_ended, row_at}
 use Rattle.channel_core.specs.States.{StateSeen}
-use Rattle.channel_core.specs.Steps.{left_behind, next_on, stamped_gone, told}
+use Rattle.channel_core.specs.Steps.{left_behind, next_on, stamped_gone, told, told_to}
 use Rattle.channel_core.specs.Tables.{Heard, heard_in}
 
 -- bytes that are skipped are left out
@@ -53,11 +56,15 @@ no_frame link [] s t given new = silent link s t (heard_in link [] s.links) give
 no_frame link (b ∷ piece) s t given new = none_on link (frames_after link piece) s t (heard_in link (b ∷ piece) s.links) given new
 
 -- an attempt ends
-pub row_ended : (link row : ℕ) (end : EndNews) (s t u v : StateSeen) → has_ended (row_at s.book row) ≡ false → t ≡ left_behind link row s → u ≡ told row (news.Ended row end) t → v ≡ stamped_gone link u
-    → v ≡ ended_on link row end s
-row_ended link row end s t u v lives left tells gone =
-    gone ∙ ap (stamped_gone link) (tells ∙ ap (told row (news.Ended row end)) left)
-    ∙ sym (ap (λ b. if b then s else stamped_gone link (told row (news.Ended row end) (left_behind link row s))) lives)
+pub row_ended : {v s : StateSeen} → v ≡ s → (link row call : ℕ) (end : EndNews) (u t : StateSeen) (outstanding : List (ℕ × ℕ)) → has_ended (row_at v.book row) ≡ false → call ≡ call_of (row_at v.book row)
+    → outstanding ≡ remove_key (is_same (link, row)) v.outstanding → u ≡ told_to call row (news.Ended row end) (record v { outstanding = outstanding }) → t ≡ stamped_gone link u
+    → t ≡ ended_on link row end s
+row_ended {v} {s} seen link row call end u t outstanding lives is left tells gone =
+    let n : News = news.Ended row end in
+    gone
+    ∙ ap (stamped_gone link) (tells ∙ ap (λ k. told_to k row n (record v { outstanding = outstanding })) is ∙ ap (λ (o : List (ℕ × ℕ)). told row n (record v { outstanding = o })) left)
+    ∙ sym (ap (λ b. if b then v else stamped_gone link (told row n (left_behind link row v))) lives)
+    ∙ ap (ended_on link row end) seen
 
 -- the rows of a link that is lost, one by one
 count_less : (i : ℕ) → i < 18446744073709551615 → most_rows - i ≡ suc (most_rows - (i + 1))

@@ -1,10 +1,18 @@
 -- Where nothing is due, nothing happens.
-use Rattle.std.proofs.Common.{◌≡◌, ℕ, Bool, true, false, List, [], ◌∷◌, Option, Some, None, ap, refl, sym}
+use Rattle.std.proofs.Common.{◌≡◌, ℕ, ◌==◌, Bool, true, false, List, [], ◌∷◌, Option, Some, None, ap, refl, sym}
 use Rattle.std.specs.Prelude.{if◌then◌else◌, is_some, nat_le}
+use Rattle.std.specs.Option.{option_eq}
 use Rattle.picker_gate.specs.Pairs.{first_due, next_moment}
 use Rattle.channel_core.specs.States.{StateSeen}
 use Rattle.channel_core.specs.Steps.{all_configured, all_unconfigured, bare_served, overdue_ended, round_made}
-use Rattle.channel_core.specs.Timing.{due_keys, later}
+use Rattle.channel_core.specs.Timing.{due_keys, is_same_moment, later}
+
+-- both stand for one moment, or for none
+pub same_moment : (one other : Option ℕ) → is_same_moment one other ≡ option_eq (λ m n. m == n) one other
+same_moment None None = refl
+same_moment None (Some n) = refl
+same_moment (Some m) None = refl
+same_moment (Some m) (Some n) = refl
 
 -- the first timer is not due
 not_due : (t : ℕ × ℕ) (ts rest : List (ℕ × ℕ)) (keys : List ℕ) (due : Bool) → ◌≡◌ {A = Option (ℕ × ℕ)} None (if due then Some t else None) → ((if due then t.1 ∷ keys else []) ≡ []) × ((if due then rest else t ∷ ts) ≡ t ∷ ts)

@@ -1,5 +1,6 @@
 pub mod Answering
 pub mod Arriving
+pub mod Asking
 pub mod BookLaws
 pub mod Carrying
 pub mod CarryingSteps

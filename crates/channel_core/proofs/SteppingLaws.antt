@@ -1,5 +1,5 @@
 -- A whole step, by its parts.
-use Rattle.std.proofs.Common.{◌≡◌, ◌∙◌, ℕ, Result, Ok, Err, IfOk, OnOk, ap, subst}
+use Rattle.std.proofs.Common.{◌≡◌, ◌∙◌, ℕ, ap, subst}
 use Rattle.grpc_base.specs.declared.event.Event.{Event}
 use Rattle.grpc_base.specs.declared.event.Reply.{Reply}
 use Rattle.channel_core.specs.Applying.{Answers, Stepped, begun_at}
@@ -17,8 +17,3 @@ stepped_by entry moment word e old begun due answered new r begins ends answers 
       answers = subst P (ends ∙ ap overdue_ended begins) answers;
       settles = settles;
     }
-
--- what holds of an answer in two clauses
-pub both : {T E : Type 0} (r : Result T E) (A : Type 0) (B : T → Type 0) → OnOk r A → IfOk r B → IfOk r (λ x. A × B x)
-both (Ok x) A B a b = (a, b)
-both (Err e) A B a b = b

@@ -1,6 +1,7 @@
 pub mod Applying
 pub mod Arrivals
 pub mod Books
+pub mod CallEvents
 pub mod Core
 pub mod Draining
 pub mod EndShapes

@@ -25,7 +25,8 @@ pub fn event_bytes(event: &Event) -> u64
         Event::Send { call: _, message } => counted_with(message.len() as u64),
         Event::Resolved { addresses, config } => {
             let addresses = ADDRESS.saturating_mul(addresses.as_list().len() as u64);
-            counted_with(addresses.saturating_add(config_bytes(config)))
+            let config = config.as_ref().map_or(0, |text| text.len() as u64);
+            counted_with(addresses.saturating_add(config))
         }
         Event::Arrived { link: _, piece } => counted_with(piece.len() as u64),
         Event::Drain { link: _, room } => counted_with(u64::from((*room).min(DRAINED))),
@@ -69,16 +70,6 @@ fn fields_bytes(fields: &[Field]) -> u64
             .saturating_add(field.value.len() as u64);
     }
     bytes
-}
-
-/// The bytes of a config, if there is one.
-fn config_bytes(config: &Option<Octets>) -> u64
-    ensures { result ≡ option_map_or (λ text. length text) config.now 0 }
-{
-    match config {
-        Some(text) => text.len() as u64,
-        None => 0,
-    }
 }
 
 /// The bytes that a reply gives to be written.

@@ -165,13 +165,7 @@ impl<P: Balancer> ChannelCore<P> {
     pub fn view(&self) -> View
         ensures { result ≡ view_of self.now }
     {
-        View {
-            state: self.journal.last_state(),
-            wants_resolution: self.state.wants_resolution(),
-            next: self.state.next(),
-            dialable: self.state.dialable(),
-            spent: self.spent,
-        }
+        self.state.view(self.journal.last_state(), self.spent)
     }
 
     /// Whether a Drain of this link would give bytes, with room for the largest frame, 16,393 bytes.

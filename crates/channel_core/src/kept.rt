@@ -82,20 +82,16 @@ impl Kept {
     pub fn step_moment(&self, moment: Moment) -> Moment
         ensures { result ≡ max moment (last_moment self.now.entries) }
     {
-        match self.journal.entries.as_slice().last() {
-            Some(entry) => later(moment, entry.moment),
-            None => moment,
-        }
+        let last = self.journal.entries.as_slice().last();
+        last.map_or(moment, |entry| later(moment, entry.moment))
     }
 
     /// The channel's state after the last entry.
     pub fn last_state(&self) -> Conn
         ensures { result ≡ last_state self.now.entries }
     {
-        match self.journal.entries.as_slice().last() {
-            Some(entry) => entry.state,
-            None => Conn::Idle,
-        }
+        let last = self.journal.entries.as_slice().last();
+        last.map_or(Conn::Idle, |entry| entry.state)
     }
 }
 

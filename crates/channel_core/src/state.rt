@@ -12,6 +12,7 @@ mod arriving;
 mod authority;
 mod book;
 mod buckets;
+mod call_event;
 mod connecting;
 mod draining;
 mod links;
@@ -20,11 +21,13 @@ mod slots;
 mod timers;
 
 use crate::bytes_of::DRAINED;
+use applications::within_limit;
 use attempt_ledger::Ledger;
 use authority::Authority;
 use book::Book;
+use call_event::CallEvent;
 use channel_net::Net;
-use grpc_base::{Conn, Event, Items, KindSet, Moment, NoMemory, Refusal, Reply, Text};
+use grpc_base::{Conn, Event, Items, KindSet, Moment, NoMemory, Refusal, Reply, Text, View};
 use lb_policy::Balancer;
 use links::LinkTable;
 use picker_gate::{Gate, Timers};
@@ -32,7 +35,7 @@ use resolver_core::Resolver;
 use service_config::Config;
 use std::alloc::Global;
 use std::marker::Model;
-use timers::{earlier, number_of, take_due};
+use timers::{earlier, take_due};
 
 /// A channel without its journal.
 #[derive(Drop)]
@@ -141,7 +144,8 @@ impl<P: Balancer> State<P> {
     fn begin_step(&mut self, entry: u64, moment: Moment, word: u64)
         ensures { self.new ≡ applying.begun_at entry moment word self.old }
     {
-        self.book.begin_step(entry, moment);
+        self.book.ledger.entry = entry;
+        self.book.moment = moment;
         self.word = word;
         self.drawn = 0;
     }
@@ -158,22 +162,13 @@ impl<P: Balancer> State<P> {
         self.end_each(moment)
     }
 
-    #[tactic(auto, unfolding(crate::specs::Steps::overdue_ended))]
+    #[tactic(auto, using(crate::proofs::Asking::all_timed_out_by), unfolding(crate::specs::Steps::overdue_ended))]
     fn end_each(&mut self, moment: u64) -> Result<(), NoMemory>
         requires { moment ≡ self.old.book.moment }
         ensures { OnOk result (self.new ≡ steps.overdue_ended self.old) }
     {
         let calls = take_due(self.alloc, &mut self.deadlines, moment)?;
-        self.end_all(calls)
-    }
-
-    fn end_all(&mut self, calls: Items<u64>) -> Result<(), NoMemory>
-        ensures { OnOk result (self.new ≡ steps.all_timed_out calls self.old) }
-    {
-        let mut rest = calls.into_vec().into_iter();
-        while let Some(call) = rest.next() {
-            self.time_out(number_of(call))?;
-        }
+        self.act_on_all(calls, &CallEvent::Deadline)?;
         Ok(())
     }
 
@@ -195,33 +190,18 @@ impl<P: Balancer> State<P> {
             Event::Tick | Event::Shutdown => None,
             Event::Take { call } => self.book.lacks_call(*call),
             _ if self.shut => Some(Refusal::Shut),
-            _ => self.refused_open(event),
-        }
-    }
-
-    /// The first refusal that stands, of a channel that is not shut.
-    fn refused_open(&self, event: &Event) -> Option<Refusal>
-        ensures { result ≡ applying.open_refusal event.now self.now }
-    {
-        match event {
             Event::Send { call, message: _ } | Event::Finish { call } | Event::Cancel { call } => {
                 self.book.lacks_call(*call)
             }
             Event::Arrived { link, piece: _ }
             | Event::LinkLost { link }
             | Event::Ping { link, word: _ } => self.lacks_link(*link),
-            Event::Drain { link, room } => self.refused_drain(*link, *room),
+            Event::Drain { link, room } => match self.lacks_link(*link) {
+                Some(refusal) => Some(refusal),
+                None if *room < LEAST_ROOM => Some(Refusal::RoomTooSmall),
+                None => None,
+            },
             _ => None,
-        }
-    }
-
-    fn refused_drain(&self, link: u32, room: u32) -> Option<Refusal>
-        ensures { result ≡ applying.or_room room (applying.link_refusal link self.now) }
-    {
-        match self.lacks_link(link) {
-            Some(refusal) => Some(refusal),
-            None if room < LEAST_ROOM => Some(Refusal::RoomTooSmall),
-            None => None,
         }
     }
 
@@ -231,10 +211,10 @@ impl<P: Balancer> State<P> {
     {
         match event {
             Event::Begin { request } => self.begin(request),
-            Event::Send { call, message } => self.send(*call, message),
-            Event::Finish { call } => Ok(self.finish(*call)),
-            Event::Take { call } => self.take(*call),
-            Event::Cancel { call } => self.cancel(*call),
+            Event::Send { call, message } => self.act_on(*call, &CallEvent::Send(message.share()?)),
+            Event::Finish { call } => Ok(self.book.finish(*call)),
+            Event::Take { call } => Ok(within_limit(self.alloc, self.book.take(*call)?)),
+            Event::Cancel { call } => self.act_on(*call, &CallEvent::Cancel),
             Event::Resolved { addresses, config } => {
                 self.resolved(addresses.as_list(), config.as_ref())
             }
@@ -243,9 +223,15 @@ impl<P: Balancer> State<P> {
             Event::LinkUp { sub } => self.link_up(*sub),
             Event::DialFailed { sub } => Ok(self.dial_failed(*sub)),
             Event::Arrived { link, piece } => self.arrived(*link, piece.as_slice()),
-            Event::LinkLost { link } => self.link_lost(*link),
+            Event::LinkLost { link } => {
+                self.lose(*link, true)?;
+                Ok(Reply::Done)
+            }
             Event::Drain { link, room } => self.drain(*link, (*room).min(DRAINED)),
-            Event::Ping { link, word } => self.ping(*link, *word),
+            Event::Ping { link, word } => {
+                self.links.ping(*link, *word)?;
+                Ok(Reply::Done)
+            }
             Event::Tick => Ok(Reply::Done),
             Event::Shutdown => self.shut_down(),
         }
@@ -272,42 +258,40 @@ impl<P: Balancer> State<P> {
         &self.book.ledger
     }
 
-    /// Whether a new result of the resolver is wanted.
-    pub fn wants_resolution(&self) -> bool
-        ensures { result ≡ self.now.resolver }
+    /// What a look at the channel tells, with its state after the last step and whether it is spent.
+    pub fn view(&self, state: Conn, spent: bool) -> View
+        ensures { result ≡ record { state = state; wants_resolution = self.now.resolver; next = applying.next_of self.now; dialable = applying.is_dialable_in self.now; spent = spent } }
     {
-        self.resolver.wants_resolution()
-    }
-
-    /// The next moment at which something is due, in nanoseconds.
-    pub fn next(&self) -> Option<u64>
-        ensures { result ≡ applying.next_of self.now }
-    {
-        earlier(
-            earlier(self.dues.next(), self.deadlines.next()),
-            self.net.next(),
-        )
-    }
-
-    /// Whether an address waits to be dialled.
-    pub fn dialable(&self) -> bool
-        ensures { result ≡ applying.is_dialable_in self.now }
-    {
-        self.net.dialable()
+        let next_of_calls = earlier(self.dues.next(), self.deadlines.next());
+        View {
+            state,
+            wants_resolution: self.resolver.wants_resolution(),
+            next: earlier(next_of_calls, self.net.next()),
+            dialable: self.net.dialable(),
+            spent,
+        }
     }
 
     /// Whether a take of this call would be answered with something.
     pub fn can_take(&self, call: u32) -> bool
         ensures { result ≡ can_take_at (slot_at self.now.book call) }
     {
-        self.book.can_take(call)
+        self.book
+            .calls
+            .get(call)
+            .is_none_or(|slot| slot.call.can_take(&self.book.ledger))
     }
 
     /// Whether a message of so many bytes would not find the call full.
     pub fn can_send(&self, call: u32, len: u32) -> bool
         ensures { result ≡ applying.can_send_in len call self.now }
     {
-        self.shut || self.book.can_send(call, len)
+        self.shut
+            || self
+                .book
+                .calls
+                .get(call)
+                .is_none_or(|slot| slot.call.can_send(len))
     }
 
     /// Whether a drain of this link would not be refused, and would give something.

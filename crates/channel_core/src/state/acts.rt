@@ -1,8 +1,7 @@
 // What the channel does about what a call did.
-ghost use Rattle.std.specs.Prelude.{◌≡◌, ◌||◌, IfOk, OnOk};
+ghost use Rattle.std.specs.Prelude.{◌≡◌, OnOk};
 ghost use Rattle.channel_core.specs.Steps as steps;
 ghost use Rattle.channel_core.specs.Books.{link_at};
-ghost use Rattle.channel_core.specs.Tables.{is_retiring};
 
 use crate::state::State;
 use crate::state::timers::move_timer;
@@ -17,18 +16,11 @@ impl<P: Balancer> State<P> {
     pub fn follow(&mut self, call: u32, acts: Items<CallAct>) -> Result<(), NoMemory>
         ensures { OnOk result (self.new ≡ steps.followed call acts self.old) }
     {
-        self.act_all(call, acts)?;
-        self.set_timers(call)
-    }
-
-    fn act_all(&mut self, call: u32, acts: Items<CallAct>) -> Result<(), NoMemory>
-        ensures { OnOk result (self.new ≡ steps.acts_done call acts self.old) }
-    {
         let mut rest = acts.into_vec().into_iter();
         while let Some(act) = rest.next() {
             self.act(call, act)?;
         }
-        Ok(())
+        self.set_timers(call)
     }
 
     fn act(&mut self, call: u32, act: CallAct) -> Result<(), NoMemory>
@@ -42,7 +34,8 @@ impl<P: Balancer> State<P> {
             }
             CallAct::Queue(row) => self.queue_row(call, row),
             CallAct::End(_) => {
-                self.clothe(call);
+                let _bare = self.bare.remove(0, u64::from(call));
+                let _impatient = self.impatient.remove(0, u64::from(call));
                 Ok(())
             }
         }
@@ -55,7 +48,7 @@ impl<P: Balancer> State<P> {
         let link = self.book.link_of_row(row);
         self.links.reset(link, row)?;
         self.resets.push(link)?;
-        self.leave(link, row);
+        let _was = self.outstanding.leave(link, row);
         self.stamp_gone(link);
         Ok(())
     }
@@ -77,46 +70,18 @@ impl<P: Balancer> State<P> {
         }
     }
 
-    /// The call no longer waits for a configuration.
-    fn clothe(&mut self, call: u32)
-        ensures { self.new ≡ steps.clothed call self.old }
-    {
-        let _bare = self.bare.remove(0, u64::from(call));
-        let _impatient = self.impatient.remove(0, u64::from(call));
-    }
-
-    /// An attempt is no longer outstanding on a link.
-    pub fn leave(&mut self, link: u32, row: u64)
-        ensures { self.new ≡ steps.left_behind link row self.old }
-    {
-        let _was = self.outstanding.leave(link, row);
-    }
-
     /// The effects of a frame, a call or a lost attempt are complete: resets that come stand after these.
     pub fn seal(&mut self)
         ensures { self.new ≡ steps.sealed self.old }
     {
-        let resets = self.take_resets();
-        self.seal_all(resets);
-    }
-
-    fn take_resets(&mut self) -> Items<u32>
-        ensures resets { result ≡ self.old.resets }
-        ensures after { self.new ≡ steps.resets_taken self.old }
-    {
-        mem::replace(&mut self.resets, Items::new(self.alloc))
-    }
-
-    fn seal_all(&mut self, links: Items<u32>)
-        ensures { self.new ≡ steps.links_sealed links self.old }
-    {
-        let mut rest = links.into_vec().into_iter();
+        let resets = mem::replace(&mut self.resets, Items::new(self.alloc));
+        let mut rest = resets.into_vec().into_iter();
         while let Some(link) = rest.next() {
             self.seal_one(link);
         }
     }
 
-    pub fn seal_one(&mut self, link: u32)
+    fn seal_one(&mut self, link: u32)
         ensures { self.new ≡ steps.sealed_one link self.old }
     {
         self.links.seal(link);
@@ -126,28 +91,26 @@ impl<P: Balancer> State<P> {
     pub fn is_gone(&self, link: u32) -> bool
         ensures { result ≡ steps.is_gone link self.now }
     {
-        self.links.is_dead(link) || (self.is_closing(link) && !self.has_outstanding(link))
-    }
-
-    fn is_closing(&self, link: u32) -> bool
-        ensures { result ≡ (is_retiring self.now.links link || steps.is_of_shut_sub link self.now) }
-    {
-        self.links.is_retiring(link) || self.is_of_shut_sub(link)
+        self.links.is_dead(link)
+            || ((self.links.is_retiring(link) || self.is_of_shut_sub(link))
+                && !self.has_outstanding(link))
     }
 
     fn is_of_shut_sub(&self, link: u32) -> bool
         ensures { result ≡ steps.is_of_shut_sub link self.now }
     {
-        is_shut(self.net.state_of(self.sub_of(link)))
+        matches!(
+            self.net.state_of(self.sub_of(link)),
+            None | Some(Conn::Shutdown)
+        )
     }
 
     fn has_outstanding(&self, link: u32) -> bool
         ensures { result ≡ steps.has_outstanding link self.now }
     {
-        match self.outstanding.first_after(link, 0) {
-            Some((first, _)) => first == link,
-            None => false,
-        }
+        self.outstanding
+            .first_after(link, 0)
+            .is_some_and(|pair| pair.0 == link)
     }
 
     /// Writes that a link is gone, where it is.
@@ -173,10 +136,7 @@ impl<P: Balancer> State<P> {
     pub fn sub_of(&self, link: u32) -> u32
         ensures { result ≡ steps.sub_of (link_at self.now.book link) }
     {
-        match self.book.link(link) {
-            Some(seen) => seen.sub,
-            None => 0,
-        }
+        self.book.link(link).map_or(0, |seen| seen.sub)
     }
 
     /// Sets the timers of a call to its due moment and its deadline.
@@ -193,10 +153,4 @@ impl<P: Balancer> State<P> {
         self.book.set_timers(call, due, deadline);
         Ok(())
     }
-}
-
-fn is_shut(state: Option<Conn>) -> bool
-    ensures { result ≡ steps.is_shut_state state }
-{
-    matches!(state, None | Some(Conn::Shutdown))
 }

@@ -2,11 +2,15 @@
 ghost use Rattle.std.specs.Prelude.{◌≡◌, ◌+◌, length, IfOk, OnOk};
 ghost use Rattle.grpc_base.specs.declared.event.Reply.TheVariants as reply;
 ghost use Rattle.channel_core.specs.Arrivals as arrivals;
+ghost use Rattle.channel_core.specs.Books.{slot_at};
+ghost use Rattle.channel_core.specs.CallEvents.{acted_by, all_acted_by, reply_by};
 ghost use Rattle.channel_core.specs.Steps as steps;
 
 use crate::state::State;
+use crate::state::call_event::CallEvent;
+use crate::state::timers::number_of;
 use grpc_base::limits::MESSAGE_BYTES;
-use grpc_base::{Code, EndCause, Metadata, NoMemory, Octets, Reply, Request, Text};
+use grpc_base::{Code, EndCause, Items, Metadata, NoMemory, Reply, Request, Text};
 use lb_policy::Balancer;
 use std::alloc::Global;
 
@@ -16,80 +20,40 @@ impl<P: Balancer> State<P> {
         ensures reply { IfOk result (λ r. r ≡ reply.Call (length self.old.book.ledger.calls + 1)) }
     {
         let call = self.book.begin(request)?;
-        self.add_bare(call, request.wait() == Some(true))?;
+        let waits = request.wait() == Some(true);
+        self.bare.insert(0, u64::from(call))?;
+        if !waits {
+            self.impatient.insert(0, u64::from(call))?;
+        }
         self.set_timers(call)?;
         Ok(Reply::Call { call })
     }
 
-    fn add_bare(&mut self, call: u32, waits: bool) -> Result<(), NoMemory>
-        ensures { OnOk result (self.new ≡ steps.bare_added call waits self.old) }
+    /// Does to a call what an event says, and follows it.
+    pub fn act_on(&mut self, call: u32, event: &CallEvent) -> Result<Reply, NoMemory>
+        ensures state { OnOk result (self.new ≡ acted_by event.now call self.old) }
+        ensures reply { IfOk result (λ r. r ≡ reply_by event.now (slot_at self.old.book call)) }
     {
-        self.bare.insert(0, u64::from(call))?;
-        if waits {
-            return Ok(());
+        let (reply, acts) = self.book.act_on(call, event)?;
+        self.follow(call, acts)?;
+        self.seal();
+        Ok(reply)
+    }
+
+    /// The same to each of some calls, by the keys of their timers.
+    pub fn act_on_all(&mut self, calls: Items<u64>, event: &CallEvent) -> Result<(), NoMemory>
+        ensures { OnOk result (self.new ≡ all_acted_by event.now calls self.old) }
+    {
+        let mut rest = calls.into_vec().into_iter();
+        while let Some(call) = rest.next() {
+            drop(self.act_on(number_of(call), event)?);
         }
-        self.impatient.insert(0, u64::from(call))
-    }
-
-    pub fn send(&mut self, call: u32, message: &Octets) -> Result<Reply, NoMemory>
-        ensures state { OnOk result (self.new ≡ (arrivals.sent_to call message.now self.old).state) }
-        ensures reply { IfOk result (λ r. r ≡ (arrivals.sent_to call message.now self.old).reply) }
-    {
-        let message = message.share()?;
-        let (reply, acts) = self.book.send(call, message)?;
-        self.follow(call, acts)?;
-        self.seal();
-        Ok(reply)
-    }
-
-    pub fn finish(&mut self, call: u32) -> Reply
-        ensures state { self.new ≡ (arrivals.finished_by call self.old).state }
-        ensures reply { result ≡ (arrivals.finished_by call self.old).reply }
-    {
-        self.book.finish(call)
-    }
-
-    pub fn take(&mut self, call: u32) -> Result<Reply, NoMemory>
-        ensures state { OnOk result (self.new ≡ (arrivals.taken_by call self.old).state) }
-        ensures reply { IfOk result (λ r. r ≡ (arrivals.taken_by call self.old).reply) }
-    {
-        let reply = self.book.take(call)?;
-        Ok(within_limit(self.alloc, reply))
-    }
-
-    pub fn cancel(&mut self, call: u32) -> Result<Reply, NoMemory>
-        ensures state { OnOk result (self.new ≡ (arrivals.cancelled call self.old).state) }
-        ensures reply { IfOk result (λ r. r ≡ (arrivals.cancelled call self.old).reply) }
-    {
-        let (reply, acts) = self.book.cancel(call)?;
-        self.follow(call, acts)?;
-        self.seal();
-        Ok(reply)
-    }
-
-    /// The deadline of a call has come.
-    pub fn time_out(&mut self, call: u32) -> Result<(), NoMemory>
-        ensures { OnOk result (self.new ≡ steps.timed_out call self.old) }
-    {
-        let acts = self.book.deadline(call)?;
-        self.follow(call, acts)?;
-        self.seal();
-        Ok(())
-    }
-
-    /// The channel ends a call.
-    pub fn close(&mut self, call: u32, cause: EndCause) -> Result<(), NoMemory>
-        ensures { OnOk result (self.new ≡ steps.closed cause call self.old) }
-    {
-        let acts = self.book.close(call, cause)?;
-        self.follow(call, acts)?;
-        self.seal();
         Ok(())
     }
 }
 
 /// A longer message than may be is told as the end that such a message brings. None comes, since a link refuses it.
-fn within_limit(alloc: Global, reply: Reply) -> Reply
+pub fn within_limit(alloc: Global, reply: Reply) -> Reply
     ensures { result ≡ arrivals.within_limit reply }
 {
     match reply {

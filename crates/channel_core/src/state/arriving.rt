@@ -7,10 +7,10 @@ ghost use Rattle.channel_core.specs.Tables.{heard_in};
 
 use crate::state::State;
 use attempt_ledger::{EndNews, News, RowCause};
-use grpc_base::{Code, Items, Metadata, NoMemory, Pushback, Reply, Text};
+use call_core::own_end;
+use grpc_base::{Code, Items, NoMemory, Reply};
 use lb_policy::Balancer;
 use ledger_stamps::link_read;
-use std::alloc::Global;
 use std::collections::BTreeMap;
 
 impl<P: Balancer> State<P> {
@@ -45,21 +45,14 @@ impl<P: Balancer> State<P> {
         }
     }
 
-    /// The ledger is told how far a link is read before the news of the frame are heard.
+    /// The news of one frame. The ledger is told how far the link is read before they are heard; ends are applied by the rows' places.
     fn hear_frame(&mut self, link: u32, read: u64, news: Items<News>) -> Result<(), NoMemory>
         ensures { OnOk result (self.new ≡ arrivals.heard link news (arrivals.read_to link read self.old)) }
     {
         link_read(&mut self.book.ledger.links, link, read);
-        self.hear(link, news)
-    }
-
-    /// The news of one frame. Ends are applied by the rows' places.
-    fn hear(&mut self, link: u32, news: Items<News>) -> Result<(), NoMemory>
-        ensures { OnOk result (self.new ≡ arrivals.heard link news self.old) }
-    {
         let ends = self.hear_all(link, news)?;
         self.end_all_on(link, ends)?;
-        self.seal_one(link);
+        self.links.seal(link);
         self.seal();
         Ok(())
     }
@@ -98,59 +91,33 @@ impl<P: Balancer> State<P> {
     {
         match news {
             News::Ready => {
-                self.greet(link);
+                let sub = self.sub_of(link);
+                self.net.ready(sub, link);
                 Ok(())
             }
             News::Retiring => {
-                self.retire(link);
+                let sub = self.sub_of(link);
+                self.links.retire(link);
+                self.net.down(sub, link);
+                self.stamp_gone(link);
                 Ok(())
             }
-            News::Broken { code: _ } => self.lose(link, false),
+            News::Broken { .. } => self.lose(link, false),
             News::Ended { tag, end } => {
                 let _before = ends.insert(tag, end)?;
                 Ok(())
             }
-            News::Head { tag, meta, seen } => self.tell(tag, News::Head { tag, meta, seen }),
-            News::Message { tag, octets, seen } => {
-                self.tell(tag, News::Message { tag, octets, seen })
+            News::Head { tag, .. } | News::Message { tag, .. } | News::TooLarge { tag, .. } => {
+                let call = self.book.call_of_row(tag);
+                self.tell(call, tag, news)
             }
-            News::TooLarge { tag, seen } => self.tell(tag, News::TooLarge { tag, seen }),
         }
     }
 
-    /// The server's first SETTINGS came on a link.
-    fn greet(&mut self, link: u32)
-        ensures { self.new ≡ steps.greeted link self.old }
-    {
-        let sub = self.sub_of(link);
-        self.net.ready(sub, link);
-    }
-
-    /// The peer's GOAWAY came on a link.
-    fn retire(&mut self, link: u32)
-        ensures { self.new ≡ steps.retired link self.old }
-    {
-        let sub = self.sub_of(link);
-        self.links.retire(link);
-        self.net.down(sub, link);
-        self.stamp_gone(link);
-    }
-
-    /// A link is lost or broken.
-    fn bury(&mut self, link: u32)
-        ensures { self.new ≡ steps.buried link self.old }
-    {
-        let sub = self.sub_of(link);
-        self.links.bury(link);
-        self.net.down(sub, link);
-        self.resolver.want();
-    }
-
     /// Tells a call what came for one of its attempts.
-    fn tell(&mut self, row: u64, news: News) -> Result<(), NoMemory>
-        ensures { OnOk result (self.new ≡ steps.told row news self.old) }
+    pub fn tell(&mut self, call: u32, row: u64, news: News) -> Result<(), NoMemory>
+        ensures { OnOk result (self.new ≡ steps.told_to call row news self.old) }
     {
-        let call = self.book.call_of_row(row);
         let word = self.next_word();
         let acts = self.book.news(call, row, news, word)?;
         let drew = self.book.has_drawn(row);
@@ -165,26 +132,22 @@ impl<P: Balancer> State<P> {
         if self.book.has_ended(row) {
             return Ok(());
         }
-        self.leave(link, row);
-        self.tell(row, News::Ended { tag: row, end })?;
+        let _was = self.outstanding.leave(link, row);
+        let call = self.book.call_of_row(row);
+        self.tell(call, row, News::Ended { tag: row, end })?;
         self.stamp_gone(link);
         Ok(())
     }
 
-    pub fn link_lost(&mut self, link: u32) -> Result<Reply, NoMemory>
-        ensures state { OnOk result (self.new ≡ (arrivals.link_lost link self.old).state) }
-        ensures reply { IfOk result (λ r. r ≡ (arrivals.link_lost link self.old).reply) }
-    {
-        self.lose(link, true)?;
-        Ok(Reply::Done)
-    }
-
     /// A link is lost or broken, and with it each attempt on it. `each` says whether what one attempt's loss causes is complete
     /// before the next one's.
-    fn lose(&mut self, link: u32, each: bool) -> Result<(), NoMemory>
+    pub fn lose(&mut self, link: u32, each: bool) -> Result<(), NoMemory>
         ensures { OnOk result (self.new ≡ arrivals.lost link each self.old) }
     {
-        self.bury(link);
+        let sub = self.sub_of(link);
+        self.links.bury(link);
+        self.net.down(sub, link);
+        self.resolver.want();
         self.lose_rows(link, each)?;
         self.stamp_gone(link);
         Ok(())
@@ -230,11 +193,12 @@ impl<P: Balancer> State<P> {
     fn loss_of(&self, link: u32, row: u64) -> EndNews
         ensures { result ≡ steps.loss_of link row self.now }
     {
-        let seen = match self.book.link(link) {
-            Some(link) => link.read,
-            None => 0,
-        };
-        loss(self.alloc, self.book.has_stream(row), seen)
+        let seen = self.book.link(link).map_or(0, |link| link.read);
+        if self.book.has_stream(row) {
+            own_end(self.alloc, Code::Unavailable, RowCause::Lost, seen)
+        } else {
+            own_end(self.alloc, Code::Unavailable, RowCause::Unsent, seen)
+        }
     }
 }
 
@@ -244,22 +208,4 @@ fn bytes_after(piece: &[u8], taken: usize) -> &[u8]
     ensures { result.now ≡ drop taken piece.now }
 {
     &piece[taken..]
-}
-
-fn loss(alloc: Global, was_sent: bool, seen: u64) -> EndNews
-    ensures { result ≡ steps.loss was_sent seen }
-{
-    EndNews {
-        code: Code::Unavailable,
-        text: Text::new(alloc),
-        meta: Metadata::new(alloc),
-        pushback: Pushback::None,
-        unseen: !was_sent,
-        seen,
-        cause: if was_sent {
-            RowCause::Lost
-        } else {
-            RowCause::Unsent
-        },
-    }
 }

@@ -5,18 +5,20 @@ ghost use Rattle.attempt_ledger.specs.declared.ledger.Ledger.{Ledger};
 ghost use Rattle.grpc_base.specs.Authorities.{IsAuthority};
 ghost use Rattle.call_core.specs.Steps as step;
 ghost use Rattle.h2_hpack.specs.Tables.{list_size};
-ghost use Rattle.channel_core.specs.Tables.{cancel_reply_of, finish_reply_of, no_buckets, send_reply_of, take_reply_of};
-ghost use Rattle.channel_core.specs.Books.{begun_step, blank_request, book_acted, book_asked, book_begun, book_configured, book_finished, book_followed, book_placed, book_taken, bucket_set, call_of, can_send_at, can_take_at, has_drawn, has_ended, has_stream, head_for, head_of, lacks_call, left_until, limit_at, lines_of, link_at, link_of, no_ledger, row_at, slot_at, timers_set, waits_at};
+ghost use Rattle.channel_core.specs.CallEvents.{reply_by, step_by};
+ghost use Rattle.channel_core.specs.Tables.{finish_reply_of, no_buckets, take_reply_of};
+ghost use Rattle.channel_core.specs.Books.{blank_request, book_acted, book_asked, book_begun, book_configured, book_finished, book_placed, book_taken, bucket_set, call_of, has_drawn, has_ended, has_stream, head_for, head_of, lacks_call, left_until, limit_at, lines_of, link_at, link_of, no_ledger, row_at, slot_at, timers_set, waits_at};
 
 use crate::state::authority::Authority;
 use crate::state::buckets::Buckets;
+use crate::state::call_event::CallEvent;
 use crate::state::slots::Slots;
 use attempt_ledger::{Ledger, LinkSeen, News, Placed, Row};
 use bytes::BytesMut;
 use call_core::{Call, CallAct};
 use grpc_base::{
-    Chosen, Duration, EndCause, Field, Fields, Items, Moment, NoMemory, Octets, Refusal, Reply,
-    Request, Text, Throttle,
+    Chosen, Duration, Field, Fields, Items, Moment, NoMemory, Octets, Refusal, Reply, Request,
+    Text, Throttle,
 };
 use grpc_meta::request_fields;
 use h2_link::Feed;
@@ -49,13 +51,6 @@ impl Book {
         })
     }
 
-    pub fn begin_step(&mut self, entry: u64, moment: Moment)
-        ensures { self.new ≡ begun_step entry moment self.old }
-    {
-        self.ledger.entry = entry;
-        self.moment = moment;
-    }
-
     /// The row at a place.
     pub fn row(&self, place: u64) -> Option<&Row>
         ensures { option_copied result ≡ row_at self.now place }
@@ -74,85 +69,62 @@ impl Book {
     pub fn call_of_row(&self, place: u64) -> u32
         ensures { result ≡ call_of (row_at self.now place) }
     {
-        match self.row(place) {
-            Some(row) => row.call,
-            None => 0,
-        }
+        self.row(place).map_or(0, |row| row.call)
     }
 
     /// The link of the row at a place; 0, which is no link's number, where it has none.
     pub fn link_of_row(&self, place: u64) -> u32
         ensures { result ≡ link_of (row_at self.now place) }
     {
-        match self.row(place) {
-            Some(row) => match row.placed {
-                Some(placed) => placed.link,
-                None => 0,
-            },
-            None => 0,
-        }
+        self.row(place)
+            .and_then(|row| row.placed)
+            .map_or(0, |placed| placed.link)
     }
 
     pub fn has_ended(&self, place: u64) -> bool
         ensures { result ≡ has_ended (row_at self.now place) }
     {
-        match self.row(place) {
-            Some(row) => row.ended.is_some(),
-            None => true,
-        }
+        self.row(place).is_none_or(|row| row.ended.is_some())
     }
 
     pub fn has_stream(&self, place: u64) -> bool
         ensures { result ≡ has_stream (row_at self.now place) }
     {
-        match self.row(place) {
-            Some(row) => row.stream.is_some(),
-            None => false,
-        }
+        self.row(place).is_some_and(|row| row.stream.is_some())
     }
 
     /// Whether a random word was drawn at the end of the row at a place.
     pub fn has_drawn(&self, place: u64) -> bool
         ensures { result ≡ has_drawn (row_at self.now place) }
     {
-        match self.row(place) {
-            Some(row) => match &row.ended {
-                Some(end) => end.word.is_some(),
-                None => false,
-            },
-            None => false,
-        }
+        self.row(place)
+            .and_then(|row| row.ended.as_ref())
+            .is_some_and(|end| end.word.is_some())
     }
 
     pub fn lacks_call(&self, call: u32) -> Option<Refusal>
         ensures { result ≡ lacks_call (slot_at self.now call) }
     {
-        match self.calls.get(call) {
-            Some(_) => None,
-            None => Some(Refusal::NoSuchCall),
-        }
+        self.calls
+            .get(call)
+            .is_none()
+            .then_some(Refusal::NoSuchCall)
     }
 
     pub fn waits(&self, call: u32) -> bool
         ensures { result ≡ waits_at (slot_at self.now call) }
     {
-        match self.calls.get(call) {
-            Some(slot) => slot.call.waits(),
-            None => false,
-        }
+        self.calls.get(call).is_some_and(|slot| slot.call.waits())
     }
 
     /// The limit on each message of a call's response.
     pub fn response_limit(&self, call: u32) -> u32
         ensures { result ≡ limit_at (slot_at self.now call) }
     {
-        match self.calls.get(call) {
-            Some(slot) => match slot.call.chosen() {
-                Some(chosen) => chosen.response.bytes(),
-                None => 0,
-            },
-            None => 0,
-        }
+        self.calls
+            .get(call)
+            .and_then(|slot| slot.call.chosen())
+            .map_or(0, |chosen| chosen.response.bytes())
     }
 
     /// Notes the moments for which the timers of a call stand.
@@ -176,12 +148,6 @@ impl Book {
         Ok(number)
     }
 
-    pub fn follow(&mut self, throttle: Option<Throttle>) -> Result<(), NoMemory>
-        ensures { OnOk result (self.new ≡ book_followed throttle self.old) }
-    {
-        self.buckets.follow(throttle)
-    }
-
     /// A call that has no configuration yet gets the bucket of the config that is held.
     fn set_bucket(&mut self, call: u32)
         ensures { self.new ≡ record self.old { calls = bucket_set call self.old } }
@@ -202,62 +168,22 @@ impl Book {
         slot.call.configure(&mut self.ledger, chosen, self.moment)
     }
 
-    pub fn close(&mut self, call: u32, cause: EndCause) -> Result<Items<CallAct>, NoMemory>
-        ensures book { OnOk result (self.new ≡ (book_asked (step.closed_by cause self.old.moment) call self.old).book) }
-        ensures acts { IfOk result (λ acts. acts ≡ (book_asked (step.closed_by cause self.old.moment) call self.old).acts) }
-    {
-        let Some(slot) = self.calls.get_mut(call) else {
-            return Ok(Items::new(self.alloc));
-        };
-        let none = None;
-        let tokens = self.buckets.tokens(slot.bucket, &none);
-        slot.call
-            .close(&mut self.ledger, cause, self.moment, tokens)
-    }
-
-    pub fn deadline(&mut self, call: u32) -> Result<Items<CallAct>, NoMemory>
-        ensures book { OnOk result (self.new ≡ (book_asked (step.timed_out self.old.moment) call self.old).book) }
-        ensures acts { IfOk result (λ acts. acts ≡ (book_asked (step.timed_out self.old.moment) call self.old).acts) }
-    {
-        let Some(slot) = self.calls.get_mut(call) else {
-            return Ok(Items::new(self.alloc));
-        };
-        let none = None;
-        let tokens = self.buckets.tokens(slot.bucket, &none);
-        slot.call.deadline(&mut self.ledger, self.moment, tokens)
-    }
-
-    pub fn due(&mut self, call: u32) -> Result<Items<CallAct>, NoMemory>
-        ensures book { OnOk result (self.new ≡ (book_asked (step.made_due self.old.moment) call self.old).book) }
-        ensures acts { IfOk result (λ acts. acts ≡ (book_asked (step.made_due self.old.moment) call self.old).acts) }
-    {
-        let Some(slot) = self.calls.get_mut(call) else {
-            return Ok(Items::new(self.alloc));
-        };
-        let none = None;
-        let tokens = self.buckets.tokens(slot.bucket, &none);
-        slot.call.due(&mut self.ledger, self.moment, tokens)
-    }
-
-    #[tactic(auto, using(crate::proofs::BookLaws::put_back))]
-    pub fn picked_fail(
+    /// Does to a call what an event says. Nothing where there is no such call.
+    pub fn act_on(
         &mut self,
         call: u32,
-        row: u64,
-        word: u64,
-    ) -> Result<Items<CallAct>, NoMemory>
-        ensures book { OnOk result (self.new ≡ (book_acted (step.pick_failed row self.old.moment word) call self.old).book) }
-        ensures acts { IfOk result (λ acts. acts ≡ (book_acted (step.pick_failed row self.old.moment word) call self.old).acts) }
+        event: &CallEvent,
+    ) -> Result<(Reply, Items<CallAct>), NoMemory>
+        ensures reply { IfOk result (λ r. r.0 ≡ reply_by event.now (slot_at self.old call)) }
+        ensures book { OnOk result (self.new ≡ (book_asked (step_by event.now self.old.moment) call self.old).book) }
+        ensures acts { IfOk result (λ r. r.1 ≡ (book_asked (step_by event.now self.old.moment) call self.old).acts) }
     {
         let Some(slot) = self.calls.get_mut(call) else {
-            return Ok(Items::new(self.alloc));
+            return Ok((Reply::Done, Items::new(self.alloc)));
         };
-        let mut tokens = self.buckets.take(slot.bucket);
-        let acts = slot
-            .call
-            .picked_fail(&mut self.ledger, row, self.moment, word, &mut tokens)?;
-        self.buckets.put(slot.bucket, tokens);
-        Ok(acts)
+        let none = None;
+        let tokens = self.buckets.tokens(slot.bucket, &none);
+        event.act(&mut slot.call, &mut self.ledger, self.moment, tokens)
     }
 
     #[tactic(auto, using(crate::proofs::BookLaws::put_back))]
@@ -278,33 +204,6 @@ impl Book {
         let acts = slot.call.news(&mut self.ledger, row, news, self.moment, word, &mut tokens)?;
         self.buckets.put(slot.bucket, tokens);
         Ok(acts)
-    }
-
-    pub fn send(&mut self, call: u32, message: Octets) -> Result<(Reply, Items<CallAct>), NoMemory>
-        ensures reply { IfOk result (λ r. r.0 ≡ send_reply_of message (slot_at self.old call)) }
-        ensures book { OnOk result (self.new ≡ (book_asked (step.sent message self.old.moment) call self.old).book) }
-        ensures acts { IfOk result (λ r. r.1 ≡ (book_asked (step.sent message self.old.moment) call self.old).acts) }
-    {
-        let Some(slot) = self.calls.get_mut(call) else {
-            return Ok((Reply::Done, Items::new(self.alloc)));
-        };
-        let none = None;
-        let tokens = self.buckets.tokens(slot.bucket, &none);
-        slot.call
-            .send(&mut self.ledger, message, self.moment, tokens)
-    }
-
-    pub fn cancel(&mut self, call: u32) -> Result<(Reply, Items<CallAct>), NoMemory>
-        ensures reply { IfOk result (λ r. r.0 ≡ cancel_reply_of (slot_at self.old call)) }
-        ensures book { OnOk result (self.new ≡ (book_asked (step.cancelled self.old.moment) call self.old).book) }
-        ensures acts { IfOk result (λ r. r.1 ≡ (book_asked (step.cancelled self.old.moment) call self.old).acts) }
-    {
-        let Some(slot) = self.calls.get_mut(call) else {
-            return Ok((Reply::Done, Items::new(self.alloc)));
-        };
-        let none = None;
-        let tokens = self.buckets.tokens(slot.bucket, &none);
-        slot.call.cancel(&mut self.ledger, self.moment, tokens)
     }
 
     pub fn placed(&mut self, call: u32, row: u64, at: Placed) -> Result<Items<CallAct>, NoMemory>
@@ -334,24 +233,6 @@ impl Book {
         match self.calls.get_mut(call) {
             Some(slot) => slot.call.take(&self.ledger),
             None => Ok(Reply::Done),
-        }
-    }
-
-    pub fn can_take(&self, call: u32) -> bool
-        ensures { result ≡ can_take_at (slot_at self.now call) }
-    {
-        match self.calls.get(call) {
-            Some(slot) => slot.call.can_take(&self.ledger),
-            None => true,
-        }
-    }
-
-    pub fn can_send(&self, call: u32, len: u32) -> bool
-        ensures { result ≡ can_send_at len (slot_at self.now call) }
-    {
-        match self.calls.get(call) {
-            Some(slot) => slot.call.can_send(len),
-            None => true,
         }
     }
 

@@ -44,7 +44,7 @@ impl Buckets {
         if self.runs.len() > 1 && is_same_throttle(self.throttle, throttle) {
             return Ok(());
         }
-        self.runs.push(bucket_of(throttle))?;
+        self.runs.push(throttle.map(Tokens::new))?;
         self.throttle = throttle;
         Ok(())
     }
@@ -85,15 +85,6 @@ impl Buckets {
         if bucket < self.runs.len() {
             self.runs[bucket] = tokens;
         }
-    }
-}
-
-fn bucket_of(throttle: Option<Throttle>) -> Option<Tokens>
-    ensures { result ≡ option_map full throttle }
-{
-    match throttle {
-        Some(throttle) => Some(Tokens::new(throttle)),
-        None => None,
     }
 }
 

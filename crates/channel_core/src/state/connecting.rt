@@ -2,12 +2,12 @@
 ghost use Rattle.std.specs.Prelude.{◌≡◌, IfOk, OnOk};
 ghost use Rattle.std.specs.Option.{option_copied};
 ghost use Rattle.grpc_base.specs.declared.event.Reply.TheVariants as reply;
-ghost use Rattle.service_config.specs.Reading.{config_of};
 ghost use Rattle.channel_core.specs.Applying as applying;
 ghost use Rattle.channel_core.specs.Arrivals as arrivals;
 ghost use Rattle.channel_core.specs.Steps as steps;
 
 use crate::state::State;
+use crate::state::call_event::CallEvent;
 use crate::state::timers::number_of;
 use channel_net::LinkFault;
 use grpc_base::{
@@ -41,7 +41,8 @@ impl<P: Balancer> State<P> {
     {
         match read {
             Ok(config) => {
-                self.hold(config)?;
+                self.book.buckets.follow(config.throttle)?;
+                self.held = Some(config);
                 Ok(Reply::Done)
             }
             Err(fault) => {
@@ -51,31 +52,15 @@ impl<P: Balancer> State<P> {
         }
     }
 
-    fn hold(&mut self, config: Config) -> Result<(), NoMemory>
-        ensures { OnOk result (self.new ≡ steps.configured_by config self.old) }
-    {
-        self.book.follow(config.throttle)?;
-        self.held = Some(config);
-        Ok(())
-    }
-
     /// The addresses go to the generation of the config's kind.
     fn readdress(&mut self, addresses: &AddressList) -> Result<(), NoMemory>
         ensures { OnOk result (self.new ≡ applying.readdressed addresses.now self.old) }
     {
-        match self.kind_held() {
-            Some(kind) => self.readdress_to(kind, addresses),
-            None => Ok(()),
-        }
-    }
-
-    fn kind_held(&self) -> Option<Kind>
-        ensures { result ≡ applying.kind_held self.now }
-    {
-        match &self.held {
-            Some(config) => Some(config.kind),
-            None => None,
-        }
+        let Some(config) = &self.held else {
+            return Ok(());
+        };
+        let kind = config.kind;
+        self.readdress_to(kind, addresses)
     }
 
     fn readdress_to(&mut self, kind: Kind, addresses: &AddressList) -> Result<(), NoMemory>
@@ -138,30 +123,17 @@ impl<P: Balancer> State<P> {
         ensures state { OnOk result (self.new ≡ (arrivals.linked_up sub self.old).state) }
         ensures reply { IfOk result (λ r. r ≡ (arrivals.linked_up sub self.old).reply) }
     {
-        let link = self.next_link();
+        let link = self.links.next_number();
         match self.net.up(sub, link) {
-            Ok(()) => self.join_link(sub, link),
+            Ok(()) => {
+                self.links.add()?;
+                let entry = self.book.ledger.entry;
+                let _number = add_link(&mut self.book.ledger.links, sub, entry)?;
+                Ok(Reply::Link { link })
+            }
             Err(LinkFault::Refused(refusal)) => Ok(Reply::Refused { refusal }),
             Err(LinkFault::NoMemory) => Err(NoMemory),
         }
-    }
-
-    /// The number of the next link; 4,294,967,295 where there were as many.
-    fn next_link(&self) -> u32
-        ensures { result ≡ arrivals.next_link self.now }
-    {
-        self.links.count().saturating_add(1)
-    }
-
-    /// A new link stands in the table and in the ledger.
-    fn join_link(&mut self, sub: u32, link: u32) -> Result<Reply, NoMemory>
-        ensures state { OnOk result (self.new ≡ arrivals.joined sub self.old) }
-        ensures reply { IfOk result (λ r. r ≡ reply.Link link) }
-    {
-        self.links.add()?;
-        let entry = self.book.ledger.entry;
-        let _number = add_link(&mut self.book.ledger.links, sub, entry)?;
-        Ok(Reply::Link { link })
     }
 
     pub fn dial_failed(&mut self, sub: u32) -> Reply
@@ -186,7 +158,9 @@ impl<P: Balancer> State<P> {
         }
         self.shut = true;
         self.close_all()?;
-        self.close_net()?;
+        let entry = self.book.ledger.entry;
+        let shut = self.net.shut(&mut self.book.ledger.generations, entry)?;
+        self.stamp_all_gone(shut);
         Ok(Reply::Done)
     }
 
@@ -204,15 +178,8 @@ impl<P: Balancer> State<P> {
     fn close_at(&mut self, index: usize) -> Result<(), NoMemory>
         ensures { OnOk result (self.new ≡ applying.closed_at index self.old) }
     {
-        self.close(number_of(index as u64).saturating_add(1), EndCause::Shut)
-    }
-
-    fn close_net(&mut self) -> Result<(), NoMemory>
-        ensures { OnOk result (self.new ≡ applying.net_closed self.old) }
-    {
-        let entry = self.book.ledger.entry;
-        let shut = self.net.shut(&mut self.book.ledger.generations, entry)?;
-        self.stamp_all_gone(shut);
+        let call = number_of(index as u64).saturating_add(1);
+        drop(self.act_on(call, &CallEvent::Close(EndCause::Shut))?);
         Ok(())
     }
 
@@ -221,10 +188,8 @@ impl<P: Balancer> State<P> {
     {
         if self.links.get(link).is_none() {
             Some(Refusal::NoSuchLink)
-        } else if self.is_gone(link) {
-            Some(Refusal::LinkGone)
         } else {
-            None
+            self.is_gone(link).then_some(Refusal::LinkGone)
         }
     }
 }
@@ -240,19 +205,9 @@ fn read(
 ) -> Result<Result<Config, ConfigFault>, NoMemory>
     ensures { IfOk result (λ read. read ≡ applying.config_read kinds (option_copied config.entry)) }
 {
-    match config {
-        Some(text) => read_text(alloc, text, kinds),
-        None => Ok(Ok(Config::empty(alloc))),
-    }
-}
-
-fn read_text(
-    alloc: Global,
-    text: &Octets,
-    kinds: KindSet,
-) -> Result<Result<Config, ConfigFault>, NoMemory>
-    ensures { IfOk result (λ read. read ≡ config_of kinds text.now) }
-{
+    let Some(text) = config else {
+        return Ok(Ok(Config::empty(alloc)));
+    };
     match read_config(alloc, text.as_slice(), kinds) {
         Ok(config) => Ok(Ok(config)),
         Err(ConfigFault::NoMemory) => Err(NoMemory),

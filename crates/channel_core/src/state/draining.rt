@@ -1,6 +1,6 @@
 // What goes out on links.
-ghost use Rattle.std.specs.Prelude.{◌≡◌, IfOk, OnOk};
-ghost use Rattle.channel_core.specs.Draining.{DrainLeaves, pinged, streams_given, with_streams};
+ghost use Rattle.std.specs.Prelude.{◌≡◌, IfOk};
+ghost use Rattle.channel_core.specs.Draining.{DrainLeaves, streams_given};
 
 use crate::state::State;
 use attempt_ledger::Row;
@@ -15,7 +15,11 @@ impl<P: Balancer> State<P> {
     {
         match self.links.drain(link, room, &mut self.book)? {
             Some(drained) => {
-                self.give_streams(drained.opened.as_slice());
+                stamp_streams(
+                    self.alloc,
+                    &mut self.book.ledger.rows,
+                    drained.opened.as_slice(),
+                );
                 Ok(Reply::Octets {
                     octets: drained.octets,
                 })
@@ -25,23 +29,9 @@ impl<P: Balancer> State<P> {
             }),
         }
     }
-
-    /// Stamps the rows whose streams were opened.
-    fn give_streams(&mut self, opened: &[(u64, u32)])
-        ensures { self.new ≡ record self.old { book = with_streams opened.now self.old.book } }
-    {
-        stamp_streams(self.alloc, &mut self.book.ledger.rows, opened);
-    }
-
-    pub fn ping(&mut self, link: u32, word: u64) -> Result<Reply, NoMemory>
-        ensures reply { IfOk result (λ r. r ≡ Reply.Done) }
-        ensures after { OnOk result (self.new ≡ pinged link word self.old) }
-    {
-        self.links.ping(link, word)?;
-        Ok(Reply::Done)
-    }
 }
 
+/// Stamps the rows whose streams were opened.
 fn stamp_streams(alloc: Global, rows: &mut Items<Row>, opened: &[(u64, u32)])
     ensures { rows.new ≡ streams_given opened.now rows.old }
 {

@@ -1,7 +1,7 @@
 // The links of a channel.
 ghost use Rattle.std.specs.Borrow.{sem};
 ghost use Rattle.std.specs.Option.{option_copied, option_copied_mut, option_map};
-ghost use Rattle.std.specs.Prelude.{◌≡◌, ◌<◌, ◌≤◌, ◌++◌, ◌∷◌, ℕ, [], Some, min, true, length, IfOk, IfSome, OnOk, if◌then◌else◌};
+ghost use Rattle.std.specs.Prelude.{◌≡◌, ◌<◌, ◌≤◌, ◌+◌, ◌++◌, ◌∷◌, ℕ, [], Some, min, true, length, IfOk, IfSome, OnOk, if◌then◌else◌};
 ghost use Rattle.channel_core.specs.Lending.{lends_link};
 ghost use Rattle.channel_core.specs.Tables.{DrainGives, SlotGives, arrival_at, arrival_of, buried_in, can_drain_at, fresh_link, heard_in, heard_link, hears_at, is_dead, is_retiring, links_heard, new_slot, numbered, pinged_in, placed_in, placed_link, reset_in, retired_in, sealed_in, takes_rows, takes_rows_at, with_link};
 
@@ -60,14 +60,6 @@ impl LinkSlot {
             Err(DrainFault::NoMemory) => Err(NoMemory),
         }
     }
-
-    #[tactic(auto, using(crate::proofs::Feeds::holds_all))]
-    fn can_drain<F: Feed>(&self, feed: &F) -> bool
-        requires { (t : ℕ) → (F.lines feed.now t).held ≡ true }
-        ensures { result ≡ can_drain_at (F.lines feed.now) (Some self.now) }
-    {
-        self.link.can_drain(feed)
-    }
 }
 
 /// The links of a channel, numbered from 1. What names no link changes nothing.
@@ -109,11 +101,12 @@ impl LinkTable {
         Ok(())
     }
 
-    /// How many links there were; 4,294,967,295 where there were more.
-    pub fn count(&self) -> u32
-        ensures { result ≡ min (length self.now) 4294967295 }
+    /// The number of the next link; 4,294,967,295 where there were as many.
+    pub fn next_number(&self) -> u32
+        ensures { result ≡ min (length self.now + 1) 4294967295 }
     {
-        self.slots.len().min(u32::MAX as usize) as u32
+        let count = self.slots.len().min(u32::MAX as usize) as u32;
+        count.saturating_add(1)
     }
 
     /// The link of a number.
@@ -135,20 +128,14 @@ impl LinkTable {
     pub fn is_dead(&self, link: u32) -> bool
         ensures { result ≡ is_dead self.now link }
     {
-        match self.get(link) {
-            Some(slot) => slot.dead,
-            None => true,
-        }
+        self.get(link).is_none_or(|slot| slot.dead)
     }
 
     /// Whether the peer's GOAWAY retired the link, or there is none.
     pub fn is_retiring(&self, link: u32) -> bool
         ensures { result ≡ is_retiring self.now link }
     {
-        match self.get(link) {
-            Some(slot) => slot.retiring,
-            None => true,
-        }
+        self.get(link).is_none_or(|slot| slot.retiring)
     }
 
     #[tactic(auto, using(crate::proofs::Places::put_changed, crate::proofs::Places::none_changed))]
@@ -243,12 +230,13 @@ impl LinkTable {
     }
 
     /// Whether a drain of the link with room enough would give something.
+    #[tactic(auto, using(crate::proofs::Feeds::holds_all))]
     pub fn can_drain<F: Feed>(&self, link: u32, feed: &F) -> bool
         requires { (t : ℕ) → (F.lines feed.now t).held ≡ true }
         ensures { result ≡ can_drain_at (F.lines feed.now) (numbered self.now link) }
     {
         match self.get(link) {
-            Some(slot) => slot.can_drain(feed),
+            Some(slot) => slot.link.can_drain(feed),
             None => false,
         }
     }

@@ -1,15 +1,16 @@
 // How the channel settles after an event, until nothing changes.
-ghost use Rattle.std.specs.Prelude.{◌≡◌, ◌||◌, false, IfOk, OnOk};
+ghost use Rattle.std.specs.Prelude.{◌≡◌, false, IfOk, OnOk};
 ghost use Rattle.channel_core.specs.Settling as settling;
 ghost use Rattle.channel_core.specs.Steps as steps;
 ghost use Rattle.channel_core.specs.Books.{limit_at, slot_at};
 ghost use Rattle.channel_core.specs.Tables.{takes_rows};
 
 use crate::state::State;
+use crate::state::call_event::CallEvent;
 use crate::state::timers::{first_pair, number_of, sort_calls, take_due};
-use attempt_ledger::{Ask, Placed};
-use channel_net::Asked;
-use grpc_base::{Chosen, Conn, EndCause, Items, NoMemory, Pick};
+use attempt_ledger::{Ask, News, Placed, RowCause};
+use call_core::own_end;
+use grpc_base::{Chosen, Code, Conn, EndCause, Items, NoMemory, Pick};
 use lb_policy::Balancer;
 use ledger_stamps::add_ask;
 use picker_gate::Timers;
@@ -19,20 +20,14 @@ use std::alloc::Global;
 const MOST: u64 = u64::MAX;
 
 impl<P: Balancer> State<P> {
+    /// The dial limits and backoffs that are over, what the policies wish, the calls without a configuration, and then rounds.
     pub fn settle(&mut self) -> Result<(), NoMemory>
         ensures { OnOk result (self.new ≡ settling.settled self.old) }
     {
-        self.prepare()?;
-        self.move_all(MOST)
-    }
-
-    /// The dial limits and backoffs that are over, what the policies wish, and the calls without a configuration.
-    fn prepare(&mut self) -> Result<(), NoMemory>
-        ensures { OnOk result (self.new ≡ settling.prepared self.old) }
-    {
         self.pass_limits()?;
         self.settle_net()?;
-        self.serve_bare()
+        self.serve_bare()?;
+        self.move_all(MOST)
     }
 
     /// Rounds until nothing moves, but no more than so many.
@@ -54,25 +49,13 @@ impl<P: Balancer> State<P> {
         ensures { OnOk result (self.new ≡ steps.clocked self.old) }
     {
         let dead = self.net.clock(self.book.moment)?;
-        self.pass_all(dead);
-        Ok(())
-    }
-
-    fn pass_all(&mut self, links: Items<u32>)
-        ensures { self.new ≡ steps.limits_passed links self.old }
-    {
-        let mut rest = links.into_vec().into_iter();
+        let mut rest = dead.into_vec().into_iter();
         while let Some(link) = rest.next() {
-            self.pass_limit(link);
+            self.links.bury(link);
+            self.resolver.want();
+            self.stamp_gone(link);
         }
-    }
-
-    fn pass_limit(&mut self, link: u32)
-        ensures { self.new ≡ steps.limit_passed link self.old }
-    {
-        self.links.bury(link);
-        self.resolver.want();
-        self.stamp_gone(link);
+        Ok(())
     }
 
     #[tactic(auto, unfolding(crate::specs::Steps::net_settled))]
@@ -96,7 +79,7 @@ impl<P: Balancer> State<P> {
         }
     }
 
-    #[tactic(auto, unfolding(crate::specs::Steps::bare_served))]
+    #[tactic(auto, using(crate::proofs::Asking::all_unconfigured_by), unfolding(crate::specs::Steps::bare_served))]
     fn serve_each_bare(&mut self) -> Result<(), NoMemory>
         ensures { OnOk result (self.new ≡ steps.bare_served self.old) }
     {
@@ -106,7 +89,8 @@ impl<P: Balancer> State<P> {
             self.configure_all(calls)
         } else if self.unconfigured {
             let calls = take_due(self.alloc, &mut self.impatient, 0)?;
-            self.end_unconfigured(calls)
+            self.act_on_all(calls, &CallEvent::Close(EndCause::NoConfig))?;
+            Ok(())
         } else {
             Ok(())
         }
@@ -118,16 +102,6 @@ impl<P: Balancer> State<P> {
         let mut rest = calls.into_vec().into_iter();
         while let Some(call) = rest.next() {
             self.configure(number_of(call))?;
-        }
-        Ok(())
-    }
-
-    fn end_unconfigured(&mut self, calls: Items<u64>) -> Result<(), NoMemory>
-        ensures { OnOk result (self.new ≡ steps.all_unconfigured calls self.old) }
-    {
-        let mut rest = calls.into_vec().into_iter();
-        while let Some(call) = rest.next() {
-            self.close(number_of(call), EndCause::NoConfig)?;
         }
         Ok(())
     }
@@ -146,13 +120,9 @@ impl<P: Balancer> State<P> {
     fn chosen_for(&self, call: u32) -> Option<Chosen>
         ensures { result ≡ steps.chosen_in self.now.held (slot_at self.now.book call) }
     {
-        let Some(config) = &self.held else {
-            return None;
-        };
-        match self.book.calls.get(call) {
-            Some(slot) => Some(config.chosen(slot.call.request().path())),
-            None => None,
-        }
+        let config = self.held.as_ref()?;
+        let slot = self.book.calls.get(call)?;
+        Some(config.chosen(slot.call.request().path()))
     }
 
     /// One round: each call whose due moment has come makes one attempt, by the calls' numbers, and then the queue is served by
@@ -163,7 +133,7 @@ impl<P: Balancer> State<P> {
     {
         let made = self.make_due()?;
         let served = self.serve_queued(MOST)?;
-        Ok(either(made, served))
+        Ok(made | served)
     }
 
     #[tactic(auto, using(crate::proofs::Idling::nothing_made))]
@@ -178,6 +148,7 @@ impl<P: Balancer> State<P> {
         self.make_each(moment)
     }
 
+    #[tactic(auto, using(crate::proofs::Asking::all_made_by))]
     fn make_each(&mut self, moment: u64) -> Result<bool, NoMemory>
         requires { moment ≡ self.old.book.moment }
         ensures state { OnOk result (self.new ≡ (steps.round_made self.old).state) }
@@ -187,7 +158,7 @@ impl<P: Balancer> State<P> {
         self.forget_all(calls.as_slice());
         let ready = sort_calls(self.alloc, calls.as_slice())?;
         let made = 0 < ready.len();
-        self.make_all(ready)?;
+        self.act_on_all(ready, &CallEvent::Due)?;
         Ok(made)
     }
 
@@ -207,25 +178,6 @@ impl<P: Balancer> State<P> {
         }
     }
 
-    fn make_all(&mut self, calls: Items<u64>) -> Result<(), NoMemory>
-        ensures { OnOk result (self.new ≡ steps.all_made calls self.old) }
-    {
-        let mut rest = calls.into_vec().into_iter();
-        while let Some(call) = rest.next() {
-            self.make(number_of(call))?;
-        }
-        Ok(())
-    }
-
-    fn make(&mut self, call: u32) -> Result<(), NoMemory>
-        ensures { OnOk result (self.new ≡ steps.made_one call self.old) }
-    {
-        let acts = self.book.due(call)?;
-        self.follow(call, acts)?;
-        self.seal();
-        Ok(())
-    }
-
     /// Serves the queue by call and row, but no more than so many attempts; whether any attempt left it.
     #[tactic(auto, using(crate::proofs::SettlingLaws::passed_step), unfolding(crate::specs::Settling::passed))]
     fn serve_queued(&mut self, most: u64) -> Result<bool, NoMemory>
@@ -241,8 +193,7 @@ impl<P: Balancer> State<P> {
             };
             call = next_call;
             row = next_row;
-            let served = self.serve(call, row)?;
-            moved = either(moved, served);
+            moved |= self.serve(call, row)?;
         }
         Ok(moved)
     }
@@ -268,37 +219,15 @@ impl<P: Balancer> State<P> {
         let Some(asked) = self.net.ask() else {
             return Ok(false);
         };
-        self.note_ask(row, asked)?;
-        self.follow_pick(call, row, asked.generation, asked.pick)
-    }
-
-    fn note_ask(&mut self, row: u64, asked: Asked) -> Result<(), NoMemory>
-        ensures { OnOk result (self.new ≡ steps.asked_by row asked self.old) }
-    {
-        let entry = self.book.ledger.entry;
-        add_ask(
-            &mut self.book.ledger.asks,
-            Ask {
-                entry,
-                generation: asked.generation,
-                row,
-                answer: asked.pick,
-            },
-        )
-    }
-
-    fn follow_pick(
-        &mut self,
-        call: u32,
-        row: u64,
-        generation: u32,
-        pick: Pick,
-    ) -> Result<bool, NoMemory>
-        ensures state { OnOk result (self.new ≡ (settling.picked call row generation pick self.old).state) }
-        ensures moved { IfOk result (λ moved. moved ≡ (settling.picked call row generation pick self.old).moved) }
-    {
-        match pick {
-            Pick::Place(sub) => self.place(call, row, generation, sub),
+        let ask = Ask {
+            entry: self.book.ledger.entry,
+            generation: asked.generation,
+            row,
+            answer: asked.pick,
+        };
+        add_ask(&mut self.book.ledger.asks, ask)?;
+        match asked.pick {
+            Pick::Place(sub) => self.place(call, row, asked.generation, sub),
             Pick::Wait => Ok(false),
             Pick::Fail => {
                 self.fail(call, row)?;
@@ -348,22 +277,14 @@ impl<P: Balancer> State<P> {
         self.follow(call, acts)
     }
 
+    #[tactic(auto, using(crate::proofs::Asking::pick_told))]
     fn fail(&mut self, call: u32, row: u64) -> Result<(), NoMemory>
         ensures { OnOk result (self.new ≡ steps.pick_failed call row self.old) }
     {
         self.unqueue(call, row);
-        let word = self.next_word();
-        let acts = self.book.picked_fail(call, row, word)?;
-        let drew = self.book.has_drawn(row);
-        self.count_draw(drew);
-        self.follow(call, acts)?;
+        let end = own_end(self.alloc, Code::Unavailable, RowCause::Pick, 0);
+        self.tell(call, row, News::Ended { tag: row, end })?;
         self.seal();
         Ok(())
     }
-}
-
-fn either(one: bool, other: bool) -> bool
-    ensures { result ≡ (one || other) }
-{
-    one || other
 }
