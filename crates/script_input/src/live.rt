@@ -9,7 +9,7 @@ use crate::live_lines::LiveLines;
 use crate::live_script::{LiveScript, Named, WorkerLine};
 use gate_io::Source;
 use grpc_base::Octets;
-use script_lines::{BadLine, NO_CHANNEL, ScriptKind, ScriptLine, ScriptReader};
+use script_lines::{BadLine, NO_CHANNEL, ScriptLine};
 use std::alloc::Global;
 
 /// Keeps what a line said.
@@ -43,18 +43,13 @@ pub fn read_live<S: Source>(alloc: Global, source: &mut S) -> Result<LiveScript,
     ensures bad { IfErr result (GivesNoLive (S.left source.old) (S.left source.new) (S.faults source.old) (S.faults source.new)) }
     ensures count { S.faults source.old ≤ S.faults source.new }
 {
-    let mut lines = LiveLines {
-        reader: ScriptReader::new(alloc, ScriptKind::Live),
-        named: None,
-        config: None,
-        calls: Vec::new(alloc),
-    };
+    let mut lines = LiveLines::new(alloc);
     read_lines(alloc, source, &mut lines)?;
     script_of(lines)
 }
 
 /// The script of these lines.
-fn script_of(lines: LiveLines) -> Result<LiveScript, InputFault>
+pub fn script_of(lines: LiveLines) -> Result<LiveScript, InputFault>
     ensures ok { IfOk result (IsNamed lines) }
     ensures bad { IfErr result (IsUnnamed lines) }
 {
