@@ -1,0 +1,148 @@
+// The job of one link: its bytes go to the connection, and what the connection has to send goes out.
+use crate::ends::relay_close;
+use crate::relay_core::RelayCore;
+use crate::turned::RelayTurn;
+use crate::turns::relay_turn;
+use gate_io::{LinkIn, LinkOut, LinkRead, Patience, WriteAnswer};
+use grpc_base::{Glance, Post};
+use relay_connection::RelayFault;
+use std::sync::Wait;
+
+/// The most bytes that one read takes.
+const READ_BYTES: usize = 16_384;
+
+/// The room that a drain is given.
+const DRAIN_ROOM: u32 = 65_536;
+
+/// Why the rounds of a link end.
+#[derive(Clone, Copy, Debug)]
+pub(crate) enum LinkEnd {
+    /// A read gave the link's end, or failed, or a write failed.
+    Lost,
+    /// A turn answered other than Going.
+    Turned(RelayTurn),
+    /// A drain found no memory.
+    NoMemory,
+}
+
+/// Writes a piece whole, and says whether all of it was taken.
+fn write_all<O: LinkOut>(output: &mut O, piece: &[u8]) -> bool {
+    let mut at = 0;
+    while at < piece.len() {
+        match output.write(&piece[at..]) {
+            WriteAnswer::Took(count) => at += count,
+            WriteAnswer::Failed => return false,
+        }
+    }
+    true
+}
+
+/// Writes all of one drain. A connection that is broken has nothing to write.
+fn drain_out<O: LinkOut>(
+    core: &mut RelayCore,
+    patience: &mut Patience,
+    output: &mut O,
+) -> Option<LinkEnd> {
+    match core.drain(DRAIN_ROOM) {
+        Ok(octets) => {
+            if octets.len() > 0 {
+                patience.hit();
+            }
+            if write_all(output, octets.as_slice()) {
+                None
+            } else {
+                Some(LinkEnd::Lost)
+            }
+        }
+        Err(RelayFault::Broken { code: _ }) => None,
+        Err(RelayFault::NoMemory) => Some(LinkEnd::NoMemory),
+        Err(RelayFault::RoomTooSmall) => unreachable!(),
+    }
+}
+
+/// A turn with what came, and a drain.
+fn turn_link<P: Post + Glance, O: LinkOut>(
+    post: &mut P,
+    core: &mut RelayCore,
+    patience: &mut Patience,
+    piece: &[u8],
+    output: &mut O,
+) -> Option<LinkEnd> {
+    let turn = relay_turn(post, core, piece);
+    if !turn.is_going() {
+        return Some(LinkEnd::Turned(turn));
+    }
+    drain_out(core, patience, output)
+}
+
+/// One round: a read, a turn with what came, and a drain that is written whole.
+fn round<P: Post + Glance, I: LinkIn, O: LinkOut>(
+    post: &mut P,
+    core: &mut RelayCore,
+    patience: &mut Patience,
+    input: &mut I,
+    output: &mut O,
+) -> Option<LinkEnd> {
+    let mut piece = [0u8; READ_BYTES];
+    input.wait_at_most(patience.pause());
+    match input.read(&mut piece) {
+        LinkRead::Got(count) => {
+            patience.hit();
+            turn_link(post, core, patience, &piece[..count], output)
+        }
+        LinkRead::Quiet => {
+            patience.miss();
+            turn_link(post, core, patience, &[], output)
+        }
+        LinkRead::End | LinkRead::Failed => Some(LinkEnd::Lost),
+    }
+}
+
+/// The rounds alone.
+fn run_rounds<W: Wait, P: Post + Glance, I: LinkIn, O: LinkOut>(
+    rt: &W,
+    post: &mut P,
+    core: &mut RelayCore,
+    input: &mut I,
+    output: &mut O,
+) -> LinkEnd {
+    let mut patience = Patience::new();
+    for _ in rt.forever() {
+        if let Some(end) = round(post, core, &mut patience, input, output) {
+            return end;
+        }
+    }
+    unreachable!()
+}
+
+/// What is left to be done at the end of a link, and what its job answers.
+fn finish<P: Post>(post: &mut P, core: &mut RelayCore, end: LinkEnd) -> RelayTurn {
+    match end {
+        LinkEnd::Lost => relay_close(post, core),
+        LinkEnd::Turned(RelayTurn::Broken { code }) => {
+            relay_close(post, core);
+            RelayTurn::Broken { code }
+        }
+        LinkEnd::Turned(turn) => turn,
+        LinkEnd::NoMemory => RelayTurn::NoMemory,
+    }
+}
+
+/// The job of one link of a relay, which may wait and may never return. Each round reads once, into 16,384 bytes, makes one turn with what
+/// came, and writes all of a drain with room for 65,536 bytes; a connection that is broken has nothing to write. It ends where a read gave
+/// the link's end or failed, a write failed, a turn answered other than Going, or a drain found no memory. After an end, a failed read, a
+/// failed write and Broken each call that is open is cancelled, by `relay_close`. At its end the output is closed.
+///
+/// It answers what the turn did where a turn ended it, NoMemory where a drain found no memory, and else what `relay_close` did.
+pub fn relay_link<W: Wait, P: Post + Glance, I: LinkIn, O: LinkOut>(
+    rt: &W,
+    post: &mut P,
+    core: &mut RelayCore,
+    input: &mut I,
+    output: &mut O,
+) -> RelayTurn {
+    let end = run_rounds(rt, post, core, input, output);
+    let turn = finish(post, core, end);
+    output.close();
+    turn
+}
