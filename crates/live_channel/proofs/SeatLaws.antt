@@ -258,3 +258,8 @@ left_by lock o owns seats others seat mid closer out started splits same locks p
   leaves = subst (λ (l : List Entry). Leaves o owns l seat.own out) (ap (λ (s : SeatSeen Entry). s.seen) same ∙ splits.seen)
       (subst (λ (l : List (ℕ × Entry)). Leaves o owns closer.seen l out) (ap (λ (s : SeatSeen Entry). s.own) same ∙ splits.own) leaves);
 }
+
+-- and what was told stays so of a handle that has seen all that
+pub told_left : {X E : Type 0} (t : Target) (config : Option (List ℕ)) (seat : SeatSeen Entry) (result : Result (SeatSeen Entry × X) E) → TellsTarget t config seat.seen → IfOk result (λ r. StartsWith r.0.seen seat.seen) → IfOk result (λ r. TellsTarget t config r.0.seen)
+told_left t config seat (Ok r) told sees = told_stays t config r.0.seen seat.seen sees told
+told_left t config seat (Err e) told sees = tt

@@ -16,7 +16,7 @@ use Rattle.shared_channel.specs.Histories.{is_shutdown}
 use Rattle.turn_lock.specs.History.{LockId, Owns, SeatSeen, Stands, StartsWith, once_below, places, times}
 use Rattle.turn_lock.proofs.Places.{stands-later, stands-places, starts_longer, times-append}
 use Rattle.live_channel.specs.Sharing.{IsOfCall, IsShutFirst, SharesOut, is_of_call, times_in}
-use Rattle.live_channel.specs.Handles.{AreBeside, Closes, IsBeside, IsClosing, IsKept, IsLeft, Leaves, Shuts, StandInOrder, TakesIn, owns_of}
+use Rattle.live_channel.specs.Handles.{AreBeside, Closes, IsBeside, IsClosing, IsKept, IsLeft, Leaves, Shuts, Splits, StandInOrder, TakesIn, owns_of}
 use Rattle.live_channel.proofs.OwnLaws.{all_stand_later, found, found_in, placed, zero_of}
 
 -- ---- outcomes
@@ -73,6 +73,11 @@ pub leaves_see : (o : Outcome) (owns : List (List (ℕ × Entry))) (seen : List 
 leaves_see o owns seen own after leaves =
     let closes = leaves.closes in
     starts_longer seen leaves.shut.seen after.seen (starts_longer seen closes.front leaves.shut.seen closes.sees (option_to_list closes.closing, closes.shows)) leaves.takes.sees
+
+-- and it has seen all that was seen before others were split off
+pub left_sees : (o : Outcome) (owns : List (List (ℕ × Entry))) (seat mid closer out : SeatSeen Entry) (others : List (SeatSeen Entry)) → Splits seat others mid → closer ≡ mid → Leaves o owns closer.seen closer.own out → StartsWith out.seen seat.seen
+left_sees o owns seat mid closer out others splits same leaves =
+    subst (λ (l : List Entry). StartsWith out.seen l) (ap (λ (s : SeatSeen Entry). s.seen) same ∙ splits.seen) (leaves_see o owns closer.seen closer.own out leaves)
 
 -- ---- each entry is of one
 

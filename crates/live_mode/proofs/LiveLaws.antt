@@ -1,25 +1,21 @@
 -- The one channel of a live run: what its report is of.
-use Rattle.std.proofs.Common.{◌≡◌, ◌∙◌, ◌+◌, ℕ, Option, List, [], ◌∷◌, ap, inl, inr, length, map, sym, subst}
-use Rattle.std.specs.Prelude.{Result, Ok, Err, IfOk}
+use Rattle.std.proofs.Common.{◌≡◌, ◌∙◌, ◌+◌, ℕ, Option, List, [], ◌∷◌, ap, inl, inr, length, map, refl, sym, subst}
 use Rattle.grpc_base.specs.declared.event.Entry.{Entry}
 use Rattle.grpc_base.specs.declared.script.CallLine.{CallLine}
-use Rattle.resolver_core.specs.AnyTargets.{IsTarget, authority_of}
-use Rattle.resolver_core.proofs.KeptLaws.{target_kept}
-use Rattle.resolver_core.specs.declared.any_target.Target.{Target}
-use Rattle.script_input.specs.Lives.{AreLiveLines, ReadsLive, live_reads}
+use Rattle.resolver_core.specs.AnyTargets.{authority_of}
+use Rattle.script_input.specs.Lives.{ReadsLive}
 use Rattle.script_input.specs.declared.live_script.LiveScript.{LiveScript}
-use Rattle.turn_lock.specs.History.{LockId, SeatSeen, StartsWith}
+use Rattle.turn_lock.specs.History.{LockId, SeatSeen}
 use Rattle.channel_core.specs.Core.{CoreSeen, ledger_in}
 use Rattle.shared_channel.specs.Running.{HasRun}
 use Rattle.session_text.specs.declared.ran.Ran.{Ran}
 use Rattle.session_text.specs.declared.ran.Ran.TheVariants as ran
 use Rattle.live_run.specs.declared.outcome.Outcome.{Outcome}
 use Rattle.live_run.specs.declared.outcome.Outcome.TheVariants as outcome
-use Rattle.live_channel.specs.Handles.{IsStarted, Leaves, Splits}
+use Rattle.live_channel.specs.Handles.{IsStarted, Splits}
 use Rattle.live_channel.specs.Reported.{ReportsOn}
 use Rattle.live_channel.specs.Told.{TellsTarget}
 use Rattle.live_channel.proofs.SeatLaws.{left_by, told_stays}
-use Rattle.live_channel.proofs.ShareLaws.{leaves_see}
 use Rattle.live_mode.specs.Handles.{AreMade, LeavesCalls, busy}
 use Rattle.live_mode.specs.Live.{EndsLiveFull, IsAnyLiveReport, IsLiveReport, IsLiveText, IsLived}
 use Rattle.live_mode.specs.Made.{worker_lines}
@@ -59,23 +55,7 @@ left_calls seat_of lock o groups linkers calls links others seat mid out started
       (done.parts ∙ ap (λ (n : ℕ). (seat_of calls.closer).parts + n + length linkers.jobs.items) mine ∙ ap (λ (n : ℕ). (seat_of calls.closer).parts + length others + n) beside) done.leaves;
 }
 
--- and it has seen all that was seen before
-pub left_sees : (o : Outcome) (owns : List (List (ℕ × Entry))) (seat mid closer out : SeatSeen Entry) (others : List (SeatSeen Entry)) → Splits seat others mid → closer ≡ mid → Leaves o owns closer.seen closer.own out → StartsWith out.seen seat.seen
-left_sees o owns seat mid closer out others splits same leaves =
-    subst (λ (l : List Entry). StartsWith out.seen l) (ap (λ (s : SeatSeen Entry). s.seen) same ∙ splits.seen) (leaves_see o owns closer.seen closer.own out leaves)
-
-pub told_left : {E : Type 0} (t : Target) (config : Option (List ℕ)) (seat : SeatSeen Entry) (result : Result (SeatSeen Entry × Outcome) E) → TellsTarget t config seat.seen → IfOk result (λ r. StartsWith r.0.seen seat.seen) → IfOk result (λ r. TellsTarget t config r.0.seen)
-told_left t config seat (Ok r) told sees = told_stays t config r.0.seen seat.seen sees told
-told_left t config seat (Err e) told sees = tt
-
 -- ---- the script
-
-target_of : (texts : List (List ℕ)) (script : LiveScript) → AreLiveLines 1 texts (live_reads script) → IsTarget script.value
-target_of [] script t = absurd t
-target_of (text ∷ texts) script t = target_kept script.target script.value t.0.1.1.3
-
-pub live_target : (left left' : Option (List ℕ)) (script : LiveScript) → ReadsLive left left' script → IsTarget script.value
-live_target left left' script read = target_of read.live.texts script read.live.lines
 
 pub lived_of : (left left' : Option (List ℕ)) (script : LiveScript) (text : List ℕ) → ReadsLive left left' script → IsLiveReport ran.Whole script text → IsLived left left' text
 lived_of left left' script text read report = record { script = script; read = read; report = report }

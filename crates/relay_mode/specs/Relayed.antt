@@ -15,7 +15,10 @@ use Rattle.session_text.specs.declared.ran.Ran.{Ran}
 use Rattle.session_text.specs.declared.ran.Ran.TheVariants as ran
 use Rattle.session_text.specs.Sessions.{IsSession, line_fault_text, run_text}
 use Rattle.shared_channel.specs.Histories.{IsNearlyFull}
+use Rattle.session_text.specs.Writing.{WritesAll}
 use Rattle.turn_lock.specs.History.{Ascends, Stands}
+use Rattle.relay_mode.specs.declared.session.Relayed.{Relayed}
+use Rattle.relay_mode.specs.declared.session.Relayed.TheVariants as relayed
 
 -- entries with their places, which stand there in this order; each is of an application
 pub record IsWorkOfLink (entries : List Entry) (own : List (ℕ × Entry)) : Type 0 where
@@ -48,6 +51,11 @@ pub record IsRelayReport (r : Ran) (links : ℕ) (script : LiveScript) (text : L
 
 abbrev pub IsAnyRelayReport : ℕ → LiveScript → List ℕ → Type 0
 IsAnyRelayReport links script text = (r : Ran) × IsRelayReport r links script text
+
+-- how a relay ended: its report was written, and each link was accepted; or one was not, and nothing was written
+abbrev pub TellsRelayed : Relayed → ℕ → LiveScript → Option (List ℕ) → Option (List ℕ) → ℕ → ℕ → Type 0
+TellsRelayed (relayed.Told r) links script taken taken' faults faults' = WritesAll (IsRelayReport r links script) taken taken' × (faults' ≡ faults)
+TellsRelayed relayed.Unheard links script taken taken' faults faults' = (taken' ≡ taken) × (faults' ≡ one_more faults)
 
 -- status 0: the input was read to its end and is a live script without calls, and the text is the report of its relay
 pub record IsRelayed (links : ℕ) (left left' : Option (List ℕ)) (text : List ℕ) : Type 0 where

@@ -1,4 +1,15 @@
 // The session of a relay: one channel for all links.
+ghost use Rattle.std.specs.Prelude.{◌≡◌, ◌≢◌, ◌≤◌, IfOk, Ok, OnErr, Err, map, true};
+ghost use Rattle.gate_io.specs.Outside.{Rises};
+ghost use Rattle.live_channel.specs.Handles.{IsFirstSeat};
+ghost use Rattle.live_channel.specs.Told.{TellsTarget};
+ghost use Rattle.policy_rack.specs.Kinds.{are_ready};
+ghost use Rattle.resolver_core.specs.AnyTargets.{IsTarget};
+ghost use Rattle.session_text.specs.Writing.{WritesAll, WritesFront, WritesSome};
+ghost use Rattle.relay_mode.specs.Fronts.{LeavesLinks};
+ghost use Rattle.relay_mode.specs.Links.{IsHeard};
+ghost use Rattle.relay_mode.specs.Relayed.{IsAnyRelayReport, TellsRelayed};
+
 use crate::run::run_front;
 use crate::settings::RelaySettings;
 use dns_watch::NamedWorld;
@@ -42,7 +53,13 @@ pub fn report_relay<
     listener: &mut L,
     script: LiveScript,
     report: &mut K,
-) -> Result<Relayed, ReportFault> {
+) -> Result<Relayed, ReportFault>
+    requires ready { are_ready (map P.seen policies.items) ≡ true }
+    requires target { IsTarget script.value }
+    ensures ok { IfOk result (λ r. TellsRelayed r settings.links script (K.taken report.old) (K.taken report.new) (L.faults listener.old) (L.faults listener.new)) }
+    ensures err { OnErr result (WritesSome (IsAnyRelayReport settings.links script) (K.taken report.old) (K.taken report.new)) }
+    ensures write { (result ≡ Err ReportFault.Write) → Rises (K.faults report.old) (K.faults report.new) × WritesFront (IsAnyRelayReport settings.links script) (K.taken report.old) (K.taken report.new) × (L.faults listener.new ≡ L.faults listener.old) }
+{
     let LiveScript {
         target,
         value,
@@ -74,7 +91,12 @@ fn run_world<R: Threads + Wait + Sync, P: Balancer + Send, W: NamedWorld, L: Lis
     seat: Seat<P>,
     target: Target,
     config: Option<Octets>,
-) -> Result<(Seat<P>, Outcome, bool), NoMemory> {
+) -> Result<(Seat<P>, Outcome, bool), NoMemory>
+    requires seat { IsFirstSeat channel.now seat }
+    ensures left { IfOk result (λ r. LeavesLinks channel.now r.1 settings.links r.0) }
+    ensures told { IfOk result (λ r. TellsTarget target config r.0.seen) }
+    ensures heard { IfOk result (λ r. IsHeard r.2 (L.faults listener.old) (L.faults listener.new)) }
+{
     let lookup = world.lookup();
     let (clock, mut draws, dialers) = world.parts(settings.seed);
     let bench = Bench {

@@ -1,4 +1,5 @@
 // What the options of the mode `relay` set.
+ghost use Rattle.std.specs.Prelude.{◌≤◌};
 
 /// What the options of the mode set.
 #[derive(Clone, Copy, Debug, PartialEq, Eq)]
@@ -11,4 +12,5 @@ pub struct RelaySettings {
     pub seed: u64,
     /// How many workers keep links open, at most.
     pub nets: u32,
+    pub ghost few: { links ≤ 1024 },
 }

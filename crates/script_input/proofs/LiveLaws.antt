@@ -4,7 +4,9 @@ use Rattle.std.specs.Prelude.{Result, Ok, Err, IfErr, IfOk, OnOk}
 use Rattle.std.proofs.lemmas.List.{append_cancel_right, map-append}
 use Rattle.grpc_base.specs.Pieces.{pieces}
 use Rattle.gate_io.specs.Outside.{IsAtEnd, Rises, Takes}
+use Rattle.resolver_core.specs.AnyTargets.{IsTarget}
 use Rattle.resolver_core.specs.declared.any_target.Target.{Target}
+use Rattle.resolver_core.proofs.KeptLaws.{target_kept}
 use Rattle.script_fields.specs.Spelling.{fields}
 use Rattle.script_fields.proofs.PartLaws.{pieces-blank}
 use Rattle.script_lines.specs.declared.line.ScriptLine.{ScriptLine}
@@ -271,3 +273,12 @@ live_ok left left' s (Err e) read named = tt
 pub live_bad : (left left' : Option (List ℕ)) (n m : ℕ) (s : LiveLines) (r : Result LiveScript InputFault) → ReadsLines HasTakenLive left left' s → IfErr r (IsUnnamed s) → IfErr r (GivesNoLive left left' n m)
 live_bad left left' n m s (Ok l) read unnamed = tt
 live_bad left left' n m s (Err e) read unnamed = no_script left left' n m s e read unnamed
+
+-- ---- the target
+
+target_of : (texts : List (List ℕ)) (script : LiveScript) → AreLiveLines 1 texts (live_reads script) → IsTarget script.value
+target_of [] script t = absurd t
+target_of (text ∷ texts) script t = target_kept script.target script.value t.0.1.1.3
+
+pub live_target : (left left' : Option (List ℕ)) (script : LiveScript) → ReadsLive left left' script → IsTarget script.value
+live_target left left' script read = target_of read.live.texts script read.live.lines

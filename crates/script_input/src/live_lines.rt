@@ -1,14 +1,12 @@
 // The lines of a live script, as far as they were read.
-ghost use Rattle.std.specs.Prelude.{◌≡◌, []};
-ghost use Rattle.script_input.specs.LivesTaken.{HasTakenLive};
+ghost use Rattle.std.specs.Prelude.{◌≡◌};
 ghost use Rattle.script_lines.specs.declared.reader.ScriptKind.TheVariants as script;
 
 use crate::line_reader::Lines;
 use crate::live::keep_live;
 use crate::live_script::{Named, WorkerLine};
 use grpc_base::Octets;
-use script_lines::{BadLine, ScriptKind, ScriptReader};
-use std::alloc::Global;
+use script_lines::{BadLine, ScriptReader};
 
 /// What the lines so far say.
 #[derive(Drop)]
@@ -18,20 +16,6 @@ pub struct LiveLines {
     pub config: Option<Octets>,
     pub calls: Vec<WorkerLine>,
     ghost is_live: { reader.kind ≡ script.Live },
-}
-
-impl LiveLines {
-    /// No line was read.
-    pub fn new(alloc: Global) -> LiveLines
-        ensures { HasTakenLive result [] }
-    {
-        LiveLines {
-            reader: ScriptReader::new(alloc, ScriptKind::Live),
-            named: None,
-            config: None,
-            calls: Vec::new(alloc),
-        }
-    }
 }
 
 impl Lines for LiveLines {

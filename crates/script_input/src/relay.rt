@@ -5,7 +5,7 @@ ghost use Rattle.script_input.specs.Relays.{GivesNoRelay, IsNamedCall, ReadsRela
 
 use crate::fault::InputFault;
 use crate::line_reader::{Lines, read_lines};
-use crate::live::script_of;
+use crate::live::{no_lines, script_of};
 use crate::live_lines::LiveLines;
 use crate::live_script::LiveScript;
 use gate_io::Source;
@@ -55,7 +55,7 @@ pub fn read_relay<S: Source>(alloc: Global, source: &mut S) -> Result<LiveScript
     ensures count { S.faults source.old ≤ S.faults source.new }
 {
     let mut lines = RelayLines {
-        live: LiveLines::new(alloc),
+        live: no_lines(alloc),
     };
     read_lines(alloc, source, &mut lines)?;
     script_of(lines.live)

@@ -1,4 +1,4 @@
-use Rattle.live_mode.proofs.LiveLaws.{told_left}
+use Rattle.live_channel.proofs.SeatLaws.{told_left}
 use Rattle.live_mode.proofs.session.run_world.Goals as goal
 
 pub returns-clause-told : goal.returns-clause-told

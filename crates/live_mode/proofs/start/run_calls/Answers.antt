@@ -3,7 +3,8 @@ use Rattle.grpc_base.specs.declared.event.Entry.{Entry}
 use Rattle.turn_lock.specs.History.{SeatSeen}
 use Rattle.live_channel.specs.Handles.{handle_in}
 use Rattle.live_channel.proofs.SeatLaws.{fresh_at, map_length}
-use Rattle.live_mode.proofs.LiveLaws.{left_calls, left_sees}
+use Rattle.live_channel.proofs.ShareLaws.{left_sees}
+use Rattle.live_mode.proofs.LiveLaws.{left_calls}
 use Rattle.live_mode.proofs.start.run_calls.Goals as goal
 
 pub run_sides-requires-clause-calls : goal.run_sides-requires-clause-calls
