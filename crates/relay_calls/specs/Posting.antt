@@ -89,7 +89,7 @@ Sends {P} eyes call message c a before after_calls after result =
 pub record IsPassed {P : Type 0} (eyes : Eyes P) (c : Calls) (before : P) (after_calls : Calls) (after : P) (result : Result Unit CallsFault) : Type 0 where
   pub handle : eyes.handle after ≡ eyes.handle before
   pub calls : after_calls ≡ c
-  pub result : result ≡ Ok unit
+  pub result : result ≡ Ok tt
 
 -- an ask whose stream does not wait, or a Cancel, which drops the asks of its stream that wait
 abbrev pub PostsNow : {P : Type 0} → Eyes P → Calls → RelayAsk → P → Calls → P → Result Unit CallsFault → Type 0
@@ -120,12 +120,20 @@ PostsAsk eyes c a before after_calls after result = PostsUnless eyes (is_held c 
 
 -- one ask after the other, up to the first fault
 abbrev pub PostsAll : {P : Type 0} → Eyes P → Calls → P → List RelayAsk → Calls → P → Result Unit CallsFault → Type 0
-PostsAll eyes c before [] after_calls after result = (after_calls ≡ c) × (after ≡ before) × (result ≡ Ok unit)
+PostsAll eyes c before [] after_calls after result = (after_calls ≡ c) × (after ≡ before) × (result ≡ Ok tt)
 PostsAll {P} eyes c before (a ∷ asks) after_calls after result =
-    ((next : Calls) × (post : P) × PostsAsk eyes c a before next post (Ok unit) × PostsAll eyes next post asks after_calls after result)
+    ((next : Calls) × (post : P) × PostsAsk eyes c a before next post (Ok tt) × PostsAll eyes next post asks after_calls after result)
     ⊎ ((f : CallsFault) × PostsAsk eyes c a before after_calls after (Err f) × (result ≡ Err f))
 
 -- first the asks that wait, then these
 abbrev pub PostsTurn : {P : Type 0} → Eyes P → Calls → P → List RelayAsk → Calls → P → Result Unit CallsFault → Type 0
 PostsTurn eyes c before asks after_calls after result =
     PostsAll eyes (record c { waiting = [] }) before (c.waiting ++ asks) after_calls after result
+
+-- Failed is answered only with the error of the last post, which failed; Gone only with the number of a channel that was shut down; and
+-- without Failed no post failed
+abbrev pub Tells : HandleSeen → HandleSeen → Result Unit CallsFault → Type 0
+Tells before after (Ok done) = after.errors ≡ before.errors
+Tells before after (Err (fault.Failed error)) = (after.errors ≡ one_more before.errors) × (after.last ≡ Some error)
+Tells before after (Err (fault.Gone refusal)) = (after.errors ≡ before.errors) × (refusal ≡ 9)
+Tells before after (Err fault.NoMemory) = after.errors ≡ before.errors

@@ -1,11 +1,12 @@
 -- What is taken of the calls, and how they are given up.
 use Rattle.std.specs.Prelude.{◌≡◌, ◌<◌, ◌⊎◌, ℕ, zero, suc, Bool, true, false, Option, Some, None, Result, Ok, Err, List, [], ◌∷◌, ◌++◌, length, slice_get, slice_set}
+use Rattle.grpc_base.specs.Counts.{one_more}
 use Rattle.grpc_base.specs.declared.event.Event.TheVariants as event
 use Rattle.grpc_base.specs.declared.event.Reply.{Reply}
 use Rattle.grpc_base.specs.declared.event.Reply.TheVariants as reply
 use Rattle.grpc_base.specs.declared.post.Look.TheVariants as look
 use Rattle.grpc_base.specs.declared.post.PostError.{PostError}
-use Rattle.live_pump.specs.Pumps.{PostsOne}
+use Rattle.live_pump.specs.Pumps.{HandleSeen, PostsOne}
 use Rattle.relay_calls.specs.Calls.{Calls}
 use Rattle.relay_calls.specs.Posting.{Eyes, LooksAt}
 use Rattle.relay_calls.specs.declared.call.RelayCall.{RelayCall}
@@ -51,13 +52,13 @@ TakesAt eyes place c before after_calls after result =
 
 -- a call that is open is given up: one Cancel is posted, and a refusal is passed over
 abbrev pub GaveUp : RelayCall → Result Reply PostError → RelayCall → Result Unit PostError → Type 0
-GaveUp k (Ok r) after result = (after ≡ record k { asking = false; is_open = false }) × (result ≡ Ok unit)
+GaveUp k (Ok r) after result = (after ≡ record k { asking = false; is_open = false }) × (result ≡ Ok tt)
 GaveUp k (Err error) after result = (after ≡ k) × (result ≡ Err error)
 
 abbrev pub GivesUpOpen : {P : Type 0} → Eyes P → Bool → RelayCall → P → RelayCall → P → Result Unit PostError → Type 0
 GivesUpOpen eyes true k before after_call after result =
     (came : Result Reply PostError) × PostsOne (event.Cancel k.call) (eyes.handle before) (eyes.handle after) came × GaveUp k came after_call result
-GivesUpOpen eyes false k before after_call after result = (after ≡ before) × (after_call ≡ k) × (result ≡ Ok unit)
+GivesUpOpen eyes false k before after_call after result = (after ≡ before) × (after_call ≡ k) × (result ≡ Ok tt)
 
 abbrev pub GivesUp : {P : Type 0} → Eyes P → RelayCall → P → RelayCall → P → Result Unit PostError → Type 0
 GivesUp eyes k before after_call after result = GivesUpOpen eyes k.is_open k before after_call after result
@@ -71,10 +72,15 @@ GivesUpAt eyes place c before after_calls after result =
 abbrev pub GivesUpTo : {P : Type 0} → Eyes P → ℕ → Calls → P → Calls → P → Type 0
 GivesUpTo eyes zero c before after_calls after = (after_calls ≡ c) × (after ≡ before)
 GivesUpTo {P} eyes (suc place) c before after_calls after =
-    (next : Calls) × (post : P) × GivesUpTo eyes place c before next post × GivesUpAt eyes place next post after_calls after (Ok unit)
+    (next : Calls) × (post : P) × GivesUpTo eyes place c before next post × GivesUpAt eyes place next post after_calls after (Ok tt)
 
 -- each call that is open is given up, in order, up to the first post that fails
 abbrev pub GivesUpAll : {P : Type 0} → Eyes P → Calls → P → Calls → P → Result Unit PostError → Type 0
 GivesUpAll eyes c before after_calls after (Ok done) = GivesUpTo eyes (length c.calls) c before after_calls after
 GivesUpAll {P} eyes c before after_calls after (Err error) =
     (place : ℕ) × (place < length c.calls) × (next : Calls) × (post : P) × GivesUpTo eyes place c before next post × GivesUpAt eyes place next post after_calls after (Err error)
+
+-- an error is answered only where the last post failed with it; and without one no post failed
+abbrev pub TellsError : {T : Type 0} → HandleSeen → HandleSeen → Result T PostError → Type 0
+TellsError before after (Ok done) = after.errors ≡ before.errors
+TellsError before after (Err error) = (after.errors ≡ one_more before.errors) × (after.last ≡ Some error)

@@ -2,11 +2,13 @@
 ghost use Rattle.std.specs.Prelude.{◌≡◌, ◌<◌, ◌++◌, ◌∷◌, [], filter, length, not, OnOk, IfSome, Result, slice_get};
 ghost use Rattle.std.specs.List.{list_any};
 ghost use Rattle.grpc_base.specs.declared.event.Event.TheVariants as event;
+ghost use Rattle.grpc_base.specs.declared.request.Request.{Request};
+ghost use Rattle.live_pump.specs.Pumps.{HandleSeen};
 ghost use Rattle.relay_asks.specs.Asking.{stream_of};
 ghost use Rattle.relay_asks.specs.declared.ask.RelayAsk.TheVariants as ask;
 ghost use Rattle.relay_calls.specs.Calls.{begun, closed, dropped, held, is_live, no_calls, settled, silenced, waits};
-ghost use Rattle.relay_calls.specs.Taking.{GivesUpAll, GivesUpAt, TakesAt};
-ghost use Rattle.relay_calls.specs.Posting.{Eyes, PostsAll, PostsAs, PostsAsk, PostsNow, PostsTurn, Sends, SendsIf, Waits, Wants, eyes_of, is_held, length_of};
+ghost use Rattle.relay_calls.specs.Taking.{GivesUpAll, GivesUpAt, TakesAt, TellsError};
+ghost use Rattle.relay_calls.specs.Posting.{Becomes, Eyes, PostsAll, PostsAs, PostsAsk, PostsNow, PostsTurn, Sends, SendsIf, Tells, came_of, eyes_of, is_held, length_of};
 
 use crate::call::{RelayCall, number_of, place_of};
 use crate::fault::CallsFault;
@@ -140,9 +142,18 @@ impl RelayCalls {
         request: Request,
     ) -> Result<(), CallsFault>
         ensures posted { let eyes : Eyes P = eyes_of P.made P.errors P.last_error P.looks P.last_look in PostsAs eyes (event.Begin request) self.old (ask.Begin stream request) post.old self.new post.new result }
+        ensures tells { let before : HandleSeen = record { made = P.made post.old; errors = P.errors post.old; last = P.last_error post.old } in let after : HandleSeen = record { made = P.made post.new; errors = P.errors post.new; last = P.last_error post.new } in Tells before after result }
         ensures share { P.share post.new ≡ P.share post.old }
     {
-        match post.post(Event::Begin { request })? {
+        let came = post.post(Event::Begin { request });
+        self.note_begun(stream, came)
+    }
+
+    /// What a Begin came to.
+    fn note_begun(&mut self, stream: u32, came: Result<Reply, PostError>) -> Result<(), CallsFault>
+        ensures { (request : Request) → Becomes self.old (came_of self.old (ask.Begin stream request) came) self.new result }
+    {
+        match came? {
             Reply::Call { call } => Ok(self.keep(stream, call)?),
             Reply::Refused { refusal } => Err(CallsFault::Gone {
                 refusal: refusal.number(),
@@ -160,13 +171,27 @@ impl RelayCalls {
         message: Octets,
     ) -> Result<(), CallsFault>
         ensures posted { let eyes : Eyes P = eyes_of P.made P.errors P.last_error P.looks P.last_look in SendsIf eyes true call message self.old (ask.Send stream message) post.old self.new post.new result }
+        ensures tells { let before : HandleSeen = record { made = P.made post.old; errors = P.errors post.old; last = P.last_error post.old } in let after : HandleSeen = record { made = P.made post.new; errors = P.errors post.new; last = P.last_error post.new } in Tells before after result }
         ensures share { P.share post.new ≡ P.share post.old }
     {
         let posted = message.share()?;
-        match post.post(Event::Send {
+        let came = post.post(Event::Send {
             call,
             message: posted,
-        })? {
+        });
+        self.note_sent(stream, message, came)
+    }
+
+    /// What a Send came to.
+    fn note_sent(
+        &mut self,
+        stream: u32,
+        message: Octets,
+        came: Result<Reply, PostError>,
+    ) -> Result<(), CallsFault>
+        ensures { Becomes self.old (came_of self.old (ask.Send stream message) came) self.new result }
+    {
+        match came? {
             Reply::Full { held: _ } => Ok(self.hold(RelayAsk::Send { stream, message })?),
             _ => Ok(()),
         }
@@ -181,6 +206,7 @@ impl RelayCalls {
         message: Octets,
     ) -> Result<(), CallsFault>
         ensures posted { let eyes : Eyes P = eyes_of P.made P.errors P.last_error P.looks P.last_look in Sends eyes call message self.old (ask.Send stream message) post.old self.new post.new result }
+        ensures tells { let before : HandleSeen = record { made = P.made post.old; errors = P.errors post.old; last = P.last_error post.old } in let after : HandleSeen = record { made = P.made post.new; errors = P.errors post.new; last = P.last_error post.new } in Tells before after result }
         ensures share { P.share post.new ≡ P.share post.old }
     {
         if post.can_send(call, length_of(&message)) {
@@ -192,9 +218,22 @@ impl RelayCalls {
     /// Says that a stream has no further message. A refusal is passed over.
     fn finish<P: Post>(&mut self, post: &mut P, stream: u32, call: u32) -> Result<(), CallsFault>
         ensures posted { let eyes : Eyes P = eyes_of P.made P.errors P.last_error P.looks P.last_look in PostsAs eyes (event.Finish call) self.old (ask.Finish stream) post.old self.new post.new result }
+        ensures tells { let before : HandleSeen = record { made = P.made post.old; errors = P.errors post.old; last = P.last_error post.old } in let after : HandleSeen = record { made = P.made post.new; errors = P.errors post.new; last = P.last_error post.new } in Tells before after result }
         ensures share { P.share post.new ≡ P.share post.old }
     {
-        drop(post.post(Event::Finish { call })?);
+        let came = post.post(Event::Finish { call });
+        self.note_finished(stream, came)
+    }
+
+    /// What a Finish came to.
+    fn note_finished(
+        &mut self,
+        stream: u32,
+        came: Result<Reply, PostError>,
+    ) -> Result<(), CallsFault>
+        ensures { Becomes self.old (came_of self.old (ask.Finish stream) came) self.new result }
+    {
+        drop(came?);
         self.silence(stream);
         Ok(())
     }
@@ -202,9 +241,22 @@ impl RelayCalls {
     /// Gives a call up. A refusal is passed over.
     fn cancel<P: Post>(&mut self, post: &mut P, stream: u32, call: u32) -> Result<(), CallsFault>
         ensures posted { let eyes : Eyes P = eyes_of P.made P.errors P.last_error P.looks P.last_look in PostsAs eyes (event.Cancel call) self.old (ask.Cancel stream) post.old self.new post.new result }
+        ensures tells { let before : HandleSeen = record { made = P.made post.old; errors = P.errors post.old; last = P.last_error post.old } in let after : HandleSeen = record { made = P.made post.new; errors = P.errors post.new; last = P.last_error post.new } in Tells before after result }
         ensures share { P.share post.new ≡ P.share post.old }
     {
-        drop(post.post(Event::Cancel { call })?);
+        let came = post.post(Event::Cancel { call });
+        self.note_cancelled(stream, came)
+    }
+
+    /// What a Cancel came to.
+    fn note_cancelled(
+        &mut self,
+        stream: u32,
+        came: Result<Reply, PostError>,
+    ) -> Result<(), CallsFault>
+        ensures { Becomes self.old (came_of self.old (ask.Cancel stream) came) self.new result }
+    {
+        drop(came?);
         self.close(stream);
         Ok(())
     }
@@ -212,6 +264,7 @@ impl RelayCalls {
     /// Posts an ask whose stream does not wait, or a Cancel.
     fn post_now<P: Post + Glance>(&mut self, post: &mut P, ask: RelayAsk) -> Result<(), CallsFault>
         ensures posted { let eyes : Eyes P = eyes_of P.made P.errors P.last_error P.looks P.last_look in PostsNow eyes self.old ask post.old self.new post.new result }
+        ensures tells { let before : HandleSeen = record { made = P.made post.old; errors = P.errors post.old; last = P.last_error post.old } in let after : HandleSeen = record { made = P.made post.new; errors = P.errors post.new; last = P.last_error post.new } in Tells before after result }
         ensures share { P.share post.new ≡ P.share post.old }
     {
         match ask {
@@ -237,6 +290,7 @@ impl RelayCalls {
     /// Posts an ask, or keeps it waiting.
     fn post_ask<P: Post + Glance>(&mut self, post: &mut P, ask: RelayAsk) -> Result<(), CallsFault>
         ensures posted { let eyes : Eyes P = eyes_of P.made P.errors P.last_error P.looks P.last_look in PostsAsk eyes self.old ask post.old self.new post.new result }
+        ensures tells { let before : HandleSeen = record { made = P.made post.old; errors = P.errors post.old; last = P.last_error post.old } in let after : HandleSeen = record { made = P.made post.new; errors = P.errors post.new; last = P.last_error post.new } in Tells before after result }
         ensures share { P.share post.new ≡ P.share post.old }
     {
         if self.is_held(&ask) {
@@ -252,6 +306,7 @@ impl RelayCalls {
         asks: Vec<RelayAsk>,
     ) -> Result<(), CallsFault>
         ensures posted { let eyes : Eyes P = eyes_of P.made P.errors P.last_error P.looks P.last_look in PostsAll eyes self.old post.old asks.items self.new post.new result }
+        ensures tells { let before : HandleSeen = record { made = P.made post.old; errors = P.errors post.old; last = P.last_error post.old } in let after : HandleSeen = record { made = P.made post.new; errors = P.errors post.new; last = P.last_error post.new } in Tells before after result }
         ensures share { P.share post.new ≡ P.share post.old }
     {
         let mut rest = asks.into_iter();
@@ -270,6 +325,7 @@ impl RelayCalls {
         asks: Vec<RelayAsk>,
     ) -> Result<(), CallsFault>
         ensures posted { let eyes : Eyes P = eyes_of P.made P.errors P.last_error P.looks P.last_look in PostsTurn eyes self.old post.old asks.items self.new post.new result }
+        ensures tells { let before : HandleSeen = record { made = P.made post.old; errors = P.errors post.old; last = P.last_error post.old } in let after : HandleSeen = record { made = P.made post.new; errors = P.errors post.new; last = P.last_error post.new } in Tells before after result }
         ensures share { P.share post.new ≡ P.share post.old }
     {
         let waited = mem::replace(&mut self.waiting, Vec::new(self.alloc));
@@ -292,6 +348,8 @@ impl RelayCalls {
     ) -> Result<Option<Reply>, PostError>
         requires { place < length self.old.calls }
         ensures taken { let eyes : Eyes P = eyes_of P.made P.errors P.last_error P.looks P.last_look in TakesAt eyes place self.old post.old self.new post.new result }
+        ensures many { length self.new.calls ≡ length self.old.calls }
+        ensures tells { let before : HandleSeen = record { made = P.made post.old; errors = P.errors post.old; last = P.last_error post.old } in let after : HandleSeen = record { made = P.made post.new; errors = P.errors post.new; last = P.last_error post.new } in TellsError before after result }
         ensures share { P.share post.new ≡ P.share post.old }
     {
         take_one(post, &mut self.calls[place])
@@ -301,6 +359,8 @@ impl RelayCalls {
     fn give_up_at<P: Post>(&mut self, post: &mut P, place: usize) -> Result<(), PostError>
         requires { place < length self.old.calls }
         ensures given_up { let eyes : Eyes P = eyes_of P.made P.errors P.last_error P.looks P.last_look in GivesUpAt eyes place self.old post.old self.new post.new result }
+        ensures many { length self.new.calls ≡ length self.old.calls }
+        ensures tells { let before : HandleSeen = record { made = P.made post.old; errors = P.errors post.old; last = P.last_error post.old } in let after : HandleSeen = record { made = P.made post.new; errors = P.errors post.new; last = P.last_error post.new } in TellsError before after result }
         ensures share { P.share post.new ≡ P.share post.old }
     {
         give_up(post, &mut self.calls[place])
@@ -309,6 +369,7 @@ impl RelayCalls {
     /// Posts a Cancel for each call that is open, in the order of their Begins, and drops the asks that wait. A refusal is passed over.
     pub fn give_up_all<P: Post>(&mut self, post: &mut P) -> Result<(), PostError>
         ensures given_up { let eyes : Eyes P = eyes_of P.made P.errors P.last_error P.looks P.last_look in GivesUpAll eyes (record self.old { waiting = [] }) post.old self.new post.new result }
+        ensures tells { let before : HandleSeen = record { made = P.made post.old; errors = P.errors post.old; last = P.last_error post.old } in let after : HandleSeen = record { made = P.made post.new; errors = P.errors post.new; last = P.last_error post.new } in TellsError before after result }
         ensures share { P.share post.new ≡ P.share post.old }
     {
         self.waiting.clear();

@@ -1,4 +1,11 @@
 // The job of one link: its bytes go to the connection, and what the connection has to send goes out.
+ghost use Rattle.std.specs.Prelude.{◌≡◌, Some, true, false};
+ghost use Rattle.grpc_base.specs.Counts.{one_more};
+ghost use Rattle.gate_io.specs.Outside.{Appends, AppendsFront};
+ghost use Rattle.live_pump.specs.Pumps.{HandleSeen, OutSeen};
+ghost use Rattle.relay_calls.specs.Posting.{Eyes, eyes_of};
+ghost use Rattle.relay_front.specs.Rounds.{Finishes, GoesOut, LinkEyes, RoundOf, RunsOn, RunsTo, TellsEnd, TellsLink, TurnsLink, link_eyes_of};
+
 use crate::ends::relay_close;
 use crate::relay_core::RelayCore;
 use crate::turned::RelayTurn;
@@ -26,7 +33,12 @@ pub(crate) enum LinkEnd {
 }
 
 /// Writes a piece whole, and says whether all of it was taken.
-fn write_all<O: LinkOut>(output: &mut O, piece: &[u8]) -> bool {
+fn write_all<O: LinkOut>(output: &mut O, piece: &[u8]) -> bool
+    ensures whole { result ≡ true → Appends (O.taken output.old) (O.taken output.new) piece.now }
+    ensures part { result ≡ false → AppendsFront (O.taken output.old) (O.taken output.new) piece.now }
+    ensures steady { result ≡ true → O.faults output.new ≡ O.faults output.old }
+    ensures once { result ≡ false → O.faults output.new ≡ one_more (O.faults output.old) }
+{
     let mut at = 0;
     while at < piece.len() {
         match output.write(&piece[at..]) {
@@ -42,7 +54,9 @@ fn drain_out<O: LinkOut>(
     core: &mut RelayCore,
     patience: &mut Patience,
     output: &mut O,
-) -> Option<LinkEnd> {
+) -> Option<LinkEnd>
+    ensures out { GoesOut (λ (o : O). let seen : OutSeen = record { taken = O.taken o; faults = O.faults o } in seen) core.old output.old core.new output.new result }
+{
     match core.drain(DRAIN_ROOM) {
         Ok(octets) => {
             if octets.len() > 0 {
@@ -67,7 +81,11 @@ fn turn_link<P: Post + Glance, O: LinkOut>(
     patience: &mut Patience,
     piece: &[u8],
     output: &mut O,
-) -> Option<LinkEnd> {
+) -> Option<LinkEnd>
+    ensures turned { let eyes : Eyes P = eyes_of P.made P.errors P.last_error P.looks P.last_look in TurnsLink eyes (λ (o : O). let seen : OutSeen = record { taken = O.taken o; faults = O.faults o } in seen) piece.now core.old post.old output.old core.new post.new output.new result }
+    ensures tells { let before : HandleSeen = record { made = P.made post.old; errors = P.errors post.old; last = P.last_error post.old } in let after : HandleSeen = record { made = P.made post.new; errors = P.errors post.new; last = P.last_error post.new } in TellsEnd before after result }
+    ensures share { P.share post.new ≡ P.share post.old }
+{
     let turn = relay_turn(post, core, piece);
     if !turn.is_going() {
         return Some(LinkEnd::Turned(turn));
@@ -82,7 +100,11 @@ fn round<P: Post + Glance, I: LinkIn, O: LinkOut>(
     patience: &mut Patience,
     input: &mut I,
     output: &mut O,
-) -> Option<LinkEnd> {
+) -> Option<LinkEnd>
+    ensures round { let eyes : LinkEyes P I O = link_eyes_of (eyes_of P.made P.errors P.last_error P.looks P.last_look) I.left I.faults I.quiet O.taken O.faults in RoundOf eyes (record { core = core.old; post = post.old; input = input.old; output = output.old }) (record { core = core.new; post = post.new; input = input.new; output = output.new }) result }
+    ensures tells { let before : HandleSeen = record { made = P.made post.old; errors = P.errors post.old; last = P.last_error post.old } in let after : HandleSeen = record { made = P.made post.new; errors = P.errors post.new; last = P.last_error post.new } in TellsEnd before after result }
+    ensures share { P.share post.new ≡ P.share post.old }
+{
     let mut piece = [0u8; READ_BYTES];
     input.wait_at_most(patience.pause());
     match input.read(&mut piece) {
@@ -105,7 +127,11 @@ fn run_rounds<W: Wait, P: Post + Glance, I: LinkIn, O: LinkOut>(
     core: &mut RelayCore,
     input: &mut I,
     output: &mut O,
-) -> LinkEnd {
+) -> LinkEnd
+    ensures run { let eyes : LinkEyes P I O = link_eyes_of (eyes_of P.made P.errors P.last_error P.looks P.last_look) I.left I.faults I.quiet O.taken O.faults in RunsOn eyes (record { core = core.old; post = post.old; input = input.old; output = output.old }) (record { core = core.new; post = post.new; input = input.new; output = output.new }) result }
+    ensures tells { let before : HandleSeen = record { made = P.made post.old; errors = P.errors post.old; last = P.last_error post.old } in let after : HandleSeen = record { made = P.made post.new; errors = P.errors post.new; last = P.last_error post.new } in TellsEnd before after (Some result) }
+    ensures share { P.share post.new ≡ P.share post.old }
+{
     let mut patience = Patience::new();
     for _ in rt.forever() {
         if let Some(end) = round(post, core, &mut patience, input, output) {
@@ -116,7 +142,11 @@ fn run_rounds<W: Wait, P: Post + Glance, I: LinkIn, O: LinkOut>(
 }
 
 /// What is left to be done at the end of a link, and what its job answers.
-fn finish<P: Post>(post: &mut P, core: &mut RelayCore, end: LinkEnd) -> RelayTurn {
+fn finish<P: Post>(post: &mut P, core: &mut RelayCore, end: LinkEnd) -> RelayTurn
+    ensures finishes { let eyes : Eyes P = eyes_of P.made P.errors P.last_error P.looks P.last_look in Finishes eyes end core.old post.old core.new post.new result }
+    ensures tells { let before : HandleSeen = record { made = P.made post.old; errors = P.errors post.old; last = P.last_error post.old } in let after : HandleSeen = record { made = P.made post.new; errors = P.errors post.new; last = P.last_error post.new } in (start : HandleSeen) → TellsEnd start before (Some end) → TellsLink start after result }
+    ensures share { P.share post.new ≡ P.share post.old }
+{
     match end {
         LinkEnd::Lost => relay_close(post, core),
         LinkEnd::Turned(RelayTurn::Broken { code }) => {
@@ -140,7 +170,12 @@ pub fn relay_link<W: Wait, P: Post + Glance, I: LinkIn, O: LinkOut>(
     core: &mut RelayCore,
     input: &mut I,
     output: &mut O,
-) -> RelayTurn {
+) -> RelayTurn
+    ensures runs { let eyes : LinkEyes P I O = link_eyes_of (eyes_of P.made P.errors P.last_error P.looks P.last_look) I.left I.faults I.quiet O.taken O.faults in RunsTo eyes (record { core = core.old; post = post.old; input = input.old; output = output.old }) (record { core = core.new; post = post.new; input = input.new; output = output.new }) result }
+    ensures closed { O.closed output.new ≡ true }
+    ensures tells { let before : HandleSeen = record { made = P.made post.old; errors = P.errors post.old; last = P.last_error post.old } in let after : HandleSeen = record { made = P.made post.new; errors = P.errors post.new; last = P.last_error post.new } in TellsLink before after result }
+    ensures share { P.share post.new ≡ P.share post.old }
+{
     let end = run_rounds(rt, post, core, input, output);
     let turn = finish(post, core, end);
     output.close();

@@ -1,8 +1,9 @@
 // One connection of a client, with its calls at the channel.
 ghost use Rattle.std.specs.Prelude.{◌≡◌, ◌<◌, ◌≤◌, ◌×◌, ◌↔◌, ℕ, length, IfOk, OnOk, Some, None, Err, Result, Option};
 ghost use Rattle.grpc_base.specs.declared.event.Reply.{Reply};
-ghost use Rattle.relay_calls.specs.Posting.{Eyes, PostsTurn, eyes_of};
-ghost use Rattle.relay_calls.specs.Taking.{GivesUpAll};
+ghost use Rattle.live_pump.specs.Pumps.{HandleSeen};
+ghost use Rattle.relay_calls.specs.Posting.{Eyes, PostsTurn, Tells, eyes_of};
+ghost use Rattle.relay_calls.specs.Taking.{GivesUpAll, TellsError};
 ghost use Rattle.relay_connection.specs.Arriving.{Arrives};
 ghost use Rattle.relay_connection.specs.Draining.{Drains};
 ghost use Rattle.relay_connection.specs.Relay.{given, silent};
@@ -88,6 +89,7 @@ impl RelayCore {
     ) -> Result<(), CallsFault>
         ensures posted { let eyes : Eyes P = eyes_of P.made P.errors P.last_error P.looks P.last_look in PostsTurn eyes self.old.calls post.old asks.items self.new.calls post.new result }
         ensures relay { self.new.relay ≡ self.old.relay }
+        ensures tells { let before : HandleSeen = record { made = P.made post.old; errors = P.errors post.old; last = P.last_error post.old } in let after : HandleSeen = record { made = P.made post.new; errors = P.errors post.new; last = P.last_error post.new } in Tells before after result }
         ensures share { P.share post.new ≡ P.share post.old }
     {
         self.calls.post_turn(post, asks)
@@ -108,6 +110,8 @@ impl RelayCore {
     ) -> Result<(), CallsFault>
         requires { place < length self.old.calls.calls }
         ensures taken { let eyes : Eyes P = eyes_of P.made P.errors P.last_error P.looks P.last_look in GivesAt eyes place self.old post.old self.new post.new result }
+        ensures many { OnOk result (length self.new.calls.calls ≡ length self.old.calls.calls) }
+        ensures tells { let before : HandleSeen = record { made = P.made post.old; errors = P.errors post.old; last = P.last_error post.old } in let after : HandleSeen = record { made = P.made post.new; errors = P.errors post.new; last = P.last_error post.new } in Tells before after result }
         ensures share { P.share post.new ≡ P.share post.old }
     {
         let stream = self.calls.stream_at(place);
@@ -129,6 +133,7 @@ impl RelayCore {
     pub(crate) fn give_up<P: Post>(&mut self, post: &mut P) -> Result<(), PostError>
         ensures given_up { let eyes : Eyes P = eyes_of P.made P.errors P.last_error P.looks P.last_look in GivesUpAll eyes (record self.old.calls { waiting = [] }) post.old self.new.calls post.new result }
         ensures relay { self.new.relay ≡ self.old.relay }
+        ensures tells { let before : HandleSeen = record { made = P.made post.old; errors = P.errors post.old; last = P.last_error post.old } in let after : HandleSeen = record { made = P.made post.new; errors = P.errors post.new; last = P.last_error post.new } in TellsError before after result }
         ensures share { P.share post.new ≡ P.share post.old }
     {
         self.calls.give_up_all(post)

@@ -14,7 +14,7 @@ use std::test::Fail;
 const MOST: usize = 1 << 20;
 
 /// The bytes that these digits of hex spell; `-` spells none.
-fn bytes_of(alloc: Global, hex: &str) -> Result<Octets, Fail> {
+pub fn bytes_of(alloc: Global, hex: &str) -> Result<Octets, Fail> {
     match message_of(alloc, hex.as_bytes(), MOST) {
         Ok(bytes) => Ok(bytes),
         Err(_) => Err("hex".into()),
