@@ -1,5 +1,5 @@
 -- What the lines of a relay's script say: those of a live script, of which none makes a call.
-use Rattle.std.proofs.Common.{◌≡◌, ◌≢◌, ◌⊎◌, ◌∙◌, ◌<◌, ℕ, ◌+◌, List, [], ◌∷◌, ◌++◌, Bool, true, Option, Some, None, arith, inl, inr, length, map, refl, subst, sym}
+use Rattle.std.proofs.Common.{◌≡◌, ◌≢◌, ◌⊎◌, ◌∙◌, ℕ, ◌+◌, List, [], ◌∷◌, ◌++◌, Bool, true, Option, Some, None, arith, inl, inr, length, map, refl, subst, sym}
 use Rattle.std.specs.Prelude.{Result, Ok, Err, IfErr, IfOk, OnOk}
 use Rattle.gate_io.specs.Outside.{IsAtEnd}
 use Rattle.grpc_base.specs.declared.script.CallLine.{CallLine}
@@ -32,20 +32,12 @@ none_more : (n : ℕ) (texts : List (List ℕ)) (text : List ℕ) → NoneCalls 
 none_more n [] text none here = ((λ call. here (subst (λ (k : ℕ). IsCallAt k (fields text)) (omega arith) call)), tt)
 none_more n (t ∷ texts) text none here = (none.0, none_more (n + 1) texts text none.1 (λ call. here (subst (λ (k : ℕ). IsCallAt k (fields text)) (omega arith) call)))
 
--- a line that is not refused makes no call
-pub none_here : (lines : ℕ) (texts : List (List ℕ)) (text : List ℕ) → lines ≡ length texts → (0 < lines → IsNamedCall (fields text) → ⊥) → IsCallAt (1 + length texts) (fields text) → ⊥
-none_here lines texts text count other call = other (above lines (λ none. call.0 (omega (arith, count, none)))) call.1
-  where
-    above : (n : ℕ) → (n ≡ 0 → ⊥) → 0 < n
-    above 0 some = absurd (some refl)
-    above (suc n) some = omega arith
-
-pub taken_relay : {E : Type 0} (old new : RelayLines) (text : List ℕ) (r : Result Unit E) → (0 < old.live.reader.lines → IsNamedCall (fields text) → ⊥) → OnOk r ((texts : List (List ℕ)) → HasTakenLive old.live texts → HasTakenLive new.live (texts ++ text ∷ []))
+pub taken_relay : {E : Type 0} (old new : RelayLines) (text : List ℕ) (r : Result Unit E) → (IsCallAt (old.live.reader.lines + 1) (fields text) → ⊥) → OnOk r ((texts : List (List ℕ)) → HasTakenLive old.live texts → HasTakenLive new.live (texts ++ text ∷ []))
     → OnOk r ((texts : List (List ℕ)) → HasTakenRelay old texts → HasTakenRelay new (texts ++ text ∷ []))
 taken_relay old new text (Err e) other more = tt
 taken_relay old new text (Ok done) other more = λ texts h. record {
   taken = more texts h.taken;
-  calls = none_more 1 texts text h.calls (none_here old.live.reader.lines texts text h.taken.count other);
+  calls = none_more 1 texts text h.calls (λ call. other (subst (λ (k : ℕ). IsCallAt k (fields text)) (omega (arith, h.taken.count)) call));
 }
 
 -- ---- no calls
@@ -140,6 +132,7 @@ gives_no_relay left left' n m fault.Empty s = absurd s
 
 -- no line at all
 no_script : (left left' : Option (List ℕ)) (n m : ℕ) (s : RelayLines) (e : InputFault) → ReadsLines HasTakenRelay left left' s → IsUnnamed s.live e → GivesNoRelay left left' n m e
+unfolding of_live
 no_script left left' n m s e r is = subst (GivesNoRelay left left' n m) (sym is.1) (record {
   input = r.input;
   read = r.read;

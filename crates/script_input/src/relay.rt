@@ -1,7 +1,7 @@
 // The script of a relay: a live script without calls, read from a source.
-ghost use Rattle.std.specs.Prelude.{◌≡◌, ◌≤◌, ◌↔◌, IfErr, IfOk, IsTrue};
+ghost use Rattle.std.specs.Prelude.{◌≡◌, ◌≤◌, ◌+◌, ◌↔◌, IfErr, IfOk, IsTrue, false, true};
 ghost use Rattle.script_fields.specs.Spelling.{fields};
-ghost use Rattle.script_input.specs.Relays.{GivesNoRelay, IsNamedCall, ReadsRelay};
+ghost use Rattle.script_input.specs.Relays.{GivesNoRelay, IsCallAt, IsNamedCall, ReadsRelay};
 
 use crate::fault::InputFault;
 use crate::line_reader::{Lines, read_lines};
@@ -27,6 +27,16 @@ fn is_named_call(text: &[u8]) -> bool
     name == b"call".as_slice()
 }
 
+impl RelayLines {
+    /// Whether the next line makes a call.
+    fn is_call(&self, text: &[u8]) -> bool
+        ensures call { result ≡ true → IsCallAt (self.now.live.reader.lines + 1) (fields text.now) }
+        ensures other { result ≡ false → IsCallAt (self.now.live.reader.lines + 1) (fields text.now) → ⊥ }
+    {
+        self.live.reader.lines() > 0 && is_named_call(text)
+    }
+}
+
 impl Lines for RelayLines {
     ghost use Rattle.script_input.specs.RelaysTaken.{HasTakenRelay, RefusesRelay};
 
@@ -35,10 +45,9 @@ impl Lines for RelayLines {
     ghost refuses = { λ s text e. RefusesRelay s text e };
 
     fn take(&mut self, text: &[u8]) -> Result<(), BadLine> {
-        let lines = self.live.reader.lines();
-        if lines > 0 && is_named_call(text) {
+        if self.is_call(text) {
             return Err(BadLine::At {
-                line: lines + 1,
+                line: self.live.reader.lines() + 1,
                 cause: UNKNOWN_KIND,
             });
         }
