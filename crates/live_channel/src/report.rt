@@ -1,7 +1,7 @@
 // The report of a channel that threads share.
 ghost use Rattle.std.specs.Prelude.{◌≡◌, OnErr, OnOk, Err, true};
 ghost use Rattle.gate_io.specs.Outside.{Rises};
-ghost use Rattle.live_channel.specs.Handles.{IsReportable, ReportsAt, ReportsOn};
+ghost use Rattle.live_channel.specs.Reported.{IsReportable, ReportsAt, ReportsOn};
 ghost use Rattle.shared_channel.specs.Histories.{IsNearlyFull};
 ghost use Rattle.session_text.specs.Writing.{WritesAll, WritesFront, WritesSome};
 
@@ -42,7 +42,7 @@ struct Reporting<'r, K> {
 
 impl<P: Balancer, K: Sink> Reading<P> for Reporting<'_, K> {
     ghost use Rattle.std.specs.Prelude.{◌≡◌};
-    ghost use Rattle.live_channel.specs.Handles.{Tells};
+    ghost use Rattle.live_channel.specs.Reported.{Tells};
 
     type Answer = Result<(), ReportFault>;
 
