@@ -7,7 +7,8 @@ ghost use Rattle.relay_mode.specs.Links.{IsHeard, LinkRelayed};
 ghost use Rattle.relay_mode.specs.declared.link.RelayJob.{RelayJob};
 
 use crate::link::RelayJob;
-use gate_io::{Dialed, LinkIn, LinkOut, Listener};
+use crate::prompt::PromptIn;
+use gate_io::{Clock, Dialed, LinkIn, LinkOut, Listener};
 use grpc_base::{Glance, Post};
 use std::sync::Wait;
 use std::thread::{Threads, join_mut};
@@ -15,8 +16,9 @@ use std::thread::{Threads, join_mut};
 /// Accepts a link for each of these, and relays each as soon as it is accepted: a thread of its own accepts those behind it meanwhile.
 /// Where no thread can be made, the link is relayed to its end before the next one is accepted. Says whether each was accepted; behind an
 /// `accept` that failed no further link is asked for.
-pub(crate) fn relay_links<R: Threads + Wait + Sync, H: Post + Glance + Send, L: Listener>(
+pub(crate) fn relay_links<R: Threads + Wait + Sync, H: Post + Glance + Send, C: Clock, L: Listener>(
     rt: &R,
+    clock: &C,
     listener: &mut L,
     jobs: &mut [RelayJob<H>],
 ) -> bool
@@ -27,13 +29,14 @@ pub(crate) fn relay_links<R: Threads + Wait + Sync, H: Post + Glance + Send, L: 
         return true;
     };
     match listener.accept() {
-        Dialed::Open(mut input, mut output) => {
+        Dialed::Open(input, mut output) => {
+            let mut input = PromptIn::new(input, clock);
             let (heard, ()) = join_mut(
                 rt,
                 &mut || -> bool
                     requires { IsSync R.row }
                     ensures { IsHeard result (L.faults listener.entry.now) (L.faults listener.exit.now) }
-                { relay_links(rt, listener, rest) },
+                { relay_links(rt, clock, listener, rest) },
                 &mut || -> ()
                     requires { IsSync R.row }
                 { first.serve(rt, &mut input, &mut output) },

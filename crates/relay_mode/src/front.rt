@@ -33,12 +33,12 @@ impl<P: Balancer + Send, R: Threads + Wait + Sync, C: Clock, D: Draws> Front<
 > {
     /// Relays links to their ends, takes in the handles of their workers, and shuts the channel down: behind all entries that the closer
     /// then has seen, so behind those of the links. Says whether each link was accepted.
-    pub(crate) fn relay<L: Listener>(&mut self, rt: &R, listener: &mut L) -> bool
+    pub(crate) fn relay<L: Listener>(&mut self, rt: &R, clock: &C, listener: &mut L) -> bool
         requires fresh { AllByRecursion (IsFresh self.old.closer.seat.lock) (map (λ j. j.post.seat) self.old.jobs.items) }
         ensures heard { IsHeard result (L.faults listener.old) (L.faults listener.new) }
         ensures done { FrontDone (λ h. h.seat) self.old self.new }
     {
-        let heard = relay_all(rt, listener, &mut self.jobs);
+        let heard = relay_all(rt, clock, listener, &mut self.jobs);
         let made = gravest_of(&self.jobs);
         take_in_relays(&mut self.closer, &mut self.jobs);
         let shut = shut_down(&mut self.closer);
@@ -50,6 +50,7 @@ impl<P: Balancer + Send, R: Threads + Wait + Sync, C: Clock, D: Draws> Front<
 /// Relays a link by each of these workers.
 fn relay_all<P: Balancer + Send, R: Threads + Wait + Sync, C: Clock, D: Draws, L: Listener>(
     rt: &R,
+    clock: &C,
     listener: &mut L,
     jobs: &mut Vec<RelayJob<ChannelSeat<'_, P, R, C, D>>>,
 ) -> bool
@@ -57,12 +58,13 @@ fn relay_all<P: Balancer + Send, R: Threads + Wait + Sync, C: Clock, D: Draws, L
     ensures relayed { (lock : LockId) → AllByRecursion (IsFresh lock) (map (λ j. j.post.seat) jobs.old.items) → AllByRecursion (IsRelayHandle lock) (map (λ j. j.post.seat) jobs.new.items) }
     ensures count { length jobs.new.items ≡ length jobs.old.items }
 {
-    relay_all_of(rt, listener, jobs)
+    relay_all_of(rt, clock, listener, jobs)
 }
 
 /// The work of these workers, each by its place.
-fn relay_all_of<R: Threads + Wait + Sync, H: Post + Glance + Send, L: Listener>(
+fn relay_all_of<R: Threads + Wait + Sync, H: Post + Glance + Send, C: Clock, L: Listener>(
     rt: &R,
+    clock: &C,
     listener: &mut L,
     jobs: &mut Vec<RelayJob<H>>,
 ) -> bool
@@ -70,7 +72,7 @@ fn relay_all_of<R: Threads + Wait + Sync, H: Post + Glance + Send, L: Listener>(
     ensures count { length jobs.new.items ≡ length jobs.old.items }
     ensures each { (i : ℕ) (d : RelayJob H) → i < length jobs.old.items → LinkRelayed (seen_by H.made H.errors H.last_error) H.share (slice_index_or jobs.old.items i d) (slice_index_or jobs.new.items i d) }
 {
-    relay_links(rt, listener, jobs.as_mut_slice())
+    relay_links(rt, clock, listener, jobs.as_mut_slice())
 }
 
 /// How these workers ended, taken together.

@@ -5,6 +5,7 @@ mod accepting;
 mod front;
 mod link;
 mod mode;
+mod prompt;
 mod run;
 mod session;
 mod settings;

@@ -116,7 +116,7 @@ fn work_beside<
         &mut || -> bool
             requires { IsSync R.row × AllByRecursion (IsFresh front.entry.now.closer.seat.lock) (map (λ j. j.post.seat) front.entry.now.jobs.items) }
             ensures { IsHeard result (L.faults listener.entry.now) (L.faults listener.exit.now) × FrontDone (λ h. h.seat) front.entry.now front.exit.now }
-        { front.relay(rt, listener) },
+        { front.relay(rt, clock, listener) },
         &mut || -> ()
             requires { IsSync R.row }
             ensures { KeepsDone (λ h. h.seat) links.entry.now links.exit.now }
