@@ -1,2 +1,4 @@
 pub mod RunLaws
 pub mod TellLaws
+pub mod GiveLaws
+pub mod TurnLaws
