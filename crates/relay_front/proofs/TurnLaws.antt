@@ -10,7 +10,7 @@ use Rattle.relay_connection.specs.Relay.{Relay, silent}
 use Rattle.relay_connection.specs.declared.fault.RelayFault.{RelayFault}
 use Rattle.relay_connection.specs.declared.fault.RelayFault.TheVariants as refused
 use Rattle.relay_front.specs.Cores.{Core}
-use Rattle.relay_front.specs.Turns.{GivesAfter, ServesAsks, TakesPiece, TurnsUnless, turn_of}
+use Rattle.relay_front.specs.Turns.{GivesAfter, ServesAsks, TakesPiece, TurnsTo, TurnsUnless, turn_of}
 use Rattle.relay_front.specs.declared.turned.RelayTurn.{RelayTurn}
 use Rattle.relay_front.specs.declared.turned.RelayTurn.TheVariants as turn
 
@@ -53,3 +53,9 @@ serves_asks {P} eyes c d after_core before post after asks came t same posts giv
 pub cuts_asks : {P : Type 0} (eyes : Eyes P) (c d : Core) (before post : P) (asks : List RelayAsk) (f : CallsFault) (t : RelayTurn)
     → d.relay ≡ c.relay → t ≡ turn_of f → PostsTurn eyes c.calls before asks d.calls post (Err f) → ServesAsks eyes c before asks d post t
 cuts_asks {P} eyes c d before post asks f t same is posts = serves_asks eyes c d d before post post asks (Err f) t same posts (refl, refl, is)
+
+-- a piece that is refused, since the connection was broken before
+pub turns_broken_as : {P T : Type 0} (eyes : Eyes P) (r : Result T RelayFault) (code : ℕ) (c d : Core) (p : P) (piece : List ℕ) → r ≡ Err (refused.Broken code)
+    → ((n : ℕ) → (r ≡ Err (refused.Broken n)) ↔ (c.relay.link.wire.broken ≡ Some n)) → ((n : ℕ) → r ≡ Err (refused.Broken n) → d ≡ c) → TurnsTo eyes c p piece d p (turn.Broken code)
+turns_broken_as {P} {T} eyes r code c d p piece is breaks same =
+    subst (λ (x : Core). TurnsTo eyes c p piece x p (turn.Broken code)) (sym (same code is)) (turns_broken eyes c.relay.link.wire.broken code c p piece ((breaks code).0 is))

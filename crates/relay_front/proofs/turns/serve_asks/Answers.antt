@@ -1,4 +1,5 @@
 use Rattle.std.proofs.Common.{Ok, Err, refl}
+use Rattle.live_pump.specs.Pumps.{HandleSeen}
 use Rattle.relay_calls.specs.Posting.{Eyes, eyes_of}
 use Rattle.relay_front.proofs.TellLaws.{faulted_tells, turn_from}
 use Rattle.relay_front.proofs.TurnLaws.{cuts_asks, serves_asks}
@@ -10,7 +11,9 @@ returns-in-Ok-clause-serves g c =
     serves_asks eyes c.args.core.now c.post_asks.new.core _ _ _ _ _ (Ok tt) _ c.post_asks.ensures.relay c.in-Ok.ensures.posted c.give_all.ensures.given
 
 pub returns-in-Ok-clause-tells : goal.returns-in-Ok-clause-tells
-returns-in-Ok-clause-tells g c = turn_from _ _ _ c.give_all.result c.in-Ok.ensures.tells c.give_all.ensures.tells
+returns-in-Ok-clause-tells g c =
+    let seen : g.row.P.Denot → HandleSeen = λ p. record { made = g.P.Post.made p; errors = g.P.Post.errors p; last = g.P.Post.last_error p } in
+    turn_from (seen c.args.post.now) (seen c.post_asks.new.post) (seen c.give_all.new.post) c.give_all.result c.in-Ok.ensures.tells c.give_all.ensures.tells
 
 pub returns-in-Err-clause-serves : goal.returns-in-Err-clause-serves
 returns-in-Err-clause-serves g c =

@@ -1,4 +1,5 @@
 use Rattle.std.proofs.Common.{Ok, Err, List, refl, subst, ◌∙◌}
+use Rattle.live_pump.specs.Pumps.{HandleSeen}
 use Rattle.relay_asks.specs.declared.ask.RelayAsk.{RelayAsk}
 use Rattle.relay_calls.specs.Posting.{Eyes, PostsAll, eyes_of}
 use Rattle.relay_calls.proofs.PostLaws.{posts_fault, posts_first, posts_none}
@@ -29,9 +30,11 @@ returns-in-Err-clause-posted g c =
     c.loop-ask.invariant.later _ _ _ (posts_fault eyes _ c.in-Some.ask _ _ _ _ _ c.in-Err.fault c.in-Some.ensures.items c.in-Err.ensures.posted)
 
 pub returns-in-Err-clause-tells : goal.returns-in-Err-clause-tells
-returns-in-Err-clause-tells g c = tells_from _ _ _ (Err c.in-Err.fault) c.loop-ask.invariant.errors c.in-Err.ensures.tells
+returns-in-Err-clause-tells g c =
+    let seen : g.row.P.Denot → HandleSeen = λ p. record { made = g.P.Post.made p; errors = g.P.Post.errors p; last = g.P.Post.last_error p } in
+    tells_from (seen c.args.post.now) (seen c.loop-ask.post) (seen c.post_ask.new.post) (Err c.in-Err.fault) c.loop-ask.invariant.errors c.in-Err.ensures.tells
 
 pub returns-clause-posted : goal.returns-clause-posted
 returns-clause-posted g c =
     let eyes : Eyes g.row.P.Denot = eyes_of g.P.Post.made g.P.Post.errors g.P.Post.last_error g.P.Post.looks g.P.Post.last_look in
-    c.loop-ask.invariant.later _ _ _ (posts_none eyes _ _ _ c.in-None.ensures.items)
+    c.loop-ask.invariant.later _ _ _ (posts_none eyes _ _ _ c.in_default.ensures.items)
