@@ -1,4 +1,6 @@
-use Rattle.std.proofs.Common.{Ok, Err, List, refl, subst, ◌∙◌}
+use Rattle.std.proofs.Common.{◌≡◌, [], Ok, Err, List, refl, sym, subst, ◌∙◌}
+use Rattle.std.proofs.lemmas.List.{nil_from_length}
+use Rattle.std.specs.Vec.Iter.{into_iter_items}
 use Rattle.live_pump.specs.Pumps.{HandleSeen}
 use Rattle.relay_asks.specs.declared.ask.RelayAsk.{RelayAsk}
 use Rattle.relay_calls.specs.Posting.{Eyes, PostsAll, eyes_of}
@@ -37,4 +39,5 @@ returns-in-Err-clause-tells g c =
 pub returns-clause-posted : goal.returns-clause-posted
 returns-clause-posted g c =
     let eyes : Eyes g.row.P.Denot = eyes_of g.P.Post.made g.P.Post.errors g.P.Post.last_error g.P.Post.looks g.P.Post.last_look in
-    c.loop-ask.invariant.later _ _ _ (posts_none eyes _ _ _ c.in_default.ensures.items)
+    let none : ◌≡◌ {A = List RelayAsk} (into_iter_items c.loop-ask.rest) [] = nil_from_length (into_iter_items c.loop-ask.rest) (sym c.loop-ask.rest.rest.ok.0 ∙ c.in_default.ensures.cases.0) in
+    c.loop-ask.invariant.later _ _ _ (posts_none eyes _ _ _ none)
