@@ -1,8 +1,8 @@
 -- Asks that are posted one after the other.
-use Rattle.std.proofs.Common.{◌≡◌, ◌⊎◌, ℕ, Result, Ok, Err, List, [], ◌∷◌, ◌++◌, inl, inr, refl, sym, ap, subst, absurd, ⊥}
+use Rattle.std.proofs.Common.{◌≡◌, ◌⊎◌, ℕ, Result, Ok, Err, List, [], ◌∷◌, ◌++◌, inl, inr, refl, sym, ap, subst}
 use Rattle.relay_asks.specs.declared.ask.RelayAsk.{RelayAsk}
 use Rattle.relay_calls.specs.Calls.{Calls}
-use Rattle.relay_calls.specs.Posting.{Eyes, PostsAll, PostsAsk}
+use Rattle.relay_calls.specs.Posting.{Eyes, PostsAll, PostsAsk, PostsTurn}
 use Rattle.relay_calls.specs.declared.fault.CallsFault.{CallsFault}
 
 -- an ask that is posted, before those that are left
@@ -35,3 +35,16 @@ pub posts_cut : {P : Type 0} (eyes : Eyes P) (first later : List RelayAsk) (c af
 posts_cut eyes [] later c after p r f h = absurd (let no : ⊥ = (cc) in no)
 posts_cut eyes (a ∷ first) later c after p r f (inl h) = inl (h.0, h.1, h.2, posts_cut eyes first later h.0 after h.1 r f h.3)
 posts_cut eyes (a ∷ first) later c after p r f (inr h) = inr h
+
+-- the asks that wait, and then others
+pub posts_turn : {P : Type 0} (eyes : Eyes P) (c start next after : Calls) (waited asks : List RelayAsk) (p q r : P) (result : Result Unit CallsFault)
+    → waited ≡ c.waiting → start ≡ record c { waiting = [] } → PostsAll eyes start p waited next q (Ok tt) → PostsAll eyes next q asks after r result → PostsTurn eyes c p asks after r result
+posts_turn eyes c start next after waited asks p q r result is begins h k =
+    posts_then eyes c.waiting asks (record c { waiting = [] }) next after p q r result
+    (subst (λ (l : List RelayAsk). PostsAll eyes (record c { waiting = [] }) p l next q (Ok tt)) is (subst (λ (x : Calls). PostsAll eyes x p waited next q (Ok tt)) begins h)) k
+
+pub posts_turn_cut : {P : Type 0} (eyes : Eyes P) (c start after : Calls) (waited asks : List RelayAsk) (p r : P) (f : CallsFault)
+    → waited ≡ c.waiting → start ≡ record c { waiting = [] } → PostsAll eyes start p waited after r (Err f) → PostsTurn eyes c p asks after r (Err f)
+posts_turn_cut eyes c start after waited asks p r f is begins h =
+    posts_cut eyes c.waiting asks (record c { waiting = [] }) after p r f
+    (subst (λ (l : List RelayAsk). PostsAll eyes (record c { waiting = [] }) p l after r (Err f)) is (subst (λ (x : Calls). PostsAll eyes x p waited after r (Err f)) begins h))

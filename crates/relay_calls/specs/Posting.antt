@@ -88,8 +88,8 @@ Sends {P} eyes call message c a before after_calls after result =
 -- nothing is done for a stream that has no call
 pub record IsPassed {P : Type 0} (eyes : Eyes P) (c : Calls) (before : P) (after_calls : Calls) (after : P) (result : Result Unit CallsFault) : Type 0 where
   pub handle : eyes.handle after ≡ eyes.handle before
-  pub calls : after_calls ≡ c
-  pub result : result ≡ Ok tt
+  pub same : after_calls ≡ c
+  pub answer : result ≡ Ok tt
 
 -- an ask whose stream does not wait, or a Cancel, which drops the asks of its stream that wait
 abbrev pub PostsNow : {P : Type 0} → Eyes P → Calls → RelayAsk → P → Calls → P → Result Unit CallsFault → Type 0

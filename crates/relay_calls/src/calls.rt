@@ -1,5 +1,5 @@
 // The calls of a connection, and what its streams ask of them.
-ghost use Rattle.std.specs.Prelude.{◌≡◌, ◌<◌, ◌++◌, ◌∷◌, [], filter, length, not, OnOk, IfSome, Result, slice_get};
+ghost use Rattle.std.specs.Prelude.{◌≡◌, ◌<◌, ◌==◌, ◌++◌, ◌∷◌, [], filter, length, not, OnOk, IfSome, Result, slice_get, true};
 ghost use Rattle.std.specs.List.{list_any};
 ghost use Rattle.grpc_base.specs.declared.event.Event.TheVariants as event;
 ghost use Rattle.grpc_base.specs.declared.request.Request.{Request};
@@ -13,7 +13,7 @@ ghost use Rattle.relay_calls.specs.Posting.{Becomes, Eyes, PostsAll, PostsAs, Po
 use crate::call::{RelayCall, number_of, place_of};
 use crate::fault::CallsFault;
 use crate::takes::{give_up, take_one};
-use grpc_base::{Event, Glance, NoMemory, Octets, Post, PostError, Refusal, Reply, Request};
+use grpc_base::{Event, Glance, NoMemory, Octets, Post, PostError, Reply, Request};
 use relay_asks::RelayAsk;
 use std::alloc::Global;
 use std::marker::Model;
@@ -42,6 +42,20 @@ fn length_of(message: &Octets) -> u32
     ensures { result ≡ length_of message.now }
 {
     u32::try_from(message.len()).unwrap_or(u32::MAX)
+}
+
+/// Keeps the asks of other streams.
+fn keep_others(asks: &mut Vec<RelayAsk>, stream: u32)
+    ensures { asks.new.items ≡ filter (λ a. not (stream_of a == stream)) asks.old.items }
+{
+    asks.retain(|a| a.stream() != stream);
+}
+
+/// Keeps the calls that are not over.
+fn keep_live(calls: &mut Vec<RelayCall>)
+    ensures { calls.new.items ≡ filter is_live calls.old.items }
+{
+    calls.retain(|c| c.is_live());
 }
 
 impl RelayCalls {
@@ -92,7 +106,15 @@ impl RelayCalls {
     fn drop_waiting(&mut self, stream: u32)
         ensures { self.new ≡ dropped self.old stream }
     {
-        self.waiting.retain(|a| a.stream() != stream);
+        keep_others(&mut self.waiting, stream);
+    }
+
+    /// Takes the asks that wait.
+    fn take_waiting(&mut self) -> Vec<RelayAsk>
+        ensures taken { result.items ≡ self.old.waiting }
+        ensures rest { self.new ≡ record self.old { waiting = [] } }
+    {
+        mem::replace(&mut self.waiting, Vec::new(self.alloc))
     }
 
     /// The stream asks no more but a Cancel.
@@ -109,8 +131,9 @@ impl RelayCalls {
         ensures { self.new ≡ closed self.old stream }
     {
         if let Some(place) = place_of(&self.calls, stream) {
-            self.calls[place].asking = false;
-            self.calls[place].is_open = false;
+            let call = &mut self.calls[place];
+            call.asking = false;
+            call.is_open = false;
         }
     }
 
@@ -131,7 +154,7 @@ impl RelayCalls {
     pub fn settle(&mut self)
         ensures { self.new ≡ settled self.old }
     {
-        self.calls.retain(|c| c.is_live());
+        keep_live(&mut self.calls);
     }
 
     /// Begins a call.
@@ -311,7 +334,10 @@ impl RelayCalls {
     {
         let mut rest = asks.into_iter();
         while let Some(ask) = rest.next() {
-            self.post_ask(post, ask)?;
+            match self.post_ask(post, ask) {
+                Ok(()) => {}
+                Err(fault) => return Err(fault),
+            }
         }
         Ok(())
     }
@@ -328,9 +354,11 @@ impl RelayCalls {
         ensures tells { let before : HandleSeen = record { made = P.made post.old; errors = P.errors post.old; last = P.last_error post.old } in let after : HandleSeen = record { made = P.made post.new; errors = P.errors post.new; last = P.last_error post.new } in Tells before after result }
         ensures share { P.share post.new ≡ P.share post.old }
     {
-        let waited = mem::replace(&mut self.waiting, Vec::new(self.alloc));
-        self.post_all(post, waited)?;
-        self.post_all(post, asks)
+        let waited = self.take_waiting();
+        match self.post_all(post, waited) {
+            Ok(()) => self.post_all(post, asks),
+            Err(fault) => Err(fault),
+        }
     }
     /// The stream of the call at a place.
     pub fn stream_at(&self, place: usize) -> u32

@@ -1,7 +1,7 @@
 -- What a connection asks for one stream is what that stream asks of what happens to it.
-use Rattle.std.proofs.Common.{◌≡◌, ℕ, zero, ◌<◌, ◌≤◌, Bool, true, false, List, [], ◌∷◌, ◌++◌, refl, sym, ◌∙◌, ap, ap₂, subst, Some, None, arith, append_assoc, append-nil}
-use Rattle.std.specs.Prelude.{Option, ◌==◌, nat_lt, if◌then◌else◌, position, slice_get, slice_set, filter}
-use Rattle.std.proofs.lemmas.Bool.{eqb-true, eq-eqb, ne_eqb, ltb-false, ltb-true, lt-ltb}
+use Rattle.std.proofs.Common.{◌≡◌, ℕ, ◌<◌, ◌≤◌, Bool, true, false, List, [], ◌∷◌, ◌++◌, refl, sym, ◌∙◌, ap, ap₂, subst, Some, None, arith, append-nil}
+use Rattle.std.specs.Prelude.{Option, ◌==◌, nat_lt, if◌then◌else◌, position, slice_get, slice_set}
+use Rattle.std.proofs.lemmas.Bool.{eqb-true, ne_eqb, ltb-true, lt-ltb}
 use Rattle.std.proofs.lemmas.List.Elements.{filter-append}
 use Rattle.grpc_base.specs.declared.event.Reply.{Reply}
 use Rattle.grpc_base.specs.declared.event.Reply.TheVariants as reply
@@ -21,11 +21,11 @@ use Rattle.relay_asks.proofs.Asked.{nothing_asked}
 use Rattle.relay_connection.specs.declared.stream.RelayStream.{RelayStream}
 use Rattle.relay_connection.specs.declared.stream.StreamNews.{StreamNews}
 use Rattle.relay_connection.specs.declared.stream.StreamNews.TheVariants as stream
-use Rattle.relay_connection.specs.Draining.{Step, next, next_by, step_as, step_at, stream_step}
+use Rattle.relay_connection.specs.Draining.{next_by, step_as, step_at, stream_step}
 use Rattle.relay_connection.specs.Laws.{Event, Hears, Gives, Sends, after, asks_for, asks_from, ended_by, event_for, happened, if_own, item_moments, moments_for, news_for, Rises, stepped_relay}
 use Rattle.relay_asks.specs.Asking.{stream_of}
-use Rattle.relay_connection.specs.Relay.{Relay, Told, fields_told, fresh_relay, given, given_at, given_by, on_stream, silent, stream_opened, told, told_at, told_by}
-use Rattle.relay_connection.specs.Streams.{cancels, given_to, is_over, item_given, may_send, put, sent, stream_begun, stream_told}
+use Rattle.relay_connection.specs.Relay.{Relay, Told, fresh_relay, given, given_at, given_by, on_stream, silent, stream_opened, told, told_at, told_by}
+use Rattle.relay_connection.specs.Streams.{cancels, is_over, item_given, may_send, put, sent, stream_begun, stream_told}
 use Rattle.relay_connection.proofs.Asks.{AreFor, for_other, for_own, moments_of, opened_for, opened_known, opened_number, over_asks, told_for, told_known, told_number}
 use Rattle.relay_connection.proofs.Rising.{is_at, is_nowhere, none_above, number_of, own, own_at, push_other, push_own, put_other, put_own, rises_most, rises_push, rises_put, rises_written, written_other, written_own}
 

@@ -1,14 +1,13 @@
 -- Whose the asks are that something makes a stream ask.
-use Rattle.std.proofs.Common.{◌≡◌, ℕ, Bool, true, false, List, [], ◌∷◌, ◌++◌, refl, sym, ◌∙◌, ap, subst, Some, None, append_assoc}
-use Rattle.std.specs.Prelude.{Option, ◌==◌, ◌&&◌, not, if◌then◌else◌, filter, map}
+use Rattle.std.proofs.Common.{◌≡◌, ℕ, Bool, true, false, List, [], ◌∷◌, ◌++◌, refl, ◌∙◌, ap, subst, Some, None, append_assoc}
+use Rattle.std.specs.Prelude.{Option, ◌==◌, ◌&&◌, not, if◌then◌else◌, map}
 use Rattle.std.proofs.lemmas.Bool.{eq-eqb}
-use Rattle.grpc_base.specs.declared.code.Code.{Code}
 use Rattle.grpc_base.specs.declared.fields.Field.{Field}
 use Rattle.grpc_frame.specs.declared.next.MessageFault.{MessageFault}
 use Rattle.grpc_frame.specs.Reader.{ReaderSeen, given}
 use Rattle.relay_asks.specs.declared.ask.RelayAsk.{RelayAsk}
 use Rattle.relay_asks.specs.declared.ask.RelayAsk.TheVariants as ask
-use Rattle.relay_asks.specs.Asking.{Asking, begun, begun_by, data_told, end_told, fed, given_up, judged, sent, unchanged}
+use Rattle.relay_asks.specs.Asking.{Asking, begun, begun_by, data_told, fed, judged, sent, unchanged}
 use Rattle.relay_asks.specs.Laws.{Moment, Came, Ended, Answered, Broke}
 use Rattle.relay_asks.specs.Laws as asking
 use Rattle.relay_asks.proofs.Asked.{nothing_asked}

@@ -1,6 +1,6 @@
 -- A piece does on a link what its parts do, one after the other.
-use Rattle.std.proofs.Common.{◌≡◌, ◌≢◌, ℕ, zero, suc, ◌<◌, ◌≤◌, ◌+◌, ◌-◌, Bool, true, false, List, [], ◌∷◌, ◌++◌, length, drop, refl, sym, ◌∙◌, ap, ap₂, subst, Some, None, arith, inl, inr, length-append, append-nil}
-use Rattle.std.specs.Prelude.{Option, is_some, ◌==◌, ◌||◌, if◌then◌else◌}
+use Rattle.std.proofs.Common.{◌≡◌, ◌≢◌, ℕ, zero, suc, ◌<◌, ◌≤◌, ◌-◌, Bool, true, false, List, [], ◌∷◌, ◌++◌, length, drop, refl, sym, ◌∙◌, ap, subst, Some, None, arith, length-append, append-nil}
+use Rattle.std.specs.Prelude.{Option, is_some, ◌==◌, ◌||◌}
 use Rattle.std.proofs.Math.Seq.{drop-append-add}
 use Rattle.std.proofs.lemmas.List.{drop-append-le, drop_all}
 use Rattle.h2_server.specs.Heard.{heard, heard_with, heard_behind, front_of}

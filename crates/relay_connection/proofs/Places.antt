@@ -1,5 +1,5 @@
 -- The stream at a place.
-use Rattle.std.proofs.Common.{◌≡◌, ℕ, zero, suc, ◌<◌, List, [], ◌∷◌, ◌++◌, length, refl, sym, ◌∙◌, ap, subst, Some, None, arith}
+use Rattle.std.proofs.Common.{◌≡◌, ℕ, zero, suc, ◌<◌, List, [], ◌∷◌, ◌++◌, length, refl, sym, ◌∙◌, ap, subst, Some, arith}
 use Rattle.std.specs.Prelude.{Option, IfSome, position, slice_get, slice_set}
 use Rattle.grpc_base.specs.declared.event.Reply.{Reply}
 use Rattle.relay_asks.specs.declared.ask.RelayAsk.{RelayAsk}

@@ -1,5 +1,5 @@
 -- A piece, one frame after the other.
-use Rattle.std.proofs.Common.{◌≡◌, ℕ, suc, ◌<◌, Bool, false, List, ◌++◌, length, refl, sym, ◌∙◌, ap, ap₂, None, arith}
+use Rattle.std.proofs.Common.{◌≡◌, ℕ, suc, ◌<◌, false, List, ◌++◌, length, refl, sym, ◌∙◌, ap, ap₂, None}
 use Rattle.std.specs.Prelude.{drop, is_some}
 use Rattle.h2_server.specs.Heard.{heard}
 use Rattle.relay_asks.specs.declared.ask.RelayAsk.{RelayAsk}

@@ -1,5 +1,5 @@
 -- How much a connection has still to send: each frame makes that less.
-use Rattle.std.proofs.Common.{◌≡◌, ℕ, zero, suc, ◌<◌, ◌≤◌, ◌+◌, Bool, true, false, List, [], ◌∷◌, ◌++◌, length, drop, refl, sym, ◌∙◌, ap, subst, Some, None, arith}
+use Rattle.std.proofs.Common.{◌≡◌, ℕ, zero, suc, ◌<◌, ◌+◌, Bool, true, false, List, [], ◌∷◌, ◌++◌, length, drop, refl, sym, ap, subst, Some, None, arith}
 use Rattle.std.specs.Prelude.{Option, nat_le, if◌then◌else◌, option_map, position, slice_get, slice_set}
 use Rattle.std.specs.List.{remove}
 use Rattle.h2_server.specs.declared.control.Control.{Control}
@@ -7,7 +7,6 @@ use Rattle.h2_server.specs.Sends.{control_sent, next_control}
 use Rattle.h2_server.specs.Sends as sends
 use Rattle.h2_server.specs.Wire.{Wire}
 use Rattle.relay_answer.specs.Answering.{room_of}
-use Rattle.relay_answer.specs.Moves.{moved}
 use Rattle.relay_answer.proofs.Rooms.{answer_weight, lighter}
 use Rattle.relay_connection.specs.declared.stream.RelayStream.{RelayStream}
 use Rattle.relay_connection.specs.Draining.{Sending, Step, goes, next, next_by, step_as, step_at, stream_step}

@@ -51,10 +51,15 @@ abbrev pub GoesOut : {O : Type 0} → (O → OutSeen) → Core → O → Core �
 GoesOut sees c out after_core out_after e =
     DrainsOut sees c out after_core out_after e ⊎ IsSilent c out after_core out_after e ⊎ ((out_after ≡ out) × (e ≡ Some end.NoMemory))
 
+-- the end of the rounds that this answer of a turn is
+abbrev pub end_of : RelayTurn → LinkEnd
+end_of (turn.Broken code) = end.Broken code
+end_of t = end.Turned t
+
 -- what follows a turn: a drain where it goes on; else the rounds end
 abbrev pub GoesOn : {O : Type 0} → (O → OutSeen) → Bool → Core → RelayTurn → O → Core → O → Option LinkEnd → Type 0
 GoesOn sees true turned answer out after_core out_after e = GoesOut sees turned out after_core out_after e
-GoesOn sees false turned answer out after_core out_after e = (after_core ≡ turned) × (out_after ≡ out) × (e ≡ Some (end.Turned answer))
+GoesOn sees false turned answer out after_core out_after e = (after_core ≡ turned) × (out_after ≡ out) × (e ≡ Some (end_of answer))
 
 -- a turn with a piece, and what follows
 pub record TurnsLink {P O : Type 0} (eyes : Eyes P) (sees : O → OutSeen) (piece : List ℕ) (core : Core) (post : P) (out : O) (after_core : Core) (post_after : P) (out_after : O) (e : Option LinkEnd) : Type 0 where
@@ -103,7 +108,7 @@ pub record RunsOn {P I O : Type 0} (eyes : LinkEyes P I O) (start after : Stand 
 -- what is left to be done: where the link or the protocol ended the rounds, the calls that are open are given up, once
 abbrev pub Finishes : {P : Type 0} → Eyes P → LinkEnd → Core → P → Core → P → RelayTurn → Type 0
 Finishes eyes end.Lost c before after_core after t = Closes eyes c before after_core after t
-Finishes eyes (end.Turned (turn.Broken code)) c before after_core after t =
+Finishes eyes (end.Broken code) c before after_core after t =
     (closed : RelayTurn) × Closes eyes c before after_core after closed × (t ≡ turn.Broken code)
 Finishes eyes (end.Turned answer) c before after_core after t = (after_core ≡ c) × (after ≡ before) × (t ≡ answer)
 Finishes eyes end.NoMemory c before after_core after t = (after_core ≡ c) × (after ≡ before) × (t ≡ turn.NoMemory)

@@ -37,6 +37,12 @@ Given c stream (Ok item) after (Ok done) = after ≡ given_item c stream item
 Given c stream (Ok item) after (Err f) = f ≡ fault.NoMemory
 Given c stream (Err error) after result = (after ≡ c) × (result ≡ Err (fault.Failed error))
 
+-- the error of a Take is answered, and where there was none at most that memory was wanting
+abbrev pub GivenAs : Result (Option Reply) PostError → Result Unit CallsFault → Type 0
+GivenAs (Ok item) (Ok done) = Unit {0}
+GivenAs (Ok item) (Err f) = f ≡ fault.NoMemory
+GivenAs (Err error) result = result ≡ Err (fault.Failed error)
+
 -- the call at a place: one Take is posted where it is open and something has come, and what came is given to its stream
 abbrev pub GivesAt : {P : Type 0} → Eyes P → ℕ → Core → P → Core → P → Result Unit CallsFault → Type 0
 GivesAt eyes place c before after_core after result =
@@ -62,26 +68,26 @@ abbrev pub answer_of : Result Unit CallsFault → RelayTurn
 answer_of (Ok done) = turn.Going
 answer_of (Err f) = turn_of f
 
-abbrev pub turned_of : Result Unit RelayTurn → RelayTurn
-turned_of (Ok done) = turn.Going
-turned_of (Err t) = t
-
 -- once what was asked is posted, what came of the calls is given
 abbrev pub GivesAfter : {P : Type 0} → Eyes P → Core → P → Result Unit CallsFault → Core → P → RelayTurn → Type 0
 GivesAfter eyes c before (Ok done) after_core after t =
     (came : Result Unit CallsFault) × GivesAll eyes c before after_core after came × (t ≡ answer_of came)
 GivesAfter eyes c before (Err f) after_core after t = (after_core ≡ c) × (after ≡ before) × (t ≡ turn_of f)
 
--- a piece is taken, what it asks is posted behind what waits, and what came of the calls is given
-pub record TakesPiece {P : Type 0} (eyes : Eyes P) (c : Core) (before : P) (piece : List ℕ) (after_core : Core) (after : P) (t : RelayTurn) : Type 0 where
-  pub relay : Relay
-  pub asks : List RelayAsk
-  pub arrives : Arrives (silent c.relay) piece (record { relay = relay; asks = asks })
+-- asks are posted behind those that wait, and then what came of the calls is given
+pub record ServesAsks {P : Type 0} (eyes : Eyes P) (c : Core) (before : P) (asks : List RelayAsk) (after_core : Core) (after : P) (t : RelayTurn) : Type 0 where
   pub calls : Calls
   pub post : P
   pub came : Result Unit CallsFault
   pub posts : PostsTurn eyes c.calls before asks calls post came
-  pub gives : GivesAfter eyes (record { relay = relay; calls = calls }) post came after_core after t
+  pub gives : GivesAfter eyes (record c { calls = calls }) post came after_core after t
+
+-- a piece is taken, and what it asks is served
+pub record TakesPiece {P : Type 0} (eyes : Eyes P) (c : Core) (before : P) (piece : List ℕ) (after_core : Core) (after : P) (t : RelayTurn) : Type 0 where
+  pub relay : Relay
+  pub asks : List RelayAsk
+  pub arrives : Arrives (silent c.relay) piece (record { relay = relay; asks = asks })
+  pub serves : ServesAsks eyes (record c { relay = relay }) before asks after_core after t
 
 -- memory was wanting for the piece, and nothing was posted
 abbrev pub WantsMemory : {P : Type 0} → P → P → RelayTurn → Type 0

@@ -1,10 +1,10 @@
 // The job of one link: its bytes go to the connection, and what the connection has to send goes out.
-ghost use Rattle.std.specs.Prelude.{◌≡◌, Some, true, false};
+ghost use Rattle.std.specs.Prelude.{◌≡◌, ◌<◌, ◌≤◌, None, Some, IfSome, length, take, true, false};
 ghost use Rattle.grpc_base.specs.Counts.{one_more};
 ghost use Rattle.gate_io.specs.Outside.{Appends, AppendsFront};
-ghost use Rattle.live_pump.specs.Pumps.{HandleSeen, OutSeen};
+ghost use Rattle.live_pump.specs.Pumps.{HandleSeen, IsOver, OutSeen};
 ghost use Rattle.relay_calls.specs.Posting.{Eyes, eyes_of};
-ghost use Rattle.relay_front.specs.Rounds.{Finishes, GoesOut, LinkEyes, RoundOf, RunsOn, RunsTo, TellsEnd, TellsLink, TurnsLink, link_eyes_of};
+ghost use Rattle.relay_front.specs.Rounds.{Finishes, GoesOut, LinkEyes, Reads, RoundOf, RunsOn, RunsTo, TellsEnd, TellsLink, TurnsLink, Writes, end_of, link_eyes_of};
 
 use crate::ends::relay_close;
 use crate::relay_core::RelayCore;
@@ -26,10 +26,22 @@ const DRAIN_ROOM: u32 = 65_536;
 pub(crate) enum LinkEnd {
     /// A read gave the link's end, or failed, or a write failed.
     Lost,
-    /// A turn answered other than Going.
+    /// A turn answered that the client's bytes broke the protocol.
+    Broken { code: u32 },
+    /// A turn answered otherwise than that and Going.
     Turned(RelayTurn),
     /// A drain found no memory.
     NoMemory,
+}
+
+/// The end of the rounds that this answer of a turn is.
+fn end_of(turn: RelayTurn) -> LinkEnd
+    ensures { result ≡ end_of turn }
+{
+    match turn {
+        RelayTurn::Broken { code } => LinkEnd::Broken { code },
+        other => LinkEnd::Turned(other),
+    }
 }
 
 /// Writes a piece whole, and says whether all of it was taken.
@@ -49,6 +61,24 @@ fn write_all<O: LinkOut>(output: &mut O, piece: &[u8]) -> bool
     true
 }
 
+/// Writes what was drained.
+fn write_out<O: LinkOut>(output: &mut O, piece: &[u8]) -> Option<LinkEnd>
+    ensures writes { Writes (λ (o : O). let seen : OutSeen = record { taken = O.taken o; faults = O.faults o } in seen) piece.now output.old output.new result }
+    ensures tells { (before after : HandleSeen) → after.errors ≡ before.errors → TellsEnd before after result }
+{
+    if write_all(output, piece) {
+        return None;
+    }
+    Some(LinkEnd::Lost)
+}
+
+/// Bytes that go out count as a try that found something.
+fn note(patience: &mut Patience, count: usize) {
+    if count > 0 {
+        patience.hit();
+    }
+}
+
 /// Writes all of one drain. A connection that is broken has nothing to write.
 fn drain_out<O: LinkOut>(
     core: &mut RelayCore,
@@ -56,17 +86,12 @@ fn drain_out<O: LinkOut>(
     output: &mut O,
 ) -> Option<LinkEnd>
     ensures out { GoesOut (λ (o : O). let seen : OutSeen = record { taken = O.taken o; faults = O.faults o } in seen) core.old output.old core.new output.new result }
+    ensures tells { (before after : HandleSeen) → after.errors ≡ before.errors → TellsEnd before after result }
 {
     match core.drain(DRAIN_ROOM) {
         Ok(octets) => {
-            if octets.len() > 0 {
-                patience.hit();
-            }
-            if write_all(output, octets.as_slice()) {
-                None
-            } else {
-                Some(LinkEnd::Lost)
-            }
+            note(patience, octets.len());
+            write_out(output, octets.as_slice())
         }
         Err(RelayFault::Broken { code: _ }) => None,
         Err(RelayFault::NoMemory) => Some(LinkEnd::NoMemory),
@@ -88,9 +113,32 @@ fn turn_link<P: Post + Glance, O: LinkOut>(
 {
     let turn = relay_turn(post, core, piece);
     if !turn.is_going() {
-        return Some(LinkEnd::Turned(turn));
+        return Some(end_of(turn));
     }
     drain_out(core, patience, output)
+}
+
+/// Reads once, and says how many bytes came; None where the link gave its end or the read failed.
+fn read_link<I: LinkIn>(patience: &mut Patience, input: &mut I, buffer: &mut [u8]) -> Option<usize>
+    requires some { 0 < length buffer.old }
+    requires most { length buffer.old ≤ 16384 }
+    ensures over { result ≡ None → IsOver (record { left = I.left input.old; faults = I.faults input.old; quiet = I.quiet input.old }) (record { left = I.left input.new; faults = I.faults input.new; quiet = I.quiet input.new }) }
+    ensures reads { IfSome result (λ count. Reads (record { left = I.left input.old; faults = I.faults input.old; quiet = I.quiet input.old }) (record { left = I.left input.new; faults = I.faults input.new; quiet = I.quiet input.new }) (take count buffer.new)) }
+    ensures within { IfSome result (λ count. count ≤ length buffer.new) }
+    ensures same { length buffer.new ≡ length buffer.old }
+{
+    input.wait_at_most(patience.pause());
+    match input.read(buffer) {
+        LinkRead::Got(count) => {
+            patience.hit();
+            Some(count)
+        }
+        LinkRead::Quiet => {
+            patience.miss();
+            Some(0)
+        }
+        LinkRead::End | LinkRead::Failed => None,
+    }
 }
 
 /// One round: a read, a turn with what came, and a drain that is written whole.
@@ -106,17 +154,9 @@ fn round<P: Post + Glance, I: LinkIn, O: LinkOut>(
     ensures share { P.share post.new ≡ P.share post.old }
 {
     let mut piece = [0u8; READ_BYTES];
-    input.wait_at_most(patience.pause());
-    match input.read(&mut piece) {
-        LinkRead::Got(count) => {
-            patience.hit();
-            turn_link(post, core, patience, &piece[..count], output)
-        }
-        LinkRead::Quiet => {
-            patience.miss();
-            turn_link(post, core, patience, &[], output)
-        }
-        LinkRead::End | LinkRead::Failed => Some(LinkEnd::Lost),
+    match read_link(patience, input, &mut piece) {
+        Some(count) => turn_link(post, core, patience, &piece[..count], output),
+        None => Some(LinkEnd::Lost),
     }
 }
 
@@ -149,7 +189,7 @@ fn finish<P: Post>(post: &mut P, core: &mut RelayCore, end: LinkEnd) -> RelayTur
 {
     match end {
         LinkEnd::Lost => relay_close(post, core),
-        LinkEnd::Turned(RelayTurn::Broken { code }) => {
+        LinkEnd::Broken { code } => {
             relay_close(post, core);
             RelayTurn::Broken { code }
         }

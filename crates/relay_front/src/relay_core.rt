@@ -1,5 +1,5 @@
 // One connection of a client, with its calls at the channel.
-ghost use Rattle.std.specs.Prelude.{◌≡◌, ◌<◌, ◌≤◌, ◌×◌, ◌↔◌, ℕ, length, IfOk, OnOk, Some, None, Err, Result, Option};
+ghost use Rattle.std.specs.Prelude.{◌≡◌, ◌<◌, ◌≤◌, ◌↔◌, ℕ, length, IfOk, OnOk, Some, None, Err, Result, Option};
 ghost use Rattle.grpc_base.specs.declared.event.Reply.{Reply};
 ghost use Rattle.live_pump.specs.Pumps.{HandleSeen};
 ghost use Rattle.relay_calls.specs.Posting.{Eyes, PostsTurn, Tells, eyes_of};
@@ -8,7 +8,7 @@ ghost use Rattle.relay_connection.specs.Arriving.{Arrives};
 ghost use Rattle.relay_connection.specs.Draining.{Drains};
 ghost use Rattle.relay_connection.specs.Relay.{given, silent};
 ghost use Rattle.relay_front.specs.Cores.{fresh_core};
-ghost use Rattle.relay_front.specs.Turns.{GivesAt};
+ghost use Rattle.relay_front.specs.Turns.{Given, GivenAs, GivesAt};
 ghost use Rattle.relay_calls.specs.Calls.{settled};
 
 use grpc_base::{Glance, NoMemory, Octets, Post, PostError, Reply};
@@ -115,8 +115,21 @@ impl RelayCore {
         ensures share { P.share post.new ≡ P.share post.old }
     {
         let stream = self.calls.stream_at(place);
-        let item = self.calls.take_at(post, place)?;
-        match item {
+        let came = self.calls.take_at(post, place);
+        self.give_item(stream, came)
+    }
+
+    /// Gives a stream what a Take of its call came to.
+    fn give_item(
+        &mut self,
+        stream: u32,
+        came: Result<Option<Reply>, PostError>,
+    ) -> Result<(), CallsFault>
+        ensures given { Given self.old stream came self.new result }
+        ensures calls { self.new.calls ≡ self.old.calls }
+        ensures tells { GivenAs came result }
+    {
+        match came? {
             Some(item) => Ok(self.connection.give(stream, item)?),
             None => Ok(()),
         }

@@ -1,6 +1,6 @@
 // What one turn of a relay's connection comes to.
 ghost use Rattle.std.specs.Prelude.{◌≡◌};
-ghost use Rattle.relay_front.specs.Turns.{is_going, turn_of};
+ghost use Rattle.relay_front.specs.Turns.{answer_of, is_going, turn_of};
 
 use grpc_base::PostError;
 use relay_calls::CallsFault;
@@ -29,17 +29,23 @@ impl RelayTurn {
     }
 }
 
-impl From<CallsFault> for RelayTurn {
-    ghost use Rattle.std.specs.Prelude.{◌≡◌};
-    ghost use Rattle.relay_front.specs.Turns.{turn_of};
+/// The answer of a turn that this fault ended.
+pub(crate) fn turn_of(fault: CallsFault) -> RelayTurn
+    ensures { result ≡ turn_of fault }
+{
+    match fault {
+        CallsFault::Gone { refusal } => RelayTurn::Gone { refusal },
+        CallsFault::Failed(error) => RelayTurn::Failed(error),
+        CallsFault::NoMemory => RelayTurn::NoMemory,
+    }
+}
 
-    ghost from_gives = { λ fault turn. turn ≡ turn_of fault };
-
-    fn from(fault: CallsFault) -> RelayTurn {
-        match fault {
-            CallsFault::Gone { refusal } => RelayTurn::Gone { refusal },
-            CallsFault::Failed(error) => RelayTurn::Failed(error),
-            CallsFault::NoMemory => RelayTurn::NoMemory,
-        }
+/// The answer of a turn.
+pub(crate) fn answer_of(came: Result<(), CallsFault>) -> RelayTurn
+    ensures { result ≡ answer_of came }
+{
+    match came {
+        Ok(()) => RelayTurn::Going,
+        Err(fault) => turn_of(fault),
     }
 }

@@ -1,14 +1,14 @@
 // One turn of a connection: what is asked is posted, and what came of its calls is given.
-ghost use Rattle.std.specs.Prelude.{◌≡◌};
+ghost use Rattle.std.specs.Prelude.{◌≡◌, Ok};
 ghost use Rattle.live_pump.specs.Pumps.{HandleSeen};
 ghost use Rattle.relay_calls.specs.Posting.{Eyes, Tells, eyes_of};
-ghost use Rattle.relay_front.specs.Turns.{GivesAll, TellsTurn, TurnsTo, turned_of};
+ghost use Rattle.relay_front.specs.Turns.{GivesAfter, GivesAll, ServesAsks, TellsTurn, TurnsTo};
 
 use crate::relay_core::RelayCore;
-use crate::turned::RelayTurn;
+use crate::turned::{RelayTurn, answer_of, turn_of};
 use grpc_base::{Glance, Post};
 use relay_calls::CallsFault;
-use relay_connection::RelayFault;
+use relay_connection::{RelayAsk, RelayFault};
 
 /// Takes once of each call that is open and for which something has come, and gives its stream what came.
 fn take_all<P: Post + Glance>(post: &mut P, core: &mut RelayCore) -> Result<(), CallsFault>
@@ -25,25 +25,30 @@ fn take_all<P: Post + Glance>(post: &mut P, core: &mut RelayCore) -> Result<(), 
     Ok(())
 }
 
-/// The turn, up to what ends it.
-fn make_turn<P: Post + Glance>(
-    post: &mut P,
-    core: &mut RelayCore,
-    piece: &[u8],
-) -> Result<(), RelayTurn>
-    ensures turns { let eyes : Eyes P = eyes_of P.made P.errors P.last_error P.looks P.last_look in TurnsTo eyes core.old post.old piece.now core.new post.new (turned_of result) }
-    ensures tells { let before : HandleSeen = record { made = P.made post.old; errors = P.errors post.old; last = P.last_error post.old } in let after : HandleSeen = record { made = P.made post.new; errors = P.errors post.new; last = P.last_error post.new } in TellsTurn before after (turned_of result) }
+/// Gives the streams what came of their calls.
+fn give_all<P: Post + Glance>(post: &mut P, core: &mut RelayCore) -> RelayTurn
+    ensures given { let eyes : Eyes P = eyes_of P.made P.errors P.last_error P.looks P.last_look in GivesAfter eyes core.old post.old (Ok tt) core.new post.new result }
+    ensures tells { let before : HandleSeen = record { made = P.made post.old; errors = P.errors post.old; last = P.last_error post.old } in let after : HandleSeen = record { made = P.made post.new; errors = P.errors post.new; last = P.last_error post.new } in TellsTurn before after result }
     ensures share { P.share post.new ≡ P.share post.old }
 {
-    let asks = match core.arrived(piece) {
-        Ok(asks) => asks,
-        Err(RelayFault::Broken { code }) => return Err(RelayTurn::Broken { code }),
-        Err(RelayFault::NoMemory) => return Err(RelayTurn::NoMemory),
-        Err(RelayFault::RoomTooSmall) => unreachable!(),
-    };
-    core.post_asks(post, asks)?;
-    take_all(post, core)?;
-    Ok(())
+    let came = take_all(post, core);
+    answer_of(came)
+}
+
+/// Posts asks behind those that wait, and gives the streams what came of their calls.
+fn serve_asks<P: Post + Glance>(
+    post: &mut P,
+    core: &mut RelayCore,
+    asks: Vec<RelayAsk>,
+) -> RelayTurn
+    ensures serves { let eyes : Eyes P = eyes_of P.made P.errors P.last_error P.looks P.last_look in ServesAsks eyes core.old post.old asks.items core.new post.new result }
+    ensures tells { let before : HandleSeen = record { made = P.made post.old; errors = P.errors post.old; last = P.last_error post.old } in let after : HandleSeen = record { made = P.made post.new; errors = P.errors post.new; last = P.last_error post.new } in TellsTurn before after result }
+    ensures share { P.share post.new ≡ P.share post.old }
+{
+    match core.post_asks(post, asks) {
+        Ok(()) => give_all(post, core),
+        Err(fault) => turn_of(fault),
+    }
 }
 
 /// One turn of a connection. The piece is handed to it; an empty one means that nothing came. The asks that wait are posted, and then the
@@ -62,8 +67,10 @@ pub fn relay_turn<P: Post + Glance>(post: &mut P, core: &mut RelayCore, piece: &
     ensures tells { let before : HandleSeen = record { made = P.made post.old; errors = P.errors post.old; last = P.last_error post.old } in let after : HandleSeen = record { made = P.made post.new; errors = P.errors post.new; last = P.last_error post.new } in TellsTurn before after result }
     ensures share { P.share post.new ≡ P.share post.old }
 {
-    match make_turn(post, core, piece) {
-        Ok(()) => RelayTurn::Going,
-        Err(turn) => turn,
+    match core.arrived(piece) {
+        Ok(asks) => serve_asks(post, core, asks),
+        Err(RelayFault::Broken { code }) => RelayTurn::Broken { code },
+        Err(RelayFault::NoMemory) => RelayTurn::NoMemory,
+        Err(RelayFault::RoomTooSmall) => unreachable!(),
     }
 }

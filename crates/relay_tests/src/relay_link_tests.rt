@@ -113,7 +113,7 @@ fn calls_are_given_up_where_a_link_breaks_or_fails(rt: HostRuntime) -> Result<()
         ..WHOLE
     };
     assert!(rt; goes(&rt, alloc, &begun, cut)?, "a read that fails");
-    let unwritten = Row { goes: "", ..begun };
+    let unwritten = Row { goes: "-", ..begun };
     let cut = Cut {
         failed_write: 1,
         ..WHOLE
@@ -121,7 +121,7 @@ fn calls_are_given_up_where_a_link_breaks_or_fails(rt: HostRuntime) -> Result<()
     assert!(rt; goes(&rt, alloc, &unwritten, cut)?, "a write that fails");
     let broken = Row {
         comes: "505249202a20485454502f322e300d0a0d0a534d0d0a0d0a00000004000000000000001d010400000001838604062f612e422f430f10106170706c69636174696f6e2f6772706300000100000000000578505249202a20485454502f322e300d0a0d0a534d0d0a0d0a000000040000000000",
-        goes: "",
+        goes: "-",
         answer: "broken1",
         ..begun
     };
@@ -138,7 +138,7 @@ fn a_link_ends_with_its_channel(rt: HostRuntime) -> Result<(), Fail> {
     let shut = Row {
         plan: "shut",
         comes: "505249202a20485454502f322e300d0a0d0a534d0d0a0d0a00000004000000000000001d010500000001838604062f612e422f430f10106170706c69636174696f6e2f67727063",
-        goes: "",
+        goes: "-",
         posts: "begin /a.B/C",
         answer: "gone9",
     };

@@ -1,4 +1,4 @@
-use Rattle.std.proofs.Common.{◌≡◌, Some, None, sym, ◌∙◌, ap}
+use Rattle.std.proofs.Common.{◌≡◌, None, ◌∙◌, ap}
 use Rattle.std.specs.Prelude.{Err}
 use Rattle.h2_server.specs.declared.fault.LinkFault.TheVariants as fault
 use Rattle.relay_connection.specs.Relay.{Relay}
