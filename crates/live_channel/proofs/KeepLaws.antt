@@ -1,5 +1,5 @@
 -- What the workers beside the calls did, by their handles.
-use Rattle.std.proofs.Common.{◌≡◌, ◌∙◌, ◌<◌, ℕ, suc, Option, List, [], ◌∷◌, ◌++◌, ap, arith, drop, length, map, slice_index_or, sym, take}
+use Rattle.std.proofs.Common.{◌≡◌, ◌∙◌, ◌<◌, ℕ, suc, Option, List, [], ◌∷◌, ◌++◌, ap, arith, drop, length, map, refl, slice_index_or, sym, take}
 use Rattle.std.proofs.Math.Seq.{take-append_seam}
 use Rattle.std.proofs.lemmas.List.{drop_at}
 use Rattle.std.specs.List.{AllByRecursion}

@@ -1,5 +1,5 @@
 -- The one channel of a run: what its report is of.
-use Rattle.std.proofs.Common.{◌≡◌, ◌≤◌, ◌∙◌, ℕ, Option, List, [], ap, arith, inl, inr, length, refl, sym, subst}
+use Rattle.std.proofs.Common.{◌≡◌, ◌≤◌, ◌∙◌, ℕ, false, Option, List, [], ap, arith, inl, inr, length, refl, sym, subst}
 use Rattle.std.specs.Prelude.{Result, Ok, Err, OnOk, OnErr}
 use Rattle.grpc_base.specs.declared.event.Entry.{Entry}
 use Rattle.gate_io.specs.Outside.{AppendsFront, Rises}

@@ -1,4 +1,4 @@
-use Rattle.std.proofs.Common.{refl, rules}
+use Rattle.std.proofs.Common.{rules}
 use Rattle.live_channel.specs.Handles.{handle_in}
 use Rattle.live_channel.proofs.OwnLaws.{popped_lock, popped_taken, taken_all}
 use Rattle.live_channel.proofs.linkers.take_in_linkers.Goals as goal

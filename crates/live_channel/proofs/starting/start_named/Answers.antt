@@ -1,5 +1,4 @@
-use Rattle.std.proofs.Common.{◌∙◌, rules}
-use Rattle.live_channel.specs.Handles.{handle_in}
+use Rattle.std.proofs.Common.{rules}
 use Rattle.live_channel.proofs.SeatLaws.{few_split, first_clear, splits_empty, started_by}
 use Rattle.live_channel.proofs.starting.start_named.Goals as goal
 

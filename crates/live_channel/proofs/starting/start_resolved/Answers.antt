@@ -1,6 +1,5 @@
-use Rattle.std.proofs.Common.{◌∙◌, rules, subst, sym}
+use Rattle.std.proofs.Common.{rules, subst}
 use Rattle.grpc_base.specs.declared.event.Event.{Event}
-use Rattle.live_channel.specs.Handles.{handle_in}
 use Rattle.live_channel.specs.Told.{IsToldFirst}
 use Rattle.live_channel.proofs.SeatLaws.{few_split, splits_empty, started_by, told_beside, told_split}
 use Rattle.live_channel.proofs.starting.start_resolved.Goals as goal
