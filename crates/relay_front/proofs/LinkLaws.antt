@@ -1,6 +1,9 @@
 -- What goes out of a connection.
 use Rattle.std.proofs.Common.{◌≡◌, ℕ, Bool, true, false, Option, Some, None, Result, Ok, Err, List, inl, inr, refl, sym, ap, subst, ◌∙◌}
 use Rattle.live_pump.specs.Pumps.{HandleSeen, OutSeen}
+use Rattle.std.specs.Prelude.{◌↔◌}
+use Rattle.relay_connection.specs.declared.fault.RelayFault.{RelayFault}
+use Rattle.relay_connection.specs.declared.fault.RelayFault.TheVariants as refused
 use Rattle.relay_connection.specs.Draining.{Drains}
 use Rattle.relay_front.specs.Cores.{Core}
 use Rattle.relay_front.specs.Rounds.{GoesOn, GoesOut, TellsEnd, Writes, end_of}
@@ -14,6 +17,11 @@ pub drains_out : {O : Type 0} (sees : O → OutSeen) (c d : Core) (out out_after
     → Writes sees slice out out_after e → GoesOut sees c out d out_after e
 drains_out sees c d out out_after octets slice e drains calls same writes =
     inl (record { octets = octets; drains = drains; calls = calls; writes = subst (λ (l : List ℕ). Writes sees l out out_after e) same writes })
+
+-- a connection that is broken
+pub drains_nothing : {O T : Type 0} (sees : O → OutSeen) (r : Result T RelayFault) (code : ℕ) (c d : Core) (out : O) → r ≡ Err (refused.Broken code)
+    → ((n : ℕ) → (r ≡ Err (refused.Broken n)) ↔ (c.relay.link.wire.broken ≡ Some n)) → ((n : ℕ) → r ≡ Err (refused.Broken n) → d ≡ c) → GoesOut sees c out d out None
+drains_nothing sees r code c d out is breaks same = inr (inl (record { code = code; broken = (breaks code).0 is; core = same code is; output = refl; going = refl }))
 
 -- a turn that goes on, and one that ends the rounds
 pub goes_on : {O : Type 0} (sees : O → OutSeen) (going : Bool) (turned d : Core) (answer : RelayTurn) (out out_after : O) (e : Option LinkEnd) → going ≡ true → GoesOut sees turned out d out_after e → GoesOn sees going turned answer out d out_after e

@@ -1,5 +1,5 @@
 // One connection of a client, with its calls at the channel.
-ghost use Rattle.std.specs.Prelude.{◌≡◌, ◌<◌, ◌≤◌, ◌↔◌, ℕ, length, IfOk, OnOk, Some, None, Err, Result, Option};
+ghost use Rattle.std.specs.Prelude.{◌≡◌, ◌<◌, ◌≤◌, ◌↔◌, [], ℕ, length, IfOk, OnOk, Some, None, Err, Result, Option};
 ghost use Rattle.grpc_base.specs.declared.event.Reply.{Reply};
 ghost use Rattle.live_pump.specs.Pumps.{HandleSeen};
 ghost use Rattle.relay_calls.specs.Posting.{Eyes, PostsTurn, Tells, eyes_of};

@@ -13,4 +13,4 @@ pub returns-in-Quiet-clause-reads : goal.returns-in-Quiet-clause-reads
 returns-in-Quiet-clause-reads g c =
     let seen : g.row.I.Denot → InSeen = λ i. record { left = g.I.LinkIn.left i; faults = g.I.LinkIn.faults i; quiet = g.I.LinkIn.quiet i } in
     let since : Told (seen c.args.input.now) (seen c.wait_at_most.new.self) = record { left = c.wait_at_most.ensures.bytes; faults = c.wait_at_most.ensures.faults; quiet = c.wait_at_most.ensures.quiet } in
-    reads_quiet (seen c.args.input.now) (seen c.wait_at_most.new.self) (seen c.read.new.self) _ since c.in-Quiet.ensures.bytes c.in-Quiet.ensures.faults c.in-Quiet.ensures.quiet
+    reads_quiet (seen c.args.input.now) (seen c.wait_at_most.new.self) (seen c.read.new.self) c.read.new.buf since c.in-Quiet.ensures.bytes c.in-Quiet.ensures.faults c.in-Quiet.ensures.quiet
