@@ -2,6 +2,4 @@ pub mod CarriedLaws
 pub mod EventLaws
 pub mod GroupLaws
 pub mod LiveLaws
-pub mod OwnLaws
-pub mod SeatLaws
 pub mod SideLaws

@@ -1,53 +1,37 @@
 -- The one channel of a live run: what its report is of.
-use Rattle.std.proofs.Common.{◌≡◌, ◌≤◌, ◌⊎◌, ◌∙◌, ℕ, Bool, true, false, Option, List, [], ◌∷◌, ap, arith, inl, inr, length, refl, sym, subst}
-use Rattle.std.specs.Prelude.{Result, Ok, Err, OnOk, OnErr}
+use Rattle.std.proofs.Common.{◌≡◌, ◌∙◌, ◌+◌, ℕ, Option, List, [], ◌∷◌, ap, inl, inr, length, map, refl, sym, subst}
 use Rattle.grpc_base.specs.declared.event.Entry.{Entry}
-use Rattle.grpc_base.specs.declared.event.Event.{Event}
-use Rattle.grpc_base.specs.declared.event.Reply.{Reply}
-use Rattle.grpc_base.specs.declared.post.PostError.{PostError}
-use Rattle.gate_io.specs.Outside.{Appends, AppendsFront, Rises}
-use Rattle.resolver_core.specs.AnyTargets.{IsTarget, authority_of}
-use Rattle.resolver_core.proofs.KeptLaws.{target_kept}
-use Rattle.script_input.specs.Lives.{AreLiveLines, ReadsLive, live_reads}
+use Rattle.grpc_base.specs.declared.script.CallLine.{CallLine}
+use Rattle.resolver_core.specs.AnyTargets.{authority_of}
+use Rattle.script_input.specs.Lives.{ReadsLive}
 use Rattle.script_input.specs.declared.live_script.LiveScript.{LiveScript}
-use Rattle.script_text.specs.declared.report.ReportFault.{ReportFault}
-use Rattle.script_text.specs.declared.report.ReportFault.TheVariants as unwritten
-use Rattle.turn_lock.specs.History.{LockId, Owns, SeatSeen, StartsWith}
-use Rattle.turn_lock.specs.Turn.{Sees}
-use Rattle.turn_lock.proofs.Places.{starts_longer}
-use Rattle.std.specs.Global.{Global}
-use Rattle.lb_policy.specs.Table.{PolicySeen}
-use Rattle.channel_core.specs.Core.{CoreSeen, IsNewBy, ledger_in}
-use Rattle.shared_channel.specs.Running.{HasRun, IsRunning}
+use Rattle.turn_lock.specs.History.{LockId, SeatSeen}
+use Rattle.channel_core.specs.Core.{CoreSeen, ledger_in}
+use Rattle.shared_channel.specs.Running.{HasRun}
 use Rattle.session_text.specs.declared.ran.Ran.{Ran}
 use Rattle.session_text.specs.declared.ran.Ran.TheVariants as ran
-use Rattle.grpc_base.specs.declared.script.CallLine.{CallLine}
 use Rattle.live_run.specs.declared.outcome.Outcome.{Outcome}
 use Rattle.live_run.specs.declared.outcome.Outcome.TheVariants as outcome
-use Rattle.live_mode.specs.Handles.{IsLeft, IsReportable, ReportsAt, ReportsOn, Tells}
-use Rattle.live_mode.specs.Live.{EndsLiveFull, IsAnyLiveReport, IsLiveReport, IsLiveText, IsLived, TellsTarget}
+use Rattle.live_channel.specs.Handles.{IsStarted, Splits}
+use Rattle.live_channel.specs.Reported.{ReportsOn}
+use Rattle.live_channel.specs.Told.{TellsTarget}
+use Rattle.live_channel.proofs.SeatLaws.{left_by, told_stays}
+use Rattle.live_mode.specs.Handles.{AreMade, LeavesCalls, busy}
+use Rattle.live_mode.specs.Live.{EndsLiveFull, IsAnyLiveReport, IsLiveReport, IsLiveText, IsLived}
 use Rattle.live_mode.specs.Made.{worker_lines}
+use Rattle.live_mode.specs.Sides.{RunDone}
+use Rattle.live_mode.specs.declared.sides.Callers.{Callers}
+use Rattle.live_channel.specs.declared.linkers.Linkers.{Linkers}
 use Rattle.live_mode.proofs.CarriedLaws.{carries}
-use Rattle.live_mode.proofs.SeatLaws.{owns_between, told_stays}
-use Rattle.session_text.specs.Sessions.{run_text}
-use Rattle.session_text.specs.Writing.{WritesAll, WritesFront, WritesSome}
 use Rattle.session_text.proofs.SessionLaws.{session_of}
-
--- ---- a new channel
-
-pub new_run : (alloc : Global) (authority named : List ℕ) (policies : List PolicySeen) (core : CoreSeen) → authority ≡ named → IsNewBy alloc authority policies core → HasRun named core
-new_run alloc authority named policies core same new = subst (λ (a : List ℕ). HasRun a core) same (core, [], (alloc, policies, new), refl)
-
-pub new_fits : (alloc : Global) (authority : List ℕ) (policies : List PolicySeen) (core : CoreSeen) → IsNewBy alloc authority policies core → length core.journal.entries ≤ 1048576
-new_fits alloc authority policies core new = omega (arith, ap length new.journal)
 
 -- ---- the report
 
 pub live_report : (r : Ran) (lock : LockId) (o : Outcome) (script : LiveScript) (groups : List (List CallLine)) (seat : SeatSeen Entry) (text : List ℕ) → lock.origin ≡ authority_of script.value → TellsTarget script.value script.config seat.seen → (r ≡ ran.Whole → o ≡ outcome.Whole)
-    → groups ≡ worker_lines script.calls.items → IsLeft lock o groups seat → ReportsOn r script.target seat text → IsLiveReport r script text
+    → groups ≡ worker_lines script.calls.items → LeavesCalls lock o groups seat → ReportsOn r script.target seat text → IsLiveReport r script text
 live_report r lock o script groups seat text root told whole same left is =
     let core : CoreSeen = is.0 in
-    let run : HasRun (authority_of script.value) core = subst (λ (a : List ℕ). HasRun a core) (ap (λ (l : LockId). l.origin) left.lock_is ∙ root) is.1 in
+    let run : HasRun (authority_of script.value) core = subst (λ (a : List ℕ). HasRun a core) (ap (λ (l : LockId). l.origin) left.left.lock_is ∙ root) is.1 in
     record {
       events = run.1;
       journal = core.journal;
@@ -59,70 +43,19 @@ live_report r lock o script groups seat text root told whole same left is =
       text_is = is.5;
     }
 
-run_of : (lock authority : List ℕ) (core : CoreSeen) → lock ≡ authority → IsRunning authority core → core.spent ≡ false → HasRun lock core
-run_of lock authority core same (inl run) unspent = subst (λ (a : List ℕ). HasRun a core) (sym same) run
-run_of lock authority core same (inr spent) unspent = absurd (cc)
+-- ---- the run
 
--- what was told of the channel under the lock
-pub told_ok : (r : Ran) (t : List ℕ) (result : Result Unit ReportFault) (before after : SeatSeen Entry) (taken taken' : Option (List ℕ)) (faults faults' : ℕ) (core : CoreSeen) (lock : LockId) → before.lock ≡ lock → IsRunning lock.origin core → StartsWith core.journal.entries before.seen → after.seen ≡ core.journal.entries → after.own ≡ before.own → after.parts ≡ before.parts
-    → Tells r t core result taken taken' faults faults' → OnOk result (WritesAll (ReportsAt r t before after) taken taken')
-told_ok r t (Err fault) before after taken taken' faults faults' core lock at running sees seen own parts tells = tt
-told_ok r t (Ok done) before after taken taken' faults faults' core lock at running sees seen own parts tells =
-    (run_text r t core.journal (ledger_in core), (core, run_of before.lock.origin lock.origin core (ap (λ (l : LockId). l.origin) at) running tells.0.unspent, sees, seen, own, parts, tells.0.full, refl), tells.1)
-
-told_some : (r : Ran) (t : List ℕ) (core : CoreSeen) (fault : ReportFault) (before after : SeatSeen Entry) (taken taken' : Option (List ℕ)) (faults faults' : ℕ) (lock : LockId) → before.lock ≡ lock → IsRunning lock.origin core → StartsWith core.journal.entries before.seen → after.seen ≡ core.journal.entries → after.own ≡ before.own → after.parts ≡ before.parts
-    → Tells r t core (Err fault) taken taken' faults faults' → WritesSome (ReportsAt r t before after) taken taken'
-told_some r t core fault before after taken taken' faults faults' lock at running sees seen own parts (inl none) = inl none.1
-told_some r t core fault before after taken taken' faults faults' lock at running sees seen own parts (inr front) =
-    inr (run_text r t core.journal (ledger_in core), (core, run_of before.lock.origin lock.origin core (ap (λ (l : LockId). l.origin) at) running front.0.unspent, sees, seen, own, parts, front.0.full, refl), front.1)
-
-pub told_err : (r : Ran) (t : List ℕ) (result : Result Unit ReportFault) (before after : SeatSeen Entry) (taken taken' : Option (List ℕ)) (faults faults' : ℕ) (core : CoreSeen) (lock : LockId) → before.lock ≡ lock → IsRunning lock.origin core → StartsWith core.journal.entries before.seen → after.seen ≡ core.journal.entries → after.own ≡ before.own → after.parts ≡ before.parts
-    → Tells r t core result taken taken' faults faults' → OnErr result (WritesSome (ReportsAt r t before after) taken taken')
-told_err r t (Ok done) before after taken taken' faults faults' core lock at running sees seen own parts tells = tt
-told_err r t (Err fault) before after taken taken' faults faults' core lock at running sees seen own parts tells = told_some r t core fault before after taken taken' faults faults' lock at running sees seen own parts tells
-
-told_failed : (r : Ran) (t : List ℕ) (core : CoreSeen) (before after : SeatSeen Entry) (taken taken' : Option (List ℕ)) (faults faults' : ℕ) (lock : LockId) → before.lock ≡ lock → IsRunning lock.origin core → StartsWith core.journal.entries before.seen → after.seen ≡ core.journal.entries → after.own ≡ before.own → after.parts ≡ before.parts
-    → Tells r t core (Err unwritten.Write) taken taken' faults faults' → Rises faults faults' × WritesFront (ReportsAt r t before after) taken taken'
-told_failed r t core before after taken taken' faults faults' lock at running sees seen own parts (inl none) = absurd (let bad : unwritten.Write ≡ unwritten.NoMemory = none.0 in (cc))
-told_failed r t core before after taken taken' faults faults' lock at running sees seen own parts (inr front) =
-    (front.2 refl, (run_text r t core.journal (ledger_in core), (core, run_of before.lock.origin lock.origin core (ap (λ (l : LockId). l.origin) at) running front.0.unspent, sees, seen, own, parts, front.0.full, refl), front.1))
-
-pub told_write : (r : Ran) (t : List ℕ) (result : Result Unit ReportFault) (before after : SeatSeen Entry) (taken taken' : Option (List ℕ)) (faults faults' : ℕ) (core : CoreSeen) (lock : LockId) → before.lock ≡ lock → IsRunning lock.origin core → StartsWith core.journal.entries before.seen → after.seen ≡ core.journal.entries → after.own ≡ before.own → after.parts ≡ before.parts
-    → Tells r t core result taken taken' faults faults' → result ≡ Err unwritten.Write → Rises faults faults' × WritesFront (ReportsAt r t before after) taken taken'
-told_write r t result before after taken taken' faults faults' core lock at running sees seen own parts tells is =
-    told_failed r t core before after taken taken' faults faults' lock at running sees seen own parts
-    (subst (λ (x : Result Unit ReportFault). Tells r t core x taken taken' faults faults') is tells)
-
--- the handle looked before and behind
-pub reports_on : (r : Ran) (t : List ℕ) (first before after last : SeatSeen Entry) (text : List ℕ) → Sees first before → before ≡ record first { seen = before.seen } → Sees after last → last ≡ record after { seen = last.seen } → ReportsAt r t before after text → ReportsOn r t first text
-reports_on r t first before after last text early same late same' is =
-    let core : CoreSeen = is.0 in
-    let own : before.own ≡ first.own = ap (λ (s : SeatSeen Entry). s.own) same in
-    let parts : before.parts ≡ first.parts = ap (λ (s : SeatSeen Entry). s.parts) same in
-    let own' : last.own ≡ first.own = ap (λ (s : SeatSeen Entry). s.own) same' ∙ is.4 ∙ own in
-    let parts' : last.parts ≡ first.parts = ap (λ (s : SeatSeen Entry). s.parts) same' ∙ is.5 ∙ parts in
-    let owns : Owns first.parts first.own before.seen = subst (λ (n : ℕ). Owns n first.own before.seen) parts (subst (λ (l : List (ℕ × Entry)). Owns before.parts l before.seen) own early.owns) in
-    let owns' : Owns first.parts first.own last.seen = subst (λ (n : ℕ). Owns n first.own last.seen) parts' (subst (λ (l : List (ℕ × Entry)). Owns last.parts l last.seen) own' late.owns) in
-    let behind : StartsWith last.seen core.journal.entries = subst (λ (l : List Entry). StartsWith last.seen l) is.3 late.later in
-    let run : HasRun first.lock.origin core = subst (λ (l : LockId). HasRun l.origin core) (ap (λ (s : SeatSeen Entry). s.lock) same) is.1 in
-    (core, run, starts_longer first.seen before.seen core.journal.entries early.later is.2, owns_between first.own first.parts before.seen core.journal.entries last.seen is.2 behind owns owns', is.6, is.7)
-
--- ---- what is told under the lock
-
-pub tells_spent : (r : Ran) (t : List ℕ) (core : CoreSeen) (taken : Option (List ℕ)) (faults : ℕ) → Tells r t core (Err unwritten.NoMemory) taken taken faults faults
-tells_spent r t core taken faults = inl (refl, refl)
-
-pub tells_front : (r : Ran) (t : List ℕ) (core : CoreSeen) (fault : ReportFault) (taken taken' : Option (List ℕ)) (faults faults' : ℕ) → IsReportable r core → AppendsFront taken taken' (run_text r t core.journal (ledger_in core)) → ((fault ≡ unwritten.Write) → Rises faults faults') → Tells r t core (Err fault) taken taken' faults faults'
-tells_front r t core fault taken taken' faults faults' reportable front write = inr (reportable, front, write)
+-- what a run left of a handle of which others were split off before
+pub left_calls : {H N L D : Type 0} (seat_of : H → SeatSeen Entry) (lock : LockId) (o : Outcome) (groups : List (List CallLine)) (linkers : Linkers H N L D) (calls : Callers H) (links others : List (SeatSeen Entry)) (seat mid out : SeatSeen Entry)
+    → IsStarted lock links seat → Splits seat others mid → seat_of calls.closer ≡ mid → map (λ j. j.lines.items) calls.jobs.items ≡ busy groups → length calls.jobs.items ≡ length others → length linkers.jobs.items ≡ length links → RunDone seat_of linkers calls out o → LeavesCalls lock o groups out
+left_calls seat_of lock o groups linkers calls links others seat mid out started splits same lines mine beside done = record {
+  owns = done.owns;
+  makes = subst (λ (g : List (List CallLine)). AreMade o g done.owns) lines done.makes;
+  left = left_by lock o done.owns links others seat mid (seat_of calls.closer) out started splits same done.lock
+      (done.parts ∙ ap (λ (n : ℕ). (seat_of calls.closer).parts + n + length linkers.jobs.items) mine ∙ ap (λ (n : ℕ). (seat_of calls.closer).parts + length others + n) beside) done.leaves;
+}
 
 -- ---- the script
-
-target_of : (texts : List (List ℕ)) (script : LiveScript) → AreLiveLines 1 texts (live_reads script) → IsTarget script.value
-target_of [] script t = absurd t
-target_of (text ∷ texts) script t = target_kept script.target script.value t.0.1.1.3
-
-pub live_target : (left left' : Option (List ℕ)) (script : LiveScript) → ReadsLive left left' script → IsTarget script.value
-live_target left left' script read = target_of read.live.texts script read.live.lines
 
 pub lived_of : (left left' : Option (List ℕ)) (script : LiveScript) (text : List ℕ) → ReadsLive left left' script → IsLiveReport ran.Whole script text → IsLived left left' text
 lived_of left left' script text read report = record { script = script; read = read; report = report }

@@ -1,70 +1,15 @@
--- Between the functions of this crate: what the handles of a run are, and what the one knows that takes the others in. The
--- promises of the crate don't name these.
-use Rattle.std.specs.Prelude.{◌≡◌, ◌⊎◌, ℕ, ◌+◌, false, Option, Some, None, Result, Ok, Err, List, [], ◌∷◌, ◌++◌, length, map}
-use Rattle.std.specs.List.{AllByRecursion, AllZip}
-use Rattle.std.specs.Option.{option_to_list}
+-- Between the functions of this crate: what the handles of a run are whose workers make calls. The promises of the crate don't name
+-- these.
+use Rattle.std.specs.Prelude.{◌≡◌, ◌⊎◌, ℕ, List, [], ◌∷◌}
+use Rattle.std.specs.List.{AllZip}
 use Rattle.grpc_base.specs.declared.event.Entry.{Entry}
-use Rattle.grpc_base.specs.declared.event.Event.{Event}
-use Rattle.grpc_base.specs.declared.event.Event.TheVariants as event
-use Rattle.grpc_base.specs.declared.event.Reply.{Reply}
-use Rattle.grpc_base.specs.declared.post.PostError.{PostError}
 use Rattle.grpc_base.specs.declared.script.CallLine.{CallLine}
-use Rattle.channel_core.specs.Core.{CoreSeen, ledger_in}
-use Rattle.gate_io.specs.Outside.{Appends, AppendsFront, Rises}
 use Rattle.live_pump.specs.Calls.{LinesFront, MakesLines}
-use Rattle.live_run.specs.Outcomes.{graver, outcome_of}
-use Rattle.live_run.specs.declared.link_job.LinkJob.{LinkJob}
-use Rattle.live_run.specs.declared.link_job.LinkJob.TheVariants as job
 use Rattle.live_run.specs.declared.outcome.Outcome.{Outcome}
 use Rattle.live_run.specs.declared.outcome.Outcome.TheVariants as outcome
-use Rattle.script_text.specs.declared.report.ReportFault.{ReportFault}
-use Rattle.script_text.specs.declared.report.ReportFault.TheVariants as unwritten
-use Rattle.session_text.specs.Sessions.{run_text}
-use Rattle.session_text.specs.declared.ran.Ran.{Ran}
-use Rattle.session_text.specs.declared.ran.Ran.TheVariants as ran
-use Rattle.shared_channel.specs.Histories.{IsNearlyFull, is_shutdown}
-use Rattle.shared_channel.specs.Running.{HasRun}
 use Rattle.shared_channel.specs.Turns.{entries_of}
-use Rattle.turn_lock.specs.History.{Ascends, LockId, Owns, SeatSeen, Stands, StartsWith, places, times}
-use Rattle.live_mode.specs.Made.{is_of_call, times_in}
-
--- the first handle of a new channel, which has every part
-pub record IsFirstSeat (lock : LockId) (seat : SeatSeen Entry) : Type 0 where
-  pub lock_is : seat.lock ≡ lock
-  pub parts : seat.parts ≡ 4294967296
-  pub seen : seat.seen ≡ []
-  pub own : seat.own ≡ []
-
--- a handle of this lock, with one part
-pub record IsOne (lock : LockId) (seat : SeatSeen Entry) : Type 0 where
-  pub lock_is : seat.lock ≡ lock
-  pub parts : seat.parts ≡ 1
-
--- the same, and it has no entries
-pub record IsFresh (lock : LockId) (seat : SeatSeen Entry) : Type 0 where
-  pub one : IsOne lock seat
-  pub own : seat.own ≡ []
-
--- handles were split off: each is fresh, and took one part
-pub record Splits (before : SeatSeen Entry) (seats : List (SeatSeen Entry)) (after : SeatSeen Entry) : Type 0 where
-  pub lock : after.lock ≡ before.lock
-  pub seen : after.seen ≡ before.seen
-  pub own : after.own ≡ before.own
-  pub parts : before.parts ≡ after.parts + length seats
-  pub fresh : AllByRecursion (IsFresh before.lock) seats
-
--- an event neither of an application nor a Shutdown
-pub record IsBeside (e : Event) : Type 0 where
-  pub call : is_of_call e ≡ false
-  pub shut : is_shutdown e ≡ false
-
-abbrev pub AreBeside : List (ℕ × Entry) → Type 0
-AreBeside own = AllByRecursion (λ p. IsBeside p.1.event) own
-
--- the handle of a worker beside the calls
-pub record IsKept (lock : LockId) (seat : SeatSeen Entry) : Type 0 where
-  pub one : IsOne lock seat
-  pub beside : AreBeside seat.own
+use Rattle.turn_lock.specs.History.{LockId, SeatSeen}
+use Rattle.live_channel.specs.Handles.{IsLeft, IsOne}
 
 -- a worker made its calls, or a front of them where not all went well
 abbrev pub MakesUpTo : Outcome → List CallLine → List Entry → Type 0
@@ -76,74 +21,9 @@ pub record IsWorked (lock : LockId) (o : Outcome) (lines : List CallLine) (seat 
   pub one : IsOne lock seat
   pub makes : MakesUpTo o lines (entries_of seat.own)
 
--- entries with their places, which stand in this history, in their order
-pub record StandInOrder (history : List Entry) (own : List (ℕ × Entry)) : Type 0 where
-  pub stands : Stands history own
-  pub ascends : Ascends 0 own
-
--- the handle of a worker beside the calls
-abbrev pub handle_in : {H N L D : Type 0} → LinkJob H N L D → H
-handle_in (job.Net net) = net.post
-handle_in (job.Name name) = name.post
-
-abbrev pub seats_in : {H N L D : Type 0} → (H → SeatSeen Entry) → List (LinkJob H N L D) → List (SeatSeen Entry)
-seats_in seat_of jobs = map (λ j. seat_of (handle_in j)) jobs
-
--- the entries of each handle
-abbrev pub owns_of : List (SeatSeen Entry) → List (List (ℕ × Entry))
-owns_of seats = map (λ s. s.own) seats
-
--- a handle took in others, one part and these entries of each
-pub record TakesIn (before : SeatSeen Entry) (owns : List (List (ℕ × Entry))) (after : SeatSeen Entry) : Type 0 where
-  pub lock : after.lock ≡ before.lock
-  pub parts : after.parts ≡ before.parts + length owns
-  pub sees : StartsWith after.seen before.seen
-  pub each : AllByRecursion (StandInOrder after.seen) owns
-  pub count : (x : ℕ) → times x after.own ≡ times x before.own + times_in x owns
-
--- how a post ended
-abbrev pub outcome_of_post : Result Reply PostError → Outcome
-outcome_of_post (Ok reply) = outcome.Whole
-outcome_of_post (Err e) = outcome_of e
-
--- the Shutdown that was posted; where that failed there is none
-abbrev pub IsClosing : Outcome → Option Entry → Type 0
-IsClosing o (Some e) = e.event ≡ event.Shutdown
-IsClosing o None = o ≡ outcome.Whole → ⊥
-
--- the Shutdown was posted behind this front, or that failed
-pub record Shuts (o : Outcome) (before after : SeatSeen Entry) : Type 0 where
-  pub lock : after.lock ≡ before.lock
-  pub parts : after.parts ≡ before.parts
-  pub front : List Entry
-  pub closing : Option Entry
-  pub is_closing : IsClosing o closing
-  pub sees : StartsWith front before.seen
-  pub seen : after.seen ≡ front ++ option_to_list closing
-  pub own : after.own ≡ before.own ++ places (length front) (option_to_list closing)
-
--- A handle that had seen and made so much took in the handles of workers that made these calls, and then posted the Shutdown
-pub record Closes (o : Outcome) (groups : List (List CallLine)) (seen : List Entry) (own : List (ℕ × Entry)) (after : SeatSeen Entry) : Type 0 where
-  pub front : List Entry
-  pub closing : Option Entry
-  pub owns : List (List (ℕ × Entry))
-  pub makes : AllZip (λ lines made. MakesUpTo o lines (entries_of made)) groups owns
-  pub each : AllByRecursion (StandInOrder front) owns
-  pub is_closing : IsClosing o closing
-  pub sees : StartsWith front seen
-  pub shows : after.seen ≡ front ++ option_to_list closing
-  pub count : (x : ℕ) → times x after.own ≡ times x own + times_in x owns + times x (places (length front) (option_to_list closing))
-
--- and then it took in those of the workers beside the calls
-pub record Leaves (o : Outcome) (groups : List (List CallLine)) (seen : List Entry) (own : List (ℕ × Entry)) (after : SeatSeen Entry) : Type 0 where
-  pub made : Outcome
-  pub kept : Outcome
-  pub outcome : o ≡ graver made kept
-  pub shut : SeatSeen Entry
-  pub closes : Closes made groups seen own shut
-  pub others : List (List (ℕ × Entry))
-  pub beside : AllByRecursion AreBeside others
-  pub takes : TakesIn shut others after
+-- workers made these calls, each its own
+abbrev pub AreMade : Outcome → List (List CallLine) → List (List (ℕ × Entry)) → Type 0
+AreMade o groups owns = AllZip (λ lines made. MakesUpTo o lines (entries_of made)) groups owns
 
 -- the groups that have a call
 abbrev pub busy : List (List CallLine) → List (List CallLine)
@@ -151,37 +31,8 @@ busy [] = []
 busy ([] ∷ groups) = busy groups
 busy ((line ∷ lines) ∷ groups) = (line ∷ lines) ∷ busy groups
 
--- the handle that a run leaves has every part. Before it took the others in, none of its entries was of an application or a Shutdown
-pub record IsLeft (lock : LockId) (o : Outcome) (groups : List (List CallLine)) (seat : SeatSeen Entry) : Type 0 where
-  pub lock_is : seat.lock ≡ lock
-  pub parts : seat.parts ≡ 4294967296
-  pub seen : List Entry
-  pub own : List (ℕ × Entry)
-  pub stands : Stands seen own
-  pub beside : AreBeside own
-  pub leaves : Leaves o (busy groups) seen own seat
-
--- a channel that is not spent, and whose journal is nearly full where the session is told to be full
-pub record IsReportable (r : Ran) (core : CoreSeen) : Type 0 where
-  pub unspent : core.spent ≡ false
-  pub full : r ≡ ran.Full → IsNearlyFull core.journal.entries
-
--- the report of a channel was written, or a front of it; where it can't be reported, nothing
-abbrev pub Tells : Ran → List ℕ → CoreSeen → Result Unit ReportFault → Option (List ℕ) → Option (List ℕ) → ℕ → ℕ → Type 0
-Tells r target core (Ok done) taken taken' faults faults' = IsReportable r core × Appends taken taken' (run_text r target core.journal (ledger_in core))
-Tells r target core (Err fault) taken taken' faults faults' =
-    ((fault ≡ unwritten.NoMemory) × (taken' ≡ taken))
-    ⊎ (IsReportable r core × AppendsFront taken taken' (run_text r target core.journal (ledger_in core)) × ((fault ≡ unwritten.Write) → Rises faults faults'))
-
--- the text is the report of a channel that was new with the authority of the handle's lock and was given events, in a turn of the
--- handle, which has then seen all of its history
-abbrev pub ReportsAt : Ran → List ℕ → SeatSeen Entry → SeatSeen Entry → List ℕ → Type 0
-ReportsAt r target before after text =
-    (core : CoreSeen) × HasRun before.lock.origin core × StartsWith core.journal.entries before.seen × (after.seen ≡ core.journal.entries) × (after.own ≡ before.own) × (after.parts ≡ before.parts)
-    × (r ≡ ran.Full → IsNearlyFull core.journal.entries) × (text ≡ run_text r target core.journal (ledger_in core))
-
--- the text is the report of a channel that was new with the authority of a handle's lock and was given events. Its history begins with
--- what the handle had seen, and the handle's entries stand in it; where it has every part they are all of it
-abbrev pub ReportsOn : Ran → List ℕ → SeatSeen Entry → List ℕ → Type 0
-ReportsOn r target seat text =
-    (core : CoreSeen) × HasRun seat.lock.origin core × StartsWith core.journal.entries seat.seen × Owns seat.parts seat.own core.journal.entries × (r ≡ ran.Full → IsNearlyFull core.journal.entries) × (text ≡ run_text r target core.journal (ledger_in core))
+-- the handle that a run leaves whose workers made these calls
+pub record LeavesCalls (lock : LockId) (o : Outcome) (groups : List (List CallLine)) (seat : SeatSeen Entry) : Type 0 where
+  pub owns : List (List (ℕ × Entry))
+  pub makes : AreMade o (busy groups) owns
+  pub left : IsLeft lock o owns seat

@@ -1,30 +1,17 @@
 -- What the mode `live` reads and runs, and the text that it makes of it, by its status.
-use Rattle.std.specs.Prelude.{◌≡◌, ◌⊎◌, ℕ, Option, List, ◌∷◌}
-use Rattle.grpc_base.specs.declared.event.Entry.{Entry}
-use Rattle.grpc_base.specs.declared.event.Event.{Event}
-use Rattle.grpc_base.specs.declared.event.Event.TheVariants as event
+use Rattle.std.specs.Prelude.{◌≡◌, ◌⊎◌, ℕ, Option, List}
 use Rattle.grpc_base.specs.declared.event.Stamped.{Stamped}
 use Rattle.attempt_ledger.specs.declared.journal.Journal.{Journal}
 use Rattle.attempt_ledger.specs.declared.ledger.Ledger.{Ledger}
 use Rattle.resolver_core.specs.AnyTargets.{authority_of}
-use Rattle.resolver_core.specs.declared.any_target.Target.{Target}
-use Rattle.resolver_core.specs.declared.any_target.Target.TheVariants as target
 use Rattle.script_input.specs.Lives.{FindsBadLive, ReadsLive, StopsInLive}
 use Rattle.script_input.specs.declared.live_script.LiveScript.{LiveScript}
 use Rattle.session_text.specs.declared.ran.Ran.{Ran}
 use Rattle.session_text.specs.declared.ran.Ran.TheVariants as ran
 use Rattle.session_text.specs.Sessions.{IsSession, line_fault_text, run_text}
 use Rattle.shared_channel.specs.Histories.{IsNearlyFull}
+use Rattle.live_channel.specs.Told.{TellsTarget}
 use Rattle.live_mode.specs.Made.{CarriesCalls}
-
--- the first entry is of this event
-abbrev pub IsToldFirst : Event → List Entry → Type 0
-IsToldFirst e entries = (first : Entry) × (rest : List Entry) × (first.event ≡ e) × (entries ≡ first ∷ rest)
-
--- a channel is told first the addresses of its target, where that is a list of some, and the config of the script; a name is looked up
-abbrev pub TellsTarget : Target → Option (List ℕ) → List Entry → Type 0
-TellsTarget (target.Ipv4 addresses) config entries = IsToldFirst (event.Resolved addresses config) entries
-TellsTarget (target.Dns name) config entries = Unit {0}
 
 -- the text is the report of the one channel of a live run: a new channel, whose requests have the authority of the script's target, was
 -- given exactly the events of this journal, one behind another. The journal begins with what the channel is told first, and has the calls

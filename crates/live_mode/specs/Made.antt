@@ -1,8 +1,7 @@
 -- The calls of a live script in the journal of its run: which entries each worker made, and the Shutdown behind them.
-use Rattle.std.specs.Prelude.{◌≡◌, ◌⊎◌, ◌≤◌, ℕ, zero, suc, ◌+◌, Bool, true, false, List, [], ◌∷◌, ◌++◌, map, Some, slice_get, length}
+use Rattle.std.specs.Prelude.{◌≡◌, ◌⊎◌, ◌≤◌, ℕ, zero, suc, ◌+◌, true, List, [], ◌∷◌, ◌++◌, Some, slice_get, length}
 use Rattle.std.specs.List.{AllZip}
 use Rattle.grpc_base.specs.declared.event.Entry.{Entry}
-use Rattle.grpc_base.specs.declared.event.Event.{Event}
 use Rattle.grpc_base.specs.declared.event.Event.TheVariants as event
 use Rattle.grpc_base.specs.declared.script.CallLine.{CallLine}
 use Rattle.live_pump.specs.Calls.{LinesFront, MakesLines}
@@ -11,21 +10,8 @@ use Rattle.script_input.specs.declared.live_script.WorkerLine.{WorkerLine}
 use Rattle.session_text.specs.declared.ran.Ran.{Ran}
 use Rattle.session_text.specs.declared.ran.Ran.TheVariants as ran
 use Rattle.shared_channel.specs.Turns.{entries_of}
-use Rattle.turn_lock.specs.History.{Ascends, Stands, times}
-
--- an event of an application: one that the calls of a script are made of
-abbrev pub is_of_call : Event → Bool
-is_of_call (event.Begin request) = true
-is_of_call (event.Send call message) = true
-is_of_call (event.Finish call) = true
-is_of_call (event.Take call) = true
-is_of_call (event.Cancel call) = true
-is_of_call _ = false
-
--- how often the place x stands in these lists
-abbrev pub times_in : {E : Type 0} → ℕ → List (List (ℕ × E)) → ℕ
-times_in x [] = 0
-times_in x (own ∷ owns) = times x own + times_in x owns
+use Rattle.turn_lock.specs.History.{Ascends, Stands}
+use Rattle.live_channel.specs.Sharing.{IsShutFirst, is_of_call, times_in}
 
 -- the calls of so many workers, from this one on
 abbrev pub lines_from : ℕ → ℕ → List WorkerLine → List (List CallLine)
@@ -46,10 +32,6 @@ pub record IsWorkOf (r : Ran) (entries : List Entry) (lines : List CallLine) (ow
   pub stands : Stands entries own
   pub ascends : Ascends 0 own
   pub makes : MakesOwn r lines (entries_of own)
-
--- a Shutdown is the first of these
-abbrev pub IsShutFirst : List Entry → Type 0
-IsShutFirst entries = (first : Entry) × (rest : List Entry) × (first.event ≡ event.Shutdown) × (entries ≡ first ∷ rest)
 
 -- Each worker made its calls, in a front of the journal; no entry is of two of them, and each entry of an application is of one of
 -- them. Where all went well a Shutdown stands next behind that front, and in any case nowhere else

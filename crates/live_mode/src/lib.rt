@@ -2,13 +2,12 @@
 #![tactic(auto)]
 
 mod mode;
-mod report;
 mod session;
 mod settings;
 mod sides;
 mod start;
 mod workers;
 
+pub use live_channel::NETS;
 pub use mode::run_live;
 pub use settings::LiveSettings;
-pub use workers::NETS;

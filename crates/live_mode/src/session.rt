@@ -1,23 +1,21 @@
 // The session of a live run: one channel for all workers.
 ghost use Rattle.std.specs.Prelude.{◌≡◌, ◌≤◌, IfOk, OnErr, Err, map, true, length};
 ghost use Rattle.gate_io.specs.Outside.{Rises};
-ghost use Rattle.live_mode.specs.Live.{IsAnyLiveReport, IsLiveReport, TellsTarget};
-ghost use Rattle.live_mode.specs.Handles.{IsFirstSeat, IsLeft};
-ghost use Rattle.live_run.specs.declared.outcome.Outcome.TheVariants as outcome_is;
+ghost use Rattle.live_channel.specs.Handles.{IsFirstSeat};
+ghost use Rattle.live_channel.specs.Told.{TellsTarget};
+ghost use Rattle.live_mode.specs.Live.{IsAnyLiveReport, IsLiveReport};
+ghost use Rattle.live_mode.specs.Handles.{LeavesCalls};
 ghost use Rattle.policy_rack.specs.Kinds.{are_ready};
-ghost use Rattle.resolver_core.specs.AnyTargets.{IsTarget, authority_of};
+ghost use Rattle.resolver_core.specs.AnyTargets.{IsTarget};
 ghost use Rattle.session_text.specs.Writing.{WritesAll, WritesFront, WritesSome};
-ghost use Rattle.session_text.specs.declared.ran.Ran.TheVariants as ran_is;
 
-use crate::report::report_channel;
 use crate::settings::LiveSettings;
-use crate::start::{run_named, run_resolved};
-use crate::workers::Bench;
-use channel_core::ChannelCore;
-use dns_watch::{DnsWatch, NamedWorld};
+use crate::start::run_calls;
+use dns_watch::NamedWorld;
 use gate_io::{Sink, World};
 use grpc_base::{CallLine, NoMemory, Octets};
 use lb_policy::Balancer;
+use live_channel::{Bench, open_channel, ran_of, report_channel, start_links};
 use live_run::{Outcome, by_worker};
 use resolver_core::Target;
 use script_input::LiveScript;
@@ -63,36 +61,6 @@ pub fn report_live<R: Threads + Wait + Sync, P: Balancer + Send, K: Sink, W: Nam
     }
 }
 
-/// A new channel for a target, and its handle.
-#[tactic(auto, using(crate::proofs::LiveLaws::new_run, crate::proofs::LiveLaws::new_fits))]
-fn open_channel<P: Balancer>(
-    alloc: Global,
-    policies: Vec<P>,
-    target: &Target,
-) -> Result<(SharedChannel<P>, Seat<P>), NoMemory>
-    requires ready { are_ready (map P.seen policies.items) ≡ true }
-    requires target { IsTarget target.now }
-    ensures seat { IfOk result (λ r. IsFirstSeat r.0 r.1) }
-    ensures authority { IfOk result (λ r. r.0.origin ≡ authority_of target.now) }
-{
-    let authority = target.authority(alloc)?;
-    let core = ChannelCore::new(alloc, authority, policies)?;
-    let named = target.authority(alloc)?;
-    let (channel, seat) = SharedChannel::new(alloc, core, named)?;
-    Ok((channel, seat))
-}
-
-/// How far the session was run. Where the session has no room a call that waits is answered that there is no memory: so each run that did
-/// not end well is reported as full, where a step found its journal nearly full.
-fn ran_of(outcome: Outcome) -> Result<Ran, NoMemory>
-    ensures { IfOk result (λ r. r ≡ ran_is.Whole → outcome ≡ outcome_is.Whole) }
-{
-    match outcome {
-        Outcome::Whole => Ok(Ran::Whole),
-        Outcome::Full | Outcome::NoMemory => Ok(Ran::Full),
-    }
-}
-
 /// Runs the calls over the parts of a world.
 fn run_world<R: Threads + Wait + Sync, P: Balancer + Send, W: NamedWorld>(
     rt: &R,
@@ -107,25 +75,24 @@ fn run_world<R: Threads + Wait + Sync, P: Balancer + Send, W: NamedWorld>(
 ) -> Result<(Seat<P>, Outcome), NoMemory>
     requires seat { IsFirstSeat channel.now seat }
     requires few { length groups.items ≤ 16 }
-    ensures left { IfOk result (λ r. IsLeft channel.now r.1 (map (λ g. g.items) groups.items) r.0) }
+    ensures left { IfOk result (λ r. LeavesCalls channel.now r.1 (map (λ g. g.items) groups.items) r.0) }
     ensures told { IfOk result (λ r. TellsTarget target config r.0.seen) }
 {
     let lookup = world.lookup();
-    let (clock, draws, dialers) = world.parts(settings.seed);
+    let (clock, mut draws, dialers) = world.parts(settings.seed);
+    let LiveSettings {
+        seed: _,
+        nets,
+        keep,
+    } = settings;
     let bench = Bench {
         rt,
         alloc,
         channel,
         clock: &clock,
-        settings,
+        nets,
+        keep,
     };
-    match target {
-        Target::Ipv4(addresses) => run_resolved(
-            &bench, seat, draws, dialers, groups, lookup, addresses, config,
-        ),
-        Target::Dns(name) => {
-            let watch = DnsWatch::new(name);
-            run_named(&bench, seat, draws, dialers, groups, lookup, watch, config)
-        }
-    }
+    let (seat, links) = start_links(&bench, seat, &mut draws, dialers, lookup, target, config)?;
+    run_calls(&bench, seat, draws, groups, links)
 }

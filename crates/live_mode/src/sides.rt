@@ -1,82 +1,28 @@
 // Both sides of a live run at once: the workers beside the calls, and those that make calls.
 ghost use Rattle.std.specs.Prelude.{◌≡◌, ◌<◌, ◌+◌, ◌∷◌, [], ℕ, IfOk, List, length, map, slice_index_or};
 ghost use Rattle.std.specs.List.{AllByRecursion, AllZip};
-ghost use Rattle.grpc_base.specs.declared.event.Entry.{Entry};
-ghost use Rattle.grpc_base.specs.declared.script.CallLine.{CallLine};
 ghost use Rattle.live_run.specs.Outcomes.{gravest};
-ghost use Rattle.live_run.specs.Sides.{CallDone, LinkDone, seen_by};
+ghost use Rattle.live_run.specs.Sides.{CallDone, seen_by};
 ghost use Rattle.live_run.specs.declared.jobs.CallJob.{CallJob};
-ghost use Rattle.live_run.specs.declared.link_job.LinkJob.{LinkJob};
 ghost use Rattle.turn_lock.specs.History.{LockId};
-ghost use Rattle.live_mode.specs.Handles.{Closes, IsFresh, IsKept, IsOne, IsWorked, Leaves, Shuts, TakesIn, handle_in, outcome_of_post, owns_of, seats_in};
-ghost use Rattle.live_mode.specs.Sides.{IsReady, KeepsDone, MakesDone, RunDone, SideDone};
+ghost use Rattle.live_channel.specs.Handles.{IsFresh, IsOne, TakesIn, owns_of, seats_in};
+ghost use Rattle.live_channel.specs.declared.linkers.Linkers.{Linkers};
+ghost use Rattle.live_mode.specs.Handles.{IsWorked};
+ghost use Rattle.live_mode.specs.Sides.{IsReady, MakesDone, RunDone, SideDone};
 ghost use Rattle.live_mode.specs.declared.sides.Callers.{Callers};
-ghost use Rattle.live_mode.specs.declared.sides.Linkers.{Linkers};
 ghost use Rattle.live_mode.specs.declared.sides.Side.{Side};
 ghost use Rattle.live_mode.specs.declared.sides.Side.TheVariants as side;
 
 use dns_watch::Lookup;
 use gate_io::{Clock, Dialer, Draws};
-use grpc_base::{Caller, Event, Glance, NoMemory, Post, PostError, Reply};
+use grpc_base::{Caller, NoMemory};
 use lb_policy::Balancer;
-use live_run::{CallJob, LinkJob, Outcome, work_calls, work_links};
+use live_channel::{Linkers, close_links, shut_down};
+use live_run::{CallJob, Outcome, work_calls};
 use shared_channel::{ChannelSeat, Seat};
 use std::alloc::Global;
 use std::sync::Wait;
 use std::thread::{Threads, for_each_mut};
-
-/// The workers that keep links open or look a name up.
-#[derive(Drop)]
-pub struct Linkers<H, N, L, D> {
-    pub jobs: Vec<LinkJob<H, N, L, D>>,
-    pub outcome: Outcome,
-}
-
-impl<
-    P: Balancer + Send,
-    R: Threads + Wait + Sync,
-    C: Clock,
-    D: Draws,
-    N: Dialer,
-    L: Lookup,
-> Linkers<ChannelSeat<'_, P, R, C, D>, N, L, D> {
-    /// Keeps links open until the channel is shut down.
-    fn keep(&mut self, rt: &R, clock: &C)
-        ensures { KeepsDone (λ h. h.seat) self.old self.new }
-    {
-        self.outcome = keep_links(rt, clock, &mut self.jobs);
-    }
-}
-
-/// Keeps links open, and looks a name up.
-fn keep_links<
-    P: Balancer + Send,
-    R: Threads + Wait + Sync,
-    C: Clock,
-    D: Draws,
-    N: Dialer,
-    L: Lookup,
->(rt: &R, clock: &C, jobs: &mut Vec<LinkJob<ChannelSeat<'_, P, R, C, D>, N, L, D>>) -> Outcome
-    ensures kept { (lock : LockId) → AllByRecursion (IsFresh lock) (seats_in (λ h. h.seat) jobs.old.items) → AllByRecursion (IsKept lock) (seats_in (λ h. h.seat) jobs.new.items) }
-    ensures count { length jobs.new.items ≡ length jobs.old.items }
-{
-    work_links_of(rt, clock, jobs)
-}
-
-/// The work of these workers, each by its place.
-fn work_links_of<
-    R: Threads + Wait + Sync,
-    H: Post + Glance + Send,
-    N: Dialer,
-    L: Lookup,
-    C: Clock,
-    D: Draws,
->(rt: &R, clock: &C, jobs: &mut Vec<LinkJob<H, N, L, D>>) -> Outcome
-    ensures count { length jobs.new.items ≡ length jobs.old.items }
-    ensures each { (i : ℕ) (d : LinkJob H N L D) → i < length jobs.old.items → LinkDone (seen_by H.made H.errors H.last_error) H.share H.last_look N.coming (slice_index_or jobs.old.items i d) (slice_index_or jobs.new.items i d) }
-{
-    work_links(rt, clock, jobs.as_mut_slice())
-}
 
 /// The workers that make calls, and the handle through which the channel is shut down behind them.
 #[derive(Drop)]
@@ -140,50 +86,6 @@ fn take_in_callers<P: Balancer, R, C: Clock, D: Draws>(
             outcome: _,
         } = job;
         closer.take_in(post.into_seat());
-    }
-}
-
-/// Takes in the handles of workers beside the calls.
-fn take_in_linkers<P: Balancer, R, C: Clock, D: Draws, N: Dialer, L: Lookup>(
-    closer: &mut ChannelSeat<'_, P, R, C, D>,
-    jobs: &mut Vec<LinkJob<ChannelSeat<'_, P, R, C, D>, N, L, D>>,
-)
-    requires ones { AllByRecursion (IsOne closer.old.seat.lock) (seats_in (λ h. h.seat) jobs.old.items) }
-    ensures { TakesIn closer.old.seat (owns_of (seats_in (λ h. h.seat) jobs.old.items)) closer.new.seat }
-{
-    while let Some(job) = jobs.pop() {
-        let post = handle_of(job);
-        closer.take_in(post.into_seat());
-    }
-}
-
-/// The handle of a worker beside the calls.
-fn handle_of<H: Drop, N: Drop, L: Drop, D: Drop>(job: LinkJob<H, N, L, D>) -> H
-    ensures { result ≡ handle_in job }
-{
-    match job {
-        LinkJob::Net(net) => net.post,
-        LinkJob::Name(name) => name.post,
-    }
-}
-
-/// Shuts the channel down.
-fn shut_down<P: Balancer, R: Wait, C: Clock, D: Draws>(
-    closer: &mut ChannelSeat<'_, P, R, C, D>,
-) -> Outcome
-    ensures { Shuts result closer.old.seat closer.new.seat }
-{
-    let posted = closer.post(Event::Shutdown);
-    outcome_of(posted)
-}
-
-/// How a post ended.
-fn outcome_of(posted: Result<Reply, PostError>) -> Outcome
-    ensures { result ≡ outcome_of_post posted }
-{
-    match posted {
-        Ok(_) => Outcome::Whole,
-        Err(error) => Outcome::of_error(error),
     }
 }
 
@@ -312,7 +214,12 @@ fn run_alone<
 {
     calls.make(rt);
     links.keep(rt, clock);
-    ended(links, calls)
+    let Callers {
+        jobs: _jobs,
+        closer,
+        outcome,
+    } = calls;
+    close_links(links, closer, outcome)
 }
 
 /// Runs both sides at once.
@@ -337,7 +244,12 @@ fn run_beside<
     let mut sides = sides_of(alloc, links, calls)?;
     work_both(rt, clock, &mut sides);
     let (links, calls) = parted(sides);
-    Ok(ended(links, calls))
+    let Callers {
+        jobs: _jobs,
+        closer,
+        outcome,
+    } = calls;
+    Ok(close_links(links, closer, outcome))
 }
 
 /// The workers of both sides again.
@@ -356,28 +268,4 @@ fn parted<H: Drop, N: Drop, L: Drop, D: Drop>(
         },
         _ => unreachable!(),
     }
-}
-
-/// What both sides left: the handle through which the channel was shut down, which takes in those of the other side, and how all
-/// workers ended.
-fn ended<P: Balancer, R, C: Clock, D: Draws, N: Dialer, L: Lookup>(
-    links: Linkers<ChannelSeat<'_, P, R, C, D>, N, L, D>,
-    calls: Callers<ChannelSeat<'_, P, R, C, D>>,
-) -> (Seat<P>, Outcome)
-    requires kept { AllByRecursion (IsKept calls.closer.seat.lock) (seats_in (λ h. h.seat) links.jobs.items) }
-    ensures lock { result.0.lock ≡ calls.entry.closer.seat.lock }
-    ensures parts { result.0.parts ≡ calls.entry.closer.seat.parts + length links.entry.jobs.items }
-    ensures leaves { (groups : List (List CallLine)) (seen : List Entry) (own : _) → Closes calls.entry.outcome groups seen own calls.entry.closer.seat → Leaves result.1 groups seen own result.0 }
-{
-    let Callers {
-        jobs: _jobs,
-        mut closer,
-        outcome,
-    } = calls;
-    let Linkers {
-        mut jobs,
-        outcome: kept,
-    } = links;
-    take_in_linkers(&mut closer, &mut jobs);
-    (closer.into_seat(), outcome.with(kept))
 }

@@ -13,6 +13,13 @@ use Rattle.relay_request.specs.declared.incoming.Incoming.TheVariants.{Begins, R
 use Rattle.relay_asks.specs.declared.ask.RelayAsk.{RelayAsk}
 use Rattle.relay_asks.specs.declared.ask.RelayAsk.TheVariants as ask
 
+-- the stream that asks
+abbrev pub stream_of : RelayAsk → ℕ
+stream_of (ask.Begin stream request) = stream
+stream_of (ask.Send stream message) = stream
+stream_of (ask.Finish stream) = stream
+stream_of (ask.Cancel stream) = stream
+
 -- one stream to its callers
 pub record Asking : Type 0 where
   pub number : ℕ

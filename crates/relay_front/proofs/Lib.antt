@@ -1,8 +1,6 @@
-pub mod Places
-pub mod Pieces
-pub mod Going
-pub mod Weights
-pub mod Taking
-pub mod Rising
-pub mod Asks
-pub mod Apart
+pub mod RunLaws
+pub mod TellLaws
+pub mod GiveLaws
+pub mod TurnLaws
+pub mod LinkLaws
+pub mod ReadLaws

@@ -1,6 +1,3 @@
-pub mod Streams
-pub mod Relay
-pub mod Arriving
-pub mod Draining
-pub mod Outcomes
-pub mod Laws
+pub mod Cores
+pub mod Turns
+pub mod Rounds

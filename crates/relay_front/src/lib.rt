@@ -1,14 +1,15 @@
-// The front of a relay: one connection of a client, from its bytes to what its calls ask, and from their answers to bytes.
+// A relay in front of a channel: it takes a client's gRPC calls and makes each of them through the channel.
 #![tactic(auto)]
 
-mod connection;
-mod fault;
-mod laws;
-mod stream;
-mod streams;
+mod ends;
+mod links;
+mod relay_core;
+mod turned;
+mod turns;
 
-pub use connection::RelayCore;
-pub use fault::{RelayFault, RelayTurn};
-pub use laws::{pieces_join, streams_are_apart, streams_rise};
-pub use relay_asks::RelayAsk;
-pub use stream::RelayStream;
+pub use ends::relay_close;
+pub use links::relay_link;
+pub use relay_connection::{RelayAsk, RelayFault, pieces_join, streams_are_apart, streams_rise};
+pub use relay_core::RelayCore;
+pub use turned::RelayTurn;
+pub use turns::relay_turn;

@@ -4,6 +4,7 @@ pub mod LineLaws
 pub mod LiveLaws
 pub mod PartLaws
 pub mod RecordLaws
+pub mod RelayLaws
 pub mod ScriptLaws
 pub mod ServerLaws
 pub mod StateLaws

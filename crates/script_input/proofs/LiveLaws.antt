@@ -4,7 +4,9 @@ use Rattle.std.specs.Prelude.{Result, Ok, Err, IfErr, IfOk, OnOk}
 use Rattle.std.proofs.lemmas.List.{append_cancel_right, map-append}
 use Rattle.grpc_base.specs.Pieces.{pieces}
 use Rattle.gate_io.specs.Outside.{IsAtEnd, Rises, Takes}
+use Rattle.resolver_core.specs.AnyTargets.{IsTarget}
 use Rattle.resolver_core.specs.declared.any_target.Target.{Target}
+use Rattle.resolver_core.proofs.KeptLaws.{target_kept}
 use Rattle.script_fields.specs.Spelling.{fields}
 use Rattle.script_fields.proofs.PartLaws.{pieces-blank}
 use Rattle.script_lines.specs.declared.line.ScriptLine.{ScriptLine}
@@ -175,7 +177,7 @@ live_one input s other is also =
     let same : also.texts ≡ is.texts = append_cancel_right also.texts is.texts ([] ∷ []) (sym also.parts ∙ is.parts) in
     lines_one 0 is.texts (live_reads s) (live_reads other) is.lines (subst (λ (ts : List (List ℕ)). AreLiveLines 1 ts (live_reads other)) same also.lines)
 
-named_reads : (s : LiveLines) (l : LiveScript) → IsNamed s l → live_reads l ≡ reads_of s.named s.config s.calls.items
+pub named_reads : (s : LiveLines) (l : LiveScript) → IsNamed s l → live_reads l ≡ reads_of s.named s.config s.calls.items
 named_reads s l is =
     ap (λ (c : Option (List ℕ)). line.Channel l.target l.value ∷ config_reads c ++ map (λ (x : WorkerLine). line.Call x.worker x.line) l.calls.items) is.config
     ∙ ap (λ (xs : List WorkerLine). line.Channel l.target l.value ∷ config_reads s.config ++ map (λ (x : WorkerLine). line.Call x.worker x.line) xs) (ap (λ v. v.items) is.calls)
@@ -246,21 +248,21 @@ gives_no_live left left' n m fault.NoMemory s = tt
 gives_no_live left left' n m fault.Empty s = absurd s
 
 -- no line at all
-pub no_script : (left left' : Option (List ℕ)) (n m : ℕ) (s : LiveLines) (e : InputFault) → ReadsLines HasTakenLive left left' s → IsUnnamed s e → GivesNoLive left left' n m e
-no_script left left' n m s e r is = subst (GivesNoLive left left' n m) (sym is.1) (record {
-  input = r.input;
-  read = r.read;
-  bad = inl (r.at_end, inr (nothing, refl, refl));
-})
+pub nothing_read : (left left' : Option (List ℕ)) (s : LiveLines) (r : ReadsLines HasTakenLive left left' s) → s.named ≡ None → r.input ≡ []
+nothing_read left left' s r unnamed = pieces-blank 10 r.input (r.parts ∙ ap (λ (ts : List (List ℕ)). ts ++ [] ∷ []) none)
   where
     lines : AreLiveLines 1 r.texts []
-    lines = subst (λ (o : Option Named). AreLiveLines 1 r.texts (reads_of o s.config s.calls.items)) is.0 r.taken_are.lines
+    lines = subst (λ (o : Option Named). AreLiveLines 1 r.texts (reads_of o s.config s.calls.items)) unnamed r.taken_are.lines
 
     none : r.texts ≡ []
     none = none_long r.texts (sym (as_many 1 r.texts [] lines))
 
-    nothing : r.input ≡ []
-    nothing = pieces-blank 10 r.input (r.parts ∙ ap (λ (ts : List (List ℕ)). ts ++ [] ∷ []) none)
+pub no_script : (left left' : Option (List ℕ)) (n m : ℕ) (s : LiveLines) (e : InputFault) → ReadsLines HasTakenLive left left' s → IsUnnamed s e → GivesNoLive left left' n m e
+no_script left left' n m s e r is = subst (GivesNoLive left left' n m) (sym is.1) (record {
+  input = r.input;
+  read = r.read;
+  bad = inl (r.at_end, inr (nothing_read left left' s r is.0, refl, refl));
+})
 
 -- ---- the answer
 
@@ -271,3 +273,12 @@ live_ok left left' s (Err e) read named = tt
 pub live_bad : (left left' : Option (List ℕ)) (n m : ℕ) (s : LiveLines) (r : Result LiveScript InputFault) → ReadsLines HasTakenLive left left' s → IfErr r (IsUnnamed s) → IfErr r (GivesNoLive left left' n m)
 live_bad left left' n m s (Ok l) read unnamed = tt
 live_bad left left' n m s (Err e) read unnamed = no_script left left' n m s e read unnamed
+
+-- ---- the target
+
+target_of : (texts : List (List ℕ)) (script : LiveScript) → AreLiveLines 1 texts (live_reads script) → IsTarget script.value
+target_of [] script t = absurd t
+target_of (text ∷ texts) script t = target_kept script.target script.value t.0.1.1.3
+
+pub live_target : (left left' : Option (List ℕ)) (script : LiveScript) → ReadsLive left left' script → IsTarget script.value
+live_target left left' script read = target_of read.live.texts script read.live.lines

@@ -4,5 +4,7 @@ pub mod Feeding
 pub mod Lives
 pub mod LivesTaken
 pub mod Reading
+pub mod Relays
+pub mod RelaysTaken
 pub mod Scripts
 pub mod Servers

@@ -11,6 +11,7 @@ mod live_lines;
 mod live_script;
 mod read;
 mod record;
+mod relay;
 mod script;
 mod server;
 
@@ -19,5 +20,6 @@ pub use form::Form;
 pub use live::read_live;
 pub use live_script::{LiveScript, WorkerLine};
 pub use read::{read_replay, read_report};
+pub use relay::read_relay;
 pub use script::Script;
 pub use server::read_server;

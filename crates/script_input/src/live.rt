@@ -1,7 +1,7 @@
 // A live script, read from a source.
-ghost use Rattle.std.specs.Prelude.{◌≡◌, ◌≤◌, IfErr, IfOk, OnOk};
+ghost use Rattle.std.specs.Prelude.{◌≡◌, ◌≤◌, [], IfErr, IfOk, OnOk};
 ghost use Rattle.script_input.specs.Lives.{GivesNoLive, IsLiveRead, ReadsLive};
-ghost use Rattle.script_input.specs.LivesTaken.{IsKeptLive, IsNamed, IsUnnamed};
+ghost use Rattle.script_input.specs.LivesTaken.{HasTakenLive, IsKeptLive, IsNamed, IsUnnamed};
 
 use crate::fault::InputFault;
 use crate::line_reader::read_lines;
@@ -36,6 +36,18 @@ pub fn keep_live(
     Ok(())
 }
 
+/// No line was read.
+pub fn no_lines(alloc: Global) -> LiveLines
+    ensures { HasTakenLive result [] }
+{
+    LiveLines {
+        reader: ScriptReader::new(alloc, ScriptKind::Live),
+        named: None,
+        config: None,
+        calls: Vec::new(alloc),
+    }
+}
+
 /// Reads a live script to the input's end. It stops before it where a line is bad or a read fails, whichever comes
 /// first; more than the bytes of one read may then have been taken behind that line. In an input of no bytes the first line is bad.
 pub fn read_live<S: Source>(alloc: Global, source: &mut S) -> Result<LiveScript, InputFault>
@@ -43,18 +55,13 @@ pub fn read_live<S: Source>(alloc: Global, source: &mut S) -> Result<LiveScript,
     ensures bad { IfErr result (GivesNoLive (S.left source.old) (S.left source.new) (S.faults source.old) (S.faults source.new)) }
     ensures count { S.faults source.old ≤ S.faults source.new }
 {
-    let mut lines = LiveLines {
-        reader: ScriptReader::new(alloc, ScriptKind::Live),
-        named: None,
-        config: None,
-        calls: Vec::new(alloc),
-    };
+    let mut lines = no_lines(alloc);
     read_lines(alloc, source, &mut lines)?;
     script_of(lines)
 }
 
 /// The script of these lines.
-fn script_of(lines: LiveLines) -> Result<LiveScript, InputFault>
+pub fn script_of(lines: LiveLines) -> Result<LiveScript, InputFault>
     ensures ok { IfOk result (IsNamed lines) }
     ensures bad { IfErr result (IsUnnamed lines) }
 {

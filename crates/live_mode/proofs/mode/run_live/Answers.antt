@@ -1,9 +1,10 @@
 use Rattle.std.proofs.Common.{List, ℕ, inr, refl, rules, subst}
 use Rattle.script_input.specs.declared.fault.InputFault.{InputFault}
 use Rattle.script_input.specs.Lives.{GivesNoLive}
+use Rattle.script_input.proofs.LiveLaws.{live_target}
 use Rattle.live_mode.specs.Live.{EndsLiveFull, IsAnyLiveReport, IsLiveText, IsLived}
 use Rattle.session_text.specs.Sessions.{line_fault_text}
-use Rattle.live_mode.proofs.LiveLaws.{full_of, live_target, live_text, lived_of}
+use Rattle.live_mode.proofs.LiveLaws.{full_of, live_text, lived_of}
 use Rattle.session_text.proofs.WrittenLaws.{all_as, front_as, some_as}
 use Rattle.live_mode.proofs.mode.run_live.Goals as goal
 

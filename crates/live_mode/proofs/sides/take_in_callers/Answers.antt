@@ -1,5 +1,5 @@
 use Rattle.std.proofs.Common.{refl, rules}
-use Rattle.live_mode.proofs.OwnLaws.{popped_lock, popped_taken, taken_all}
+use Rattle.live_channel.proofs.OwnLaws.{popped_lock, popped_taken, taken_all}
 use Rattle.live_mode.proofs.sides.take_in_callers.Goals as goal
 
 pub take_in-requires-clause-lock : goal.take_in-requires-clause-lock

@@ -2,7 +2,7 @@ use Rattle.std.proofs.Common.{length, map}
 use Rattle.std.specs.List.{AllByRecursion}
 use Rattle.grpc_base.specs.declared.event.Entry.{Entry}
 use Rattle.turn_lock.specs.History.{SeatSeen}
-use Rattle.live_mode.specs.Handles.{IsOne, TakesIn, owns_of}
+use Rattle.live_channel.specs.Handles.{IsOne, TakesIn, owns_of}
 use Rattle.live_mode.proofs.sides.take_in_callers.Given as goal
 
 -- who takes in those that are left has taken in all

@@ -1,6 +1,7 @@
 use Rattle.std.proofs.Common.{◌≡◌, ◌≤◌, ◌+◌, ◌++◌, length, map}
 use Rattle.std.specs.Vec.Iter.{into_iter_items}
-use Rattle.live_mode.specs.Handles.{Splits, busy}
+use Rattle.live_channel.specs.Handles.{Splits}
+use Rattle.live_mode.specs.Handles.{busy}
 use Rattle.live_mode.proofs.workers.call_jobs.Given as goal
 
 -- a part was given for each group that was taken and has calls; and what is left

@@ -1,0 +1,16 @@
+use Rattle.std.proofs.Common.{length}
+use Rattle.std.specs.List.{AllByRecursion}
+use Rattle.grpc_base.specs.declared.event.Entry.{Entry}
+use Rattle.turn_lock.specs.History.{SeatSeen}
+use Rattle.live_channel.specs.Handles.{IsOne, TakesIn, owns_of, seats_in}
+use Rattle.live_channel.proofs.linkers.take_in_linkers.Given as goal
+
+-- who takes in those that are left has taken in all
+abbrev pub invariant-loop-job : goal.invariant-loop-job
+invariant-loop-job g l = record {
+  ones : AllByRecursion (IsOne l.closer.seat.lock) (seats_in (λ h. h.seat) l.jobs.items);
+  takes : (z : SeatSeen Entry) → TakesIn l.closer.seat (owns_of (seats_in (λ h. h.seat) l.jobs.items)) z → TakesIn l.fn.closer.seat (owns_of (seats_in (λ h. h.seat) l.fn.jobs.items)) z;
+}
+
+abbrev pub decreases-loop-job : goal.decreases-loop-job
+decreases-loop-job g l = length l.jobs.items

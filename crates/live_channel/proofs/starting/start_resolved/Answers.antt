@@ -1,0 +1,16 @@
+use Rattle.std.proofs.Common.{rules, subst}
+use Rattle.grpc_base.specs.declared.event.Event.{Event}
+use Rattle.live_channel.specs.Told.{IsToldFirst}
+use Rattle.live_channel.proofs.SeatLaws.{few_split, splits_empty, started_by, told_beside, told_split}
+use Rattle.live_channel.proofs.starting.start_resolved.Goals as goal
+
+pub returns-clause-started : goal.returns-clause-started
+returns-clause-started g c =
+    let splits = c.in_ok-add_nets.ensures.splits _ (splits_empty _ _ c.in_ok-seat.seat (search rules)) in
+    started_by _ c.in_ok-seat.seat c.add_nets.new.seat _ c.in_ok-seat.ensures.lock c.in_ok-seat.ensures.parts c.in_ok-seat.ensures.own.0 (told_beside _ _ _ _ c.in_ok-event.ensures c.in_ok-seat.ensures.own.1)
+    (few_split 4 _ _ _ splits c.in_ok-add_nets.ensures.parts (search rules)) splits
+
+pub returns-clause-told : goal.returns-clause-told
+returns-clause-told g c =
+    let splits = c.in_ok-add_nets.ensures.splits _ (splits_empty _ _ c.in_ok-seat.seat (search rules)) in
+    told_split _ c.in_ok-seat.seat c.add_nets.new.seat splits.seen (subst (λ (e : Event). IsToldFirst e c.in_ok-seat.seat.seen) c.in_ok-event.ensures c.in_ok-seat.ensures.told)

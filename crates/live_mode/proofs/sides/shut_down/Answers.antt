@@ -1,5 +1,0 @@
-use Rattle.live_mode.proofs.SeatLaws.{shuts_posted}
-use Rattle.live_mode.proofs.sides.shut_down.Goals as goal
-
-pub returns : goal.returns
-returns g c = shuts_posted _ _ c.post-posted.result _ _ _ c.outcome_of.ensures c.post-posted.ensures.place
