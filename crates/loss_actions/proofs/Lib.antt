@@ -1,0 +1,4 @@
+pub mod Calls
+pub mod Over
+pub mod Losses
+pub mod Stays

@@ -1,0 +1,4 @@
+pub mod Steps
+pub mod Left
+pub mod Calls
+pub mod Placing

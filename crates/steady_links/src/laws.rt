@@ -1,0 +1,21 @@
+// What leaves links, as actions of a session; nothing runs.
+ghost use Rattle.steady_links.specs.Laws.{AttemptsLeaveLinks, CallEndsLeaveLinks, CommitmentsLeaveLinks, LinksAreLeft, LinksAreLeftBut, PlacingsKeep};
+
+/// A link agrees with any session that it cannot tell from one with which it agrees: what passed on it and what it owes is the same, and its attempts have the
+/// same places and streams, and are fed right.
+pub fn links_are_left()
+    ensures streams { LinksAreLeft }
+    ensures but { LinksAreLeftBut }
+{}
+
+/// A commitment, the end of a call, and an attempt that is made leave every link.
+pub fn calls_leave_links()
+    ensures commitments { CommitmentsLeaveLinks }
+    ensures ends { CallEndsLeaveLinks }
+    ensures attempts { AttemptsLeaveLinks }
+{}
+
+/// An attempt that is placed on a link waits there for a stream, by its place.
+pub fn placings_keep()
+    ensures { PlacingsKeep }
+{}

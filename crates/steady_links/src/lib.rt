@@ -1,0 +1,6 @@
+// What is done to calls and their attempts, as actions of a session, leaves the links of the channel in agreement with it.
+#![tactic(auto)]
+
+mod laws;
+
+pub use laws::{calls_leave_links, links_are_left, placings_keep};
