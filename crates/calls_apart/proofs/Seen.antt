@@ -2,10 +2,10 @@
 use Rattle.call_actions.proofs.Ranks.{all_so}
 use Rattle.call_actions.specs.Order.{goes_on_followed, goes_on_older, has_ended, is_beyond, is_retried}
 use Rattle.call_actions.specs.Sees.{AreAttempts, AreDue, KeepsDelay}
-use Rattle.calls_apart.proofs.Kept.{commitment_same, delayed_same, due_same, followed_same, last_same, live_same, made_same, marks_same, own_then, plan_same, retried_same}
+use Rattle.calls_apart.proofs.Kept.{commitment_same, delayed_same, due_same, followed_same, last_same, live_same, made_same, marks_same, own_then, plan_same, retried_same, seen_same}
 use Rattle.calls_apart.proofs.Through.{any_apart, holds_left}
 use Rattle.calls_apart.specs.Apart.{is_counted_there, is_end_there, run_number}
-use Rattle.calls_apart.specs.Laws.{OthersAreInOrder, OthersAreInTurn, OthersAreSeen}
+use Rattle.calls_apart.specs.Laws.{LedgersAreShared, OthersAreInOrder, OthersAreInTurn, OthersAreSeen}
 use Rattle.grpc_base.specs.declared.plan.CallPlan.{CallPlan}
 use Rattle.service_config.specs.Choice.{chosen_for}
 use Rattle.session_actions.specs.Attempts.{is_followed, is_of}
@@ -54,6 +54,14 @@ others_are_seen s t c x ledger acts k h order recorded =
       rows = recorded.rows;
       call_is = recorded.call_is;
     }
+
+-- with the ledger of another call's step
+pub ledgers_are_shared : LedgersAreShared
+ledgers_are_shared s t c d x y k h g same = record {
+  entry_is = g.entry_is;
+  rows = g.rows;
+  call_is = same ∙ h.call_is ∙ ap (λ (z : _). Some z) (sym (seen_same s t c k h.own));
+}
 
 -- in order
 beyond_narrow : (z : Seen) (c : Call) (q : Attempt) → is_of c q ≡ false → is_beyond z c q ≡ false

@@ -67,6 +67,12 @@ OthersAreSeen =
     (s t : Seen) (c : Call) (x : Stepped) (ledger : Ledger) (acts : List CallAct) → IsApart s t c → Sees s c x → IsInOrder s c → IsRecorded t c ledger
     → Sees t c (lent x.call ledger (tokens_in_run t (run_number c t)) acts)
 
+-- the ledger of another call's step is such a one, where that step left what it says of this call
+abbrev pub LedgersAreShared : Type 0
+LedgersAreShared =
+    (s t : Seen) (c d : Call) (x y : Stepped) → IsApart s t c → Sees s c x → Sees t d y
+    → numbered y.ledger.calls c.number ≡ numbered x.ledger.calls c.number → IsRecorded t c y.ledger
+
 -- and what the session keeps in order of it is so still
 abbrev pub OthersAreInOrder : Type 0
 OthersAreInOrder = (s t : Seen) (c : Call) → IsApart s t c → IsBook t → numbered s.calls c.number ≡ Some c → IsInOrder s c → IsInOrder t c

@@ -1,5 +1,5 @@
 // What an action of one call leaves of every other one; nothing runs.
-ghost use Rattle.calls_apart.specs.Laws.{ApartJoins, BooksAlong, BooksBegin, BooksStay, LinesAreFair, OthersAlong, OthersAreInOrder, OthersAreInTurn, OthersAreSeen, OthersStay, TokensAreShared, TokensStay};
+ghost use Rattle.calls_apart.specs.Laws.{ApartJoins, BooksAlong, BooksBegin, BooksStay, LedgersAreShared, LinesAreFair, OthersAlong, OthersAreInOrder, OthersAreInTurn, OthersAreSeen, OthersStay, TokensAreShared, TokensStay};
 
 /// An action of one call, or of a policy, a subchannel, a link or the entry, changes nothing of another call: neither its marks nor its attempts nor its
 /// config (gRPC, "Core concepts": RPC life cycle).
@@ -12,6 +12,7 @@ pub fn others_are_apart()
 /// Where nothing changed of a call, session and channel agree of it as before, and what a session keeps in order of it is so still.
 pub fn others_agree()
     ensures seen { OthersAreSeen }
+    ensures ledger { LedgersAreShared }
     ensures order { OthersAreInOrder }
     ensures turn { OthersAreInTurn }
 {}

@@ -4,7 +4,7 @@ use Rattle.call_actions.specs.Order.{AreNumbered}
 use Rattle.call_core.specs.Laws as channel
 use Rattle.calls_apart.proofs.Acts.{IsIn, in_filter}
 use Rattle.calls_apart.proofs.Kept.{commitment_same, due_same, made_same, plan_same}
-use Rattle.calls_apart.proofs.Seen.{counted_by, others_are_seen}
+use Rattle.calls_apart.proofs.Seen.{counted_by, others_are_seen, ledgers_are_shared}
 use Rattle.calls_apart.specs.Apart.{IsApart, run_number}
 use Rattle.grpc_base.specs.declared.event.Reply.{Reply}
 use Rattle.grpc_base.specs.declared.plan.CallPlan.{CallPlan}
@@ -28,7 +28,7 @@ use Rattle.std.specs.Option.{option_map_or, option_or}
 use Rattle.take_actions.proofs.Lists.{IsThere, there}
 use Rattle.take_actions.specs.Serves.{AreFed, ArePlaced, Holds, IsAt, IsFed, IsLeft, came, drained_so_far, passed}
 use Rattle.takes_apart.specs.Heard.{IsHeardAlike}
-use Rattle.takes_apart.specs.Laws.{DeadlinesStay, OthersAreDue, OthersAreServed}
+use Rattle.takes_apart.specs.Laws.{DeadlinesStay, OthersAreDue, OthersAreServed, ServedTogether}
 
 -- the places of attempts
 placed_so : (n : ℕ) (xs : List Attempt) → AreNumbered n xs → ArePlaced n xs
@@ -125,6 +125,10 @@ others_are_served s t c x ledger acts k heard book h order recorded linked = rec
   left = λ e. subst (λ (all : List Reply). IsLeft all c.taken (channel.came x.call)) (sym (came_same s t c k heard h.sees.own order.places)) (h.left e);
   holds = λ is_open. held_same s t c k heard h.sees.own order.places x.call.buffer (h.holds is_open);
 }
+
+pub served_together : ServedTogether
+served_together s t c d x y acts k heard book h order g same =
+    others_are_served s t c x y.ledger acts k heard book h order (ledgers_are_shared s t c d x y k h.sees g.sees same) (record { links = g.links; reads = g.reads })
 
 pub others_are_due : OthersAreDue
 others_are_due s t c k own order =

@@ -40,6 +40,12 @@ OthersAreServed =
     (s t : Seen) (c : Call) (x : Stepped) (ledger : Ledger) (acts : List CallAct) → IsApart s t c → IsHeardAlike s t c → IsBook t → Serves s c x → IsInOrder s c
     → IsRecorded t c ledger → AreLinked t ledger → Serves t c (lent x.call ledger (tokens_in_run t (run_number c t)) acts)
 
+-- so it is with the ledger of the step of another call, which agrees with the session too
+abbrev pub ServedTogether : Type 0
+ServedTogether =
+    (s t : Seen) (c d : Call) (x y : Stepped) (acts : List CallAct) → IsApart s t c → IsHeardAlike s t c → IsBook t → Serves s c x → IsInOrder s c → Serves t d y
+    → numbered y.ledger.calls c.number ≡ numbered x.ledger.calls c.number → Serves t c (lent x.call y.ledger (tokens_in_run t (run_number c t)) acts)
+
 -- its next attempt is due when it was, and its deadline is the same
 abbrev pub OthersAreDue : Type 0
 OthersAreDue = (s t : Seen) (c : Call) → IsApart s t c → numbered s.calls c.number ≡ Some c → IsInOrder s c → next_due c t ≡ next_due c s

@@ -1,4 +1,4 @@
-use Rattle.calls_apart.proofs.Seen.{others_are_in_order, others_are_in_turn, others_are_seen}
+use Rattle.calls_apart.proofs.Seen.{ledgers_are_shared, others_are_in_order, others_are_in_turn, others_are_seen}
 use Rattle.calls_apart.proofs.laws.others_agree.Goals as goal
 
 pub returns-clause-seen : goal.returns-clause-seen
@@ -9,3 +9,6 @@ returns-clause-order c = others_are_in_order
 
 pub returns-clause-turn : goal.returns-clause-turn
 returns-clause-turn c = others_are_in_turn
+
+pub returns-clause-ledger : goal.returns-clause-ledger
+returns-clause-ledger c = ledgers_are_shared

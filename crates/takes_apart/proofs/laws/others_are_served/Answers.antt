@@ -1,4 +1,4 @@
-use Rattle.takes_apart.proofs.Served.{deadlines_stay, others_are_due, others_are_served}
+use Rattle.takes_apart.proofs.Served.{deadlines_stay, others_are_due, others_are_served, served_together}
 use Rattle.takes_apart.proofs.laws.others_are_served.Goals as goal
 
 pub returns-clause-served : goal.returns-clause-served
@@ -9,3 +9,6 @@ returns-clause-due c = others_are_due
 
 pub returns-clause-deadline : goal.returns-clause-deadline
 returns-clause-deadline c = deadlines_stay
+
+pub returns-clause-together : goal.returns-clause-together
+returns-clause-together c = served_together
