@@ -1,0 +1,46 @@
+-- Which lines an action may stir: where such a line gave nothing before it, it may give something after it. Any other line that gave nothing still
+-- gives nothing.
+-- Example: the trailers of a hedged attempt are read, with a code that hedgingPolicy does not name. FrameRead stirs the line by which attempts end;
+-- AttemptEnds those by which the call is committed and the stream reset; CallCommitted those by which the other attempts are cut and the call ends.
+use Rattle.std.specs.List.{list_any}
+use Rattle.std.specs.Prelude.{Bool, List, [], ◌∷◌}
+use Rattle.session_actions.specs.declared.action.Action.{Action}
+use Rattle.session_order.specs.Lines.{is_line}
+use Rattle.session_order.specs.declared.line.Line.{Line}
+use Rattle.session_actions.specs.declared.action.Action.TheVariants as action
+use Rattle.session_order.specs.declared.line.Line.TheVariants as line
+
+abbrev pub stirred : Action → List Line
+-- a call that is cancelled, or that was sent a message longer than allowed, ends
+stirred (action.EventAnswered r) = line.Cancelled ∷ line.Request ∷ []
+-- more bytes are accepted than are kept
+stirred (action.MessageAccepted call) = line.Overflow ∷ []
+-- its config may not allow what was accepted before it came
+stirred (action.CallConfigured call config) = line.Request ∷ []
+-- its attempts are cut off
+stirred (action.CallEnds call why) = line.Cut ∷ []
+-- its other attempts are cut off; it ends where the attempt has ended
+stirred (action.CallCommitted row why) = line.Cut ∷ line.Row ∷ []
+-- it may take a commitment over
+stirred (action.AttemptMade call number k due) = line.Inherited ∷ []
+-- the last end of a hedged call may be final now
+stirred (action.HedgeWithheld call) = line.Final ∷ []
+stirred (action.PickRequested row generation answer) = line.Pick ∷ []
+-- it is retried transparently, or commits its call, or ends it; its stream is reset
+stirred (action.AttemptEnds row end) = line.Transparent ∷ line.Row ∷ line.Final ∷ line.Reset ∷ []
+-- policies come and go by a result, and subchannels by their lists
+stirred (action.ConfigRead config) = line.Retire ∷ line.Begin ∷ line.Give ∷ []
+stirred (action.PolicyBegins k) = line.Give ∷ []
+stirred (action.AddressesGiven generation) = line.Drop ∷ line.Add ∷ []
+stirred (action.PolicyTakesOver generation) = line.Drop ∷ []
+stirred (action.PolicyRetired generation) = line.Drop ∷ []
+-- what is read, or that a link is over, bears on its subchannel and its attempts
+stirred (action.FrameRead link r) = line.Link ∷ line.Head ∷ line.Response ∷ line.WireEnd ∷ []
+stirred (action.LinkBreaks link number) = line.Link ∷ line.WireEnd ∷ []
+stirred (action.LinkLost link) = line.Link ∷ line.WireEnd ∷ []
+-- all calls end, and all policies are retired
+stirred action.ChannelShuts = line.Shut ∷ line.Retire ∷ []
+stirred _ = []
+
+abbrev pub stirs : Action → Line → Bool
+stirs a l = list_any (is_line l) (stirred a)
