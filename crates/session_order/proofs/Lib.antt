@@ -1,3 +1,14 @@
 pub mod Lists
+pub mod Changed
 pub mod Lines
 pub mod Calms
+pub mod Finals
+pub mod Told
+pub mod Passed
+pub mod Noted
+pub mod Entered
+pub mod Posts
+pub mod Wires
+pub mod Messages
+pub mod Boards
+pub mod Waits

@@ -55,13 +55,14 @@ some_foremost before test [] = refl
 some_foremost before test (x ∷ xs) = some_kept before (test x) x (filter test xs) (list_any test xs) (some_foremost before test xs)
 
 -- the foremost one of those that pass a test passes it
+one_of : {X : Type 0} (test : X → Bool) (b : Bool) (x y : X) → test x ≡ true → test y ≡ true → test (if b then y else x) ≡ true
+one_of test true x y e f = f
+one_of test false x y e f = e
+
 earlier_passes : {X : Type 0} (before : X → X → Bool) (test : X → Bool) (x : X) (o : Option X) → test x ≡ true → holds test o ≡ is_some o
     → test (earlier before x o) ≡ true
 earlier_passes before test x None e h = e
-earlier_passes before test x (Some y) e h = one_of (before y x) h e where
-  one_of : (b : Bool) → test y ≡ true → test x ≡ true → test (if b then y else x) ≡ true
-  one_of true p q = p
-  one_of false p q = q
+earlier_passes before test x (Some y) e h = one_of test (before y x) x y e h
 
 passes_by : {X : Type 0} (before : X → X → Bool) (test : X → Bool) (b : Bool) (x : X) (ys : List X) → test x ≡ b
     → holds test (foremost before ys) ≡ is_some (foremost before ys)

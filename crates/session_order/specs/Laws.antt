@@ -1,15 +1,18 @@
 -- What follows after an action, and what does not.
 -- Example: a session is calm, and its entry is answered with EventAnswered Done, for a Cancel of call 1. No line but those by which a call ends that
 -- was cancelled, or sent too long a message, may give anything then: so what follows is that call 1 ends. That stirs the line of the cuts alone.
-use Rattle.std.specs.Prelude.{Bool, None, Option, Some, false, true, ◌≡◌, ◌↔◌}
-use Rattle.session_actions.specs.Actions.{after, following, of_calls, of_links, of_policies, of_stage}
+use Rattle.std.specs.Prelude.{None, Some, false, true, ℕ, ◌≡◌, ◌↔◌}
+use Rattle.grpc_base.specs.declared.event.Refusal.{Refusal}
+use Rattle.grpc_base.specs.declared.event.Reply.{Reply}
+use Rattle.session_actions.specs.Actions.{after_in, following, of_calls, of_links, of_policies, of_stage}
 use Rattle.session_actions.specs.declared.action.Action.{Action}
 use Rattle.session_actions.specs.declared.entry.OpenEntry.{OpenEntry}
 use Rattle.session_actions.specs.declared.seen.Seen.{Seen}
 use Rattle.session_order.specs.Calm.{IsCalm, IsStill}
 use Rattle.session_order.specs.Lines.{gives, is_before}
-use Rattle.session_order.specs.Stirs.{stirs}
+use Rattle.session_order.specs.Stirs.{Fits, stirs}
 use Rattle.session_order.specs.declared.line.Line.{Line}
+use Rattle.session_actions.specs.declared.action.Action.TheVariants as action
 
 -- a line gives nothing exactly where it is still; and a session is calm exactly where nothing follows at once
 abbrev pub LinesAreStill : Type 0
@@ -28,3 +31,30 @@ abbrev pub FirstLineGives : Type 0
 FirstLineGives =
     (l : Line) (a : Action) (o : OpenEntry) (s : Seen) → s.current ≡ Some o → ((m : Line) → is_before o.event m l ≡ true → IsStill m o s)
     → gives l o s ≡ Some a → following s ≡ Some a
+
+-- a line that gave nothing, and that an action does not stir, gives nothing after it either
+abbrev pub Leaves : Action → OpenEntry → Seen → Type 0
+Leaves a o s =
+    (l : Line) (p : OpenEntry) → (after_in o a s).current ≡ Some p → stirs a l ≡ false → IsStill l o s → IsStill l p (after_in o a s)
+
+-- so it is of each action of an open entry, where it is made and where the session is in order
+abbrev pub StirsOnly : Action → Type 0
+StirsOnly a = (o : OpenEntry) (s : Seen) → s.current ≡ Some o → Fits a o s → Leaves a o s
+
+-- what is posted without a call or link that it bears on: a refusal, an answer, the end of an event, a resolution that failed
+pub record EntriesStir : Type 0 where
+  pub refused : (why : Refusal) → StirsOnly (action.EventRefused why)
+  pub answered : (r : Reply) → StirsOnly (action.EventAnswered r)
+  pub settles : StirsOnly action.SettlingBegins
+  pub unresolved : StirsOnly action.ResolutionFailed
+
+-- what an application tells a call or takes of it
+pub record ApplicationsStir : Type 0 where
+  pub accepted : (call : ℕ) → StirsOnly (action.MessageAccepted call)
+  pub finished : (call : ℕ) → StirsOnly (action.RequestFinished call)
+  pub taken : (call : ℕ) (item : Reply) → StirsOnly (action.ItemTaken call item)
+
+-- what is queued on a link, and the bytes that come
+pub record LinksStir : Type 0 where
+  pub arrived : (link : ℕ) → StirsOnly (action.BytesArrive link)
+  pub pinged : (link : ℕ) → StirsOnly (action.PingQueued link)

@@ -2,3 +2,4 @@ pub mod Calm
 pub mod Laws
 pub mod Lines
 pub mod Stirs
+pub mod Waits

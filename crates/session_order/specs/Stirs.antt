@@ -3,11 +3,20 @@
 -- Example: the trailers of a hedged attempt are read, with a code that hedgingPolicy does not name. FrameRead stirs the line by which attempts end;
 -- AttemptEnds those by which the call is committed and the stream reset; CallCommitted those by which the other attempts are cut and the call ends.
 use Rattle.std.specs.List.{list_any}
-use Rattle.std.specs.Prelude.{Bool, List, [], ◌∷◌}
+use Rattle.std.specs.Prelude.{Bool, List, None, Some, [], false, true, ℕ, ◌∷◌, ◌≡◌}
+use Rattle.session_actions.specs.Configs.{is_too_long}
+use Rattle.session_actions.specs.Policies.{addresses_in, is_failure}
+use Rattle.session_actions.specs.Subchannels.{is_dialling, is_idle}
+use Rattle.session_actions.specs.Words.{numbered}
 use Rattle.session_actions.specs.declared.action.Action.{Action}
+use Rattle.session_actions.specs.declared.call.Call.{Call}
+use Rattle.session_actions.specs.declared.entry.OpenEntry.{OpenEntry}
+use Rattle.session_actions.specs.declared.seen.Seen.{Seen}
+use Rattle.session_actions.specs.declared.subchannel.Subchannel.{Subchannel}
 use Rattle.session_order.specs.Lines.{is_line}
 use Rattle.session_order.specs.declared.line.Line.{Line}
 use Rattle.session_actions.specs.declared.action.Action.TheVariants as action
+use Rattle.grpc_base.specs.declared.event.Event.TheVariants as event
 use Rattle.session_order.specs.declared.line.Line.TheVariants as line
 
 abbrev pub stirred : Action → List Line
@@ -44,3 +53,27 @@ stirred _ = []
 
 abbrev pub stirs : Action → Line → Bool
 stirs a l = list_any (is_line l) (stirred a)
+
+-- What an action asks of the session, as far as it bears on what follows. Most is what its own line of the definition says; the rest is what each
+-- session keeps in order
+abbrev pub AreNumbered : Seen → Type 0
+AreNumbered s = (k : ℕ) (c : Call) → numbered s.calls k ≡ Some c → c.number ≡ k
+
+abbrev pub Fits : Action → OpenEntry → Seen → Type 0
+-- the event brings no result of the resolver
+Fits (action.EventAnswered r) o s = addresses_in o.event ≡ None
+Fits action.ResolutionFailed o s = o.event ≡ event.ResolveFailed
+-- the message is of this event, and no longer than allowed; calls have the numbers of their places
+Fits (action.MessageAccepted call) o s =
+    (message : List ℕ) × (o.event ≡ event.Send call message) × AreNumbered s
+    × ((c : Call) → numbered s.calls call ≡ Some c → is_too_long message c s ≡ false)
+Fits (action.RequestFinished call) o s = o.event ≡ event.Finish call
+Fits (action.ItemTaken call item) o s = o.event ≡ event.Take call
+Fits (action.BytesArrive link) o s = (piece : List ℕ) × (o.event ≡ event.Arrived link piece)
+Fits (action.PingQueued link) o s = (word : ℕ) × (o.event ≡ event.Ping link word)
+-- the dial was under way; the subchannel was IDLE, without a link; its backoff is over
+Fits (action.DialFails sub) o s =
+    (o.event ≡ event.DialFailed sub) × (b : Subchannel) × (numbered s.subs sub ≡ Some b) × (is_dialling b ≡ true)
+Fits (action.SubchannelConnects sub) o s = (b : Subchannel) × (numbered s.subs sub ≡ Some b) × (is_idle b.state ≡ true) × (b.link ≡ None)
+Fits (action.BackoffEnds sub) o s = (b : Subchannel) × (numbered s.subs sub ≡ Some b) × (is_failure b.state ≡ true)
+Fits _ o s = Unit {0}

@@ -1,5 +1,6 @@
 // What follows after an action of a session, and what does not; nothing runs.
-ghost use Rattle.session_order.specs.Laws.{CalmIsExact, CalmLeavesStage, FirstLineGives, LinesAreStill};
+ghost use Rattle.session_order.specs.Laws.{ApplicationsStir, CalmIsExact, CalmLeavesStage, EntriesStir, FirstLineGives, LinesAreStill, LinksStir};
+ghost use Rattle.session_order.specs.Waits.{EndsWhereNothingWaits};
 
 /// A session is calm exactly where none of the lines gives anything that come before its stage; what is next is then the stage's, and else what the first
 /// line gives that is not still (gRFC A6, gRPC over HTTP/2 and RFC 9113, as each line says).
@@ -8,4 +9,28 @@ pub fn calm_is_exact()
     ensures calm { CalmIsExact }
     ensures stage { CalmLeavesStage }
     ensures first { FirstLineGives }
+{}
+
+/// A refusal, an answer, the end of an event and a resolution that failed stir no line but, for an answer, those by which a call ends that was cancelled or
+/// sent too long a message.
+pub fn entries_stir()
+    ensures { EntriesStir }
+{}
+
+/// What an application sends or takes stirs no line but, for a message, that by which more bytes were accepted than are kept (gRFC A6, "Memory Management
+/// (Buffering)").
+pub fn applications_stir()
+    ensures { ApplicationsStir }
+{}
+
+/// Bytes that come, and a PING that is queued, stir no line: what follows from them follows where a frame is read or written.
+pub fn links_stir()
+    ensures { LinksStir }
+{}
+
+/// An entry ends exactly where nothing is due that could be done by now: no attempt that is due is not made, none is queued that the current policy would
+/// serve, no call lacks a config that is there, no backoff is over and no dial overdue, no policy waits that may take over, no wished subchannel is IDLE
+/// (gRFC A6, "Retry Policy" and "Hedging Policy"; "Connection Backoff Protocol"; "gRPC Connectivity Semantics and API"; "Load Balancing in gRPC").
+pub fn entries_end_where_nothing_waits()
+    ensures { EndsWhereNothingWaits }
 {}

@@ -4,5 +4,7 @@
 mod laws;
 mod line;
 
-pub use laws::calm_is_exact;
+pub use laws::{
+    applications_stir, calm_is_exact, entries_end_where_nothing_waits, entries_stir, links_stir,
+};
 pub use line::Line;

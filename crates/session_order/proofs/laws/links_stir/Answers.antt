@@ -1,0 +1,5 @@
+use Rattle.session_order.proofs.Wires.{arrived_leaves, pinged_leaves}
+use Rattle.session_order.proofs.laws.links_stir.Goals as goal
+
+pub returns : goal.returns
+returns c = record { arrived = arrived_leaves; pinged = pinged_leaves }
