@@ -106,7 +106,7 @@ one_line : (l m : Line) → is_line l m ≡ true → l ≡ m
 one_line l m e = sym (its_line l) ∙ ap line_of (eqb-true (rank false l) (rank false m) e) ∙ its_line m
 
 -- the first of a list that gives something
-reaches : Bool → Line → List Line → Bool
+abbrev reaches : Bool → Line → List Line → Bool
 reaches loses l [] = false
 reaches loses l (m ∷ ms) = if is_line m l then true else (nat_lt (rank loses m) (rank loses l) && reaches loses l ms)
 
@@ -127,7 +127,6 @@ walk loses g l a [] r none here = absurd (cc)
 walk loses g l a (m ∷ ms) r none here = walk_by loses g l m a ms (is_line m l) refl r none here (λ e. walk loses g l a ms e none here)
 
 there : (loses : Bool) (l : Line) → reaches loses l (ordered loses) ≡ true
-unfolding reaches
 there true line.Cut = refl
 there true line.Transparent = refl
 there true line.Inherited = refl

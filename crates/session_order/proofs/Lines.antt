@@ -1,5 +1,5 @@
 -- A line gives nothing exactly where it is still.
-use Rattle.std.proofs.Common.{◌≡◌, ◌||◌, ◌&&◌, ◌==◌, ap, refl, sym, ◌∙◌, Bool, true, false, Option, None, Some, ℕ, filter, is_none, is_some, nat_lt, not, ◌↔◌}
+use Rattle.std.proofs.Common.{◌≡◌, ◌||◌, ◌&&◌, ◌==◌, ap, refl, sym, ◌∙◌, Bool, true, false, Option, None, Some, ℕ, filter, is_none, is_some, nat_lt, not, ◌↔◌, List, if◌then◌else◌}
 use Rattle.std.specs.List.{list_any}
 use Rattle.std.specs.Option.{option_and_then, option_map}
 use Rattle.std.specs.Prelude.{find}

@@ -60,7 +60,7 @@ use Rattle.grpc_base.specs.declared.event.Reply.TheVariants as reply
 use Rattle.session_actions.specs.declared.entry.Stage.TheVariants as stage
 
 -- the end of an entry
-closes : Action → Bool
+abbrev closes : Action → Bool
 closes action.EntryCloses = true
 closes _ = false
 
