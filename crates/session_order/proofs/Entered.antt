@@ -6,6 +6,7 @@ use Rattle.std.specs.Option.{option_and_then, option_map}
 use Rattle.attempt_ledger.specs.declared.ledger.Ask.{Ask}
 use Rattle.attempt_ledger.specs.declared.row.RowEnd.{RowEnd}
 use Rattle.grpc_base.specs.declared.address.Address.{Address}
+use Rattle.grpc_base.specs.declared.event.Entry.{Entry}
 use Rattle.grpc_base.specs.declared.event.Event.{Event}
 use Rattle.grpc_base.specs.declared.event.Reply.{Reply}
 use Rattle.grpc_base.specs.declared.kind.Kind.{Kind}
@@ -31,10 +32,10 @@ use Rattle.session_actions.specs.declared.entry.Stage.TheVariants as stage
 use Rattle.session_order.specs.declared.line.Line.TheVariants as line
 
 -- the entry of the session is another one, of the same number
-entered_reset : (s : Seen) (current : Option OpenEntry) → entry (record s { current = current }) ≡ entry s
-    → list_any (is_to_reset (record s { current = current })) s.attempts ≡ list_any (is_to_reset s) s.attempts
-entered_reset s current same =
-    let t : Seen = record s { current = current } in
+entered_reset : (s : Seen) (entries : List Entry) (current : Option OpenEntry) → entry (record s { entries = entries; current = current }) ≡ entry s
+    → list_any (is_to_reset (record s { entries = entries; current = current })) s.attempts ≡ list_any (is_to_reset s) s.attempts
+entered_reset s entries current same =
+    let t : Seen = record s { entries = entries; current = current } in
     any_same (is_to_reset t) (is_to_reset s)
     (λ a. ap (λ (x : Option ℕ). is_some x)
     (then_same (code_at_end a t) (code_at_end a s)
@@ -42,34 +43,34 @@ entered_reset s current same =
     (λ stream. ap (λ (n : ℕ). if (e.entry == n) && not a.reset then option_and_then (code_to_reset a e stream s) (link_of a s) else None) same) a.row.stream)
     a.row.ended)) s.attempts
 
-entered_pick : (s : Seen) (current : Option OpenEntry) → entry (record s { current = current }) ≡ entry s
-    → holds (is_to_follow_pick (record s { current = current })) (last_of s.asks) ≡ holds (is_to_follow_pick s) (last_of s.asks)
-entered_pick s current same =
-    holds_same (is_to_follow_pick (record s { current = current })) (is_to_follow_pick s)
+entered_pick : (s : Seen) (entries : List Entry) (current : Option OpenEntry) → entry (record s { entries = entries; current = current }) ≡ entry s
+    → holds (is_to_follow_pick (record s { entries = entries; current = current })) (last_of s.asks) ≡ holds (is_to_follow_pick s) (last_of s.asks)
+entered_pick s entries current same =
+    holds_same (is_to_follow_pick (record s { entries = entries; current = current })) (is_to_follow_pick s)
     (λ ask. ap (λ (n : ℕ). is_unplaced s ask.row && (ask.entry == n) && can_follow s ask.answer) same) (last_of s.asks)
 
-pub entered : (s : Seen) (current : Option OpenEntry) → entry (record s { current = current }) ≡ entry s
-    → (l : Line) (o : OpenEntry) → IsStill l o s → IsStill l o (record s { current = current })
-entered s current same line.Cut o h = h
-entered s current same line.Transparent o h = h
-entered s current same line.Inherited o h = h
-entered s current same line.Row o h = h
-entered s current same line.Final o h = h
-entered s current same line.Cancelled o h = h
-entered s current same line.Request o h = h
-entered s current same line.Overflow o h = h
-entered s current same line.Head o h = h
-entered s current same line.Response o h = h
-entered s current same line.Pick o h = entered_pick s current same ∙ h
-entered s current same line.Link o h = h
-entered s current same line.WireEnd o h = h
-entered s current same line.Reset o h = entered_reset s current same ∙ h
-entered s current same line.Shut o h = h
-entered s current same line.Retire o h = h
-entered s current same line.Begin o h = h
-entered s current same line.Give o h = h
-entered s current same line.Drop o h = h
-entered s current same line.Add o h = h
+pub entered : (s : Seen) (entries : List Entry) (current : Option OpenEntry) → entry (record s { entries = entries; current = current }) ≡ entry s
+    → (l : Line) (o : OpenEntry) → IsStill l o s → IsStill l o (record s { entries = entries; current = current })
+entered s entries current same line.Cut o h = h
+entered s entries current same line.Transparent o h = h
+entered s entries current same line.Inherited o h = h
+entered s entries current same line.Row o h = h
+entered s entries current same line.Final o h = h
+entered s entries current same line.Cancelled o h = h
+entered s entries current same line.Request o h = h
+entered s entries current same line.Overflow o h = h
+entered s entries current same line.Head o h = h
+entered s entries current same line.Response o h = h
+entered s entries current same line.Pick o h = entered_pick s entries current same ∙ h
+entered s entries current same line.Link o h = h
+entered s entries current same line.WireEnd o h = h
+entered s entries current same line.Reset o h = entered_reset s entries current same ∙ h
+entered s entries current same line.Shut o h = h
+entered s entries current same line.Retire o h = h
+entered s entries current same line.Begin o h = h
+entered s entries current same line.Give o h = h
+entered s entries current same line.Drop o h = h
+entered s entries current same line.Add o h = h
 
 -- what an entry may bring by itself
 abbrev pub IsQuietFor : Line → OpenEntry → Seen → Type 0
@@ -160,7 +161,7 @@ moved_to f o s e l h p is =
     let there : option_map f s.current ≡ Some (f o) = ap (option_map f) e in
     let one : f o ≡ p = (cc) in
     subst (λ (x : OpenEntry). IsStill l x (record s { current = option_map f s.current })) one
-    (entered s (option_map f s.current) (same_number s f) l (f o) h)
+    (entered s s.entries (option_map f s.current) (same_number s f) l (f o) h)
 
 pub moved_on : (f : OpenEntry → OpenEntry) (o : OpenEntry) (s : Seen) → s.current ≡ Some o → (l : Line) → IsQuietFor l (f o) s → IsStill l o s
     → (p : OpenEntry) → option_map f s.current ≡ Some p → IsStill l p (record s { current = option_map f s.current })

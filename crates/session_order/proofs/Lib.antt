@@ -12,3 +12,4 @@ pub mod Wires
 pub mod Messages
 pub mod Boards
 pub mod Waits
+pub mod Rests

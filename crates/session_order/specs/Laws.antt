@@ -2,8 +2,10 @@
 -- Example: a session is calm, and its entry is answered with EventAnswered Done, for a Cancel of call 1. No line but those by which a call ends that
 -- was cancelled, or sent too long a message, may give anything then: so what follows is that call 1 ends. That stirs the line of the cuts alone.
 use Rattle.std.specs.Prelude.{None, Some, false, true, ℕ, ◌≡◌, ◌↔◌}
+use Rattle.grpc_base.specs.declared.event.EndCause.{EndCause}
 use Rattle.grpc_base.specs.declared.event.Refusal.{Refusal}
 use Rattle.grpc_base.specs.declared.event.Reply.{Reply}
+use Rattle.grpc_base.specs.declared.kind.Pick.{Pick}
 use Rattle.session_actions.specs.Actions.{after_in, following, of_calls, of_links, of_policies, of_stage}
 use Rattle.session_actions.specs.declared.action.Action.{Action}
 use Rattle.session_actions.specs.declared.entry.OpenEntry.{OpenEntry}
@@ -58,3 +60,20 @@ pub record ApplicationsStir : Type 0 where
 pub record LinksStir : Type 0 where
   pub arrived : (link : ℕ) → StirsOnly (action.BytesArrive link)
   pub pinged : (link : ℕ) → StirsOnly (action.PingQueued link)
+
+-- what becomes of one subchannel ("gRPC Connectivity Semantics and API"; "Connection Backoff Protocol")
+pub record BoardsStir : Type 0 where
+  pub dialled : (sub again until : ℕ) → StirsOnly (action.DialTaken sub again until)
+  pub failed : (sub : ℕ) → StirsOnly (action.DialFails sub)
+  pub connects : (sub : ℕ) → StirsOnly (action.SubchannelConnects sub)
+  pub rested : (sub : ℕ) → StirsOnly (action.BackoffEnds sub)
+  pub up : (sub : ℕ) → StirsOnly (action.LinkUp sub)
+
+-- what is done to the queue: a pick request, a hedge that is withheld
+pub record QueuesStir : Type 0 where
+  pub asked : (row generation : ℕ) (answer : Pick) → StirsOnly (action.PickRequested row generation answer)
+  pub withheld : (call : ℕ) → StirsOnly (action.HedgeWithheld call)
+
+-- a call ends
+pub record CallsStir : Type 0 where
+  pub ended : (call : ℕ) (why : EndCause) → StirsOnly (action.CallEnds call why)

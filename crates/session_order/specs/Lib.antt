@@ -3,3 +3,4 @@ pub mod Laws
 pub mod Lines
 pub mod Stirs
 pub mod Waits
+pub mod Rests

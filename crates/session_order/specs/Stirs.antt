@@ -76,4 +76,8 @@ Fits (action.DialFails sub) o s =
     (o.event ≡ event.DialFailed sub) × (b : Subchannel) × (numbered s.subs sub ≡ Some b) × (is_dialling b ≡ true)
 Fits (action.SubchannelConnects sub) o s = (b : Subchannel) × (numbered s.subs sub ≡ Some b) × (is_idle b.state ≡ true) × (b.link ≡ None)
 Fits (action.BackoffEnds sub) o s = (b : Subchannel) × (numbered s.subs sub ≡ Some b) × (is_failure b.state ≡ true)
+Fits (action.DialTaken sub again until) o s = (o.event ≡ event.TakeDial) × (b : Subchannel) × (numbered s.subs sub ≡ Some b) × (b.number ≡ sub)
+Fits (action.LinkUp sub) o s = o.event ≡ event.LinkUp sub
+-- calls have the numbers of their places
+Fits (action.CallEnds call why) o s = AreNumbered s
 Fits _ o s = Unit {0}

@@ -1,5 +1,6 @@
 // What follows after an action of a session, and what does not; nothing runs.
 ghost use Rattle.session_order.specs.Laws.{ApplicationsStir, CalmIsExact, CalmLeavesStage, EntriesStir, FirstLineGives, LinesAreStill, LinksStir};
+ghost use Rattle.session_order.specs.Rests.{EntriesBeginCalm, EntriesEndAtRest, NewOnesRest};
 ghost use Rattle.session_order.specs.Waits.{EndsWhereNothingWaits};
 
 /// A session is calm exactly where none of the lines gives anything that come before its stage; what is next is then the stage's, and else what the first
@@ -33,4 +34,11 @@ pub fn links_stir()
 /// (gRFC A6, "Retry Policy" and "Hedging Policy"; "Connection Backoff Protocol"; "gRPC Connectivity Semantics and API"; "Load Balancing in gRPC").
 pub fn entries_end_where_nothing_waits()
     ensures { EndsWhereNothingWaits }
+{}
+
+/// Between two entries a session is at rest: so it begins; an entry begins calm; and one that closes calm leaves it at rest.
+pub fn entries_rest()
+    ensures fresh { NewOnesRest }
+    ensures begin { EntriesBeginCalm }
+    ensures end { EntriesEndAtRest }
 {}
