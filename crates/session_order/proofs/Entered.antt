@@ -25,7 +25,7 @@ use Rattle.session_actions.specs.declared.entry.OpenEntry.{OpenEntry}
 use Rattle.session_actions.specs.declared.policy.PolicyUse.{PolicyUse}
 use Rattle.session_actions.specs.declared.seen.Seen.{Seen}
 use Rattle.session_order.proofs.Lists.{any_same, holds_same, some_map}
-use Rattle.session_order.proofs.Told.{then_same}
+use Rattle.session_order.proofs.Limits.{then_same}
 use Rattle.session_order.specs.Calm.{IsStill, can_follow, is_to_follow_pick, is_to_reset, is_unplaced, lacks_kind}
 use Rattle.session_order.specs.declared.line.Line.{Line}
 use Rattle.session_actions.specs.declared.entry.Stage.TheVariants as stage

@@ -41,8 +41,7 @@ rows_same : (g h : Mark → Option ℕ) → ((m : Mark) → g m ≡ h m) → (ma
 rows_same g h same [] = refl
 rows_same g h same (m ∷ marks) = rows_by m g h marks (h m) (same m) refl (rows_same g h same marks)
 
-module _ (s : Seen) (cs : List Call) (counts : (a : Attempt) (e : RowEnd) → counts_by a (record s { calls = cs }) e ≡ counts_by a s e)
-    (overs : (a : Attempt) → is_over a (record s { calls = cs }) ≡ is_over a s) where
+module _ (s : Seen) (cs : List Call) (counts : (a : Attempt) (e : RowEnd) → counts_by a (record s { calls = cs }) e ≡ counts_by a s e) where
   abbrev t : Seen
   t = record s { calls = cs }
 
@@ -104,24 +103,24 @@ module _ (s : Seen) (cs : List Call) (counts : (a : Attempt) (e : RowEnd) → co
   last_same : (c : Call) → last_counted c t ≡ last_counted c s
   last_same c = ap last_of (rows_same (λ (m : Mark). counted_row t m.what) (λ (m : Mark). counted_row s m.what) (λ m. row_same m.what) c.marks)
 
-  going_one : (c : Call) (a : Attempt) → (is_of c a && (is_outstanding a || is_queued a t)) ≡ (is_of c a && (is_outstanding a || is_queued a s))
-  going_one c a = ap (λ (x : Bool). is_of c a && (is_outstanding a || ((is_none a.row.placed && is_none a.row.ended) && not x))) (overs a)
+  going_one : ((a : Attempt) → is_over a t ≡ is_over a s) → (c : Call) (a : Attempt) → (is_of c a && (is_outstanding a || is_queued a t)) ≡ (is_of c a && (is_outstanding a || is_queued a s))
+  going_one overs c a = ap (λ (x : Bool). is_of c a && (is_outstanding a || ((is_none a.row.placed && is_none a.row.ended) && not x))) (overs a)
 
-  going_same : (c : Call) → has_going c t ≡ has_going c s
-  going_same c =
+  pub going_same : ((a : Attempt) → is_over a t ≡ is_over a s) → (c : Call) → has_going c t ≡ has_going c s
+  going_same overs c =
       any_same (λ (a : Attempt). is_of c a && (is_outstanding a || is_queued a t)) (λ (a : Attempt). is_of c a && (is_outstanding a || is_queued a s))
-      (going_one c) s.attempts
+      (going_one overs c) s.attempts
 
-  final_by : (p : CallPlan) (c : Call) (a : Attempt) (e : RowEnd) → is_final_by p c a t e ≡ is_final_by p c a s e
-  final_by plan.None c a e = refl
-  final_by (plan.Retry p) c a e = refl
-  final_by (plan.Hedge p) c a e =
+  final_by : (p : CallPlan) (c : Call) → has_going c t ≡ has_going c s → (a : Attempt) (e : RowEnd) → is_final_by p c a t e ≡ is_final_by p c a s e
+  final_by plan.None c going a e = refl
+  final_by (plan.Retry p) c going a e = refl
+  final_by (plan.Hedge p) c going a e =
       ap (λ (o : Option ℕ). not (has_code p.codes e.code) || (is_number a.place o && is_none (next_due c t) && not (has_going c t))) (last_same c)
       ∙ ap (λ (o : Option ℕ). not (has_code p.codes e.code) || (is_number a.place (last_counted c s) && is_none o && not (has_going c t))) (next_same c)
-      ∙ ap (λ (b : Bool). not (has_code p.codes e.code) || (is_number a.place (last_counted c s) && is_none (next_due c s) && not b)) (going_same c)
+      ∙ ap (λ (b : Bool). not (has_code p.codes e.code) || (is_number a.place (last_counted c s) && is_none (next_due c s) && not b)) going
 
-  pub final_same : (a : Attempt) (c : Call) → is_final_in a t c ≡ is_final_in a s c
-  final_same a c =
+  pub final_same : (c : Call) → has_going c t ≡ has_going c s → (a : Attempt) → is_final_in a t c ≡ is_final_in a s c
+  final_same c going a =
       ap (λ (b : Bool). is_free_call s c && b && is_final c a t) (counted_same a)
       ∙ ap (λ (b : Bool). is_free_call s c && is_counted a s && b)
-      (holds_same (is_final_by (plan_of c s) c a t) (is_final_by (plan_of c s) c a s) (final_by (plan_of c s) c a) a.row.ended)
+      (holds_same (is_final_by (plan_of c s) c a t) (is_final_by (plan_of c s) c a s) (final_by (plan_of c s) c going a) a.row.ended)

@@ -3,6 +3,7 @@ pub mod Changed
 pub mod Lines
 pub mod Calms
 pub mod Finals
+pub mod Limits
 pub mod Told
 pub mod Passed
 pub mod Noted
@@ -13,3 +14,4 @@ pub mod Messages
 pub mod Boards
 pub mod Waits
 pub mod Rests
+pub mod Queues

@@ -25,30 +25,15 @@ use Rattle.session_actions.specs.declared.response.Outcome.{Outcome}
 use Rattle.session_actions.specs.declared.response.Response.{Response}
 use Rattle.session_actions.specs.declared.seen.Seen.{Seen}
 use Rattle.session_order.proofs.Changed.{any_changed, lookup}
-use Rattle.session_order.proofs.Finals.{final_same}
+use Rattle.session_order.proofs.Finals.{final_same, going_same}
+use Rattle.session_order.proofs.Limits.{headed_in, limits_reset, long_response, outcome_same}
 use Rattle.session_order.proofs.Lists.{any_same, holds_same}
 use Rattle.session_order.specs.Calm.{is_overflowing, is_to_cut, is_to_end, is_to_reset}
-
--- two functions that agree
-pub then_same : {X Y : Type 0} (g h : X → Option Y) → ((x : X) → g x ≡ h x) → (o : Option X) → option_and_then g o ≡ option_and_then h o
-then_same g h same None = refl
-then_same g h same (Some x) = same x
-
-or_same : {X Y : Type 0} (g h : X → Y) (d : Y) → ((x : X) → g x ≡ h x) → (o : Option X) → option_map_or g o d ≡ option_map_or h o d
-or_same g h d same None = refl
-or_same g h d same (Some x) = same x
 
 -- a call of which this was told
 abbrev pub retold : (Call → List (List ℕ)) → (Call → Bool) → (Call → ℕ) → (Call → Bool) → (Call → List Mark) → Call → Call
 retold messages finished taken end_taken marks c =
     record c { messages = messages c; finished = finished c; taken = taken c; end_taken = end_taken c; marks = marks c }
-
--- the code of a reset, by the response
-unfoldable pub code_with : Attempt → RowEnd → ℕ → Link → Response → Option ℕ
-code_with a e stream l r =
-    if is_reset e.cause || is_some l.over || (has_written_end stream l && r.closes) then None
-    else if is_framing e.cause then option_and_then (λ t. t.reset) r.end
-    else Some cancel
 
 module _ (s : Seen) (n : ℕ) (messages : Call → List (List ℕ)) (finished : Call → Bool) (taken : Call → ℕ) (end_taken : Call → Bool) (marks : Call → List Mark) where
   abbrev told : Call → Call
@@ -74,15 +59,6 @@ module _ (s : Seen) (n : ℕ) (messages : Call → List (List ℕ)) (finished : 
   limit_same : (a : Attempt) → limit_of_attempt a t ≡ limit_of_attempt a s
   limit_same a =
       lookup (λ (o : Option Call). option_map_or (λ (c : Call). (chosen_of c s).response) o message_limit) told (λ c. refl) n s.calls a.row.call
-
-  response_one : (a : Attempt) (o : Option ℕ) → response_by a t o ≡ response_by a s o
-  response_one a None = refl
-  response_one a (Some stream) =
-      or_same (response_on a stream t) (response_on a stream s) no_response
-      (λ l. ap (λ (limit : ℕ). response_in limit stream (traffic_of a l.traffic)) (limit_same a)) (link_of a s)
-
-  response_same : (a : Attempt) → response a t ≡ response a s
-  response_same a = response_one a a.row.stream
 
   pub told_cut : list_any (is_to_cut t) s.attempts ≡ list_any (is_to_cut s) s.attempts
   told_cut = any_same (is_to_cut t) (is_to_cut s) (λ a. ap (λ (x : Bool). is_outstanding a && x) (over_same a)) s.attempts
@@ -111,7 +87,7 @@ module _ (s : Seen) (n : ℕ) (messages : Call → List (List ℕ)) (finished : 
       lookup (holds (is_final_in a t)) told
       (λ c. ap (λ (list : List Mark). is_final_in a t (record c { messages = messages c; finished = finished c; taken = taken c; end_taken = end_taken c; marks = list })) (same c))
       n s.calls a.row.call
-      ∙ holds_same (is_final_in a t) (is_final_in a s) (final_same s (changed told n s.calls) counts_same over_same a) (numbered s.calls a.row.call)) s.attempts
+      ∙ holds_same (is_final_in a t) (is_final_in a s) (λ c. final_same s (changed told n s.calls) counts_same c (going_same s (changed told n s.calls) counts_same over_same c) a) (numbered s.calls a.row.call)) s.attempts
 
   pub told_cancelled : (o : OpenEntry) → list_any (is_cancelled o) t.calls ≡ list_any (is_cancelled o) s.calls
   told_cancelled o = any_changed (is_cancelled o) told (λ c. refl) n s.calls
@@ -128,50 +104,26 @@ module _ (s : Seen) (n : ℕ) (messages : Call → List (List ℕ)) (finished : 
       (λ c. ap (λ (list : List (List ℕ)). is_overflowing s (record c { messages = list; finished = finished c; taken = taken c; end_taken = end_taken c; marks = marks c })) (same c))
       n s.calls
 
-  headed_in : (a : Attempt) (c : Call) → has_head_in a t c ≡ has_head_in a s c
-  headed_in a c = ap (λ (r : Response). is_free_call s c && is_some r.head) (response_same a)
-
   pub told_head : list_any (is_headed t) s.attempts ≡ list_any (is_headed s) s.attempts
   told_head =
       any_same (is_headed t) (is_headed s)
       (λ a. ap (λ (x : Bool). is_outstanding a && x)
       (lookup (holds (has_head_in a t)) told (λ c. refl) n s.calls a.row.call
-      ∙ holds_same (has_head_in a t) (has_head_in a s) (headed_in a) (numbered s.calls a.row.call))) s.attempts
+      ∙ holds_same (has_head_in a t) (has_head_in a s) (headed_in s (changed told n s.calls) limit_same a) (numbered s.calls a.row.call))) s.attempts
 
   pub told_response : list_any (has_long_response t) t.calls ≡ list_any (has_long_response s) s.calls
   told_response =
       any_changed (has_long_response t) told (λ c. refl) n s.calls
-      ∙ any_same (has_long_response t) (has_long_response s)
-      (λ c. ap (λ (x : Bool). is_open_call c && x)
-      (holds_same (λ (k : Attempt). is_outstanding k && (response k t).large) (λ (k : Attempt). is_outstanding k && (response k s).large)
-      (λ k. ap (λ (r : Response). is_outstanding k && r.large) (response_same k)) (commitment c s))) s.calls
-
-  outcome_one : (a : Attempt) (o : Option ℕ) (l : Link) → outcome_on a t o l ≡ outcome_on a s o l
-  outcome_one a None l = refl
-  outcome_one a (Some stream) l = ap (λ (r : Response). option_or r.end (if is_some l.over then Some lost_end else None)) (response_same a)
-
-  outcome_same : (a : Attempt) → outcome_of a t ≡ outcome_of a s
-  outcome_same a = then_same (outcome_on a t a.row.stream) (outcome_on a s a.row.stream) (outcome_one a a.row.stream) (link_of a s)
+      ∙ any_same (has_long_response t) (has_long_response s) (long_response s (changed told n s.calls) limit_same) s.calls
 
   pub told_end : list_any (is_to_end t) s.attempts ≡ list_any (is_to_end s) s.attempts
   told_end =
       any_same (is_to_end t) (is_to_end s)
       (λ a. ap (λ (x : Bool). (is_outstanding a && not x) && is_some (outcome_of a t)) (over_same a)
-      ∙ ap (λ (x : Option Outcome). (is_outstanding a && not (is_over a s)) && is_some x) (outcome_same a)) s.attempts
-
-  code_same : (a : Attempt) (e : RowEnd) (stream : ℕ) (l : Link) → code_to_reset a e stream t l ≡ code_to_reset a e stream s l
-  unfolding code_with
-  code_same a e stream l = ap (code_with a e stream l) (response_same a)
-
-  reset_same : (a : Attempt) → reset_code_of t a ≡ reset_code_of s a
-  reset_same a =
-      then_same (code_at_end a t) (code_at_end a s)
-      (λ e. then_same (code_for_stream a e t) (code_for_stream a e s)
-      (λ stream. ap (λ (x : Option ℕ). if (e.entry == entry s) && not a.reset then x else None)
-      (then_same (code_to_reset a e stream t) (code_to_reset a e stream s) (code_same a e stream) (link_of a s))) a.row.stream) a.row.ended
+      ∙ ap (λ (x : Option Outcome). (is_outstanding a && not (is_over a s)) && is_some x) (outcome_same s (changed told n s.calls) limit_same a)) s.attempts
 
   pub told_reset : list_any (is_to_reset t) s.attempts ≡ list_any (is_to_reset s) s.attempts
-  told_reset = any_same (is_to_reset t) (is_to_reset s) (λ a. ap (λ (x : Option ℕ). is_some x) (reset_same a)) s.attempts
+  told_reset = limits_reset s (changed told n s.calls) limit_same
 
   pub told_shut : list_any (is_shut_down t) t.calls ≡ list_any (is_shut_down s) s.calls
   told_shut = any_changed (is_shut_down s) told (λ c. refl) n s.calls

@@ -67,7 +67,6 @@ pub record BoardsStir : Type 0 where
   pub failed : (sub : ℕ) → StirsOnly (action.DialFails sub)
   pub connects : (sub : ℕ) → StirsOnly (action.SubchannelConnects sub)
   pub rested : (sub : ℕ) → StirsOnly (action.BackoffEnds sub)
-  pub up : (sub : ℕ) → StirsOnly (action.LinkUp sub)
 
 -- what is done to the queue: a pick request, a hedge that is withheld
 pub record QueuesStir : Type 0 where

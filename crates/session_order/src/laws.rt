@@ -1,5 +1,5 @@
 // What follows after an action of a session, and what does not; nothing runs.
-ghost use Rattle.session_order.specs.Laws.{ApplicationsStir, CalmIsExact, CalmLeavesStage, EntriesStir, FirstLineGives, LinesAreStill, LinksStir};
+ghost use Rattle.session_order.specs.Laws.{ApplicationsStir, BoardsStir, CalmIsExact, CalmLeavesStage, EntriesStir, FirstLineGives, LinesAreStill, LinksStir, QueuesStir};
 ghost use Rattle.session_order.specs.Rests.{EntriesBeginCalm, EntriesEndAtRest, NewOnesRest};
 ghost use Rattle.session_order.specs.Waits.{EndsWhereNothingWaits};
 
@@ -41,4 +41,16 @@ pub fn entries_rest()
     ensures fresh { NewOnesRest }
     ensures begin { EntriesBeginCalm }
     ensures end { EntriesEndAtRest }
+{}
+
+/// What becomes of one subchannel stirs no line: a dial that is taken or fails, a wish, a backoff that is over ("gRPC Connectivity Semantics and API";
+/// "Connection Backoff Protocol").
+pub fn boards_stir()
+    ensures { BoardsStir }
+{}
+
+/// A pick request stirs the line by which its answer is acted on, and a hedge that is withheld that by which the last end of its call is final (gRFC A6,
+/// "Throttling Retry Attempts and Hedged RPCs").
+pub fn queues_stir()
+    ensures { QueuesStir }
 {}
