@@ -1,29 +1,27 @@
 -- What becomes of subchannels, and which lines that leaves still.
-use Rattle.std.proofs.Common.{◌≡◌, ◌∷◌, ◌||◌, ◌&&◌, ◌==◌, not, ap, refl, subst, sym, ◌∙◌, Bool, true, false, List, [], Option, None, Some, ℕ, cond, find, if◌then◌else◌, is_none, is_some, map}
-use Rattle.std.proofs.lemmas.Bool.{and_parts, and_right, or_from, or_parts}
+use Rattle.std.proofs.Common.{◌≡◌, ◌&&◌, ◌==◌, not, ap, refl, subst, sym, ◌∙◌, Bool, true, false, List, Option, None, Some, ℕ, find, is_none, is_some, map}
+use Rattle.std.proofs.lemmas.Bool.{and_parts, or_parts}
 use Rattle.std.specs.List.{list_any}
-use Rattle.std.specs.Option.{option_map, option_map_or}
-use Rattle.attempt_ledger.specs.declared.ledger.Ask.{Ask}
+use Rattle.std.specs.Option.{option_map_or}
 use Rattle.grpc_base.specs.declared.address.Address.{Address}
 use Rattle.grpc_base.specs.declared.event.Conn.{Conn}
 use Rattle.grpc_base.specs.declared.kind.Pick.{Pick}
-use Rattle.lb_policy.specs.Table.{is_ready}
-use Rattle.session_actions.specs.Entries.{drawn_if, entry, replied}
-use Rattle.session_actions.specs.Links.{has_settings, wants_resolution}
+use Rattle.session_actions.specs.Entries.{entry}
+use Rattle.session_actions.specs.Links.{wants_resolution}
 use Rattle.session_actions.specs.Policies.{is_failure, is_live_sub, is_same_address, is_shutdown, listed, live_sub}
-use Rattle.session_actions.specs.Subchannels.{gone_down, in_state, is_connecting, is_dialling, is_going_down, is_idle, is_to_be_ready, is_to_go_down, is_unlisted, link_of_sub, noted_by_policies, with_dial, with_sub, without_link}
+use Rattle.session_actions.specs.Subchannels.{in_state, is_connecting, is_dialling, is_idle, is_to_be_ready, is_to_go_down, is_unlisted, noted_by_policies, with_dial, with_sub, without_link}
 use Rattle.session_actions.specs.Words.{changed, holds, last_of, numbered}
 use Rattle.session_actions.specs.declared.entry.OpenEntry.{OpenEntry}
 use Rattle.session_actions.specs.declared.policy.PolicyUse.{PolicyUse}
 use Rattle.session_actions.specs.declared.seen.Seen.{Seen}
 use Rattle.session_actions.specs.declared.subchannel.Subchannel.{Subchannel}
+use Rattle.session_order.proofs.Aside.{aside_final, aside_request}
 use Rattle.session_order.proofs.Changed.{any_changed_at, lookup, none_changed, passes_not}
 use Rattle.session_order.proofs.Lists.{any_same, holds_same, some_find}
-use Rattle.session_order.proofs.Noted.{failed_in_notes, listed_same, noted_add, noted_begin, noted_drop, noted_give, noted_retire, notes_are, noting}
-use Rattle.session_order.proofs.Posts.{plain_answered, plain_as, plain_dial, plain_failed, wanted_still}
+use Rattle.session_order.proofs.Noted.{failed_in_notes, noted_add, noted_begin, noted_drop, noted_give, noted_retire, notes_are, noting}
+use Rattle.session_order.proofs.Posts.{plain_answered, plain_as, plain_failed, wanted_still}
 use Rattle.session_order.specs.Calm.{IsStill, can_follow, is_link_new, is_to_follow_pick, is_unplaced}
-use Rattle.session_order.specs.Laws.{Leaves, StirsOnly}
-use Rattle.session_order.specs.Stirs.{Fits, stirs}
+use Rattle.session_order.specs.Laws.{StirsOnly}
 use Rattle.session_order.specs.declared.line.Line.{Line}
 use Rattle.session_actions.specs.declared.action.Action.TheVariants as action
 use Rattle.grpc_base.specs.declared.event.Conn.TheVariants as conn
@@ -39,9 +37,9 @@ noted_still s failed line.Cut o h = h
 noted_still s failed line.Transparent o h = h
 noted_still s failed line.Inherited o h = h
 noted_still s failed line.Row o h = h
-noted_still s failed line.Final o h = h
+noted_still s failed line.Final o h = aside_final s (record s { policies = map (noting failed) s.policies }) ∙ h
 noted_still s failed line.Cancelled o h = h
-noted_still s failed line.Request o h = h
+noted_still s failed line.Request o h = aside_request o s (record s { policies = map (noting failed) s.policies }) ∙ h
 noted_still s failed line.Overflow o h = h
 noted_still s failed line.Head o h = h
 noted_still s failed line.Response o h = h
@@ -108,9 +106,9 @@ sub_still s n f k line.Cut o h = h
 sub_still s n f k line.Transparent o h = h
 sub_still s n f k line.Inherited o h = h
 sub_still s n f k line.Row o h = h
-sub_still s n f k line.Final o h = h
+sub_still s n f k line.Final o h = aside_final s (record s { subs = changed f n s.subs }) ∙ h
 sub_still s n f k line.Cancelled o h = h
-sub_still s n f k line.Request o h = h
+sub_still s n f k line.Request o h = aside_request o s (record s { subs = changed f n s.subs }) ∙ h
 sub_still s n f k line.Overflow o h = h
 sub_still s n f k line.Head o h = h
 sub_still s n f k line.Response o h = h
@@ -210,5 +208,5 @@ rests_leaves sub o s e fits l p is not_stirred h =
     goes_on o (with_sub (in_state conn.Idle) sub s) (with_sub_current s sub (in_state conn.Idle) ∙ e) l
     (with_sub_still s sub (in_state conn.Idle) (rests_live s sub fits.0 fits.1 fits.2) l o h) p is
 
-dials_live : (s : Seen) (n again until : ℕ) → StaysLive s n (with_dial again until)
+pub dials_live : (s : Seen) (n again until : ℕ) → StaysLive s n (with_dial again until)
 dials_live s n again until = record { address = λ c. refl; shut = λ c f. refl; link = λ c f g. g }

@@ -1,10 +1,9 @@
 -- A session is calm exactly where none of the lines gives anything that come before its stage; and else the first line that is not still gives what is
 -- next.
-use Rattle.std.proofs.Common.{◌≡◌, ◌∷◌, ◌++◌, ◌||◌, ◌&&◌, ◌==◌, ap, refl, subst, sym, ◌∙◌, Bool, true, false, List, [], Option, None, Some, ℕ, nat_lt, if◌then◌else◌, ◌↔◌}
+use Rattle.std.proofs.Common.{◌≡◌, ◌∷◌, ◌++◌, ◌||◌, ◌&&◌, ◌==◌, ap, refl, sym, ◌∙◌, Bool, true, false, List, [], Option, None, Some, ℕ, nat_lt, if◌then◌else◌, ◌↔◌}
 use Rattle.std.proofs.lemmas.Bool.{and_parts, eqb-true}
 use Rattle.std.specs.List.{list_any}
 use Rattle.std.specs.Option.{option_and_then, option_or}
-use Rattle.grpc_base.specs.declared.event.Event.{Event}
 use Rattle.session_actions.specs.Actions.{following, following_in, of_calls, of_links, of_policies, of_stage}
 use Rattle.session_actions.specs.Events.{is_loss}
 use Rattle.session_actions.specs.Words.{first_of}

@@ -1,11 +1,11 @@
 -- Lists of which the thing of one number was changed.
-use Rattle.std.proofs.Common.{◌≡◌, ◌+◌, ◌<◌, ◌∷◌, ◌++◌, ◌||◌, ◌==◌, ap, arith, refl, subst, sym, ◌∙◌, Bool, true, false, List, [], Option, None, Some, ℕ, zero, suc, length, slice_get}
+use Rattle.std.proofs.Common.{◌≡◌, ◌∷◌, ◌++◌, ◌||◌, ◌==◌, ap, refl, subst, sym, ◌∙◌, Bool, true, false, List, [], Option, None, Some, ℕ, zero, suc, slice_get}
 use Rattle.std.proofs.lemmas.Bool.{eqb-false, eqb-true, or_from, or_parts}
 use Rattle.std.proofs.lemmas.List.Folds.{list_any-append}
 use Rattle.std.specs.List.{list_any}
 use Rattle.std.specs.Option.{option_map}
 use Rattle.std.specs.Prelude.{slice_set}
-use Rattle.session_actions.specs.Words.{changed, changed_if, last_of, numbered}
+use Rattle.session_actions.specs.Words.{changed, changed_if, numbered}
 
 set_here : {X : Type 0} (xs : List X) (i : ℕ) (x z : X) → slice_get xs i ≡ Some x → slice_get (slice_set xs i z) i ≡ Some z
 set_here [] i x z e = absurd (cc)
@@ -140,3 +140,20 @@ pub any_changed_at : {X : Type 0} (test : X → Bool) (f : X → X) (n : ℕ) (x
     → list_any test (changed f n xs) ≡ list_any test xs
 any_changed_at test f zero xs same = refl
 any_changed_at test f (suc i) xs same = any_by test f i xs (slice_get xs i) refl same
+
+-- changed twice
+set_twice : {X : Type 0} (xs : List X) (i : ℕ) (y z : X) → slice_set (slice_set xs i y) i z ≡ slice_set xs i z
+set_twice [] i y z = refl
+set_twice (x ∷ xs) zero y z = refl
+set_twice (x ∷ xs) (suc i) y z = ap (λ (l : List _). x ∷ l) (set_twice xs i y z)
+
+twice_by : {X : Type 0} (f g : X → X) (n : ℕ) (xs : List X) (o : Option X) → numbered xs n ≡ o → changed g n (changed f n xs) ≡ changed (λ (x : X). g (f x)) n xs
+twice_by f g n xs None e =
+    ap (λ (z : Option _). changed g n (changed_if f n xs z)) e ∙ ap (changed_if g n xs) e ∙ sym (ap (changed_if (λ (x : _). g (f x)) n xs) e)
+twice_by f g zero xs (Some x) e = absurd (cc)
+twice_by f g (suc i) xs (Some x) e =
+    ap (λ (z : Option _). changed g (suc i) (changed_if f (suc i) xs z)) e ∙ ap (changed_if g (suc i) (slice_set xs i (f x))) (set_here xs i x (f x) e)
+    ∙ set_twice xs i (f x) (g (f x)) ∙ sym (ap (changed_if (λ (x : _). g (f x)) (suc i) xs) e)
+
+pub changed_twice : {X : Type 0} (f g : X → X) (n : ℕ) (xs : List X) → changed g n (changed f n xs) ≡ changed (λ (x : X). g (f x)) n xs
+changed_twice f g n xs = twice_by f g n xs (numbered xs n) refl

@@ -1,29 +1,25 @@
 -- What bears on the open entry alone: its stage, its reply, and its number.
-use Rattle.std.proofs.Common.{◌≡◌, ◌+◌, ◌∷◌, ◌||◌, ◌&&◌, ◌==◌, not, ap, refl, subst, sym, ◌∙◌, Bool, true, false, List, [], Option, None, Some, ℕ, if◌then◌else◌, is_some, length}
-use Rattle.std.proofs.lemmas.Bool.{and_cases, and_left, and_right, or_from, or_parts}
+use Rattle.std.proofs.Common.{◌≡◌, ◌+◌, ◌∷◌, ◌||◌, ◌&&◌, ◌==◌, not, ap, refl, subst, ◌∙◌, Bool, true, false, List, [], Option, None, Some, ℕ, if◌then◌else◌, is_some, length}
+use Rattle.std.proofs.lemmas.Bool.{and_right, or_from, or_parts}
 use Rattle.std.specs.List.{list_any}
 use Rattle.std.specs.Option.{option_and_then, option_map}
-use Rattle.attempt_ledger.specs.declared.ledger.Ask.{Ask}
-use Rattle.attempt_ledger.specs.declared.row.RowEnd.{RowEnd}
 use Rattle.grpc_base.specs.declared.address.Address.{Address}
 use Rattle.grpc_base.specs.declared.event.Entry.{Entry}
-use Rattle.grpc_base.specs.declared.event.Event.{Event}
-use Rattle.grpc_base.specs.declared.event.Reply.{Reply}
 use Rattle.grpc_base.specs.declared.kind.Kind.{Kind}
 use Rattle.session_actions.specs.AttemptEnds.{code_at_end, code_for_stream, code_to_reset}
 use Rattle.session_actions.specs.CallEnds.{cancels, has_long_request, is_after_event, is_cancelled, sends_too_long}
 use Rattle.session_actions.specs.Calls.{is_open_call}
 use Rattle.session_actions.specs.Configs.{held_config, is_too_long}
-use Rattle.session_actions.specs.Entries.{entry, replied}
+use Rattle.session_actions.specs.Entries.{entry}
 use Rattle.session_actions.specs.Links.{link_of}
 use Rattle.session_actions.specs.Policies.{are_same_addresses, is_live_policy, is_other_kind, is_pending, is_same_kind, is_to_retire, result_of, wanted_kind, wants_addresses}
 use Rattle.session_actions.specs.Words.{holds, last_of}
-use Rattle.session_actions.specs.declared.attempt.Attempt.{Attempt}
 use Rattle.session_actions.specs.declared.call.Call.{Call}
 use Rattle.session_actions.specs.declared.config.HeldConfig.{HeldConfig}
 use Rattle.session_actions.specs.declared.entry.OpenEntry.{OpenEntry}
 use Rattle.session_actions.specs.declared.policy.PolicyUse.{PolicyUse}
 use Rattle.session_actions.specs.declared.seen.Seen.{Seen}
+use Rattle.session_order.proofs.Aside.{aside_final, aside_request}
 use Rattle.session_order.proofs.Lists.{any_same, holds_same, some_map}
 use Rattle.session_order.proofs.Limits.{then_same}
 use Rattle.session_order.specs.Calm.{IsStill, can_follow, is_to_follow_pick, is_to_reset, is_unplaced, lacks_kind}
@@ -55,9 +51,9 @@ entered s entries current same line.Cut o h = h
 entered s entries current same line.Transparent o h = h
 entered s entries current same line.Inherited o h = h
 entered s entries current same line.Row o h = h
-entered s entries current same line.Final o h = h
+entered s entries current same line.Final o h = aside_final s (record s { entries = entries; current = current }) ∙ h
 entered s entries current same line.Cancelled o h = h
-entered s entries current same line.Request o h = h
+entered s entries current same line.Request o h = aside_request o s (record s { entries = entries; current = current }) ∙ h
 entered s entries current same line.Overflow o h = h
 entered s entries current same line.Head o h = h
 entered s entries current same line.Response o h = h

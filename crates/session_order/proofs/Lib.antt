@@ -3,6 +3,7 @@ pub mod Changed
 pub mod Lines
 pub mod Calms
 pub mod Finals
+pub mod Aside
 pub mod Limits
 pub mod Told
 pub mod Passed
@@ -15,3 +16,4 @@ pub mod Boards
 pub mod Waits
 pub mod Rests
 pub mod Queues
+pub mod Ended

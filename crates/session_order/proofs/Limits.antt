@@ -1,33 +1,24 @@
 -- Where calls change, but not the longest message that each may get, responses stay the same, and with them the ends and resets that they bring.
-use Rattle.std.proofs.Common.{◌≡◌, ◌||◌, ◌&&◌, ◌==◌, not, ap, refl, ◌∙◌, Bool, List, Option, None, Some, ℕ, if◌then◌else◌, is_none, is_some}
+use Rattle.std.proofs.Common.{◌≡◌, ◌||◌, ◌&&◌, ◌==◌, not, ap, refl, Bool, List, Option, None, Some, ℕ, if◌then◌else◌, is_some}
 use Rattle.std.specs.List.{list_any}
 use Rattle.std.specs.Option.{option_and_then, option_map_or, option_or}
-use Rattle.attempt_ledger.specs.Ends.{is_cut}
 use Rattle.attempt_ledger.specs.declared.row.RowEnd.{RowEnd}
 use Rattle.grpc_base.specs.ErrorCodes.{cancel}
-use Rattle.grpc_base.specs.Limits.{message_limit}
 use Rattle.session_actions.specs.AttemptEnds.{code_at_end, code_for_stream, code_to_reset, is_framing, is_reset, lost_end, outcome_of, outcome_on, reset_code_of}
-use Rattle.session_actions.specs.Attempts.{commitment, counts_by, is_counted, is_followed, is_outstanding, is_over, is_over_in, is_to_follow, wants_follower, wants_follower_by}
-use Rattle.session_actions.specs.CallEnds.{has_long_request, has_long_response, is_cancelled, is_over_by_row, is_shut_down}
+use Rattle.session_actions.specs.Attempts.{commitment, is_outstanding}
+use Rattle.session_actions.specs.CallEnds.{has_long_response}
 use Rattle.session_actions.specs.Calls.{is_open_call}
-use Rattle.session_actions.specs.Commitments.{has_head_in, is_final_end, is_final_in, is_free_call, is_headed, is_inherited, is_inherited_in}
-use Rattle.session_actions.specs.Configs.{chosen_of}
+use Rattle.session_actions.specs.Commitments.{has_head_in, is_free_call}
 use Rattle.session_actions.specs.Entries.{entry}
 use Rattle.session_actions.specs.Links.{has_written_end, link_of}
 use Rattle.session_actions.specs.Responses.{limit_of_attempt, no_response, response, response_by, response_in, response_on, traffic_of}
-use Rattle.session_actions.specs.Words.{changed, holds, numbered}
 use Rattle.session_actions.specs.declared.attempt.Attempt.{Attempt}
 use Rattle.session_actions.specs.declared.call.Call.{Call}
-use Rattle.session_actions.specs.declared.call.Mark.{Mark}
-use Rattle.session_actions.specs.declared.entry.OpenEntry.{OpenEntry}
 use Rattle.session_actions.specs.declared.link.Link.{Link}
-use Rattle.session_actions.specs.declared.response.Outcome.{Outcome}
 use Rattle.session_actions.specs.declared.response.Response.{Response}
 use Rattle.session_actions.specs.declared.seen.Seen.{Seen}
-use Rattle.session_order.proofs.Changed.{any_changed, lookup}
-use Rattle.session_order.proofs.Finals.{final_same}
 use Rattle.session_order.proofs.Lists.{any_same, holds_same}
-use Rattle.session_order.specs.Calm.{is_overflowing, is_to_cut, is_to_end, is_to_reset}
+use Rattle.session_order.specs.Calm.{is_to_reset}
 
 -- two functions that agree
 pub then_same : {X Y : Type 0} (g h : X → Option Y) → ((x : X) → g x ≡ h x) → (o : Option X) → option_and_then g o ≡ option_and_then h o

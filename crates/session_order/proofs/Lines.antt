@@ -1,5 +1,5 @@
 -- A line gives nothing exactly where it is still.
-use Rattle.std.proofs.Common.{◌≡◌, ◌||◌, ◌&&◌, ◌==◌, ap, refl, sym, ◌∙◌, Bool, true, false, Option, None, Some, ℕ, filter, is_none, is_some, nat_lt, not, ◌↔◌, List, if◌then◌else◌}
+use Rattle.std.proofs.Common.{◌≡◌, ◌&&◌, ◌==◌, refl, sym, ◌∙◌, Bool, true, false, Option, None, Some, ℕ, filter, is_none, is_some, nat_lt, not, ◌↔◌, List, if◌then◌else◌}
 use Rattle.std.specs.List.{list_any}
 use Rattle.std.specs.Option.{option_and_then, option_map}
 use Rattle.std.specs.Prelude.{find}
@@ -10,7 +10,7 @@ use Rattle.grpc_base.specs.declared.kind.Pick.{Pick}
 use Rattle.session_actions.specs.AttemptEnds.{cut, cut_end, end_of, outcome_of, reset_code_of, next_reset, reset_of, wire_end}
 use Rattle.session_actions.specs.Attempts.{is_of, is_outstanding, is_over, wants_follower}
 use Rattle.session_actions.specs.CallEnds.{ending_call, has_long_request, has_long_response, is_cancelled, is_over_by_row, is_shut_down}
-use Rattle.session_actions.specs.Commitments.{committing, furthest, is_final_end, is_free_call, is_further, is_headed, is_inherited, overflow_row}
+use Rattle.session_actions.specs.Commitments.{committing, is_final_end, is_free_call, is_further, is_headed, is_inherited, overflow_row}
 use Rattle.session_actions.specs.Entries.{entry}
 use Rattle.session_actions.specs.Links.{is_stream_before}
 use Rattle.session_actions.specs.Making.{transparent_retry}
@@ -26,8 +26,8 @@ use Rattle.session_actions.specs.declared.policy.PolicyUse.{PolicyUse}
 use Rattle.session_actions.specs.declared.response.Outcome.{Outcome}
 use Rattle.session_actions.specs.declared.seen.Seen.{Seen}
 use Rattle.session_actions.specs.declared.subchannel.Subchannel.{Subchannel}
-use Rattle.session_order.proofs.Lists.{foremost_passes, is_nothing, none_is, some_find, some_first, some_foremost, some_if, some_map, some_one, some_then, some_two}
-use Rattle.session_order.specs.Calm.{IsStill, can_follow, has_outstanding, is_link_new, is_overflowing, is_to_cut, is_to_end, is_to_follow_pick, is_to_reset, is_unplaced, lacks_kind}
+use Rattle.session_order.proofs.Lists.{foremost_passes, is_nothing, none_is, some_find, some_first, some_foremost, some_map, some_one, some_then, some_two}
+use Rattle.session_order.specs.Calm.{IsStill, can_follow, is_link_new, is_overflowing, is_to_cut, is_to_end, is_to_follow_pick, is_to_reset, lacks_kind}
 use Rattle.session_order.specs.Lines.{gives}
 use Rattle.session_order.specs.declared.line.Line.{Line}
 use Rattle.session_actions.specs.declared.action.Action.TheVariants as action

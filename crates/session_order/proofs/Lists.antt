@@ -1,9 +1,9 @@
 -- Lists of which none passes a test, values that may not be there, and lists of which one thing was changed.
-use Rattle.std.proofs.Common.{◌≡◌, ◌∷◌, ◌++◌, ◌||◌, ◌&&◌, ap, refl, sym, ◌∙◌, Bool, true, false, List, [], Option, None, Some, ℕ, zero, suc, cond, filter, if◌then◌else◌, is_some, slice_get}
+use Rattle.std.proofs.Common.{◌≡◌, ◌∷◌, ◌||◌, ◌&&◌, ap, refl, ◌∙◌, Bool, true, false, List, [], Option, None, Some, cond, filter, if◌then◌else◌, is_some}
 use Rattle.std.specs.List.{list_any}
 use Rattle.std.specs.Option.{option_and_then, option_map, option_or}
-use Rattle.std.specs.Prelude.{find, slice_set}
-use Rattle.session_actions.specs.Words.{changed, changed_if, earlier, first_of, foremost, holds, numbered}
+use Rattle.std.specs.Prelude.{find}
+use Rattle.session_actions.specs.Words.{changed, earlier, first_of, foremost, holds}
 
 -- whether there is something
 pub some_map : {X Y : Type 0} (f : X → Y) (o : Option X) → is_some (option_map f o) ≡ is_some o

@@ -1,30 +1,24 @@
 -- A message that is accepted leaves all lines still but that of the overflow.
-use Rattle.std.proofs.Common.{◌≡◌, ◌∷◌, ◌++◌, ◌||◌, ◌&&◌, ◌==◌, ap, refl, subst, sym, ◌∙◌, Bool, true, false, List, [], Option, None, Some, ℕ, zero, suc, slice_get}
-use Rattle.std.proofs.lemmas.Bool.{and_left, and_right, eqb-true, or_from, or_parts}
+use Rattle.std.proofs.Common.{◌≡◌, ◌∷◌, ◌++◌, ◌||◌, ◌&&◌, ◌==◌, ap, refl, subst, sym, ◌∙◌, Bool, true, false, List, [], Some, ℕ}
+use Rattle.std.proofs.lemmas.Bool.{and_left, and_right, eqb-true, or_from}
 use Rattle.std.proofs.lemmas.List.Folds.{list_any-append}
 use Rattle.std.specs.List.{list_any}
-use Rattle.std.specs.Option.{option_map}
-use Rattle.std.specs.Prelude.{is_some}
 use Rattle.grpc_base.specs.declared.event.Event.{Event}
-use Rattle.session_actions.specs.Actions.{after_in}
 use Rattle.session_actions.specs.CallEnds.{has_long_request, is_after_event, sends_too_long}
 use Rattle.session_actions.specs.Calls.{is_open_call}
 use Rattle.session_actions.specs.Configs.{is_too_long}
 use Rattle.session_actions.specs.Deliveries.{with_message}
-use Rattle.session_actions.specs.Entries.{replied}
-use Rattle.session_actions.specs.Policies.{result_of}
 use Rattle.session_actions.specs.Words.{changed, numbered}
 use Rattle.session_actions.specs.declared.call.Call.{Call}
-use Rattle.session_actions.specs.declared.call.Mark.{Mark}
 use Rattle.session_actions.specs.declared.entry.OpenEntry.{OpenEntry}
 use Rattle.session_actions.specs.declared.seen.Seen.{Seen}
-use Rattle.session_order.proofs.Changed.{none_changed, passes_not}
+use Rattle.session_order.proofs.Changed.{none_each_changed, passes_not}
 use Rattle.session_order.proofs.Entered.{moved_to, quieted}
 use Rattle.session_order.proofs.Posts.{answered_with}
-use Rattle.session_order.proofs.Told.{retold, told_cancelled, told_cut, told_end, told_final, told_head, told_inherited, told_reset, told_response, told_row, told_shut, told_transparent}
+use Rattle.session_order.proofs.Told.{told_cancelled, told_cut, told_end, told_final, told_head, told_inherited, told_reset, told_response, told_row, told_shut, told_transparent}
 use Rattle.session_order.specs.Calm.{IsStill}
-use Rattle.session_order.specs.Laws.{Leaves, StirsOnly}
-use Rattle.session_order.specs.Stirs.{AreNumbered, Fits, stirs}
+use Rattle.session_order.specs.Laws.{StirsOnly}
+use Rattle.session_order.specs.Stirs.{AreNumbered, stirs}
 use Rattle.session_order.specs.declared.line.Line.{Line}
 use Rattle.session_actions.specs.declared.action.Action.TheVariants as action
 use Rattle.grpc_base.specs.declared.event.Event.TheVariants as event

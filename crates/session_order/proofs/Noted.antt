@@ -1,12 +1,12 @@
 -- What policies note of the states of subchannels stirs no line.
-use Rattle.std.proofs.Common.{◌≡◌, ◌∷◌, ◌++◌, ◌||◌, ◌&&◌, not, ap, refl, sym, ◌∙◌, Bool, true, false, List, [], Option, None, Some, ℕ, cond, find, flat_map, if◌then◌else◌, is_none, map}
+use Rattle.std.proofs.Common.{◌≡◌, ◌∷◌, ◌++◌, ◌||◌, ◌&&◌, not, ap, refl, ◌∙◌, Bool, true, false, List, [], Option, None, Some, ℕ, cond, find, flat_map, if◌then◌else◌, is_none, map}
 use Rattle.std.specs.List.{list_any}
 use Rattle.std.specs.Option.{option_map}
 use Rattle.std.specs.Prelude.{option_to_list}
 use Rattle.grpc_base.specs.declared.address.Address.{Address}
 use Rattle.grpc_base.specs.declared.kind.Kind.{Kind}
 use Rattle.lb_policy.specs.Steps.{failed_after}
-use Rattle.session_actions.specs.Policies.{current_policy, is_current, is_live_policy, is_pending, is_same_address, is_same_kind, is_shutdown, is_to_retire, listed, live_policies, live_sub, pending_policy, view_of, wanted_kind, wants_addresses}
+use Rattle.session_actions.specs.Policies.{current_policy, is_current, is_live_policy, is_pending, is_same_address, is_same_kind, is_shutdown, is_to_retire, listed, live_sub, pending_policy, view_of, wanted_kind, wants_addresses}
 use Rattle.session_actions.specs.Subchannels.{is_unlisted, noted_by_policies, noted_state}
 use Rattle.session_actions.specs.Words.{holds}
 use Rattle.session_actions.specs.declared.entry.OpenEntry.{OpenEntry}

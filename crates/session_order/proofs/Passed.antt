@@ -1,5 +1,5 @@
 -- What is queued on links, the bytes that came and that were not read, and that a link is gone, stirs no line.
-use Rattle.std.proofs.Common.{◌≡◌, ◌||◌, ◌&&◌, ◌==◌, not, ap, refl, ◌∙◌, Bool, true, false, List, Option, None, Some, ℕ, if◌then◌else◌, is_some}
+use Rattle.std.proofs.Common.{◌≡◌, ◌||◌, ◌&&◌, ◌==◌, not, ap, refl, ◌∙◌, Bool, List, Option, None, Some, ℕ, if◌then◌else◌, is_some}
 use Rattle.std.specs.List.{list_any}
 use Rattle.std.specs.Option.{option_and_then, option_map, option_map_or, option_or}
 use Rattle.attempt_ledger.specs.declared.row.Placed.{Placed}
@@ -13,15 +13,13 @@ use Rattle.session_actions.specs.Commitments.{has_head_in, is_free_call, is_head
 use Rattle.session_actions.specs.Entries.{entry}
 use Rattle.session_actions.specs.Links.{has_settings, link_of}
 use Rattle.session_actions.specs.Responses.{no_response, response, response_by, response_on}
-use Rattle.session_actions.specs.Subchannels.{is_connecting, is_going_down, is_to_be_ready, is_to_go_down, link_of_sub}
+use Rattle.session_actions.specs.Subchannels.{is_connecting, is_going_down, is_to_be_ready, is_to_go_down}
 use Rattle.session_actions.specs.Words.{holds, numbered}
 use Rattle.session_actions.specs.declared.attempt.Attempt.{Attempt}
-use Rattle.session_actions.specs.declared.call.Call.{Call}
 use Rattle.session_actions.specs.declared.link.Link.{Link}
 use Rattle.session_actions.specs.declared.response.Outcome.{Outcome}
 use Rattle.session_actions.specs.declared.response.Response.{Response}
 use Rattle.session_actions.specs.declared.seen.Seen.{Seen}
-use Rattle.session_actions.specs.declared.subchannel.Subchannel.{Subchannel}
 use Rattle.session_order.proofs.Lists.{any_same, holds_same}
 use Rattle.session_order.proofs.Limits.{code_with, then_same}
 use Rattle.session_order.specs.Calm.{is_link_new, is_to_end, is_to_reset}

@@ -1,33 +1,27 @@
 -- What is posted, and what an action that answers it leaves still.
-use Rattle.std.proofs.Common.{◌≡◌, ◌+◌, ap, refl, subst, sym, ◌∙◌, Bool, true, false, List, Option, None, Some, ℕ, if◌then◌else◌}
-use Rattle.std.proofs.lemmas.Bool.{and_cases, and_left, and_right, eqb-true, or_from, or_parts}
-use Rattle.std.specs.List.{list_any}
-use Rattle.std.specs.Option.{option_map}
+use Rattle.std.proofs.Common.{◌≡◌, ◌+◌, ap, refl, subst, sym, ◌∙◌, Bool, true, false, List, None, Some, ℕ, if◌then◌else◌}
+use Rattle.std.proofs.lemmas.Bool.{and_left, and_right}
 use Rattle.grpc_base.specs.declared.event.Event.{Event}
 use Rattle.grpc_base.specs.declared.event.Refusal.{Refusal}
 use Rattle.grpc_base.specs.declared.event.Reply.{Reply}
-use Rattle.h2_frame.specs.Frames.{FrameSeen}
-use Rattle.session_actions.specs.Actions.{after_in}
-use Rattle.session_actions.specs.CallEnds.{cancels, has_long_request, is_after_event, sends_too_long}
-use Rattle.session_actions.specs.Calls.{is_open_call}
-use Rattle.session_actions.specs.Configs.{is_too_long, resolver_answered}
-use Rattle.session_actions.specs.Deliveries.{is_end, with_message}
+use Rattle.session_actions.specs.CallEnds.{cancels, is_after_event, sends_too_long}
+use Rattle.session_actions.specs.Configs.{resolver_answered}
+use Rattle.session_actions.specs.Deliveries.{is_end}
 use Rattle.session_actions.specs.Entries.{replied}
 use Rattle.session_actions.specs.Links.{wants_resolution}
-use Rattle.session_actions.specs.Policies.{addresses_in, result_of}
-use Rattle.session_actions.specs.Words.{changed, numbered}
-use Rattle.session_actions.specs.Writing.{ping_of, with_piece}
-use Rattle.session_actions.specs.declared.action.Action.{Action}
+use Rattle.session_actions.specs.Policies.{addresses_in}
+use Rattle.session_actions.specs.Words.{changed}
 use Rattle.session_actions.specs.declared.call.Call.{Call}
 use Rattle.session_actions.specs.declared.call.Mark.{Mark}
 use Rattle.session_actions.specs.declared.entry.OpenEntry.{OpenEntry}
 use Rattle.session_actions.specs.declared.link.Link.{Link}
 use Rattle.session_actions.specs.declared.seen.Seen.{Seen}
+use Rattle.session_order.proofs.Aside.{aside_final, aside_request}
 use Rattle.session_order.proofs.Entered.{IsQuietFor, moved_on}
 use Rattle.session_order.proofs.Told.{retold, told_cancelled, told_cut, told_end, told_final, told_head, told_inherited, told_overflow, told_request, told_reset, told_response, told_row, told_shut, told_transparent}
 use Rattle.session_order.specs.Calm.{IsStill}
-use Rattle.session_order.specs.Laws.{Leaves, StirsOnly}
-use Rattle.session_order.specs.Stirs.{Fits, stirs}
+use Rattle.session_order.specs.Laws.{StirsOnly}
+use Rattle.session_order.specs.Stirs.{stirs}
 use Rattle.session_order.specs.declared.line.Line.{Line}
 use Rattle.session_actions.specs.declared.action.Action.TheVariants as action
 use Rattle.grpc_base.specs.declared.event.Event.TheVariants as event
@@ -45,7 +39,7 @@ pub record IsPlain (e : Event) : Type 0 where
   pub sends : (c : Call) (s : Seen) → sends_too_long e c s ≡ false
   pub addresses : addresses_in e ≡ None
 
-plain_as : (e d : Event) → e ≡ d → IsPlain d → IsPlain e
+pub plain_as : (e d : Event) → e ≡ d → IsPlain d → IsPlain e
 plain_as e d same h = subst (λ (x : Event). IsPlain x) (sym same) h
 
 if_none : (b : Bool) (e : Event) → addresses_in e ≡ None → (if b then addresses_in e else None) ≡ None
@@ -138,9 +132,9 @@ answered_still s line.Cut o h = h
 answered_still s line.Transparent o h = h
 answered_still s line.Inherited o h = h
 answered_still s line.Row o h = h
-answered_still s line.Final o h = h
+answered_still s line.Final o h = aside_final s (resolver_answered s) ∙ h
 answered_still s line.Cancelled o h = h
-answered_still s line.Request o h = h
+answered_still s line.Request o h = aside_request o s (resolver_answered s) ∙ h
 answered_still s line.Overflow o h = h
 answered_still s line.Head o h = h
 answered_still s line.Response o h = h
@@ -228,9 +222,9 @@ wanted_still s line.Cut o h = h
 wanted_still s line.Transparent o h = h
 wanted_still s line.Inherited o h = h
 wanted_still s line.Row o h = h
-wanted_still s line.Final o h = h
+wanted_still s line.Final o h = aside_final s (wants_resolution s) ∙ h
 wanted_still s line.Cancelled o h = h
-wanted_still s line.Request o h = h
+wanted_still s line.Request o h = aside_request o s (wants_resolution s) ∙ h
 wanted_still s line.Overflow o h = h
 wanted_still s line.Head o h = h
 wanted_still s line.Response o h = h

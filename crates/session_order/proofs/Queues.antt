@@ -3,8 +3,7 @@ use Rattle.std.proofs.Common.{◌≡◌, ◌+◌, ◌∷◌, ◌++◌, ◌==◌,
 use Rattle.std.specs.Option.{option_map, option_map_or}
 use Rattle.attempt_ledger.specs.declared.ledger.Ask.{Ask}
 use Rattle.grpc_base.specs.declared.kind.Pick.{Pick}
-use Rattle.session_actions.specs.Actions.{after_in}
-use Rattle.session_actions.specs.Entries.{drawn_if, entry, now, with_entry}
+use Rattle.session_actions.specs.Entries.{entry, now}
 use Rattle.session_actions.specs.Policies.{turn_at}
 use Rattle.session_actions.specs.Subchannels.{dial_taken_of, with_dial, with_sub}
 use Rattle.session_actions.specs.Words.{changed, numbered}
@@ -14,10 +13,11 @@ use Rattle.session_actions.specs.declared.entry.OpenEntry.{OpenEntry}
 use Rattle.session_actions.specs.declared.entry.Turn.{Turn}
 use Rattle.session_actions.specs.declared.seen.Seen.{Seen}
 use Rattle.session_actions.specs.declared.subchannel.Subchannel.{Subchannel}
+use Rattle.session_order.proofs.Aside.{aside_final, aside_request}
 use Rattle.session_order.proofs.Boards.{dials_live, with_sub_current, with_sub_still}
 use Rattle.session_order.proofs.Entered.{moved_to}
 use Rattle.session_order.proofs.Posts.{plain_answered, plain_as, plain_dial}
-use Rattle.session_order.proofs.Told.{retold, told_cancelled, told_cut, told_end, told_head, told_inherited, told_overflow, told_request, told_reset, told_response, told_row, told_shut, told_transparent}
+use Rattle.session_order.proofs.Told.{told_cancelled, told_cut, told_end, told_head, told_inherited, told_overflow, told_request, told_reset, told_response, told_row, told_shut, told_transparent}
 use Rattle.session_order.specs.Calm.{IsStill}
 use Rattle.session_order.specs.Laws.{StirsOnly}
 use Rattle.session_order.specs.Stirs.{stirs}
@@ -67,9 +67,9 @@ asked_still asks s row generation answer line.Cut o e h = h
 asked_still asks s row generation answer line.Transparent o e h = h
 asked_still asks s row generation answer line.Inherited o e h = h
 asked_still asks s row generation answer line.Row o e h = h
-asked_still asks s row generation answer line.Final o e h = h
+asked_still asks s row generation answer line.Final o e h = aside_final s (record s { asks = asks }) ∙ h
 asked_still asks s row generation answer line.Cancelled o e h = h
-asked_still asks s row generation answer line.Request o e h = h
+asked_still asks s row generation answer line.Request o e h = aside_request o s (record s { asks = asks }) ∙ h
 asked_still asks s row generation answer line.Overflow o e h = h
 asked_still asks s row generation answer line.Head o e h = h
 asked_still asks s row generation answer line.Response o e h = h

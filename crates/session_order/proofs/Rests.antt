@@ -1,6 +1,6 @@
 -- Between two entries a session is at rest.
-use Rattle.std.proofs.Common.{◌≡◌, ◌+◌, ◌<◌, ◌≤◌, ◌∷◌, ◌++◌, ◌||◌, ◌&&◌, ◌==◌, ap, arith, refl, subst, sym, ◌∙◌, Bool, true, false, List, [], Option, None, Some, ℕ, zero, suc, not, if◌then◌else◌, is_none, is_some, length, map, slice_get}
-use Rattle.std.proofs.lemmas.Bool.{and_left, eqb-true}
+use Rattle.std.proofs.Common.{◌≡◌, ◌+◌, ◌<◌, ◌≤◌, ◌∷◌, ◌++◌, ◌&&◌, ◌==◌, ap, arith, refl, sym, ◌∙◌, Bool, true, false, List, [], Option, None, Some, ℕ, zero, suc, not, if◌then◌else◌, is_none, is_some, length, map, slice_get}
+use Rattle.std.proofs.lemmas.Bool.{eqb-true}
 use Rattle.std.proofs.lemmas.Option.{slice_get-map}
 use Rattle.std.specs.List.{list_any}
 use Rattle.std.specs.Option.{option_and_then, option_map}
@@ -9,7 +9,7 @@ use Rattle.attempt_ledger.specs.declared.row.RowEnd.{RowEnd}
 use Rattle.grpc_base.specs.declared.event.Entry.{Entry}
 use Rattle.grpc_base.specs.declared.event.Event.{Event}
 use Rattle.session_actions.specs.Actions.{after_in}
-use Rattle.session_actions.specs.AttemptEnds.{code_at_end, code_for_stream, code_to_reset, reset_code_of}
+use Rattle.session_actions.specs.AttemptEnds.{code_at_end, code_for_stream, code_to_reset}
 use Rattle.session_actions.specs.Closing.{made_entry, noted_gone}
 use Rattle.session_actions.specs.Entries.{entry, opened, opened_entry}
 use Rattle.session_actions.specs.Links.{link_of}
@@ -21,6 +21,7 @@ use Rattle.session_actions.specs.declared.entry.OpenEntry.{OpenEntry}
 use Rattle.session_actions.specs.declared.link.Link.{Link}
 use Rattle.session_actions.specs.declared.seen.Seen.{Seen}
 use Rattle.session_actions.specs.declared.seen.Setup.{Setup}
+use Rattle.session_order.proofs.Aside.{aside_final, aside_request}
 use Rattle.session_order.proofs.Changed.{none_from}
 use Rattle.session_order.proofs.Entered.{entered, quieted}
 use Rattle.session_order.proofs.Posts.{idle_quiet}
@@ -99,9 +100,9 @@ module _ (s : Seen) (past : IsPast s) (o : OpenEntry) where
   opened_still line.Transparent h = h
   opened_still line.Inherited h = h
   opened_still line.Row h = h
-  opened_still line.Final h = h
+  opened_still line.Final h = aside_final s t ∙ h
   opened_still line.Cancelled h = h
-  opened_still line.Request h = h
+  opened_still line.Request h = aside_request idle_entry s t ∙ h
   opened_still line.Overflow h = h
   opened_still line.Head h = h
   opened_still line.Response h = h

@@ -1,31 +1,29 @@
 -- What an application tells a call or takes of it, and what is marked of it, stirs no line but those that look at it.
-use Rattle.std.proofs.Common.{◌≡◌, ◌||◌, ◌&&◌, ◌==◌, not, ap, refl, ◌∙◌, Bool, List, Option, None, Some, ℕ, if◌then◌else◌, is_none, is_some}
+use Rattle.std.proofs.Common.{◌≡◌, ◌&&◌, not, ap, refl, ◌∙◌, Bool, List, Option, ℕ, is_none, is_some, None, Some, option_map, sym, ◌==◌, ◌||◌}
+use Rattle.std.proofs.lemmas.Bool.{eqb-false, eqb-true}
 use Rattle.std.specs.List.{list_any}
-use Rattle.std.specs.Option.{option_and_then, option_map_or, option_or}
+use Rattle.std.specs.Option.{option_map_or}
 use Rattle.attempt_ledger.specs.Ends.{is_cut}
 use Rattle.attempt_ledger.specs.declared.row.RowEnd.{RowEnd}
-use Rattle.grpc_base.specs.ErrorCodes.{cancel}
 use Rattle.grpc_base.specs.Limits.{message_limit}
-use Rattle.session_actions.specs.AttemptEnds.{code_at_end, code_for_stream, code_to_reset, is_framing, is_reset, lost_end, outcome_of, outcome_on, reset_code_of}
-use Rattle.session_actions.specs.Attempts.{commitment, counts_by, is_counted, is_followed, is_outstanding, is_over, is_over_in, is_to_follow, wants_follower, wants_follower_by}
+use Rattle.session_actions.specs.AttemptEnds.{outcome_of}
+use Rattle.session_actions.specs.Attempts.{commitment, is_of, is_queued, counts_by, is_counted, is_followed, is_outstanding, is_over, is_over_in, is_to_follow, wants_follower, wants_follower_by}
 use Rattle.session_actions.specs.CallEnds.{has_long_request, has_long_response, is_cancelled, is_over_by_row, is_shut_down}
 use Rattle.session_actions.specs.Calls.{is_open_call}
-use Rattle.session_actions.specs.Commitments.{has_head_in, is_final_end, is_final_in, is_free_call, is_headed, is_inherited, is_inherited_in}
+use Rattle.session_actions.specs.Commitments.{has_head_in, is_final_end, is_final_in, is_headed, is_inherited, is_inherited_in}
 use Rattle.session_actions.specs.Configs.{chosen_of}
-use Rattle.session_actions.specs.Entries.{entry}
-use Rattle.session_actions.specs.Links.{has_written_end, link_of}
-use Rattle.session_actions.specs.Responses.{limit_of_attempt, no_response, response, response_by, response_in, response_on, traffic_of}
+use Rattle.session_actions.specs.DueAttempts.{has_going}
+use Rattle.session_actions.specs.Responses.{limit_of_attempt, response}
 use Rattle.session_actions.specs.Words.{changed, holds, numbered}
 use Rattle.session_actions.specs.declared.attempt.Attempt.{Attempt}
 use Rattle.session_actions.specs.declared.call.Call.{Call}
 use Rattle.session_actions.specs.declared.call.Mark.{Mark}
 use Rattle.session_actions.specs.declared.entry.OpenEntry.{OpenEntry}
-use Rattle.session_actions.specs.declared.link.Link.{Link}
 use Rattle.session_actions.specs.declared.response.Outcome.{Outcome}
-use Rattle.session_actions.specs.declared.response.Response.{Response}
 use Rattle.session_actions.specs.declared.seen.Seen.{Seen}
-use Rattle.session_order.proofs.Changed.{any_changed, lookup}
-use Rattle.session_order.proofs.Finals.{final_same, going_same}
+use Rattle.session_order.proofs.Changed.{any_changed, changed_away, changed_map, lookup}
+use Rattle.session_order.proofs.Aside.{long_as}
+use Rattle.session_order.proofs.Finals.{final_same}
 use Rattle.session_order.proofs.Limits.{headed_in, limits_reset, long_response, outcome_same}
 use Rattle.session_order.proofs.Lists.{any_same, holds_same}
 use Rattle.session_order.specs.Calm.{is_overflowing, is_to_cut, is_to_end, is_to_reset}
@@ -80,23 +78,53 @@ module _ (s : Seen) (n : ℕ) (messages : Call → List (List ℕ)) (finished : 
       (λ c. ap (λ (x : Bool). is_open_call c && x)
       (holds_same (λ (k : Attempt). is_counted k t) (λ (k : Attempt). is_counted k s) counted_same (commitment c s))) s.calls
 
+  going_told : (c : Call) → has_going (record c { messages = messages c; finished = finished c; taken = taken c; end_taken = end_taken c }) t ≡ has_going c s
+  going_told c =
+      any_same (λ (a : Attempt). is_of c a && (is_outstanding a || is_queued a t)) (λ (a : Attempt). is_of c a && (is_outstanding a || is_queued a s))
+      (λ a. ap (λ (x : Bool). is_of c a && (is_outstanding a || ((is_none a.row.placed && is_none a.row.ended) && not x))) (over_same a)) s.attempts
+
+  going_plain : (c : Call) → has_going c t ≡ has_going c s
+  going_plain c =
+      any_same (λ (a : Attempt). is_of c a && (is_outstanding a || is_queued a t)) (λ (a : Attempt). is_of c a && (is_outstanding a || is_queued a s))
+      (λ a. ap (λ (x : Bool). is_of c a && (is_outstanding a || ((is_none a.row.placed && is_none a.row.ended) && not x))) (over_same a)) s.attempts
+
+  -- a call of which nothing is marked
+  final_told : ((c : Call) → marks c ≡ c.marks) → (a : Attempt) (c : Call) → is_final_in a t (told c) ≡ is_final_in a s c
+  final_told same a c =
+      ap (λ (list : List Mark). is_final_in a t (record c { messages = messages c; finished = finished c; taken = taken c; end_taken = end_taken c; marks = list }))
+      (same c)
+      ∙ final_same s s (changed told n s.calls) messages finished taken end_taken counts_same c (going_told c) a
+
+  final_plain : (a : Attempt) (c : Call) → is_final_in a t c ≡ is_final_in a s c
+  final_plain a c =
+      final_same s s (changed told n s.calls) (λ (x : Call). x.messages) (λ (x : Call). x.finished) (λ (x : Call). x.taken) (λ (x : Call). x.end_taken)
+      counts_same c (going_plain c) a
+
+  final_by : ((c : Call) → marks c ≡ c.marks) → (a : Attempt) (o : Option Call)
+      → holds (is_final_in a t) (option_map told o) ≡ holds (is_final_in a s) o
+  final_by same a None = refl
+  final_by same a (Some c) = final_told same a c
+
+  final_at : ((c : Call) → marks c ≡ c.marks) → (a : Attempt) (k : ℕ) (b : Bool) → (k == n) ≡ b
+      → holds (is_final_in a t) (numbered (changed told n s.calls) k) ≡ holds (is_final_in a s) (numbered s.calls k)
+  final_at same a k true e =
+      ap (λ (j : ℕ). holds (is_final_in a t) (numbered (changed told n s.calls) j)) (eqb-true k n e)
+      ∙ ap (holds (is_final_in a t)) (changed_map told n s.calls) ∙ final_by same a (numbered s.calls n)
+      ∙ ap (λ (j : ℕ). holds (is_final_in a s) (numbered s.calls j)) (sym (eqb-true k n e))
+  final_at same a k false e =
+      ap (holds (is_final_in a t)) (changed_away told n k s.calls (eqb-false k n e))
+      ∙ holds_same (is_final_in a t) (is_final_in a s) (final_plain a) (numbered s.calls k)
+
   pub told_final : ((c : Call) → marks c ≡ c.marks) → list_any (is_final_end t) s.attempts ≡ list_any (is_final_end s) s.attempts
-  told_final same =
-      any_same (is_final_end t) (is_final_end s)
-      (λ a.
-      lookup (holds (is_final_in a t)) told
-      (λ c. ap (λ (list : List Mark). is_final_in a t (record c { messages = messages c; finished = finished c; taken = taken c; end_taken = end_taken c; marks = list })) (same c))
-      n s.calls a.row.call
-      ∙ holds_same (is_final_in a t) (is_final_in a s) (λ c. final_same s (changed told n s.calls) counts_same c (going_same s (changed told n s.calls) counts_same over_same c) a) (numbered s.calls a.row.call)) s.attempts
+  told_final same = any_same (is_final_end t) (is_final_end s) (λ a. final_at same a a.row.call (a.row.call == n) refl) s.attempts
 
   pub told_cancelled : (o : OpenEntry) → list_any (is_cancelled o) t.calls ≡ list_any (is_cancelled o) s.calls
   told_cancelled o = any_changed (is_cancelled o) told (λ c. refl) n s.calls
 
   pub told_request : (o : OpenEntry) → ((c : Call) → messages c ≡ c.messages) → list_any (has_long_request o t) t.calls ≡ list_any (has_long_request o s) s.calls
   told_request o same =
-      any_changed (has_long_request o s) told
-      (λ c. ap (λ (list : List (List ℕ)). has_long_request o s (record c { messages = list; finished = finished c; taken = taken c; end_taken = end_taken c; marks = marks c })) (same c))
-      n s.calls
+      any_changed (has_long_request o t) told (λ c. long_as o (told c) c t t refl refl (same c) (λ m. refl)) n s.calls
+      ∙ any_same (has_long_request o t) (has_long_request o s) (λ c. long_as o c c t s refl refl refl (λ m. refl)) s.calls
 
   pub told_overflow : ((c : Call) → messages c ≡ c.messages) → list_any (is_overflowing t) t.calls ≡ list_any (is_overflowing s) s.calls
   told_overflow same =

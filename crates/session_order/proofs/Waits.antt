@@ -1,5 +1,5 @@
 -- An entry ends exactly where nothing is due.
-use Rattle.std.proofs.Common.{◌≡◌, ◌∷◌, ◌||◌, ◌&&◌, ◌==◌, not, ap, refl, subst, sym, ◌∙◌, Bool, true, false, List, [], Option, None, Some, ℕ, cond, filter, if◌then◌else◌, is_none, is_some, length, nat_le, ◌+◌, ◌↔◌}
+use Rattle.std.proofs.Common.{◌≡◌, ◌∷◌, ◌&&◌, ◌==◌, not, ap, refl, sym, ◌∙◌, Bool, true, false, List, [], Option, None, Some, ℕ, filter, if◌then◌else◌, is_none, is_some, length, nat_le, ◌+◌, ◌↔◌}
 use Rattle.std.proofs.lemmas.Bool.{and_left, or_from, or_parts}
 use Rattle.std.specs.List.{list_any}
 use Rattle.std.specs.Option.{option_and_then, option_map, option_map_or, option_or}
@@ -10,11 +10,10 @@ use Rattle.grpc_base.specs.declared.event.Event.{Event}
 use Rattle.grpc_base.specs.declared.event.Refusal.{Refusal}
 use Rattle.grpc_base.specs.declared.event.Reply.{Reply}
 use Rattle.grpc_base.specs.declared.address.Address.{Address}
-use Rattle.grpc_base.specs.declared.kind.Kind.{Kind}
 use Rattle.grpc_base.specs.declared.kind.Pick.{Pick}
 use Rattle.lb_policy.specs.Table.{pick_of}
 use Rattle.session_actions.specs.Actions.{config_action, following, following_in, of_calls, of_event, of_frames, of_links, of_policies, of_settling, of_stage}
-use Rattle.session_actions.specs.AttemptEnds.{cut, cut_end, end_of, next_cut, next_reset, next_wire_end, outcome_of, pick_end, reset_code_of, reset_of, wire_end}
+use Rattle.session_actions.specs.AttemptEnds.{cut, cut_end, end_of, next_cut, next_reset, next_wire_end, outcome_of, reset_code_of, reset_of, wire_end}
 use Rattle.session_actions.specs.Attempts.{is_outstanding, is_over, is_queued, wants_follower}
 use Rattle.session_actions.specs.CallEnds.{ending_call, has_long_request, has_long_response, is_after_event, is_cancelled, is_due_before, is_over_by_row, is_past_deadline, is_shut_down, lacks_config, next_deadline, next_ended}
 use Rattle.session_actions.specs.Calls.{is_open_call}
@@ -23,16 +22,16 @@ use Rattle.session_actions.specs.Configs.{is_to_configure, is_too_long}
 use Rattle.session_actions.specs.Deliveries.{held_bytes, is_accepted, next_item, send_action, take_action}
 use Rattle.session_actions.specs.DueAttempts.{attempts_made, kind_of_next, next_due}
 use Rattle.session_actions.specs.Entries.{entry, now}
-use Rattle.session_actions.specs.Events.{event_action, event_action_by, event_applied, frame_action, frame_of_event, is_loss, of_call}
+use Rattle.session_actions.specs.Events.{event_action, event_action_by, event_applied, frame_action, frame_of_event, is_loss}
 use Rattle.session_actions.specs.Links.{is_stream_before}
 use Rattle.session_actions.specs.Making.{due_action, due_attempt, due_if_past, next_due_attempt, next_transparent, transparent_retry}
 use Rattle.session_actions.specs.Policies.{asking, begin_if, current_policy, follow_ask, follow_pick, is_after, is_queued_before, is_same_kind, is_served, is_served_by, is_to_retire, is_unfollowed, listed, live_policies, live_sub, may_take_over, next_asked, next_begun, next_given, next_of_pass, next_of_pick, next_of_queue, next_retired, next_take_over, pending_policy, placed_on, policy_of, policy_state, wanted_kind, wants_addresses}
 use Rattle.session_actions.specs.Reading.{next_read}
 use Rattle.session_actions.specs.Refusals.{refusal_of}
-use Rattle.session_actions.specs.Subchannels.{clock_action, dial_action, is_dialable, is_idle, is_rested, is_to_be_ready, is_to_go_down, is_too_late, is_unlisted, is_wished, link_action, next_added, next_connected, next_of_clock, next_of_links, next_shut, take_dial}
+use Rattle.session_actions.specs.Subchannels.{clock_action, dial_action, is_dialable, is_idle, is_rested, is_to_be_ready, is_to_go_down, is_too_late, is_unlisted, is_wished, link_action, next_added, next_connected, next_of_clock, next_of_links, next_shut}
 use Rattle.session_actions.specs.Tokens.{has_tokens}
 use Rattle.session_actions.specs.Words.{first_of, foremost, holds, last_of, numbered}
-use Rattle.session_actions.specs.Writing.{fits_drain, frame_to_write, next_frame_read, next_written, read_action, read_next, sendable}
+use Rattle.session_actions.specs.Writing.{fits_drain, frame_to_write, next_written, read_action, read_next, sendable}
 use Rattle.session_actions.specs.declared.action.Action.{Action}
 use Rattle.session_actions.specs.declared.attempt.Attempt.{Attempt}
 use Rattle.session_actions.specs.declared.call.Call.{Call}
@@ -41,14 +40,13 @@ use Rattle.session_actions.specs.declared.entry.Stage.{Stage}
 use Rattle.session_actions.specs.declared.entry.Turn.{Turn}
 use Rattle.session_actions.specs.declared.link.Link.{Link}
 use Rattle.session_actions.specs.declared.link.NextRead.{NextRead}
-use Rattle.session_actions.specs.declared.link.Sent.{Sent}
 use Rattle.session_actions.specs.declared.policy.PolicyUse.{PolicyUse}
 use Rattle.session_actions.specs.declared.response.Outcome.{Outcome}
 use Rattle.session_actions.specs.declared.seen.Seen.{Seen}
 use Rattle.session_actions.specs.declared.subchannel.Subchannel.{Subchannel}
 use Rattle.session_order.proofs.Calms.{calm_is_exact, calm_leaves_stage}
 use Rattle.session_order.proofs.Lists.{any_same, foremost_passes, is_nothing, none_is, or_nothing, some_find, some_first, some_foremost, some_map, some_one, some_then, some_two}
-use Rattle.session_order.specs.Calm.{IsCalm, NoneIs}
+use Rattle.session_order.specs.Calm.{IsCalm}
 use Rattle.session_order.specs.Waits.{NothingDueWaits, is_due, is_over_time, is_to_connect, is_unsettled}
 use Rattle.session_actions.specs.declared.action.Action.TheVariants as action
 use Rattle.session_actions.specs.declared.action.CommitCause.TheVariants as commit

@@ -1,22 +1,20 @@
 -- Bytes that come, and frames that are queued, leave all lines still.
-use Rattle.std.proofs.Common.{◌≡◌, ◌++◌, ◌==◌, ap, refl, subst, sym, ◌∙◌, Bool, true, false, List, Option, None, Some, ℕ, if◌then◌else◌}
+use Rattle.std.proofs.Common.{◌≡◌, ◌++◌, ◌==◌, refl, subst, sym, ◌∙◌, Bool, true, false, List, Option, None, Some, ℕ, if◌then◌else◌}
 use Rattle.std.proofs.lemmas.Bool.{eqb-false, eqb-true}
 use Rattle.std.specs.Option.{option_map}
 use Rattle.grpc_base.specs.declared.event.Event.{Event}
 use Rattle.h2_frame.specs.Frames.{FrameSeen}
-use Rattle.session_actions.specs.Actions.{after_in}
-use Rattle.session_actions.specs.Entries.{replied}
 use Rattle.session_actions.specs.Words.{changed, numbered}
 use Rattle.session_actions.specs.Writing.{ping_of, with_piece}
 use Rattle.session_actions.specs.declared.entry.OpenEntry.{OpenEntry}
 use Rattle.session_actions.specs.declared.link.Link.{Link}
 use Rattle.session_actions.specs.declared.seen.Seen.{Seen}
+use Rattle.session_order.proofs.Aside.{aside_final, aside_request}
 use Rattle.session_order.proofs.Changed.{changed_away, changed_map}
 use Rattle.session_order.proofs.Passed.{kept, passed_end, passed_head, passed_link, passed_reset, passed_response}
 use Rattle.session_order.proofs.Posts.{plain_answered, plain_arrived, plain_as, plain_ping}
 use Rattle.session_order.specs.Calm.{IsStill}
-use Rattle.session_order.specs.Laws.{Leaves, StirsOnly}
-use Rattle.session_order.specs.Stirs.{Fits, stirs}
+use Rattle.session_order.specs.Laws.{StirsOnly}
 use Rattle.session_order.specs.declared.line.Line.{Line}
 use Rattle.session_actions.specs.declared.action.Action.TheVariants as action
 use Rattle.grpc_base.specs.declared.event.Event.TheVariants as event
@@ -30,9 +28,9 @@ passed_still s links owed received gone same line.Cut o h = h
 passed_still s links owed received gone same line.Transparent o h = h
 passed_still s links owed received gone same line.Inherited o h = h
 passed_still s links owed received gone same line.Row o h = h
-passed_still s links owed received gone same line.Final o h = h
+passed_still s links owed received gone same line.Final o h = aside_final s (record s { links = links }) ∙ h
 passed_still s links owed received gone same line.Cancelled o h = h
-passed_still s links owed received gone same line.Request o h = h
+passed_still s links owed received gone same line.Request o h = aside_request o s (record s { links = links }) ∙ h
 passed_still s links owed received gone same line.Overflow o h = h
 passed_still s links owed received gone same line.Head o h = passed_head s links owed received gone same ∙ h
 passed_still s links owed received gone same line.Response o h = passed_response s links owed received gone same ∙ h

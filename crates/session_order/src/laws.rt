@@ -1,5 +1,5 @@
 // What follows after an action of a session, and what does not; nothing runs.
-ghost use Rattle.session_order.specs.Laws.{ApplicationsStir, BoardsStir, CalmIsExact, CalmLeavesStage, EntriesStir, FirstLineGives, LinesAreStill, LinksStir, QueuesStir};
+ghost use Rattle.session_order.specs.Laws.{ApplicationsStir, BoardsStir, CallsStir, CalmIsExact, CalmLeavesStage, EntriesStir, FirstLineGives, LinesAreStill, LinksStir, QueuesStir};
 ghost use Rattle.session_order.specs.Rests.{EntriesBeginCalm, EntriesEndAtRest, NewOnesRest};
 ghost use Rattle.session_order.specs.Waits.{EndsWhereNothingWaits};
 
@@ -53,4 +53,10 @@ pub fn boards_stir()
 /// "Throttling Retry Attempts and Hedged RPCs").
 pub fn queues_stir()
     ensures { QueuesStir }
+{}
+
+/// A call that ends stirs the line of the cuts alone: of a call that has ended nothing follows but that its attempts are cut off (gRFC A6, "When Retries are
+/// Valid"; gRPC, "Core concepts": RPC life cycle).
+pub fn calls_stir()
+    ensures { CallsStir }
 {}
