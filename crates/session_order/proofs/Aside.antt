@@ -11,7 +11,7 @@ use Rattle.session_actions.specs.declared.call.Call.{Call}
 use Rattle.session_actions.specs.declared.entry.OpenEntry.{OpenEntry}
 use Rattle.session_actions.specs.declared.seen.Seen.{Seen}
 use Rattle.session_order.proofs.Finals.{final_same}
-use Rattle.session_order.proofs.Lists.{any_same, holds_same}
+use Rattle.session_order.proofs.Lists.{any_in, any_same, holds_same}
 use Rattle.grpc_base.specs.declared.event.Event.TheVariants as event
 
 pub aside_final : (s u : Seen)
@@ -19,10 +19,11 @@ pub aside_final : (s u : Seen)
     ≡ list_any (is_final_end s) s.attempts
 aside_final s u =
     let t : Seen = record u { calls = s.calls; attempts = s.attempts; configs = s.configs; runs = s.runs } in
-    any_same (is_final_end t) (is_final_end s)
-    (λ a. holds_same (is_final_in a t) (is_final_in a s)
-    (λ c. final_same s u s.calls (λ (x : Call). x.messages) (λ (x : Call). x.finished) (λ (x : Call). x.taken) (λ (x : Call). x.end_taken) (λ x e. refl) c refl a)
-    (numbered s.calls a.row.call)) s.attempts
+    any_in (is_final_end t) (is_final_end s) s.attempts
+    (λ k a here. holds_same (is_final_in a t) (is_final_in a s)
+    (λ c. final_same s u s.calls (λ (x : Call). x.messages) (λ (x : Call). x.finished) (λ (x : Call). x.taken) (λ (x : Call). x.end_taken) (λ j x at e. refl) c refl
+    k a here)
+    (numbered s.calls a.row.call))
 
 -- the message of an event
 pub sends_as : (e : Event) (c d : Call) (s t : Seen) → c.number ≡ d.number → ((m : List ℕ) → is_too_long m c s ≡ is_too_long m d t)

@@ -142,7 +142,7 @@ pub with_sub_current : (s : Seen) (n : ℕ) (f : Subchannel → Subchannel) → 
 with_sub_current s n f = current_if (record s { subs = changed f n s.subs }) (numbered (changed f n s.subs) n)
 
 -- states
-connecting_live : (c : Conn) → is_connecting c ≡ true → is_shutdown c ≡ false
+pub connecting_live : (c : Conn) → is_connecting c ≡ true → is_shutdown c ≡ false
 connecting_live conn.Connecting e = refl
 connecting_live conn.Shutdown e = absurd (cc)
 connecting_live c e = refl
@@ -155,7 +155,7 @@ failure_live : (c : Conn) → is_failure c ≡ true → is_shutdown c ≡ false
 failure_live conn.Shutdown e = absurd (cc)
 failure_live c e = refl
 
-same_sub : (b c : Subchannel) (o : Option Subchannel) → o ≡ Some b → o ≡ Some c → b ≡ c
+pub same_sub : (b c : Subchannel) (o : Option Subchannel) → o ≡ Some b → o ≡ Some c → b ≡ c
 same_sub b c o e f = (cc)
 
 fails_live : (s : Seen) (n : ℕ) (b : Subchannel) → numbered s.subs n ≡ Some b → is_dialling b ≡ true → StaysLive s n (without_link conn.Failure)

@@ -26,7 +26,7 @@ use Rattle.session_actions.specs.declared.response.Outcome.{Outcome}
 use Rattle.session_actions.specs.declared.seen.Seen.{Seen}
 use Rattle.session_order.proofs.Aside.{long_as}
 use Rattle.session_order.proofs.Boards.{goes_on}
-use Rattle.session_order.proofs.Changed.{changed_away, changed_map, changed_twice, lookup, none_each_changed, passes_not}
+use Rattle.session_order.proofs.Changed.{changed_away, changed_map, changed_twice, lookup, none_each_changed, none_from, passes_not}
 use Rattle.session_order.proofs.Finals.{final_same}
 use Rattle.session_order.proofs.Limits.{headed_in, limits_reset, long_response, outcome_same}
 use Rattle.session_order.proofs.Lists.{any_same, holds_same}
@@ -39,7 +39,7 @@ use Rattle.session_order.specs.declared.line.Line.TheVariants as line
 use Rattle.session_actions.specs.declared.call.MarkKind.TheVariants as mark
 
 -- a test that asks for less
-none_less : {X : Type 0} (test wide : X → Bool) → ((x : X) → wide x ≡ false → test x ≡ false) → (xs : List X) → list_any wide xs ≡ false
+pub none_less : {X : Type 0} (test wide : X → Bool) → ((x : X) → wide x ≡ false → test x ≡ false) → (xs : List X) → list_any wide xs ≡ false
     → list_any test xs ≡ false
 none_less test wide narrow [] e = refl
 none_less test wide narrow (x ∷ xs) e =
@@ -126,24 +126,26 @@ module _ (s : Seen) (n : ℕ) (marks : Call → List Mark) (end : CallEnd) (numb
       any_same (λ (a : Attempt). is_of c a && (is_outstanding a || is_queued a t)) (λ (a : Attempt). is_of c a && (is_outstanding a || is_queued a s))
       (λ a. going_by c a (is_of c a) refl other) s.attempts
 
-  final_away : (a : Attempt) (k : ℕ) (o : Option Call) → (k ≡ n → ⊥) → numbered s.calls k ≡ o → holds (is_final_in a s) o ≡ false
+  final_away : (i : ℕ) (a : Attempt) → numbered s.attempts i ≡ Some a → (k : ℕ) (o : Option Call) → (k ≡ n → ⊥) → numbered s.calls k ≡ o → holds (is_final_in a s) o ≡ false
       → holds (is_final_in a t) o ≡ false
-  final_away a k None other is h = refl
-  final_away a k (Some c) other is h =
-      final_same s s cs (λ (x : Call). x.messages) (λ (x : Call). x.finished) (λ (x : Call). x.taken) (λ (x : Call). x.end_taken) counts_same c
-      (going_away c (λ f. other (sym (numbers k c is) ∙ f))) a ∙ h
+  final_away i a at k None other is h = refl
+  final_away i a at k (Some c) other is h =
+      final_same s s cs (λ (x : Call). x.messages) (λ (x : Call). x.finished) (λ (x : Call). x.taken) (λ (x : Call). x.end_taken) (λ j x here. counts_same x) c
+      (going_away c (λ f. other (sym (numbers k c is) ∙ f))) i a at ∙ h
 
-  final_by : (a : Attempt) (b : Bool) → (a.row.call == n) ≡ b → holds (is_final_in a s) (numbered s.calls a.row.call) ≡ false
+  final_by : (i : ℕ) (a : Attempt) → numbered s.attempts i ≡ Some a → (b : Bool) → (a.row.call == n) ≡ b → holds (is_final_in a s) (numbered s.calls a.row.call) ≡ false
       → holds (is_final_in a t) (numbered cs a.row.call) ≡ false
-  final_by a true e h =
+  final_by i a at true e h =
       ap (λ (j : ℕ). holds (is_final_in a t) (numbered cs j)) (eqb-true a.row.call n e) ∙ ap (holds (is_final_in a t)) (changed_map over_now n s.calls)
       ∙ here_ends (is_final_in a t) (λ c. refl) (numbered s.calls n)
-  final_by a false e h =
+  final_by i a at false e h =
       ap (holds (is_final_in a t)) (changed_away over_now n a.row.call s.calls (eqb-false a.row.call n e))
-      ∙ final_away a a.row.call (numbered s.calls a.row.call) (eqb-false a.row.call n e) refl h
+      ∙ final_away i a at a.row.call (numbered s.calls a.row.call) (eqb-false a.row.call n e) refl h
 
   final_still : list_any (is_final_end s) s.attempts ≡ false → list_any (is_final_end t) s.attempts ≡ false
-  final_still h = none_less (is_final_end t) (is_final_end s) (λ a. final_by a (a.row.call == n) refl) s.attempts h
+  final_still h =
+      none_from (is_final_end t) s.attempts
+      (λ i a at. final_by i a at (a.row.call == n) refl (passes_not (is_final_end s) s.attempts i a h at))
 
   head_still : list_any (is_headed s) s.attempts ≡ false → list_any (is_headed t) s.attempts ≡ false
   head_still h =

@@ -1,5 +1,5 @@
 -- Where calls are told something that leaves alone which ends count and which attempts are over, it is as final as before which end is so.
-use Rattle.std.proofs.Common.{◌≡◌, ◌-◌, ◌∷◌, ◌||◌, ◌&&◌, not, nat_le, ap, refl, ◌∙◌, Bool, List, [], Option, None, Some, ℕ, cond, filter, if◌then◌else◌, is_none, is_some, max}
+use Rattle.std.proofs.Common.{◌≡◌, ◌-◌, ◌∷◌, ◌||◌, ◌&&◌, not, nat_le, ap, refl, ◌∙◌, Bool, List, [], Option, None, Some, ℕ, cond, filter, if◌then◌else◌, is_none, is_some, max, slice_get, suc, zero}
 use Rattle.std.specs.Option.{option_map_or}
 use Rattle.std.specs.Prelude.{filter_map, fold}
 use Rattle.attempt_ledger.specs.Ends.{delay_of}
@@ -26,10 +26,20 @@ or_same : {X Y : Type 0} (g h : X → Y) (d : Y) → ((x : X) → g x ≡ h x) �
 or_same g h d same None = refl
 or_same g h d same (Some x) = same x
 
-filter_same : (p q : Attempt → Bool) → ((x : Attempt) → p x ≡ q x) → (xs : List Attempt) → filter p xs ≡ filter q xs
-filter_same p q same [] = refl
-filter_same p q same (x ∷ xs) =
-    ap (λ (b : Bool). cond b (x ∷ filter p xs) (filter p xs)) (same x) ∙ ap (λ (l : List Attempt). cond (q x) (x ∷ l) l) (filter_same p q same xs)
+-- of the attempts of a session
+or_in : {Y : Type 0} (g h : Attempt → Y) (d : Y) (o : Option Attempt) → ((x : Attempt) → o ≡ Some x → g x ≡ h x) → option_map_or g o d ≡ option_map_or h o d
+or_in g h d None same = refl
+or_in g h d (Some x) same = same x refl
+
+pub holds_in : (p q : Attempt → Bool) (o : Option Attempt) → ((x : Attempt) → o ≡ Some x → p x ≡ q x) → holds p o ≡ holds q o
+holds_in p q None same = refl
+holds_in p q (Some x) same = same x refl
+
+filter_same : (p q : Attempt → Bool) (xs : List Attempt) → ((i : ℕ) (x : Attempt) → slice_get xs i ≡ Some x → p x ≡ q x) → filter p xs ≡ filter q xs
+filter_same p q [] same = refl
+filter_same p q (x ∷ xs) same =
+    ap (λ (b : Bool). cond b (x ∷ filter p xs) (filter p xs)) (same zero x refl)
+    ∙ ap (λ (l : List Attempt). cond (q x) (x ∷ l) l) (filter_same p q xs (λ i y e. same (suc i) y e))
 
 rows_by : (m : Mark) (g h : Mark → Option ℕ) (marks : List Mark) (o : Option ℕ) → g m ≡ o → h m ≡ o → filter_map g marks ≡ filter_map h marks
     → filter_map g (m ∷ marks) ≡ filter_map h (m ∷ marks)
@@ -42,23 +52,23 @@ rows_same g h same (m ∷ marks) = rows_by m g h marks (h m) (same m) refl (rows
 
 -- another session with the same attempts, configs and runs, where calls were told something
 module _ (s u : Seen) (cs : List Call) (messages : Call → List (List ℕ)) (finished : Call → Bool) (taken : Call → ℕ) (end_taken : Call → Bool)
-    (counts : (a : Attempt) (e : RowEnd) → counts_by a (record u { calls = cs; attempts = s.attempts; configs = s.configs; runs = s.runs }) e ≡ counts_by a s e) where
+    (counts : (k : ℕ) (a : Attempt) → numbered s.attempts k ≡ Some a → (e : RowEnd) → counts_by a (record u { calls = cs; attempts = s.attempts; configs = s.configs; runs = s.runs }) e ≡ counts_by a s e) where
   abbrev t : Seen
   t = record u { calls = cs; attempts = s.attempts; configs = s.configs; runs = s.runs }
 
   abbrev d : Call → Call
   d c = record c { messages = messages c; finished = finished c; taken = taken c; end_taken = end_taken c }
 
-  pub counted_same : (a : Attempt) → is_counted a t ≡ is_counted a s
-  counted_same a = holds_same (counts_by a t) (counts_by a s) (counts a) a.row.ended
+  counted_same : (k : ℕ) (a : Attempt) → numbered s.attempts k ≡ Some a → is_counted a t ≡ is_counted a s
+  counted_same k a here = holds_same (counts_by a t) (counts_by a s) (counts k a here) a.row.ended
 
-  delayed_one : (c : Call) (k : ℕ) (a : Attempt) → was_delayed (d c) k t a ≡ was_delayed c k s a
-  delayed_one c k a =
-      ap (λ (x : Bool). ((is_of c a && nat_le a.row.number k) && x) && holds (λ (x : RowEnd). is_some (delay_of x.pushback)) a.row.ended) (counted_same a)
+  delayed_one : (c : Call) (k i : ℕ) (a : Attempt) → slice_get s.attempts i ≡ Some a → was_delayed (d c) k t a ≡ was_delayed c k s a
+  delayed_one c k i a here =
+      ap (λ (x : Bool). ((is_of c a && nat_le a.row.number k) && x) && holds (λ (x : RowEnd). is_some (delay_of x.pushback)) a.row.ended) (counted_same (suc i) a here)
 
   delayed_same : (c : Call) (k : ℕ) → last_delayed (d c) k t ≡ last_delayed c k s
   delayed_same c k =
-      ap (fold (λ (j : ℕ) (a : Attempt). max j a.row.number) 0) (filter_same (was_delayed (d c) k t) (was_delayed c k s) (delayed_one c k) s.attempts)
+      ap (fold (λ (j : ℕ) (a : Attempt). max j a.row.number) 0) (filter_same (was_delayed (d c) k t) (was_delayed c k s) s.attempts (delayed_one c k))
 
   plan_same : (c : Call) (a : Attempt) (w : DueState) (e : RowEnd) (p : CallPlan) → due_by_plan p (d c) a t w e ≡ due_by_plan p c a s w e
   plan_same c a w e plan.None = refl
@@ -67,9 +77,9 @@ module _ (s u : Seen) (cs : List Call) (messages : Call → List (List ℕ)) (fi
       (delayed_same c a.row.number)
   plan_same c a w e (plan.Hedge p) = refl
 
-  end_same : (c : Call) (w : DueState) (a : Attempt) (e : RowEnd) → due_after_end (d c) t w a e ≡ due_after_end c s w a e
-  end_same c w a e =
-      ap (λ (x : Bool). if (not w.stopped && x) && has_code (codes_of (plan_of c s)) e.code then due_by_plan (plan_of c s) (d c) a t w e else w) (counts a e)
+  end_same : (c : Call) (w : DueState) (k : ℕ) (a : Attempt) → numbered s.attempts k ≡ Some a → (e : RowEnd) → due_after_end (d c) t w a e ≡ due_after_end c s w a e
+  end_same c w k a here e =
+      ap (λ (x : Bool). if (not w.stopped && x) && has_code (codes_of (plan_of c s)) e.code then due_by_plan (plan_of c s) (d c) a t w e else w) (counts k a here e)
       ∙ ap (λ (y : DueState). if (not w.stopped && counts_by a s e) && has_code (codes_of (plan_of c s)) e.code then y else w) (plan_same c a w e (plan_of c s))
 
   mark_same : (c : Call) (m : MarkKind) (moment : ℕ) (w : DueState) → due_after_mark (d c) t m moment w ≡ due_after_mark c s m moment w
@@ -77,8 +87,8 @@ module _ (s u : Seen) (cs : List Call) (messages : Call → List (List ℕ)) (fi
   mark_same c (mark.Made row) moment w = refl
   mark_same c (mark.Placed row) moment w = refl
   mark_same c (mark.Ended row) moment w =
-      or_same (λ (a : Attempt). option_map_or (due_after_end (d c) t w a) a.row.ended w) (λ (a : Attempt). option_map_or (due_after_end c s w a) a.row.ended w) w
-      (λ a. or_same (due_after_end (d c) t w a) (due_after_end c s w a) w (end_same c w a) a.row.ended) (numbered s.attempts row)
+      or_in (λ (a : Attempt). option_map_or (due_after_end (d c) t w a) a.row.ended w) (λ (a : Attempt). option_map_or (due_after_end c s w a) a.row.ended w) w
+      (numbered s.attempts row) (λ a here. or_same (due_after_end (d c) t w a) (due_after_end c s w a) w (end_same c w row a here) a.row.ended)
   mark_same c mark.Withheld moment w = refl
   mark_same c mark.Committed moment w = refl
   mark_same c mark.Closed moment w = refl
@@ -99,7 +109,7 @@ module _ (s u : Seen) (cs : List Call) (messages : Call → List (List ℕ)) (fi
   row_same (mark.Placed row) = refl
   row_same (mark.Ended row) =
       ap (λ (x : Bool). if x then Some row else None)
-      (holds_same (λ (a : Attempt). is_counted a t) (λ (a : Attempt). is_counted a s) counted_same (numbered s.attempts row))
+      (holds_in (λ (a : Attempt). is_counted a t) (λ (a : Attempt). is_counted a s) (numbered s.attempts row) (counted_same row))
   row_same mark.Withheld = refl
   row_same mark.Committed = refl
   row_same mark.Closed = refl
@@ -123,8 +133,8 @@ module _ (s u : Seen) (cs : List Call) (messages : Call → List (List ℕ)) (fi
       ∙ ap (λ (o : Option ℕ). not (has_code p.codes e.code) || (is_number a.place (last_counted c s) && is_none o && not (has_going (d c) t))) (next_same c)
       ∙ ap (λ (b : Bool). not (has_code p.codes e.code) || (is_number a.place (last_counted c s) && is_none (next_due c s) && not b)) going
 
-  pub final_same : (c : Call) → has_going (d c) t ≡ has_going c s → (a : Attempt) → is_final_in a t (d c) ≡ is_final_in a s c
-  final_same c going a =
-      ap (λ (b : Bool). is_free_call s c && b && is_final (d c) a t) (counted_same a)
+  pub final_same : (c : Call) → has_going (d c) t ≡ has_going c s → (k : ℕ) (a : Attempt) → numbered s.attempts k ≡ Some a → is_final_in a t (d c) ≡ is_final_in a s c
+  final_same c going k a here =
+      ap (λ (b : Bool). is_free_call s c && b && is_final (d c) a t) (counted_same k a here)
       ∙ ap (λ (b : Bool). is_free_call s c && is_counted a s && b)
       (holds_same (is_final_by (plan_of c s) (d c) a t) (is_final_by (plan_of c s) c a s) (final_by (plan_of c s) c going a) a.row.ended)

@@ -17,3 +17,6 @@ pub mod Waits
 pub mod Rests
 pub mod Queues
 pub mod Ended
+pub mod Turns
+pub mod Begun
+pub mod Overs

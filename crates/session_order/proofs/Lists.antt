@@ -1,9 +1,9 @@
 -- Lists of which none passes a test, values that may not be there, and lists of which one thing was changed.
-use Rattle.std.proofs.Common.{◌≡◌, ◌∷◌, ◌||◌, ◌&&◌, ap, refl, ◌∙◌, Bool, true, false, List, [], Option, None, Some, cond, filter, if◌then◌else◌, is_some}
+use Rattle.std.proofs.Common.{◌≡◌, ◌∷◌, ◌||◌, ◌&&◌, ap, refl, ◌∙◌, Bool, true, false, List, [], Option, None, Some, cond, filter, if◌then◌else◌, is_some, slice_get, suc, zero, ℕ}
 use Rattle.std.specs.List.{list_any}
 use Rattle.std.specs.Option.{option_and_then, option_map, option_or}
 use Rattle.std.specs.Prelude.{find}
-use Rattle.session_actions.specs.Words.{changed, earlier, first_of, foremost, holds}
+use Rattle.session_actions.specs.Words.{changed, earlier, first_of, foremost, holds, numbered}
 
 -- whether there is something
 pub some_map : {X Y : Type 0} (f : X → Y) (o : Option X) → is_some (option_map f o) ≡ is_some o
@@ -104,3 +104,13 @@ any_same test old same (x ∷ xs) =
 pub holds_same : {X : Type 0} (p q : X → Bool) → ((x : X) → p x ≡ q x) → (o : Option X) → holds p o ≡ holds q o
 holds_same p q same None = refl
 holds_same p q same (Some x) = same x
+
+any_at : {X : Type 0} (test old : X → Bool) (xs : List X) → ((i : ℕ) (x : X) → slice_get xs i ≡ Some x → test x ≡ old x)
+    → list_any test xs ≡ list_any old xs
+any_at test old [] same = refl
+any_at test old (x ∷ xs) same =
+    ap (λ (b : Bool). b || list_any test xs) (same zero x refl) ∙ ap (λ (b : Bool). old x || b) (any_at test old xs (λ i y e. same (suc i) y e))
+
+pub any_in : {X : Type 0} (test old : X → Bool) (xs : List X) → ((k : ℕ) (x : X) → numbered xs k ≡ Some x → test x ≡ old x)
+    → list_any test xs ≡ list_any old xs
+any_in test old xs same = any_at test old xs (λ i x e. same (suc i) x e)

@@ -1,5 +1,5 @@
 -- What an application tells a call or takes of it, and what is marked of it, stirs no line but those that look at it.
-use Rattle.std.proofs.Common.{◌≡◌, ◌&&◌, not, ap, refl, ◌∙◌, Bool, List, Option, ℕ, is_none, is_some, None, Some, option_map, sym, ◌==◌, ◌||◌}
+use Rattle.std.proofs.Common.{◌≡◌, ◌&&◌, not, ap, refl, ◌∙◌, Bool, List, Option, ℕ, is_none, is_some, None, Some, option_map, sym, ◌==◌, ◌||◌, true, false}
 use Rattle.std.proofs.lemmas.Bool.{eqb-false, eqb-true}
 use Rattle.std.specs.List.{list_any}
 use Rattle.std.specs.Option.{option_map_or}
@@ -25,7 +25,7 @@ use Rattle.session_order.proofs.Changed.{any_changed, changed_away, changed_map,
 use Rattle.session_order.proofs.Aside.{long_as}
 use Rattle.session_order.proofs.Finals.{final_same}
 use Rattle.session_order.proofs.Limits.{headed_in, limits_reset, long_response, outcome_same}
-use Rattle.session_order.proofs.Lists.{any_same, holds_same}
+use Rattle.session_order.proofs.Lists.{any_in, any_same, holds_same}
 use Rattle.session_order.specs.Calm.{is_overflowing, is_to_cut, is_to_end, is_to_reset}
 
 -- a call of which this was told
@@ -89,34 +89,34 @@ module _ (s : Seen) (n : ℕ) (messages : Call → List (List ℕ)) (finished : 
       (λ a. ap (λ (x : Bool). is_of c a && (is_outstanding a || ((is_none a.row.placed && is_none a.row.ended) && not x))) (over_same a)) s.attempts
 
   -- a call of which nothing is marked
-  final_told : ((c : Call) → marks c ≡ c.marks) → (a : Attempt) (c : Call) → is_final_in a t (told c) ≡ is_final_in a s c
-  final_told same a c =
+  final_told : ((c : Call) → marks c ≡ c.marks) → (k : ℕ) (a : Attempt) → numbered s.attempts k ≡ Some a → (c : Call) → is_final_in a t (told c) ≡ is_final_in a s c
+  final_told same k a at c =
       ap (λ (list : List Mark). is_final_in a t (record c { messages = messages c; finished = finished c; taken = taken c; end_taken = end_taken c; marks = list }))
       (same c)
-      ∙ final_same s s (changed told n s.calls) messages finished taken end_taken counts_same c (going_told c) a
+      ∙ final_same s s (changed told n s.calls) messages finished taken end_taken (λ j x is. counts_same x) c (going_told c) k a at
 
-  final_plain : (a : Attempt) (c : Call) → is_final_in a t c ≡ is_final_in a s c
-  final_plain a c =
+  final_plain : (k : ℕ) (a : Attempt) → numbered s.attempts k ≡ Some a → (c : Call) → is_final_in a t c ≡ is_final_in a s c
+  final_plain k a at c =
       final_same s s (changed told n s.calls) (λ (x : Call). x.messages) (λ (x : Call). x.finished) (λ (x : Call). x.taken) (λ (x : Call). x.end_taken)
-      counts_same c (going_plain c) a
+      (λ j x is. counts_same x) c (going_plain c) k a at
 
-  final_by : ((c : Call) → marks c ≡ c.marks) → (a : Attempt) (o : Option Call)
+  final_by : ((c : Call) → marks c ≡ c.marks) → (k : ℕ) (a : Attempt) → numbered s.attempts k ≡ Some a → (o : Option Call)
       → holds (is_final_in a t) (option_map told o) ≡ holds (is_final_in a s) o
-  final_by same a None = refl
-  final_by same a (Some c) = final_told same a c
+  final_by same k a at None = refl
+  final_by same k a at (Some c) = final_told same k a at c
 
-  final_at : ((c : Call) → marks c ≡ c.marks) → (a : Attempt) (k : ℕ) (b : Bool) → (k == n) ≡ b
+  final_at : ((c : Call) → marks c ≡ c.marks) → (i : ℕ) (a : Attempt) → numbered s.attempts i ≡ Some a → (k : ℕ) (b : Bool) → (k == n) ≡ b
       → holds (is_final_in a t) (numbered (changed told n s.calls) k) ≡ holds (is_final_in a s) (numbered s.calls k)
-  final_at same a k true e =
+  final_at same i a at k true e =
       ap (λ (j : ℕ). holds (is_final_in a t) (numbered (changed told n s.calls) j)) (eqb-true k n e)
-      ∙ ap (holds (is_final_in a t)) (changed_map told n s.calls) ∙ final_by same a (numbered s.calls n)
+      ∙ ap (holds (is_final_in a t)) (changed_map told n s.calls) ∙ final_by same i a at (numbered s.calls n)
       ∙ ap (λ (j : ℕ). holds (is_final_in a s) (numbered s.calls j)) (sym (eqb-true k n e))
-  final_at same a k false e =
+  final_at same i a at k false e =
       ap (holds (is_final_in a t)) (changed_away told n k s.calls (eqb-false k n e))
-      ∙ holds_same (is_final_in a t) (is_final_in a s) (final_plain a) (numbered s.calls k)
+      ∙ holds_same (is_final_in a t) (is_final_in a s) (final_plain i a at) (numbered s.calls k)
 
   pub told_final : ((c : Call) → marks c ≡ c.marks) → list_any (is_final_end t) s.attempts ≡ list_any (is_final_end s) s.attempts
-  told_final same = any_same (is_final_end t) (is_final_end s) (λ a. final_at same a a.row.call (a.row.call == n) refl) s.attempts
+  told_final same = any_in (is_final_end t) (is_final_end s) s.attempts (λ i a at. final_at same i a at a.row.call (a.row.call == n) refl)
 
   pub told_cancelled : (o : OpenEntry) → list_any (is_cancelled o) t.calls ≡ list_any (is_cancelled o) s.calls
   told_cancelled o = any_changed (is_cancelled o) told (λ c. refl) n s.calls

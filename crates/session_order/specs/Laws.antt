@@ -56,8 +56,10 @@ pub record ApplicationsStir : Type 0 where
   pub finished : (call : ℕ) → StirsOnly (action.RequestFinished call)
   pub taken : (call : ℕ) (item : Reply) → StirsOnly (action.ItemTaken call item)
 
--- what is queued on a link, and the bytes that come
+-- what is queued on a link, the bytes that come, and that it is over
 pub record LinksStir : Type 0 where
+  pub broken : (link number : ℕ) → StirsOnly (action.LinkBreaks link number)
+  pub lost : (link : ℕ) → StirsOnly (action.LinkLost link)
   pub arrived : (link : ℕ) → StirsOnly (action.BytesArrive link)
   pub pinged : (link : ℕ) → StirsOnly (action.PingQueued link)
 
@@ -67,12 +69,16 @@ pub record BoardsStir : Type 0 where
   pub failed : (sub : ℕ) → StirsOnly (action.DialFails sub)
   pub connects : (sub : ℕ) → StirsOnly (action.SubchannelConnects sub)
   pub rested : (sub : ℕ) → StirsOnly (action.BackoffEnds sub)
+  pub ready : (sub : ℕ) → StirsOnly (action.SettingsArrive sub)
+  pub down : (sub : ℕ) → StirsOnly (action.LinkDown sub)
 
 -- what is done to the queue: a pick request, a hedge that is withheld
 pub record QueuesStir : Type 0 where
   pub asked : (row generation : ℕ) (answer : Pick) → StirsOnly (action.PickRequested row generation answer)
   pub withheld : (call : ℕ) → StirsOnly (action.HedgeWithheld call)
 
--- a call ends
+-- a call begins or ends, or the channel is shut down
 pub record CallsStir : Type 0 where
+  pub begun : StirsOnly action.CallBegins
+  pub shut : StirsOnly action.ChannelShuts
   pub ended : (call : ℕ) (why : EndCause) → StirsOnly (action.CallEnds call why)

@@ -3,12 +3,14 @@
 -- Example: the trailers of a hedged attempt are read, with a code that hedgingPolicy does not name. FrameRead stirs the line by which attempts end;
 -- AttemptEnds those by which the call is committed and the stream reset; CallCommitted those by which the other attempts are cut and the call ends.
 use Rattle.std.specs.List.{list_any}
-use Rattle.std.specs.Prelude.{Bool, List, None, Some, [], false, true, ℕ, ◌∷◌, ◌≡◌}
+use Rattle.std.specs.Prelude.{Bool, List, None, Some, [], false, true, length, ℕ, ◌∷◌, ◌≡◌, ◌≤◌}
+use Rattle.grpc_base.specs.Requests.{RequestSeen}
 use Rattle.session_actions.specs.Configs.{is_too_long}
-use Rattle.session_actions.specs.Policies.{addresses_in, is_failure}
-use Rattle.session_actions.specs.Subchannels.{is_dialling, is_idle}
+use Rattle.session_actions.specs.Policies.{addresses_in, is_failure, is_shutdown}
+use Rattle.session_actions.specs.Subchannels.{is_connecting, is_dialling, is_idle}
 use Rattle.session_actions.specs.Words.{numbered}
 use Rattle.session_actions.specs.declared.action.Action.{Action}
+use Rattle.session_actions.specs.declared.attempt.Attempt.{Attempt}
 use Rattle.session_actions.specs.declared.call.Call.{Call}
 use Rattle.session_actions.specs.declared.entry.OpenEntry.{OpenEntry}
 use Rattle.session_actions.specs.declared.seen.Seen.{Seen}
@@ -59,6 +61,10 @@ stirs a l = list_any (is_line l) (stirred a)
 abbrev pub AreNumbered : Seen → Type 0
 AreNumbered s = (k : ℕ) (c : Call) → numbered s.calls k ≡ Some c → c.number ≡ k
 
+-- each attempt is of a call that began
+abbrev pub HaveCalls : Seen → Type 0
+HaveCalls s = (k : ℕ) (a : Attempt) → numbered s.attempts k ≡ Some a → a.row.call ≤ length s.calls
+
 abbrev pub Fits : Action → OpenEntry → Seen → Type 0
 -- the event brings no result of the resolver
 Fits (action.EventAnswered r) o s = addresses_in o.event ≡ None
@@ -78,6 +84,13 @@ Fits (action.SubchannelConnects sub) o s = (b : Subchannel) × (numbered s.subs 
 Fits (action.BackoffEnds sub) o s = (b : Subchannel) × (numbered s.subs sub ≡ Some b) × (is_failure b.state ≡ true)
 Fits (action.DialTaken sub again until) o s = (o.event ≡ event.TakeDial) × (b : Subchannel) × (numbered s.subs sub ≡ Some b) × (b.number ≡ sub)
 Fits (action.LinkUp sub) o s = o.event ≡ event.LinkUp sub
+Fits (action.SettingsArrive sub) o s = (b : Subchannel) × (numbered s.subs sub ≡ Some b) × (is_connecting b.state ≡ true)
+Fits (action.LinkDown sub) o s = (b : Subchannel) × (numbered s.subs sub ≡ Some b) × (is_shutdown b.state ≡ false)
+Fits action.ChannelShuts o s = o.event ≡ event.Shutdown
+-- the channel is open, and attempts are of calls that began
+Fits action.CallBegins o s = (request : RequestSeen) × (o.event ≡ event.Begin request) × (s.shut ≡ false) × HaveCalls s
+-- the link is lost, or breaks
+Fits (action.LinkLost link) o s = o.event ≡ event.LinkLost link
 -- calls have the numbers of their places
 Fits (action.CallEnds call why) o s = AreNumbered s
 Fits _ o s = Unit {0}
