@@ -20,3 +20,5 @@ pub mod Ended
 pub mod Turns
 pub mod Begun
 pub mod Overs
+pub mod Lasts
+pub mod AttemptDone

@@ -121,7 +121,7 @@ withheld_leaves call o s e fits l p is not_stirred h =
     (marked_still s call marks l o not_stirred h) p is
 
 -- a dial that is taken
-abbrev drawn_as : Bool → OpenEntry → OpenEntry
+abbrev pub drawn_as : Bool → OpenEntry → OpenEntry
 drawn_as draws o = record o { drawn = o.drawn + (if draws then 1 else 0) }
 
 dialled_of : (again until : ℕ) (o : OpenEntry) (s : Seen) (b : Subchannel) → s.current ≡ Some o → o.event ≡ event.TakeDial → (l : Line) → IsStill l o s

@@ -2,6 +2,7 @@
 -- Example: a session is calm, and its entry is answered with EventAnswered Done, for a Cancel of call 1. No line but those by which a call ends that
 -- was cancelled, or sent too long a message, may give anything then: so what follows is that call 1 ends. That stirs the line of the cuts alone.
 use Rattle.std.specs.Prelude.{None, Some, false, true, ℕ, ◌≡◌, ◌↔◌}
+use Rattle.attempt_ledger.specs.declared.row.RowEnd.{RowEnd}
 use Rattle.grpc_base.specs.declared.event.EndCause.{EndCause}
 use Rattle.grpc_base.specs.declared.event.Refusal.{Refusal}
 use Rattle.grpc_base.specs.declared.event.Reply.{Reply}
@@ -82,3 +83,7 @@ pub record CallsStir : Type 0 where
   pub begun : StirsOnly action.CallBegins
   pub shut : StirsOnly action.ChannelShuts
   pub ended : (call : ℕ) (why : EndCause) → StirsOnly (action.CallEnds call why)
+
+-- an attempt ends
+pub record AttemptsStir : Type 0 where
+  pub ended : (row : ℕ) (end : RowEnd) → StirsOnly (action.AttemptEnds row end)

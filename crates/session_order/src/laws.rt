@@ -1,5 +1,5 @@
 // What follows after an action of a session, and what does not; nothing runs.
-ghost use Rattle.session_order.specs.Laws.{ApplicationsStir, BoardsStir, CallsStir, CalmIsExact, CalmLeavesStage, EntriesStir, FirstLineGives, LinesAreStill, LinksStir, QueuesStir};
+ghost use Rattle.session_order.specs.Laws.{ApplicationsStir, AttemptsStir, BoardsStir, CallsStir, CalmIsExact, CalmLeavesStage, EntriesStir, FirstLineGives, LinesAreStill, LinksStir, QueuesStir};
 ghost use Rattle.session_order.specs.Rests.{EntriesBeginCalm, EntriesEndAtRest, NewOnesRest};
 ghost use Rattle.session_order.specs.Waits.{EndsWhereNothingWaits};
 
@@ -59,4 +59,10 @@ pub fn queues_stir()
 /// Valid"; gRPC, "Core concepts": RPC life cycle).
 pub fn calls_stir()
     ensures { CallsStir }
+{}
+
+/// An attempt that ends stirs the lines by which it is retried transparently, by which its call is committed or ends, and by which its stream is reset
+/// (gRFC A6, "Transparent Retries" and "Summary of Retry and Hedging Logic"; RFC 9113, section 5.4.2).
+pub fn attempts_stir()
+    ensures { AttemptsStir }
 {}

@@ -1,0 +1,5 @@
+use Rattle.session_order.proofs.AttemptDone.{attempt_leaves}
+use Rattle.session_order.proofs.laws.attempts_stir.Goals as goal
+
+pub returns : goal.returns
+returns c = record { ended = attempt_leaves }
