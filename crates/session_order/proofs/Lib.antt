@@ -22,3 +22,4 @@ pub mod Begun
 pub mod Overs
 pub mod Lasts
 pub mod AttemptDone
+pub mod Reads

@@ -10,6 +10,7 @@ use Rattle.grpc_base.specs.declared.kind.Pick.{Pick}
 use Rattle.session_actions.specs.Actions.{after_in, following, of_calls, of_links, of_policies, of_stage}
 use Rattle.session_actions.specs.declared.action.Action.{Action}
 use Rattle.session_actions.specs.declared.entry.OpenEntry.{OpenEntry}
+use Rattle.session_actions.specs.declared.link.ReadFrame.{ReadFrame}
 use Rattle.session_actions.specs.declared.seen.Seen.{Seen}
 use Rattle.session_order.specs.Calm.{IsCalm, IsStill}
 use Rattle.session_order.specs.Lines.{gives, is_before}
@@ -57,8 +58,9 @@ pub record ApplicationsStir : Type 0 where
   pub finished : (call : ℕ) → StirsOnly (action.RequestFinished call)
   pub taken : (call : ℕ) (item : Reply) → StirsOnly (action.ItemTaken call item)
 
--- what is queued on a link, the bytes that come, and that it is over
+-- what is queued on a link, the bytes that come, the frames that are read, and that it is over
 pub record LinksStir : Type 0 where
+  pub read : (link : ℕ) (r : ReadFrame) → StirsOnly (action.FrameRead link r)
   pub broken : (link number : ℕ) → StirsOnly (action.LinkBreaks link number)
   pub lost : (link : ℕ) → StirsOnly (action.LinkLost link)
   pub arrived : (link : ℕ) → StirsOnly (action.BytesArrive link)

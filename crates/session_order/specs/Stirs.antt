@@ -3,7 +3,9 @@
 -- Example: the trailers of a hedged attempt are read, with a code that hedgingPolicy does not name. FrameRead stirs the line by which attempts end;
 -- AttemptEnds those by which the call is committed and the stream reset; CallCommitted those by which the other attempts are cut and the call ends.
 use Rattle.std.specs.List.{list_any}
-use Rattle.std.specs.Prelude.{Bool, List, None, Some, [], false, true, length, ℕ, ◌∷◌, ◌≡◌, ◌≤◌}
+use Rattle.std.specs.Prelude.{Bool, List, None, Some, [], false, true, length, ℕ, ◌∷◌, ◌<◌, ◌≡◌, ◌≤◌}
+use Rattle.attempt_ledger.specs.declared.row.Placed.{Placed}
+use Rattle.attempt_ledger.specs.declared.row.RowEnd.{RowEnd}
 use Rattle.grpc_base.specs.Requests.{RequestSeen}
 use Rattle.session_actions.specs.Configs.{is_too_long}
 use Rattle.session_actions.specs.Policies.{addresses_in, is_failure, is_shutdown}
@@ -13,6 +15,8 @@ use Rattle.session_actions.specs.declared.action.Action.{Action}
 use Rattle.session_actions.specs.declared.attempt.Attempt.{Attempt}
 use Rattle.session_actions.specs.declared.call.Call.{Call}
 use Rattle.session_actions.specs.declared.entry.OpenEntry.{OpenEntry}
+use Rattle.session_actions.specs.declared.link.Link.{Link}
+use Rattle.session_actions.specs.declared.link.ReadFrame.{ReadFrame}
 use Rattle.session_actions.specs.declared.seen.Seen.{Seen}
 use Rattle.session_actions.specs.declared.subchannel.Subchannel.{Subchannel}
 use Rattle.session_order.specs.Lines.{is_line}
@@ -65,6 +69,12 @@ AreNumbered s = (k : ℕ) (c : Call) → numbered s.calls k ≡ Some c → c.num
 abbrev pub HaveCalls : Seen → Type 0
 HaveCalls s = (k : ℕ) (a : Attempt) → numbered s.attempts k ≡ Some a → a.row.call ≤ length s.calls
 
+-- what ended on a link saw less of it than this frame
+abbrev pub SawLess : ℕ → ReadFrame → Seen → Type 0
+SawLess link r s =
+    (k : ℕ) (a : Attempt) (e : RowEnd) (at : Placed) → numbered s.attempts k ≡ Some a → a.row.ended ≡ Some e → a.row.placed ≡ Some at → at.link ≡ link
+    → e.seen < r.end
+
 abbrev pub Fits : Action → OpenEntry → Seen → Type 0
 -- the event brings no result of the resolver
 Fits (action.EventAnswered r) o s = addresses_in o.event ≡ None
@@ -89,7 +99,8 @@ Fits (action.LinkDown sub) o s = (b : Subchannel) × (numbered s.subs sub ≡ So
 Fits action.ChannelShuts o s = o.event ≡ event.Shutdown
 -- the channel is open, and attempts are of calls that began
 Fits action.CallBegins o s = (request : RequestSeen) × (o.event ≡ event.Begin request) × (s.shut ≡ false) × HaveCalls s
--- the link is lost, or breaks
+-- a frame that is read comes after all that was read before; a link that is lost
+Fits (action.FrameRead link r) o s = (l : Link) → numbered s.links link ≡ Some l → SawLess l.number r s
 Fits (action.LinkLost link) o s = o.event ≡ event.LinkLost link
 -- calls have the numbers of their places
 Fits (action.CallEnds call why) o s = AreNumbered s
