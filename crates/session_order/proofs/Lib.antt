@@ -23,3 +23,4 @@ pub mod Overs
 pub mod Lasts
 pub mod AttemptDone
 pub mod Reads
+pub mod Apart

@@ -6,6 +6,7 @@ use Rattle.attempt_ledger.specs.declared.row.RowEnd.{RowEnd}
 use Rattle.grpc_base.specs.declared.event.EndCause.{EndCause}
 use Rattle.grpc_base.specs.declared.event.Refusal.{Refusal}
 use Rattle.grpc_base.specs.declared.event.Reply.{Reply}
+use Rattle.grpc_base.specs.declared.kind.Kind.{Kind}
 use Rattle.grpc_base.specs.declared.kind.Pick.{Pick}
 use Rattle.session_actions.specs.Actions.{after_in, following, of_calls, of_links, of_policies, of_stage}
 use Rattle.session_actions.specs.declared.action.Action.{Action}
@@ -13,7 +14,7 @@ use Rattle.session_actions.specs.declared.entry.OpenEntry.{OpenEntry}
 use Rattle.session_actions.specs.declared.link.ReadFrame.{ReadFrame}
 use Rattle.session_actions.specs.declared.seen.Seen.{Seen}
 use Rattle.session_order.specs.Calm.{IsCalm, IsStill}
-use Rattle.session_order.specs.Lines.{gives, is_before}
+use Rattle.session_order.specs.Lines.{gives, is_before, is_of_policies}
 use Rattle.session_order.specs.Stirs.{Fits, stirs}
 use Rattle.session_order.specs.declared.line.Line.{Line}
 use Rattle.session_actions.specs.declared.action.Action.TheVariants as action
@@ -89,3 +90,15 @@ pub record CallsStir : Type 0 where
 -- an attempt ends
 pub record AttemptsStir : Type 0 where
   pub ended : (row : ℕ) (end : RowEnd) → StirsOnly (action.AttemptEnds row end)
+
+-- policies that come and go, and the subchannels that are shut with them, leave the lines of calls and links still
+abbrev pub LeavesApart : Action → OpenEntry → Seen → Type 0
+LeavesApart a o s =
+    (l : Line) (p : OpenEntry) → (after_in o a s).current ≡ Some p → is_of_policies l ≡ false → IsStill l o s → IsStill l p (after_in o a s)
+
+pub record PoliciesStirApart : Type 0 where
+  pub begins : (k : Kind) (o : OpenEntry) (s : Seen) → s.current ≡ Some o → LeavesApart (action.PolicyBegins k) o s
+  pub given : (g : ℕ) (o : OpenEntry) (s : Seen) → s.current ≡ Some o → LeavesApart (action.AddressesGiven g) o s
+  pub over : (g : ℕ) (o : OpenEntry) (s : Seen) → s.current ≡ Some o → LeavesApart (action.PolicyTakesOver g) o s
+  pub retired : (g : ℕ) (o : OpenEntry) (s : Seen) → s.current ≡ Some o → LeavesApart (action.PolicyRetired g) o s
+  pub shut : (sub : ℕ) (o : OpenEntry) (s : Seen) → s.current ≡ Some o → LeavesApart (action.SubchannelShut sub) o s

@@ -1,7 +1,7 @@
 -- The lines of the session's definition that come before anything else, by name, and their order.
 -- Example: where the environment lost a link, the streams of one ended attempt are reset before the next attempt ends; after a frame that was read all
 -- attempts end that it ends, and then their streams are reset.
-use Rattle.std.specs.Prelude.{Bool, Option, false, if◌then◌else◌, nat_lt, ℕ, ◌==◌}
+use Rattle.std.specs.Prelude.{Bool, Option, false, true, if◌then◌else◌, nat_lt, ℕ, ◌==◌}
 use Rattle.grpc_base.specs.declared.event.Event.{Event}
 use Rattle.session_actions.specs.AttemptEnds.{next_cut, next_reset, next_wire_end}
 use Rattle.session_actions.specs.CallEnds.{has_long_request, has_long_response, is_cancelled, is_over_by_row, is_shut_down, next_ended}
@@ -69,3 +69,12 @@ is_before e l m = nat_lt (rank (is_loss e) l) (rank (is_loss e) m)
 
 abbrev pub is_line : Line → Line → Bool
 is_line l m = rank false l == rank false m
+
+-- the lines by which policies and their subchannels come and go
+abbrev pub is_of_policies : Line → Bool
+is_of_policies line.Retire = true
+is_of_policies line.Begin = true
+is_of_policies line.Give = true
+is_of_policies line.Drop = true
+is_of_policies line.Add = true
+is_of_policies _ = false

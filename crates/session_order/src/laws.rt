@@ -1,5 +1,5 @@
 // What follows after an action of a session, and what does not; nothing runs.
-ghost use Rattle.session_order.specs.Laws.{ApplicationsStir, AttemptsStir, BoardsStir, CallsStir, CalmIsExact, CalmLeavesStage, EntriesStir, FirstLineGives, LinesAreStill, LinksStir, QueuesStir};
+ghost use Rattle.session_order.specs.Laws.{ApplicationsStir, AttemptsStir, BoardsStir, CallsStir, CalmIsExact, CalmLeavesStage, EntriesStir, FirstLineGives, LinesAreStill, LinksStir, PoliciesStirApart, QueuesStir};
 ghost use Rattle.session_order.specs.Rests.{EntriesBeginCalm, EntriesEndAtRest, NewOnesRest};
 ghost use Rattle.session_order.specs.Waits.{EndsWhereNothingWaits};
 
@@ -65,4 +65,10 @@ pub fn calls_stir()
 /// (gRFC A6, "Transparent Retries" and "Summary of Retry and Hedging Logic"; RFC 9113, section 5.4.2).
 pub fn attempts_stir()
     ensures { AttemptsStir }
+{}
+
+/// Policies that begin, get addresses, take over or are retired, and the subchannels that are shut with them, stir no line of calls or links ("Load Balancing
+/// in gRPC").
+pub fn policies_stir_apart()
+    ensures { PoliciesStirApart }
 {}
