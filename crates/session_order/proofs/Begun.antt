@@ -46,7 +46,7 @@ get_more [] x i less = absurd (omega arith)
 get_more (y ∷ xs) x zero less = refl
 get_more (y ∷ xs) x (suc i) less = get_more xs x i (omega arith)
 
-numbered_more : {X : Type 0} (xs : List X) (x : X) (k : ℕ) → k ≤ length xs → numbered (xs ++ x ∷ []) k ≡ numbered xs k
+pub numbered_more : {X : Type 0} (xs : List X) (x : X) (k : ℕ) → k ≤ length xs → numbered (xs ++ x ∷ []) k ≡ numbered xs k
 numbered_more xs x zero less = refl
 numbered_more xs x (suc i) less = get_more xs x i less
 

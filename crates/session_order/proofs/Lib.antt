@@ -22,5 +22,6 @@ pub mod Begun
 pub mod Overs
 pub mod Lasts
 pub mod AttemptDone
-pub mod Reads
+pub mod FramesRead
 pub mod Apart
+pub mod Places

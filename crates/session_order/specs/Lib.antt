@@ -4,3 +4,4 @@ pub mod Lines
 pub mod Stirs
 pub mod Waits
 pub mod Rests
+pub mod Order

@@ -1,5 +1,6 @@
 // What follows after an action of a session, and what does not; nothing runs.
 ghost use Rattle.session_order.specs.Laws.{ApplicationsStir, AttemptsStir, BoardsStir, CallsStir, CalmIsExact, CalmLeavesStage, EntriesStir, FirstLineGives, LinesAreStill, LinksStir, PoliciesStirApart, QueuesStir};
+ghost use Rattle.session_order.specs.Order.{ActionsKeepPlaces, SessionsAreInPlace};
 ghost use Rattle.session_order.specs.Rests.{EntriesBeginCalm, EntriesEndAtRest, NewOnesRest};
 ghost use Rattle.session_order.specs.Waits.{EndsWhereNothingWaits};
 
@@ -71,4 +72,10 @@ pub fn attempts_stir()
 /// in gRPC").
 pub fn policies_stir_apart()
     ensures { PoliciesStirApart }
+{}
+
+/// Calls, attempts, policies, subchannels and links have the numbers of their places in every session.
+pub fn sessions_are_in_place()
+    ensures kept { ActionsKeepPlaces }
+    ensures sessions { SessionsAreInPlace }
 {}

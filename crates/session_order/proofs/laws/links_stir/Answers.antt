@@ -1,5 +1,5 @@
 use Rattle.session_order.proofs.Overs.{broken_leaves, lost_leaves}
-use Rattle.session_order.proofs.Reads.{read_leaves}
+use Rattle.session_order.proofs.FramesRead.{read_leaves}
 use Rattle.session_order.proofs.Wires.{arrived_leaves, pinged_leaves}
 use Rattle.session_order.proofs.laws.links_stir.Goals as goal
 
