@@ -67,7 +67,7 @@ last_by x y xs true None rest e = (zero, e)
 last_by x y xs false None rest e = absurd (cc)
 last_by x y xs b (Some z) rest e = (let there : (i : ℕ) × (slice_get xs i ≡ Some y) = rest y e in (suc there.0, there.1))
 
-last_in : {X : Type 0} (test : X → Bool) (xs : List X) (y : X) → find_last test xs ≡ Some y → (i : ℕ) × (slice_get xs i ≡ Some y)
+pub last_in : {X : Type 0} (test : X → Bool) (xs : List X) (y : X) → find_last test xs ≡ Some y → (i : ℕ) × (slice_get xs i ≡ Some y)
 last_in test [] y e = absurd (cc)
 last_in test (x ∷ xs) y e = last_by x y xs (test x) (find_last test xs) (last_in test xs) e
 

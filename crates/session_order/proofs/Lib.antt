@@ -25,3 +25,4 @@ pub mod AttemptDone
 pub mod FramesRead
 pub mod Apart
 pub mod Places
+pub mod UpLinks

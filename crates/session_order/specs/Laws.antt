@@ -73,6 +73,7 @@ pub record BoardsStir : Type 0 where
   pub failed : (sub : ℕ) → StirsOnly (action.DialFails sub)
   pub connects : (sub : ℕ) → StirsOnly (action.SubchannelConnects sub)
   pub rested : (sub : ℕ) → StirsOnly (action.BackoffEnds sub)
+  pub up : (sub : ℕ) → StirsOnly (action.LinkUp sub)
   pub ready : (sub : ℕ) → StirsOnly (action.SettingsArrive sub)
   pub down : (sub : ℕ) → StirsOnly (action.LinkDown sub)
 

@@ -69,6 +69,11 @@ AreNumbered s = (k : ℕ) (c : Call) → numbered s.calls k ≡ Some c → c.num
 abbrev pub HaveCalls : Seen → Type 0
 HaveCalls s = (k : ℕ) (a : Attempt) → numbered s.attempts k ≡ Some a → a.row.call ≤ length s.calls
 
+-- the links of attempts and subchannels came up
+pub record HaveLinks (s : Seen) : Type 0 where
+  pub attempts : (k : ℕ) (a : Attempt) (at : Placed) → numbered s.attempts k ≡ Some a → a.row.placed ≡ Some at → at.link ≤ length s.links
+  pub subs : (k : ℕ) (b : Subchannel) (link : ℕ) → numbered s.subs k ≡ Some b → b.link ≡ Some link → link ≤ length s.links
+
 -- what ended on a link saw less of it than this frame
 abbrev pub SawLess : ℕ → ReadFrame → Seen → Type 0
 SawLess link r s =
@@ -93,7 +98,7 @@ Fits (action.DialFails sub) o s =
 Fits (action.SubchannelConnects sub) o s = (b : Subchannel) × (numbered s.subs sub ≡ Some b) × (is_idle b.state ≡ true) × (b.link ≡ None)
 Fits (action.BackoffEnds sub) o s = (b : Subchannel) × (numbered s.subs sub ≡ Some b) × (is_failure b.state ≡ true)
 Fits (action.DialTaken sub again until) o s = (o.event ≡ event.TakeDial) × (b : Subchannel) × (numbered s.subs sub ≡ Some b) × (b.number ≡ sub)
-Fits (action.LinkUp sub) o s = o.event ≡ event.LinkUp sub
+Fits (action.LinkUp sub) o s = (o.event ≡ event.LinkUp sub) × HaveLinks s
 Fits (action.SettingsArrive sub) o s = (b : Subchannel) × (numbered s.subs sub ≡ Some b) × (is_connecting b.state ≡ true)
 Fits (action.LinkDown sub) o s = (b : Subchannel) × (numbered s.subs sub ≡ Some b) × (is_shutdown b.state ≡ false)
 Fits action.ChannelShuts o s = o.event ≡ event.Shutdown
