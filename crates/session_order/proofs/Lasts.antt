@@ -52,3 +52,37 @@ pub none_before : {X : Type 0} (f : X → X) (test : X → Bool) → ((x : X) �
     → holds test o ≡ false → holds test p ≡ false
 none_before f test never o p (inl e) none = ap (holds test) e ∙ none
 none_before f test never o p (inr (x, e, g)) none = ap (holds test) g ∙ never x
+
+-- the changed one is that of the number
+at_by : {X : Type 0} (f : X → X) (x : X) (d o p : Option X) → (p ≡ o) ⊎ ((o ≡ Some x) × (p ≡ Some (f x)))
+    → (option_or p d ≡ option_or o d) ⊎ ((option_or o d ≡ Some x) × (option_or p d ≡ Some (f x)))
+at_by f x d o p (inl e) = inl (ap (λ (q : Option _). option_or q d) e)
+at_by f x d o p (inr e) = inr (ap (λ (q : Option _). option_or q d) e.0, ap (λ (q : Option _). option_or q d) e.1)
+
+at_here : {X : Type 0} (T : X → Bool) (f : X → X) (y : X) (o : Option X) (b : Bool) → T y ≡ b → T (f y) ≡ b
+    → (option_or o (if T (f y) then Some (f y) else None) ≡ option_or o (if T y then Some y else None))
+    ⊎ ((option_or o (if T y then Some y else None) ≡ Some y) × (option_or o (if T (f y) then Some (f y) else None) ≡ Some (f y)))
+at_here T f y (Some z) b e g = inl refl
+at_here T f y None true e g = inr (ap (λ (b : Bool). if b then Some y else None) e, ap (λ (b : Bool). if b then Some (f y) else None) g)
+at_here T f y None false e g =
+    inl (ap (λ (b : Bool). if b then Some (f y) else None) g ∙ sym (ap (λ (b : Bool). if b then Some y else None) e))
+
+at_first_one : {X : Type 0} (T : X → Bool) (f : X → X) → ((x : X) → T (f x) ≡ T x) → (xs : List X) (x y : X) → x ≡ y
+    → (find_last T (f x ∷ xs) ≡ find_last T (y ∷ xs)) ⊎ ((find_last T (y ∷ xs) ≡ Some x) × (find_last T (f x ∷ xs) ≡ Some (f x)))
+at_first_one T f same xs x y e =
+    subst (λ (z : _). (find_last T (f x ∷ xs) ≡ find_last T (z ∷ xs)) ⊎ ((find_last T (z ∷ xs) ≡ Some x) × (find_last T (f x ∷ xs) ≡ Some (f x)))) e
+    (at_here T f x (find_last T xs) (T x) refl (same x))
+
+at_set : {X : Type 0} (T : X → Bool) (f : X → X) → ((x : X) → T (f x) ≡ T x) → (xs : List X) (i : ℕ) (x : X) → slice_get xs i ≡ Some x
+    → (find_last T (slice_set xs i (f x)) ≡ find_last T xs) ⊎ ((find_last T xs ≡ Some x) × (find_last T (slice_set xs i (f x)) ≡ Some (f x)))
+at_set T f same [] i x e = inl refl
+at_set T f same (y ∷ xs) zero x e = at_first_one T f same xs x y (cc)
+at_set T f same (y ∷ xs) (suc i) x e =
+    at_by f x (if T y then Some y else None) (find_last T xs) (find_last T (slice_set xs i (f x))) (at_set T f same xs i x e)
+
+pub last_at : {X : Type 0} (T : X → Bool) (f : X → X) → ((x : X) → T (f x) ≡ T x) → (n : ℕ) (xs : List X) (x : X) → numbered xs n ≡ Some x
+    → (find_last T (changed f n xs) ≡ find_last T xs) ⊎ ((find_last T xs ≡ Some x) × (find_last T (changed f n xs) ≡ Some (f x)))
+last_at T f same zero xs x e = absurd (cc)
+last_at T f same (suc i) xs x e =
+    subst (λ (o : Option _). (find_last T (changed_if f (suc i) xs o) ≡ find_last T xs) ⊎ ((find_last T xs ≡ Some x) × (find_last T (changed_if f (suc i) xs o) ≡ Some (f x))))
+    (sym e) (at_set T f same xs i x e)

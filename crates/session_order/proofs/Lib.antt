@@ -26,3 +26,4 @@ pub mod FramesRead
 pub mod Apart
 pub mod Places
 pub mod UpLinks
+pub mod Placings

@@ -2,6 +2,7 @@
 -- Example: a session is calm, and its entry is answered with EventAnswered Done, for a Cancel of call 1. No line but those by which a call ends that
 -- was cancelled, or sent too long a message, may give anything then: so what follows is that call 1 ends. That stirs the line of the cuts alone.
 use Rattle.std.specs.Prelude.{None, Some, false, true, ℕ, ◌≡◌, ◌↔◌}
+use Rattle.attempt_ledger.specs.declared.row.Placed.{Placed}
 use Rattle.attempt_ledger.specs.declared.row.RowEnd.{RowEnd}
 use Rattle.grpc_base.specs.declared.event.EndCause.{EndCause}
 use Rattle.grpc_base.specs.declared.event.Refusal.{Refusal}
@@ -14,10 +15,11 @@ use Rattle.session_actions.specs.declared.entry.OpenEntry.{OpenEntry}
 use Rattle.session_actions.specs.declared.link.ReadFrame.{ReadFrame}
 use Rattle.session_actions.specs.declared.seen.Seen.{Seen}
 use Rattle.session_order.specs.Calm.{IsCalm, IsStill}
-use Rattle.session_order.specs.Lines.{gives, is_before, is_of_policies}
+use Rattle.session_order.specs.Lines.{gives, is_before, is_line, is_of_policies}
 use Rattle.session_order.specs.Stirs.{Fits, stirs}
 use Rattle.session_order.specs.declared.line.Line.{Line}
 use Rattle.session_actions.specs.declared.action.Action.TheVariants as action
+use Rattle.session_order.specs.declared.line.Line.TheVariants as line
 
 -- a line gives nothing exactly where it is still; and a session is calm exactly where nothing follows at once
 abbrev pub LinesAreStill : Type 0
@@ -88,8 +90,15 @@ pub record CallsStir : Type 0 where
   pub shut : StirsOnly action.ChannelShuts
   pub ended : (call : ℕ) (why : EndCause) → StirsOnly (action.CallEnds call why)
 
--- an attempt ends
+-- the same, but for the line of final ends
+abbrev pub StirsButFinal : Action → Type 0
+StirsButFinal a =
+    (o : OpenEntry) (s : Seen) → s.current ≡ Some o → Fits a o s → (l : Line) (p : OpenEntry) → (after_in o a s).current ≡ Some p
+    → is_line l line.Final ≡ false → stirs a l ≡ false → IsStill l o s → IsStill l p (after_in o a s)
+
+-- an attempt is placed, or ends
 pub record AttemptsStir : Type 0 where
+  pub placed : (row : ℕ) (at : Placed) → StirsButFinal (action.AttemptPlaced row at)
   pub ended : (row : ℕ) (end : RowEnd) → StirsOnly (action.AttemptEnds row end)
 
 -- policies that come and go, and the subchannels that are shut with them, leave the lines of calls and links still

@@ -3,14 +3,17 @@
 -- Example: the trailers of a hedged attempt are read, with a code that hedgingPolicy does not name. FrameRead stirs the line by which attempts end;
 -- AttemptEnds those by which the call is committed and the stream reset; CallCommitted those by which the other attempts are cut and the call ends.
 use Rattle.std.specs.List.{list_any}
-use Rattle.std.specs.Prelude.{Bool, List, None, Some, [], false, true, length, ℕ, ◌∷◌, ◌<◌, ◌≡◌, ◌≤◌}
+use Rattle.std.specs.Prelude.{Bool, List, None, Some, [], false, true, length, nat_lt, ℕ, ◌&&◌, ◌∷◌, ◌<◌, ◌≡◌, ◌≤◌}
 use Rattle.attempt_ledger.specs.declared.row.Placed.{Placed}
 use Rattle.attempt_ledger.specs.declared.row.RowEnd.{RowEnd}
 use Rattle.grpc_base.specs.Requests.{RequestSeen}
+use Rattle.session_actions.specs.Attempts.{is_of, is_over}
+use Rattle.session_actions.specs.Commitments.{is_free_call}
 use Rattle.session_actions.specs.Configs.{is_too_long}
 use Rattle.session_actions.specs.Policies.{addresses_in, is_failure, is_shutdown}
-use Rattle.session_actions.specs.Subchannels.{is_connecting, is_dialling, is_idle}
+use Rattle.session_actions.specs.Subchannels.{is_connecting, is_dialling, is_going_down, is_idle}
 use Rattle.session_actions.specs.Words.{numbered}
+use Rattle.session_actions.specs.Writing.{accepted_bytes}
 use Rattle.session_actions.specs.declared.action.Action.{Action}
 use Rattle.session_actions.specs.declared.attempt.Attempt.{Attempt}
 use Rattle.session_actions.specs.declared.call.Call.{Call}
@@ -80,6 +83,19 @@ SawLess link r s =
     (k : ℕ) (a : Attempt) (e : RowEnd) (at : Placed) → numbered s.attempts k ≡ Some a → a.row.ended ≡ Some e → a.row.placed ≡ Some at → at.link ≡ link
     → e.seen < r.end
 
+-- an attempt that may be placed: it is queued, without a stream; the link is up; and while its call is not committed, no more bytes are accepted than
+-- are kept
+pub record IsPlaceable (row : ℕ) (at : Placed) (s : Seen) : Type 0 where
+  pub attempt : Attempt
+  pub here : numbered s.attempts row ≡ Some attempt
+  pub stream : attempt.row.stream ≡ None
+  pub ended : attempt.row.ended ≡ None
+  pub queued : is_over attempt s ≡ false
+  pub link : Link
+  pub there : numbered s.links at.link ≡ Some link
+  pub up : is_going_down link ≡ false
+  pub room : (c : Call) → is_of c attempt ≡ true → (is_free_call s c && nat_lt 262144 (accepted_bytes c)) ≡ false
+
 abbrev pub Fits : Action → OpenEntry → Seen → Type 0
 -- the event brings no result of the resolver
 Fits (action.EventAnswered r) o s = addresses_in o.event ≡ None
@@ -107,6 +123,7 @@ Fits action.CallBegins o s = (request : RequestSeen) × (o.event ≡ event.Begin
 -- a frame that is read comes after all that was read before; a link that is lost
 Fits (action.FrameRead link r) o s = (l : Link) → numbered s.links link ≡ Some l → SawLess l.number r s
 Fits (action.LinkLost link) o s = o.event ≡ event.LinkLost link
+Fits (action.AttemptPlaced row at) o s = IsPlaceable row at s
 -- calls have the numbers of their places
 Fits (action.CallEnds call why) o s = AreNumbered s
 Fits _ o s = Unit {0}

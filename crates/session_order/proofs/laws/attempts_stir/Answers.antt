@@ -1,5 +1,6 @@
 use Rattle.session_order.proofs.AttemptDone.{attempt_leaves}
+use Rattle.session_order.proofs.Placings.{placed_leaves}
 use Rattle.session_order.proofs.laws.attempts_stir.Goals as goal
 
 pub returns : goal.returns
-returns c = record { ended = attempt_leaves }
+returns c = record { placed = placed_leaves; ended = attempt_leaves }
