@@ -27,3 +27,4 @@ pub mod Apart
 pub mod Places
 pub mod UpLinks
 pub mod Placings
+pub mod Makings

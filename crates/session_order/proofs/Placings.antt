@@ -265,7 +265,7 @@ no_or : (b : Bool) → b ≡ false → (b || false) ≡ false
 no_or true e = e
 no_or false e = refl
 
-not_final : (m : Line) (k : ℕ) → is_line m line.Final ≡ false → stirs (action.HedgeWithheld k) m ≡ false
+pub not_final : (m : Line) (k : ℕ) → is_line m line.Final ≡ false → stirs (action.HedgeWithheld k) m ≡ false
 not_final m k f = no_or (is_line m line.Final) f
 
 pub placed_leaves : (row : ℕ) (at : Placed) → StirsButFinal (action.AttemptPlaced row at)

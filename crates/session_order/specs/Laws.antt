@@ -4,6 +4,7 @@
 use Rattle.std.specs.Prelude.{None, Some, false, true, ℕ, ◌≡◌, ◌↔◌}
 use Rattle.attempt_ledger.specs.declared.row.Placed.{Placed}
 use Rattle.attempt_ledger.specs.declared.row.RowEnd.{RowEnd}
+use Rattle.attempt_ledger.specs.declared.row.RowKind.{RowKind}
 use Rattle.grpc_base.specs.declared.event.EndCause.{EndCause}
 use Rattle.grpc_base.specs.declared.event.Refusal.{Refusal}
 use Rattle.grpc_base.specs.declared.event.Reply.{Reply}
@@ -96,8 +97,9 @@ StirsButFinal a =
     (o : OpenEntry) (s : Seen) → s.current ≡ Some o → Fits a o s → (l : Line) (p : OpenEntry) → (after_in o a s).current ≡ Some p
     → is_line l line.Final ≡ false → stirs a l ≡ false → IsStill l o s → IsStill l p (after_in o a s)
 
--- an attempt is placed, or ends
+-- an attempt is made, is placed, or ends
 pub record AttemptsStir : Type 0 where
+  pub made : (call number : ℕ) (k : RowKind) (due : ℕ) → StirsButFinal (action.AttemptMade call number k due)
   pub placed : (row : ℕ) (at : Placed) → StirsButFinal (action.AttemptPlaced row at)
   pub ended : (row : ℕ) (end : RowEnd) → StirsOnly (action.AttemptEnds row end)
 

@@ -3,16 +3,20 @@
 -- Example: the trailers of a hedged attempt are read, with a code that hedgingPolicy does not name. FrameRead stirs the line by which attempts end;
 -- AttemptEnds those by which the call is committed and the stream reset; CallCommitted those by which the other attempts are cut and the call ends.
 use Rattle.std.specs.List.{list_any}
-use Rattle.std.specs.Prelude.{Bool, List, None, Some, [], false, true, length, nat_lt, ℕ, ◌&&◌, ◌∷◌, ◌<◌, ◌≡◌, ◌≤◌}
+use Rattle.std.specs.Prelude.{Bool, List, None, Some, [], false, true, length, nat_lt, ℕ, ◌&&◌, ◌+◌, ◌∷◌, ◌<◌, ◌≡◌, ◌≤◌}
+use Rattle.attempt_ledger.specs.declared.ledger.Ask.{Ask}
 use Rattle.attempt_ledger.specs.declared.row.Placed.{Placed}
 use Rattle.attempt_ledger.specs.declared.row.RowEnd.{RowEnd}
+use Rattle.attempt_ledger.specs.declared.row.RowKind.{RowKind}
 use Rattle.grpc_base.specs.Requests.{RequestSeen}
-use Rattle.session_actions.specs.Attempts.{is_of, is_over}
+use Rattle.session_actions.specs.Attempts.{is_later_of, is_of, is_over}
 use Rattle.session_actions.specs.Commitments.{is_free_call}
 use Rattle.session_actions.specs.Configs.{is_too_long}
+use Rattle.session_actions.specs.Entries.{entry}
+use Rattle.session_actions.specs.Making.{new_row}
 use Rattle.session_actions.specs.Policies.{addresses_in, is_failure, is_shutdown}
 use Rattle.session_actions.specs.Subchannels.{is_connecting, is_dialling, is_going_down, is_idle}
-use Rattle.session_actions.specs.Words.{numbered}
+use Rattle.session_actions.specs.Words.{last_of, numbered}
 use Rattle.session_actions.specs.Writing.{accepted_bytes}
 use Rattle.session_actions.specs.declared.action.Action.{Action}
 use Rattle.session_actions.specs.declared.attempt.Attempt.{Attempt}
@@ -96,6 +100,14 @@ pub record IsPlaceable (row : ℕ) (at : Placed) (s : Seen) : Type 0 where
   pub up : is_going_down link ≡ false
   pub room : (c : Call) → is_of c attempt ≡ true → (is_free_call s c && nat_lt 262144 (accepted_bytes c)) ≡ false
 
+-- an attempt of a number of its own: it follows none; and the last pick request was of an attempt that was made
+abbrev pub made_row : ℕ → ℕ → RowKind → ℕ → Seen → Attempt
+made_row call number k due s = record { place = length s.attempts + 1; row = new_row call number k due; made = entry s; reset = false }
+
+pub record IsMakeable (call number : ℕ) (k : RowKind) (due : ℕ) (s : Seen) : Type 0 where
+  pub follows_none : (i : ℕ) (a : Attempt) → numbered s.attempts i ≡ Some a → is_later_of a (made_row call number k due s) ≡ false
+  pub asks : (ask : Ask) → last_of s.asks ≡ Some ask → ask.row ≤ length s.attempts
+
 abbrev pub Fits : Action → OpenEntry → Seen → Type 0
 -- the event brings no result of the resolver
 Fits (action.EventAnswered r) o s = addresses_in o.event ≡ None
@@ -123,6 +135,7 @@ Fits action.CallBegins o s = (request : RequestSeen) × (o.event ≡ event.Begin
 -- a frame that is read comes after all that was read before; a link that is lost
 Fits (action.FrameRead link r) o s = (l : Link) → numbered s.links link ≡ Some l → SawLess l.number r s
 Fits (action.LinkLost link) o s = o.event ≡ event.LinkLost link
+Fits (action.AttemptMade call number k due) o s = IsMakeable call number k due s
 Fits (action.AttemptPlaced row at) o s = IsPlaceable row at s
 -- calls have the numbers of their places
 Fits (action.CallEnds call why) o s = AreNumbered s
