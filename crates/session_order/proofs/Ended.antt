@@ -46,7 +46,7 @@ none_less test wide narrow (x ∷ xs) e =
     let parts : (wide x ≡ false) × (list_any wide xs ≡ false) = or_parts (wide x) (list_any wide xs) e in
     or_from (test x) (list_any test xs) (narrow x parts.0) (none_less test wide narrow xs parts.1)
 
-narrower : (x p q : Bool) → (p ≡ false → q ≡ false) → (x && p) ≡ false → (x && q) ≡ false
+pub narrower : (x p q : Bool) → (p ≡ false → q ≡ false) → (x && p) ≡ false → (x && q) ≡ false
 narrower true p q turn e = turn e
 narrower false p q turn e = refl
 

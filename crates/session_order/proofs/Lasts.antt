@@ -6,7 +6,7 @@ use Rattle.session_actions.specs.Words.{changed, changed_if, find_last, holds, n
 
 -- it is the one that it was, or the changed one
 abbrev pub IsAsBefore : {X : Type 0} → (X → X) → Option X → Option X → Type 0
-IsAsBefore f o p = (p ≡ o) ⊎ ((x : _) × (o ≡ Some x) × (p ≡ Some (f x)))
+IsAsBefore {X = X} f o p = (p ≡ o) ⊎ ((x : X) × (o ≡ Some x) × (p ≡ Some (f x)))
 
 here_by : {X : Type 0} (T : X → Bool) (f : X → X) (y : X) (o : Option X) (b : Bool) → T y ≡ b → T (f y) ≡ b
     → IsAsBefore f (option_or o (if T y then Some y else None)) (option_or o (if T (f y) then Some (f y) else None))

@@ -79,12 +79,15 @@ places_changed : {X : Type 0} (number : X → ℕ) (f : X → X) → ((x : X) �
 places_changed number f same n xs h k y e = changed_at number f same n xs h k (k == n) refl y e
 
 -- one more
+grow : {X : Type 0} (i : ℕ) (xs : List X) (z : X) → i ≡ length xs → suc i ≡ length (z ∷ xs)
+grow i xs z e = omega (arith, e)
+
 past : {X : Type 0} (xs : List X) (x y : X) (i : ℕ) → slice_get (xs ++ x ∷ []) i ≡ Some y → (slice_get xs i ≡ Some y) ⊎ ((i ≡ length xs) × (x ≡ y))
 past [] x y zero e = inr (refl, (cc))
 past [] x y (suc i) e = absurd (cc)
 past (z ∷ xs) x y zero e = inl e
 past (z ∷ xs) x y (suc i) e =
-    elim (past xs x y i e) as (λ q. (slice_get xs i ≡ Some y) ⊎ ((suc i ≡ length (z ∷ xs)) × (x ≡ y))) [ inl p ↦ inl p | inr p ↦ inr (ap suc p.0, p.1) ]
+    elim (past xs x y i e) as (λ q. (slice_get xs i ≡ Some y) ⊎ ((suc i ≡ length (z ∷ xs)) × (x ≡ y))) [ inl p ↦ inl p | inr p ↦ inr (grow i xs z p.0, p.1) ]
 
 more_at : {X : Type 0} (number : X → ℕ) (xs : List X) (x y : X) (i : ℕ) → HasPlaces number xs → number x ≡ length xs + 1
     → (slice_get xs i ≡ Some y) ⊎ ((i ≡ length xs) × (x ≡ y)) → number y ≡ suc i

@@ -11,7 +11,7 @@ use Rattle.session_actions.specs.declared.seen.Setup.{Setup}
 
 -- each thing of a list has the number of its place
 abbrev pub HasPlaces : {X : Type 0} → (X → ℕ) → List X → Type 0
-HasPlaces number xs = (k : ℕ) (x : _) → numbered xs k ≡ Some x → number x ≡ k
+HasPlaces {X = X} number xs = (k : ℕ) (x : X) → numbered xs k ≡ Some x → number x ≡ k
 
 pub record IsInPlace (s : Seen) : Type 0 where
   pub calls : HasPlaces (λ c. c.number) s.calls
