@@ -28,3 +28,4 @@ pub mod Places
 pub mod UpLinks
 pub mod Placings
 pub mod Makings
+pub mod Added

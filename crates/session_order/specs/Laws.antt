@@ -5,6 +5,7 @@ use Rattle.std.specs.Prelude.{None, Some, false, true, ℕ, ◌≡◌, ◌↔◌
 use Rattle.attempt_ledger.specs.declared.row.Placed.{Placed}
 use Rattle.attempt_ledger.specs.declared.row.RowEnd.{RowEnd}
 use Rattle.attempt_ledger.specs.declared.row.RowKind.{RowKind}
+use Rattle.grpc_base.specs.declared.address.Address.{Address}
 use Rattle.grpc_base.specs.declared.event.EndCause.{EndCause}
 use Rattle.grpc_base.specs.declared.event.Refusal.{Refusal}
 use Rattle.grpc_base.specs.declared.event.Reply.{Reply}
@@ -79,6 +80,7 @@ pub record BoardsStir : Type 0 where
   pub up : (sub : ℕ) → StirsOnly (action.LinkUp sub)
   pub ready : (sub : ℕ) → StirsOnly (action.SettingsArrive sub)
   pub down : (sub : ℕ) → StirsOnly (action.LinkDown sub)
+  pub added : (address : Address) → StirsOnly (action.SubchannelAdded address)
 
 -- what is done to the queue: a pick request, a hedge that is withheld
 pub record QueuesStir : Type 0 where

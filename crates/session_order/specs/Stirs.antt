@@ -8,13 +8,14 @@ use Rattle.attempt_ledger.specs.declared.ledger.Ask.{Ask}
 use Rattle.attempt_ledger.specs.declared.row.Placed.{Placed}
 use Rattle.attempt_ledger.specs.declared.row.RowEnd.{RowEnd}
 use Rattle.attempt_ledger.specs.declared.row.RowKind.{RowKind}
+use Rattle.grpc_base.specs.declared.address.Address.{Address}
 use Rattle.grpc_base.specs.Requests.{RequestSeen}
 use Rattle.session_actions.specs.Attempts.{is_later_of, is_of, is_over}
 use Rattle.session_actions.specs.Commitments.{is_free_call}
 use Rattle.session_actions.specs.Configs.{is_too_long}
 use Rattle.session_actions.specs.Entries.{entry}
 use Rattle.session_actions.specs.Making.{new_row}
-use Rattle.session_actions.specs.Policies.{addresses_in, is_failure, is_shutdown}
+use Rattle.session_actions.specs.Policies.{addresses_in, is_failure, is_same_address, is_shutdown, listed}
 use Rattle.session_actions.specs.Subchannels.{is_connecting, is_dialling, is_going_down, is_idle}
 use Rattle.session_actions.specs.Words.{last_of, numbered}
 use Rattle.session_actions.specs.Writing.{accepted_bytes}
@@ -31,6 +32,7 @@ use Rattle.session_order.specs.declared.line.Line.{Line}
 use Rattle.session_actions.specs.declared.action.Action.TheVariants as action
 use Rattle.grpc_base.specs.declared.event.Event.TheVariants as event
 use Rattle.session_order.specs.declared.line.Line.TheVariants as line
+use Rattle.grpc_base.specs.declared.kind.Pick.TheVariants as pick
 
 abbrev pub stirred : Action → List Line
 -- a call that is cancelled, or that was sent a message longer than allowed, ends
@@ -108,6 +110,11 @@ pub record IsMakeable (call number : ℕ) (k : RowKind) (due : ℕ) (s : Seen) :
   pub follows_none : (i : ℕ) (a : Attempt) → numbered s.attempts i ≡ Some a → is_later_of a (made_row call number k due s) ≡ false
   pub asks : (ask : Ask) → last_of s.asks ≡ Some ask → ask.row ≤ length s.attempts
 
+-- an address that a live policy lists; and the last pick request was answered with a subchannel that was there
+pub record IsAddable (address : Address) (s : Seen) : Type 0 where
+  pub is_listed : list_any (is_same_address address) (listed s) ≡ true
+  pub picks : (ask : Ask) (sub : ℕ) → last_of s.asks ≡ Some ask → ask.answer ≡ pick.Place sub → sub ≤ length s.subs
+
 abbrev pub Fits : Action → OpenEntry → Seen → Type 0
 -- the event brings no result of the resolver
 Fits (action.EventAnswered r) o s = addresses_in o.event ≡ None
@@ -127,6 +134,7 @@ Fits (action.SubchannelConnects sub) o s = (b : Subchannel) × (numbered s.subs 
 Fits (action.BackoffEnds sub) o s = (b : Subchannel) × (numbered s.subs sub ≡ Some b) × (is_failure b.state ≡ true)
 Fits (action.DialTaken sub again until) o s = (o.event ≡ event.TakeDial) × (b : Subchannel) × (numbered s.subs sub ≡ Some b) × (b.number ≡ sub)
 Fits (action.LinkUp sub) o s = (o.event ≡ event.LinkUp sub) × HaveLinks s
+Fits (action.SubchannelAdded address) o s = IsAddable address s
 Fits (action.SettingsArrive sub) o s = (b : Subchannel) × (numbered s.subs sub ≡ Some b) × (is_connecting b.state ≡ true)
 Fits (action.LinkDown sub) o s = (b : Subchannel) × (numbered s.subs sub ≡ Some b) × (is_shutdown b.state ≡ false)
 Fits action.ChannelShuts o s = o.event ≡ event.Shutdown
