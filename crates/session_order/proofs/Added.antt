@@ -1,6 +1,6 @@
 -- An address that is listed gets a subchannel, which is IDLE: no line is stirred.
-use Rattle.std.proofs.Common.{◌≡◌, ◌+◌, ◌≤◌, ◌∷◌, ◌++◌, ◌||◌, ◌&&◌, ◌==◌, not, ap, refl, ◌∙◌, Bool, true, false, List, [], Option, None, Some, ℕ, cond, find, is_none, is_some, length}
-use Rattle.std.proofs.lemmas.Bool.{and_right, not_from_true}
+use Rattle.std.proofs.Common.{◌≡◌, ◌+◌, ◌∷◌, ◌++◌, ◌&&◌, ◌==◌, ap, refl, ◌∙◌, Bool, true, false, List, [], Option, None, Some, cond, find, is_none, is_some, length}
+use Rattle.std.proofs.lemmas.Bool.{not_from_true}
 use Rattle.std.specs.List.{list_any}
 use Rattle.attempt_ledger.specs.declared.ledger.Ask.{Ask}
 use Rattle.grpc_base.specs.declared.address.Address.{Address}
@@ -8,7 +8,7 @@ use Rattle.grpc_base.specs.declared.kind.Pick.{Pick}
 use Rattle.session_actions.specs.Entries.{entry}
 use Rattle.session_actions.specs.Policies.{is_live_sub, is_same_address, listed, live_sub}
 use Rattle.session_actions.specs.Subchannels.{is_unlisted, new_sub, sub_added}
-use Rattle.session_actions.specs.Words.{holds, last_of, numbered}
+use Rattle.session_actions.specs.Words.{holds, last_of}
 use Rattle.session_actions.specs.declared.entry.OpenEntry.{OpenEntry}
 use Rattle.session_actions.specs.declared.seen.Seen.{Seen}
 use Rattle.session_actions.specs.declared.subchannel.Subchannel.{Subchannel}

@@ -1,8 +1,7 @@
 -- Policies that come and go stir no line of calls or links.
-use Rattle.std.proofs.Common.{◌≡◌, refl, ◌∙◌, Bool, true, false, List, Option, None, Some, ℕ}
+use Rattle.std.proofs.Common.{◌≡◌, refl, ◌∙◌, false, List, Option, None, Some, ℕ}
 use Rattle.std.specs.Option.{option_map_or}
 use Rattle.grpc_base.specs.declared.address.Address.{Address}
-use Rattle.grpc_base.specs.declared.event.Conn.{Conn}
 use Rattle.grpc_base.specs.declared.kind.Kind.{Kind}
 use Rattle.session_actions.specs.Actions.{after_in}
 use Rattle.session_actions.specs.Entries.{entry}

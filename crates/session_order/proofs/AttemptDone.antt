@@ -1,13 +1,12 @@
 -- An attempt that ends stirs the lines of transparent retries, of final ends, of the end of its call and of resets.
-use Rattle.std.proofs.Common.{◌≡◌, ◌∷◌, ◌++◌, ◌||◌, ◌&&◌, ◌==◌, not, ap, refl, subst, sym, ◌∙◌, Bool, true, false, List, [], Option, None, Some, ℕ, if◌then◌else◌, is_none, is_some, nat_lt}
+use Rattle.std.proofs.Common.{◌≡◌, ◌∷◌, ◌++◌, ◌||◌, ◌&&◌, ◌==◌, not, ap, refl, sym, ◌∙◌, Bool, true, false, List, [], Option, None, Some, ℕ, if◌then◌else◌, is_none, is_some, nat_lt}
 use Rattle.std.proofs.lemmas.Bool.{and_left, and_right, eqb-false, eqb-true}
-use Rattle.std.specs.List.{list_any}
 use Rattle.std.specs.Option.{option_and_then, option_map, option_map_or}
 use Rattle.attempt_ledger.specs.Ends.{is_cut}
 use Rattle.attempt_ledger.specs.declared.ledger.Ask.{Ask}
 use Rattle.attempt_ledger.specs.declared.row.RowEnd.{RowEnd}
 use Rattle.grpc_base.specs.declared.kind.Pick.{Pick}
-use Rattle.session_actions.specs.AttemptEnds.{attempt_ended, attempt_ended_as, outcome_of, with_end, with_end_in_run}
+use Rattle.session_actions.specs.AttemptEnds.{attempt_ended_as, outcome_of, with_end, with_end_in_run}
 use Rattle.session_actions.specs.Attempts.{call_of, commitment, is_commitment, is_of, is_outstanding, is_over, is_over_in, is_to_follow}
 use Rattle.session_actions.specs.CallEnds.{has_long_response}
 use Rattle.session_actions.specs.Calls.{is_open_call}

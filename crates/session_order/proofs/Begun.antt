@@ -1,7 +1,6 @@
 -- A call that begins stirs no line: it has no attempt yet.
-use Rattle.std.proofs.Common.{◌≡◌, ◌+◌, ◌<◌, ◌≤◌, ◌∷◌, ◌++◌, ◌||◌, ◌&&◌, ◌==◌, not, ap, arith, refl, subst, sym, ◌∙◌, Bool, true, false, List, [], Option, None, Some, ℕ, zero, suc, if◌then◌else◌, is_none, is_some, length, nat_lt, slice_get}
+use Rattle.std.proofs.Common.{◌≡◌, ◌+◌, ◌<◌, ◌≤◌, ◌∷◌, ◌++◌, ◌||◌, ◌&&◌, ◌==◌, not, ap, arith, refl, subst, sym, ◌∙◌, Bool, true, false, List, [], Option, None, Some, ℕ, zero, suc, if◌then◌else◌, is_none, is_some, length, slice_get}
 use Rattle.std.proofs.lemmas.Bool.{and_left, and_right, eqb-true, or_parts}
-use Rattle.std.proofs.lemmas.Option.{slice_get_within}
 use Rattle.std.specs.List.{list_any}
 use Rattle.std.specs.Option.{option_map_or, option_or}
 use Rattle.attempt_ledger.specs.Ends.{is_cut}
@@ -17,7 +16,7 @@ use Rattle.session_actions.specs.Commitments.{has_head_in, is_final_end, is_fina
 use Rattle.session_actions.specs.Configs.{chosen_of}
 use Rattle.session_actions.specs.Deliveries.{begun_call, call_begun_by}
 use Rattle.session_actions.specs.DueAttempts.{has_going}
-use Rattle.session_actions.specs.Entries.{entry, now, replied}
+use Rattle.session_actions.specs.Entries.{entry, now}
 use Rattle.session_actions.specs.Responses.{limit_of_attempt, response}
 use Rattle.session_actions.specs.Words.{find_last, holds, numbered}
 use Rattle.session_actions.specs.declared.attempt.Attempt.{Attempt}

@@ -24,7 +24,6 @@ use Rattle.session_order.proofs.Lists.{any_same, holds_same, some_map}
 use Rattle.session_order.proofs.Limits.{then_same}
 use Rattle.session_order.specs.Calm.{IsStill, can_follow, is_to_follow_pick, is_to_reset, is_unplaced, lacks_kind}
 use Rattle.session_order.specs.declared.line.Line.{Line}
-use Rattle.session_actions.specs.declared.entry.Stage.TheVariants as stage
 use Rattle.session_order.specs.declared.line.Line.TheVariants as line
 
 -- the entry of the session is another one, of the same number

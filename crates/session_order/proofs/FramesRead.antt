@@ -8,12 +8,12 @@ use Rattle.attempt_ledger.specs.declared.row.RowEnd.{RowEnd}
 use Rattle.grpc_base.specs.ErrorCodes.{cancel}
 use Rattle.h2_frame.specs.Frames.{FrameSeen, has_flag}
 use Rattle.h2_frame.specs.Numbers.{data_type, end_stream_flag}
-use Rattle.session_actions.specs.AttemptEnds.{code_at_end, code_for_stream, code_to_reset, is_framing, is_reset, reset_code_of}
+use Rattle.session_actions.specs.AttemptEnds.{code_at_end, code_for_stream, code_to_reset, is_framing, is_reset}
 use Rattle.session_actions.specs.Entries.{entry}
-use Rattle.session_actions.specs.Links.{has_written_end, link_of, written_in}
+use Rattle.session_actions.specs.Links.{has_written_end, written_in}
 use Rattle.session_actions.specs.Responses.{is_read_by, limit_of_attempt, no_response, response, response_by, response_in, response_on, traffic_by, traffic_of}
 use Rattle.session_actions.specs.Words.{changed, numbered}
-use Rattle.session_actions.specs.Writing.{frame_read, frame_read_on, owed_for, with_frame_read}
+use Rattle.session_actions.specs.Writing.{frame_read_on, owed_for, with_frame_read}
 use Rattle.session_actions.specs.declared.attempt.Attempt.{Attempt}
 use Rattle.session_actions.specs.declared.entry.OpenEntry.{OpenEntry}
 use Rattle.session_actions.specs.declared.link.Link.{Link}

@@ -3,7 +3,7 @@ use Rattle.std.proofs.Common.{◌≡◌, ◌∷◌, ◌||◌, ◌&&◌, ap, refl
 use Rattle.std.specs.List.{list_any}
 use Rattle.std.specs.Option.{option_and_then, option_map, option_or}
 use Rattle.std.specs.Prelude.{find}
-use Rattle.session_actions.specs.Words.{changed, earlier, first_of, foremost, holds, numbered}
+use Rattle.session_actions.specs.Words.{earlier, first_of, foremost, holds, numbered}
 
 -- whether there is something
 pub some_map : {X Y : Type 0} (f : X → Y) (o : Option X) → is_some (option_map f o) ≡ is_some o

@@ -1,9 +1,9 @@
 -- An attempt that is made with a number of its own stirs no line: it is not placed, and follows none. (The line of final ends is left out.)
-use Rattle.std.proofs.Common.{◌≡◌, ◌+◌, ◌≤◌, ◌∷◌, ◌++◌, ◌||◌, ◌&&◌, ◌==◌, not, ap, refl, sym, ◌∙◌, Bool, true, false, List, [], Option, None, Some, ℕ, suc, if◌then◌else◌, is_none, is_some, length, nat_lt, slice_get}
+use Rattle.std.proofs.Common.{◌≡◌, ◌+◌, ◌∷◌, ◌++◌, ◌||◌, ◌&&◌, ◌==◌, not, ap, refl, ◌∙◌, Bool, true, false, List, [], Option, None, Some, ℕ, suc, if◌then◌else◌, is_none, is_some, length, nat_lt, slice_get}
 use Rattle.std.proofs.lemmas.Bool.{and_right, or_from}
 use Rattle.std.proofs.lemmas.List.Folds.{list_any-append}
 use Rattle.std.specs.List.{list_any}
-use Rattle.std.specs.Option.{option_map, option_or}
+use Rattle.std.specs.Option.{option_or}
 use Rattle.attempt_ledger.specs.Ends.{is_cut}
 use Rattle.attempt_ledger.specs.Numbering.{is_transparent}
 use Rattle.attempt_ledger.specs.TransparentRows.{is_by_peer, is_unsent}
@@ -18,7 +18,7 @@ use Rattle.session_actions.specs.CallEnds.{has_long_response, is_over_by_row}
 use Rattle.session_actions.specs.Calls.{is_open_call, marked}
 use Rattle.session_actions.specs.Commitments.{has_head_in, is_free_call, is_headed}
 use Rattle.session_actions.specs.Entries.{entry, now}
-use Rattle.session_actions.specs.Making.{attempt_made, without_turn_unless}
+use Rattle.session_actions.specs.Making.{without_turn_unless}
 use Rattle.session_actions.specs.Policies.{is_unfollowed}
 use Rattle.session_actions.specs.Responses.{response}
 use Rattle.session_actions.specs.Words.{find_last, holds, last_of, numbered}
@@ -32,14 +32,12 @@ use Rattle.session_order.proofs.Aside.{aside_request}
 use Rattle.session_order.proofs.Begun.{last_in, numbered_more}
 use Rattle.session_order.proofs.Boards.{goes_on}
 use Rattle.session_order.proofs.Changed.{none_more}
-use Rattle.session_order.proofs.Ended.{none_less}
 use Rattle.session_order.proofs.Finals.{holds_in}
 use Rattle.session_order.proofs.Lists.{any_in, any_same, holds_same}
 use Rattle.session_order.proofs.Placings.{not_final}
 use Rattle.session_order.proofs.Queues.{marked_still, turn_leaves}
 use Rattle.session_order.specs.Calm.{IsStill, can_follow, has_outstanding, is_overflowing, is_to_cut, is_to_end, is_to_follow_pick, is_to_reset, is_unplaced}
 use Rattle.session_order.specs.Laws.{StirsButFinal}
-use Rattle.session_order.specs.Lines.{is_line}
 use Rattle.session_order.specs.Stirs.{IsMakeable, made_row, stirs}
 use Rattle.session_order.specs.declared.line.Line.{Line}
 use Rattle.session_actions.specs.declared.action.Action.TheVariants as action

@@ -1,22 +1,21 @@
 -- A link that is over stirs the lines of its subchannel and of the ends of its attempts; of what ended before no stream is reset on it any more.
-use Rattle.std.proofs.Common.{◌≡◌, ◌||◌, ◌&&◌, ◌==◌, not, ap, refl, subst, sym, ◌∙◌, Bool, true, false, List, Option, None, Some, ℕ, if◌then◌else◌, is_some}
+use Rattle.std.proofs.Common.{◌≡◌, ◌||◌, ◌&&◌, ◌==◌, not, ap, refl, ◌∙◌, Bool, true, false, Option, None, Some, ℕ, if◌then◌else◌, is_some}
 use Rattle.std.proofs.lemmas.Bool.{eqb-false, eqb-true}
 use Rattle.std.specs.List.{list_any}
 use Rattle.std.specs.Option.{option_and_then, option_map, option_map_or}
 use Rattle.attempt_ledger.specs.declared.row.Placed.{Placed}
 use Rattle.attempt_ledger.specs.declared.row.RowEnd.{RowEnd}
 use Rattle.grpc_base.specs.ErrorCodes.{cancel}
-use Rattle.session_actions.specs.AttemptEnds.{code_at_end, code_for_stream, code_to_reset, is_framing, is_reset, reset_code_of}
+use Rattle.session_actions.specs.AttemptEnds.{code_at_end, code_for_stream, code_to_reset, is_framing, is_reset}
 use Rattle.session_actions.specs.Attempts.{commitment, is_outstanding}
-use Rattle.session_actions.specs.CallEnds.{has_long_response, cancels}
+use Rattle.session_actions.specs.CallEnds.{has_long_response}
 use Rattle.session_actions.specs.Calls.{is_open_call}
 use Rattle.session_actions.specs.Commitments.{has_head_in, is_free_call, is_headed}
-use Rattle.session_actions.specs.Entries.{entry, replied}
+use Rattle.session_actions.specs.Entries.{entry}
 use Rattle.session_actions.specs.Links.{has_written_end, link_of, wants_resolution}
 use Rattle.session_actions.specs.Responses.{no_response, response, response_by, response_on}
-use Rattle.session_actions.specs.Words.{changed, holds, numbered}
+use Rattle.session_actions.specs.Words.{changed, numbered}
 use Rattle.session_actions.specs.declared.attempt.Attempt.{Attempt}
-use Rattle.session_actions.specs.declared.call.Call.{Call}
 use Rattle.session_actions.specs.declared.entry.OpenEntry.{OpenEntry}
 use Rattle.session_actions.specs.declared.link.Link.{Link}
 use Rattle.session_actions.specs.declared.link.LinkOver.{LinkOver}

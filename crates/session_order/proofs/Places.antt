@@ -28,7 +28,6 @@ use Rattle.service_config.specs.declared.config.Config.{Config}
 use Rattle.session_actions.specs.Actions.{after, after_if, after_in}
 use Rattle.session_actions.specs.AttemptEnds.{attempt_ended_as, stream_reset_of, with_end, with_end_in_run, with_reset_queued}
 use Rattle.session_actions.specs.Attempts.{call_of, is_to_follow, with_attempt}
-use Rattle.session_actions.specs.CallEnds.{call_ended}
 use Rattle.session_actions.specs.Closing.{noted_gone, entry_made}
 use Rattle.session_actions.specs.Configs.{run_to_join, with_held, with_throttled, config_of_call, config_read, resolution_failed, resolver_answered, with_config, with_run}
 use Rattle.session_actions.specs.Deliveries.{begun_call, call_begun_by, with_message, is_end, item_taken, message_accepted, request_finished}
@@ -48,7 +47,6 @@ use Rattle.session_actions.specs.declared.policy.PolicyUse.{PolicyUse}
 use Rattle.session_actions.specs.declared.seen.Seen.{Seen}
 use Rattle.session_actions.specs.declared.seen.Setup.{Setup}
 use Rattle.session_actions.specs.declared.subchannel.Subchannel.{Subchannel}
-use Rattle.session_order.proofs.Begun.{numbered_more}
 use Rattle.session_order.proofs.Changed.{changed_away, changed_map}
 use Rattle.session_order.specs.Order.{HasPlaces, IsInPlace}
 use Rattle.session_actions.specs.declared.action.Action.TheVariants as action

@@ -1,5 +1,5 @@
 -- An attempt that is placed stirs no line: it was queued, its call has room, and its link is up. (The line of final ends is left out.)
-use Rattle.std.proofs.Common.{◌≡◌, ◌∷◌, ◌++◌, ◌||◌, ◌&&◌, ◌==◌, ◌⊎◌, inl, inr, not, ap, refl, sym, subst, ◌∙◌, Bool, true, false, List, [], Option, None, Some, ℕ, if◌then◌else◌, is_none, is_some, nat_lt}
+use Rattle.std.proofs.Common.{◌≡◌, ◌∷◌, ◌++◌, ◌||◌, ◌&&◌, ◌==◌, ◌⊎◌, inl, inr, not, ap, refl, sym, ◌∙◌, Bool, true, false, List, [], Option, None, Some, ℕ, if◌then◌else◌, is_none, is_some, nat_lt}
 use Rattle.std.proofs.lemmas.Bool.{and_left, and_right, eqb-false, eqb-true}
 use Rattle.std.specs.List.{list_any}
 use Rattle.std.specs.Option.{option_and_then, option_map, option_map_or}
@@ -18,21 +18,18 @@ use Rattle.session_actions.specs.Commitments.{has_head_in, is_free_call, is_head
 use Rattle.session_actions.specs.Entries.{entry, now}
 use Rattle.session_actions.specs.Policies.{attempt_placed, is_unfollowed, with_placing}
 use Rattle.session_actions.specs.Responses.{no_response, response, response_by}
-use Rattle.session_actions.specs.Subchannels.{is_going_down}
 use Rattle.session_actions.specs.Words.{changed, holds, last_of, numbered}
 use Rattle.session_actions.specs.Writing.{accepted_bytes}
 use Rattle.session_actions.specs.declared.attempt.Attempt.{Attempt}
 use Rattle.session_actions.specs.declared.call.Call.{Call}
-use Rattle.session_actions.specs.declared.call.Mark.{Mark}
 use Rattle.session_actions.specs.declared.call.MarkKind.{MarkKind}
 use Rattle.session_actions.specs.declared.entry.OpenEntry.{OpenEntry}
-use Rattle.session_actions.specs.declared.link.Link.{Link}
 use Rattle.session_actions.specs.declared.response.Outcome.{Outcome}
 use Rattle.session_actions.specs.declared.response.Response.{Response}
 use Rattle.session_actions.specs.declared.seen.Seen.{Seen}
 use Rattle.session_order.proofs.Aside.{aside_request}
 use Rattle.session_order.proofs.Boards.{goes_on}
-use Rattle.session_order.proofs.Changed.{any_changed, any_changed_at, changed_away, changed_here, changed_map, none_changed}
+use Rattle.session_order.proofs.Changed.{any_changed, any_changed_at, changed_away, changed_map, none_changed}
 use Rattle.session_order.proofs.Ended.{narrower, none_less}
 use Rattle.session_order.proofs.Lasts.{last_at, last_changed, read_before}
 use Rattle.session_order.proofs.Lists.{any_same, holds_same}

@@ -13,7 +13,7 @@ use Rattle.session_actions.specs.Calls.{is_open_call}
 use Rattle.session_actions.specs.Commitments.{has_head_in, is_final_end, is_final_in, is_headed, is_inherited, is_inherited_in}
 use Rattle.session_actions.specs.Configs.{chosen_of}
 use Rattle.session_actions.specs.DueAttempts.{has_going}
-use Rattle.session_actions.specs.Responses.{limit_of_attempt, response}
+use Rattle.session_actions.specs.Responses.{limit_of_attempt}
 use Rattle.session_actions.specs.Words.{changed, holds, numbered}
 use Rattle.session_actions.specs.declared.attempt.Attempt.{Attempt}
 use Rattle.session_actions.specs.declared.call.Call.{Call}

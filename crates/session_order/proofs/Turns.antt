@@ -1,8 +1,6 @@
 -- A subchannel that becomes READY or loses its link, and a channel that is shut down.
-use Rattle.session_actions.specs.CallEnds.{cancels}
-use Rattle.std.proofs.Common.{◌≡◌, ap, refl, sym, ◌∙◌, Bool, true, false, Option, None, Some, ℕ, if◌then◌else◌}
+use Rattle.std.proofs.Common.{◌≡◌, ap, refl, sym, ◌∙◌, Bool, true, false, None, Some, ℕ, if◌then◌else◌}
 use Rattle.std.proofs.lemmas.Bool.{or_parts}
-use Rattle.grpc_base.specs.declared.event.Conn.{Conn}
 use Rattle.lb_policy.specs.Table.{is_ready}
 use Rattle.session_actions.specs.Policies.{is_shutdown}
 use Rattle.session_actions.specs.Subchannels.{gone_down, is_connecting, is_to_be_ready, is_to_go_down, with_sub, without_link}

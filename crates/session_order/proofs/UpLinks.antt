@@ -1,10 +1,9 @@
 -- A dial that is a connection now stirs no line: nothing passed on its link, and no attempt is on it.
-use Rattle.std.proofs.Common.{◌≡◌, ◌+◌, ◌∷◌, ◌++◌, ◌||◌, ◌&&◌, ◌==◌, not, ap, arith, refl, subst, sym, ◌∙◌, Bool, true, false, List, [], Option, None, Some, ℕ, suc, if◌then◌else◌, is_some, length, slice_get}
-use Rattle.std.specs.List.{list_any}
+use Rattle.std.proofs.Common.{◌≡◌, ◌+◌, ◌∷◌, ◌++◌, ◌||◌, ◌&&◌, ◌==◌, not, ap, arith, refl, ◌∙◌, Bool, true, false, List, [], Option, None, Some, ℕ, suc, if◌then◌else◌, is_some, length, slice_get}
 use Rattle.std.specs.Option.{option_and_then, option_map_or, option_or}
 use Rattle.attempt_ledger.specs.declared.row.Placed.{Placed}
 use Rattle.attempt_ledger.specs.declared.row.RowEnd.{RowEnd}
-use Rattle.session_actions.specs.AttemptEnds.{code_at_end, code_for_stream, code_to_reset, lost_end, outcome_of, outcome_on}
+use Rattle.session_actions.specs.AttemptEnds.{code_at_end, code_for_stream, code_to_reset, lost_end, outcome_on}
 use Rattle.session_actions.specs.Attempts.{commitment, is_commitment, is_outstanding, is_over}
 use Rattle.session_actions.specs.CallEnds.{has_long_response}
 use Rattle.session_actions.specs.Calls.{is_open_call}
@@ -12,7 +11,7 @@ use Rattle.session_actions.specs.Commitments.{has_head_in, is_free_call, is_head
 use Rattle.session_actions.specs.Entries.{entry}
 use Rattle.session_actions.specs.Links.{has_settings, link_of}
 use Rattle.session_actions.specs.Responses.{no_response, response, response_by, response_on}
-use Rattle.session_actions.specs.Subchannels.{is_connecting, is_going_down, link_of_sub, link_up, new_link, with_sub}
+use Rattle.session_actions.specs.Subchannels.{is_connecting, is_going_down, new_link, with_sub}
 use Rattle.session_actions.specs.Words.{holds, numbered}
 use Rattle.session_actions.specs.declared.attempt.Attempt.{Attempt}
 use Rattle.session_actions.specs.declared.call.Call.{Call}

@@ -1,7 +1,7 @@
 -- What every session keeps in order: the things of a session have the numbers of their places. So it is of a new session, and stays so after every
 -- action, whether or not it was the next one.
 -- Example: the third call that began has the number 3, and stands third in the list, for good.
-use Rattle.std.specs.Prelude.{List, Some, [], ℕ, ◌∷◌, ◌≡◌}
+use Rattle.std.specs.Prelude.{List, Some, ℕ, ◌≡◌}
 use Rattle.session_actions.specs.Actions.{after}
 use Rattle.session_actions.specs.Sessions.{Does, new_session}
 use Rattle.session_actions.specs.Words.{numbered}

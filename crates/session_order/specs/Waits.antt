@@ -3,7 +3,7 @@
 -- "gRPC Wait for Ready Semantics" say of it.
 -- Example: hedgingDelay is 1 s, and the first attempt of a call was placed at 0 s. An entry of moment 1 s does not end before the second attempt is
 -- made, and, where the policy is READY, before it is asked for a pick for it.
-use Rattle.std.specs.Prelude.{Bool, None, Some, false, nat_le, ◌&&◌, ◌||◌, ◌≡◌, ◌↔◌}
+use Rattle.std.specs.Prelude.{Bool, Some, false, nat_le, ◌&&◌, ◌||◌, ◌≡◌, ◌↔◌}
 use Rattle.session_actions.specs.CallEnds.{lacks_config}
 use Rattle.session_actions.specs.Calls.{is_open_call}
 use Rattle.session_actions.specs.Configs.{is_to_configure}
