@@ -29,3 +29,4 @@ pub mod UpLinks
 pub mod Placings
 pub mod Makings
 pub mod Added
+pub mod StreamResets

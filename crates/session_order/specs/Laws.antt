@@ -99,10 +99,11 @@ StirsButFinal a =
     (o : OpenEntry) (s : Seen) → s.current ≡ Some o → Fits a o s → (l : Line) (p : OpenEntry) → (after_in o a s).current ≡ Some p
     → is_line l line.Final ≡ false → stirs a l ≡ false → IsStill l o s → IsStill l p (after_in o a s)
 
--- an attempt is made, is placed, or ends
+-- an attempt is made, is placed, ends, or has its stream reset
 pub record AttemptsStir : Type 0 where
   pub made : (call number : ℕ) (k : RowKind) (due : ℕ) → StirsButFinal (action.AttemptMade call number k due)
   pub placed : (row : ℕ) (at : Placed) → StirsButFinal (action.AttemptPlaced row at)
+  pub reset : (row number : ℕ) → StirsButFinal (action.StreamReset row number)
   pub ended : (row : ℕ) (end : RowEnd) → StirsOnly (action.AttemptEnds row end)
 
 -- policies that come and go, and the subchannels that are shut with them, leave the lines of calls and links still
