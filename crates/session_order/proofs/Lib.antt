@@ -30,3 +30,4 @@ pub mod Placings
 pub mod Makings
 pub mod Added
 pub mod StreamResets
+pub mod Commits

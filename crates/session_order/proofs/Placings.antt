@@ -248,13 +248,13 @@ module _ (s : Seen) (n : ℕ) (at : Placed) (fits : IsPlaceable n at s) where
   placed_still line.Drop o e h = h
   placed_still line.Add o e h = h
 
-marked_if : (u : Seen) (what : MarkKind) (row : ℕ) (a : Option Attempt) (l : Line) (o : OpenEntry) → stirs (action.HedgeWithheld row) l ≡ false → IsStill l o u
+pub marked_if : (u : Seen) (what : MarkKind) (row : ℕ) (a : Option Attempt) (l : Line) (o : OpenEntry) → stirs (action.HedgeWithheld row) l ≡ false → IsStill l o u
     → IsStill l o (option_map_or (λ (x : Attempt). marked what x.row.call u) a u)
 marked_if u what row None l o e h = h
 marked_if u what row (Some x) l o e h =
     marked_still u x.row.call (λ (c : Call). c.marks ++ record { what = what; moment = now u } ∷ []) l o e h
 
-current_if : (u : Seen) (what : MarkKind) (a : Option Attempt) → (option_map_or (λ (x : Attempt). marked what x.row.call u) a u).current ≡ u.current
+pub current_if : (u : Seen) (what : MarkKind) (a : Option Attempt) → (option_map_or (λ (x : Attempt). marked what x.row.call u) a u).current ≡ u.current
 current_if u what None = refl
 current_if u what (Some x) = refl
 

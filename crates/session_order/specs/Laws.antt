@@ -13,6 +13,7 @@ use Rattle.grpc_base.specs.declared.kind.Kind.{Kind}
 use Rattle.grpc_base.specs.declared.kind.Pick.{Pick}
 use Rattle.session_actions.specs.Actions.{after_in, following, of_calls, of_links, of_policies, of_stage}
 use Rattle.session_actions.specs.declared.action.Action.{Action}
+use Rattle.session_actions.specs.declared.action.CommitCause.{CommitCause}
 use Rattle.session_actions.specs.declared.entry.OpenEntry.{OpenEntry}
 use Rattle.session_actions.specs.declared.link.ReadFrame.{ReadFrame}
 use Rattle.session_actions.specs.declared.seen.Seen.{Seen}
@@ -99,11 +100,12 @@ StirsButFinal a =
     (o : OpenEntry) (s : Seen) → s.current ≡ Some o → Fits a o s → (l : Line) (p : OpenEntry) → (after_in o a s).current ≡ Some p
     → is_line l line.Final ≡ false → stirs a l ≡ false → IsStill l o s → IsStill l p (after_in o a s)
 
--- an attempt is made, is placed, ends, or has its stream reset
+-- an attempt is made, is placed, gets its call, ends, or has its stream reset
 pub record AttemptsStir : Type 0 where
   pub made : (call number : ℕ) (k : RowKind) (due : ℕ) → StirsButFinal (action.AttemptMade call number k due)
   pub placed : (row : ℕ) (at : Placed) → StirsButFinal (action.AttemptPlaced row at)
   pub reset : (row number : ℕ) → StirsButFinal (action.StreamReset row number)
+  pub committed : (row : ℕ) (why : CommitCause) → StirsButFinal (action.CallCommitted row why)
   pub ended : (row : ℕ) (end : RowEnd) → StirsOnly (action.AttemptEnds row end)
 
 -- policies that come and go, and the subchannels that are shut with them, leave the lines of calls and links still

@@ -10,12 +10,13 @@ use Rattle.attempt_ledger.specs.declared.row.RowEnd.{RowEnd}
 use Rattle.attempt_ledger.specs.declared.row.RowKind.{RowKind}
 use Rattle.grpc_base.specs.declared.address.Address.{Address}
 use Rattle.grpc_base.specs.Requests.{RequestSeen}
-use Rattle.session_actions.specs.Attempts.{is_later_of, is_of, is_over}
+use Rattle.session_actions.specs.Attempts.{commitment, is_followed, is_later_of, is_of, is_outstanding, is_over}
 use Rattle.session_actions.specs.Commitments.{is_free_call}
 use Rattle.session_actions.specs.Configs.{is_too_long}
 use Rattle.session_actions.specs.Entries.{entry}
 use Rattle.session_actions.specs.Making.{new_row}
 use Rattle.session_actions.specs.Policies.{addresses_in, is_failure, is_same_address, is_shutdown, listed}
+use Rattle.session_actions.specs.Responses.{response}
 use Rattle.session_actions.specs.Subchannels.{is_connecting, is_dialling, is_going_down, is_idle}
 use Rattle.session_actions.specs.Words.{last_of, numbered}
 use Rattle.session_actions.specs.Writing.{accepted_bytes}
@@ -115,6 +116,16 @@ pub record IsAddable (address : Address) (s : Seen) : Type 0 where
   pub is_listed : list_any (is_same_address address) (listed s) ≡ true
   pub picks : (ask : Ask) (sub : ℕ) → last_of s.asks ≡ Some ask → ask.answer ≡ pick.Place sub → sub ≤ length s.subs
 
+-- an attempt to which its call may be committed: the call is not committed yet, none follows the attempt, and no message of its response is longer than
+-- allowed; calls have the numbers of their places
+pub record IsCommittable (row : ℕ) (s : Seen) : Type 0 where
+  pub attempt : Attempt
+  pub here : numbered s.attempts row ≡ Some attempt
+  pub free : (c : Call) → is_of c attempt ≡ true → commitment c s ≡ None
+  pub follows : is_followed attempt s ≡ false
+  pub small : (is_outstanding attempt && (response attempt s).large) ≡ false
+  pub numbers : AreNumbered s
+
 abbrev pub Fits : Action → OpenEntry → Seen → Type 0
 -- the event brings no result of the resolver
 Fits (action.EventAnswered r) o s = addresses_in o.event ≡ None
@@ -144,6 +155,7 @@ Fits action.CallBegins o s = (request : RequestSeen) × (o.event ≡ event.Begin
 Fits (action.FrameRead link r) o s = (l : Link) → numbered s.links link ≡ Some l → SawLess l.number r s
 Fits (action.LinkLost link) o s = o.event ≡ event.LinkLost link
 Fits (action.AttemptMade call number k due) o s = IsMakeable call number k due s
+Fits (action.CallCommitted row why) o s = IsCommittable row s
 Fits (action.AttemptPlaced row at) o s = IsPlaceable row at s
 -- calls have the numbers of their places
 Fits (action.CallEnds call why) o s = AreNumbered s
