@@ -62,8 +62,10 @@ pub fn calls_stir()
     ensures { CallsStir }
 {}
 
-/// An attempt that ends stirs the lines by which it is retried transparently, by which its call is committed or ends, and by which its stream is reset
-/// (gRFC A6, "Transparent Retries" and "Summary of Retry and Hedging Logic"; RFC 9113, section 5.4.2).
+/// An attempt that is made with a number of its own, is placed, or has its stream reset stirs no line; one that gets its call stirs those by which the
+/// other attempts are cut and the call ends (of all these but for the line of final ends). An attempt that ends stirs the lines by which it is retried
+/// transparently, by which its call is committed or ends, and by which its stream is reset (gRFC A6, "When Retries are Valid", "Transparent Retries" and
+/// "Summary of Retry and Hedging Logic"; RFC 9113, section 5.4.2).
 pub fn attempts_stir()
     ensures { AttemptsStir }
 {}
