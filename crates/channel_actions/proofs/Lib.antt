@@ -1,0 +1,10 @@
+pub mod Does
+pub mod Entered
+pub mod Fresh
+pub mod Lines
+pub mod Moved
+pub mod Opening
+pub mod Quiet
+pub mod Running
+pub mod Settles
+pub mod States

@@ -31,6 +31,7 @@ Openings =
 -- the calls whose deadline has come end, the earliest first, until none is left
 pub record IsTimely (x : StateSeen) (o : OpenEntry) (s : Seen) : Type 0 where
   pub reaches : Reaches stage.Event (overdue_ended x) o s
+  pub fresh : reaches.entry.turn ≡ o.turn
   pub none : next_deadline reaches.seen ≡ None
 
 abbrev pub Deadlines : Type 0

@@ -1,7 +1,7 @@
 // What the channel does, as actions of a session; nothing runs.
 ghost use Rattle.channel_actions.specs.Laws.{NewChannelsAgree, RunsAreSessions};
 
-use net_actions::new_nets_are_new_sessions;
+use net_actions::{new_nets_are_new_sessions, policy_steps_are_actions};
 
 /// A new channel agrees with a new session.
 pub fn new_channels_are_new_sessions()
@@ -14,5 +14,6 @@ pub fn new_channels_are_new_sessions()
 pub fn runs_are_sessions()
     ensures { RunsAreSessions }
 {
-    new_nets_are_new_sessions();
+    new_channels_are_new_sessions();
+    policy_steps_are_actions();
 }

@@ -1,0 +1,193 @@
+-- SettlingBegins: an entry whose event was answered goes on to its settling, where nothing follows at once either.
+use Rattle.std.proofs.Common.{◌≡◌, ◌&&◌, ◌||◌, ◌∷◌, ◌%◌, ◌^◌, ap, refl, subst, sym, ◌∙◌, Bool, true, false, List, [], Option, None, Some, if◌then◌else◌, ℕ, is_some, not}
+use Rattle.std.proofs.lemmas.Bool.{and_parts}
+use Rattle.std.specs.List.{list_any}
+use Rattle.std.specs.Option.{option_map, option_or}
+use Rattle.std.specs.Prelude.{find, option_and_then}
+use Rattle.channel_actions.proofs.Moved.{agrees_moved}
+use Rattle.channel_actions.proofs.Quiet.{find_narrow, mapped_narrow, never, or_both_none, or_parts_none}
+use Rattle.channel_actions.specs.Agrees.{Agrees}
+use Rattle.channel_actions.specs.Calm.{IsAt, IsCalm}
+use Rattle.channel_actions.specs.Points.{IsSameEntry, Reaches}
+use Rattle.channel_core.specs.States.{StateSeen}
+use Rattle.grpc_base.specs.declared.event.EndCause.TheVariants as ending
+use Rattle.grpc_base.specs.declared.kind.Kind.{Kind}
+use Rattle.session_actions.specs.Actions.{after, after_if, first_action, following, following_in, of_calls, of_frames, of_links, of_policies, of_stage}
+use Rattle.session_actions.specs.CallEnds.{has_long_request, has_long_response, is_after_event, is_cancelled, is_over_by_row, is_shut_down, next_ended, sends_too_long}
+use Rattle.session_actions.specs.Calls.{is_open_call}
+use Rattle.session_actions.specs.Configs.{is_too_long}
+use Rattle.session_actions.specs.Commitments.{next_final, next_headed, next_inherited, next_overflow}
+use Rattle.session_actions.specs.AttemptEnds.{next_cut, next_reset, next_wire_end}
+use Rattle.session_actions.specs.Entries.{settling}
+use Rattle.session_actions.specs.Events.{frame_action, is_loss}
+use Rattle.session_actions.specs.Making.{next_transparent}
+use Rattle.session_actions.specs.Policies.{is_live_policy, is_other_kind, is_pending, is_to_retire, next_begun, next_given, next_of_pick, next_retired, result_of, wanted_kind, wants_addresses}
+use Rattle.session_actions.specs.Subchannels.{next_added, next_of_links, next_shut}
+use Rattle.session_actions.specs.Words.{holds}
+use Rattle.session_actions.specs.declared.action.Action.{Action}
+use Rattle.session_actions.specs.declared.action.Action.TheVariants as action
+use Rattle.session_actions.specs.declared.call.Call.{Call}
+use Rattle.session_actions.specs.declared.entry.OpenEntry.{OpenEntry}
+use Rattle.session_actions.specs.declared.entry.Stage.{Stage}
+use Rattle.session_actions.specs.declared.entry.Stage.TheVariants as stage
+use Rattle.session_actions.specs.declared.policy.PolicyUse.{PolicyUse}
+use Rattle.session_actions.specs.declared.seen.Seen.{Seen}
+
+-- the first of several is nothing: each is
+abbrev AllNone : List (Option Action) → Type 0
+AllNone [] = Unit {0}
+AllNone (a ∷ as_) = (a ≡ None) × AllNone as_
+
+all_none : (as_ : List (Option Action)) → first_action as_ ≡ None → AllNone as_
+all_none [] h = tt
+all_none (a ∷ as_) h = let both = or_parts_none a (first_action as_) h in (both.0, all_none as_ both.1)
+
+none_all : (as_ : List (Option Action)) → AllNone as_ → first_action as_ ≡ None
+none_all [] h = refl
+none_all (a ∷ as_) h = or_both_none a (first_action as_) h.0 (none_all as_ h.1)
+
+abbrev lines_of_calls : OpenEntry → Seen → List (Option Action)
+lines_of_calls o s =
+    next_cut s ∷ next_transparent s ∷ next_inherited s ∷ next_ended ending.Row (is_over_by_row s) s ∷ next_final s
+    ∷ next_ended ending.Cancelled (is_cancelled o) s ∷ next_ended ending.Request (has_long_request o s) s ∷ next_overflow s ∷ next_headed s
+    ∷ next_ended ending.Response (has_long_response s) s ∷ []
+
+abbrev lines_of_policies : OpenEntry → Seen → List (Option Action)
+lines_of_policies o s =
+    next_ended ending.Shut (is_shut_down s) s ∷ next_retired o s ∷ next_begun o s ∷ next_given o s ∷ next_shut s ∷ next_added s ∷ []
+
+abbrev pub in_settling : OpenEntry → OpenEntry
+in_settling o = record o { stage = stage.Settling }
+
+-- the session with this open entry
+abbrev pub with_open : OpenEntry → Seen → Seen
+with_open o s = record s { current = Some o }
+
+pub is_with_open : (o : OpenEntry) (s : Seen) → s.current ≡ Some o → s ≡ with_open o s
+is_with_open o s e = ap (λ (c : Option OpenEntry). record s { current = c }) e
+
+no_and : (a b : Bool) → (a && false && b) ≡ true → ⊥
+no_and true b h = absurd (cc)
+no_and false b h = absurd (cc)
+
+request_narrow : (a l b m : Bool) → (a && (l || (false && m))) ≡ true → (a && (l || (b && m))) ≡ true
+request_narrow true true b m h = refl
+request_narrow true false b m h = absurd (cc)
+request_narrow false l b m h = absurd (cc)
+
+retire_narrow : (a b p w : Bool) → (a && (b || (p && false))) ≡ true → (a && (b || (p && w))) ≡ true
+retire_narrow true true p w h = refl
+retire_narrow true false true w h = absurd (cc)
+retire_narrow true false false w h = absurd (cc)
+retire_narrow false b p w h = absurd (cc)
+
+-- what stays of each line
+module _ (o : OpenEntry) (s : Seen) where
+  calls_stay : of_calls o (with_open o s) ≡ None → of_calls (in_settling o) (with_open (in_settling o) s) ≡ None
+  calls_stay h =
+      let n = all_none (lines_of_calls o (with_open o s)) h in
+      none_all (lines_of_calls (in_settling o) (with_open (in_settling o) s)) (
+        n.0,
+        (
+          n.1.0,
+          (
+            n.1.1.0,
+            (
+              n.1.1.1.0,
+              (
+                n.1.1.1.1.0,
+                (
+                  ap (option_map (λ (c : Call). action.CallEnds c.number ending.Cancelled)) (never (is_cancelled (in_settling o)) s.calls (λ c e. no_and (is_open_call c) _ e)),
+                  (
+                    mapped_narrow (λ (c : Call). action.CallEnds c.number ending.Request) (λ (c : Call). action.CallEnds c.number ending.Request)
+                        (has_long_request (in_settling o) (with_open (in_settling o) s)) (has_long_request o (with_open o s)) s.calls
+                        (λ c e. request_narrow (is_open_call c) (list_any (λ m. is_too_long m c s) c.messages) (is_after_event o) (sends_too_long o.event c s) e) n.1.1.1.1.1.1.0,
+                    n.1.1.1.1.1.1.1,
+                  ),
+                ),
+              ),
+            ),
+          ),
+        ),
+      )
+
+  policies_stay : of_policies o (with_open o s) ≡ None → of_policies (in_settling o) (with_open (in_settling o) s) ≡ None
+  policies_stay h =
+      let n = all_none (lines_of_policies o (with_open o s)) h in
+      none_all (lines_of_policies (in_settling o) (with_open (in_settling o) s)) (
+        n.0,
+        (
+          mapped_narrow (λ (g : PolicyUse). action.PolicyRetired g.number) (λ (g : PolicyUse). action.PolicyRetired g.number)
+              (is_to_retire (in_settling o) (with_open (in_settling o) s)) (is_to_retire o (with_open o s)) s.policies
+              (λ g e. retire_narrow (is_live_policy g) s.shut (is_pending g) (holds (λ (k : Kind). is_other_kind k g) (wanted_kind o s)) e) n.1.0,
+          (
+            refl,
+            (
+              ap (option_map (λ (g : PolicyUse). action.AddressesGiven g.number)) (never (wants_addresses (in_settling o) (with_open (in_settling o) s)) s.policies (λ g e. no_and (is_live_policy g) _ e)),
+              n.1.1.1.1,
+            ),
+          ),
+        ),
+      )
+
+  calm_stays : IsCalm o (with_open o s) → IsCalm (in_settling o) (with_open (in_settling o) s)
+  calm_stays c = record { calls = calls_stay c.calls; links = c.links; policies = policies_stay c.policies }
+
+follows_by : (a b c d : Option Action) (z : Action) → a ≡ None → b ≡ None → c ≡ None → d ≡ Some z → first_action (a ∷ b ∷ c ∷ d ∷ []) ≡ Some z
+follows_by a b c d z p q r e =
+    ap (λ (w : Option Action). first_action (w ∷ b ∷ c ∷ d ∷ [])) p ∙ ap (λ (w : Option Action). first_action (w ∷ c ∷ d ∷ [])) q
+    ∙ ap (λ (w : Option Action). first_action (w ∷ d ∷ [])) r ∙ ap (λ (w : Option Action). first_action (w ∷ [])) e
+
+-- the agreement looks at the moment and the words of the open entry alone
+pub reopened : (x : StateSeen) (o p : OpenEntry) (s : Seen) → p.moment ≡ o.moment → p.word ≡ o.word → p.drawn ≡ o.drawn → Agrees x (with_open o s) → Agrees x (with_open p s)
+reopened x o p s moment word drawn h =
+    agrees_moved (with_open o s) s.entries (Some p) x h x.book.ledger.entry x.book.moment x.word x.drawn h.clock.entry_is
+    (record { entry_is = h.clock.entry_is; moment = moment ∙ h.clock.moment; draws = (word ∙ h.clock.draws.0, h.clock.draws.1 ∙ ap (λ (d : ℕ). d % 2 ^ 64) (sym drawn)) })
+    h.columns.links h.kept.ends h.kept.asks
+
+-- so SettlingBegins follows, and leads to a point of the settling
+pub record Settles (x : StateSeen) (o : OpenEntry) (s : Seen) : Type 0 where
+  pub reaches : Reaches stage.Settling x o s
+  pub reply : reaches.entry.reply ≡ o.reply
+  pub turn : reaches.entry.turn ≡ o.turn
+
+module _ (x : StateSeen) (o : OpenEntry) (s : Seen) (h : Agrees x s) (at : IsAt stage.Replied o s) (rest : frame_action o s ≡ None) where
+  settling_is : settling s ≡ with_open (in_settling o) s
+  settling_is = ap (λ (c : Option OpenEntry). record s { current = option_map (λ (p : OpenEntry). record p { stage = stage.Settling }) c }) at.current
+
+  pub after_is : after action.SettlingBegins s ≡ with_open (in_settling o) s
+  after_is = ap (λ (c : Option OpenEntry). after_if c action.SettlingBegins s) at.current ∙ settling_is
+
+  calm_open : IsCalm o (with_open o s)
+  calm_open = subst (IsCalm o) (is_with_open o s at.current) at.calm
+
+  stage_gives : of_stage o s o.stage ≡ Some action.SettlingBegins
+  stage_gives = ap (of_stage o s) at.stage_is ∙ ap (λ (f : Option Action). option_or f (Some action.SettlingBegins)) rest
+
+  in_gives : following_in s o ≡ Some action.SettlingBegins
+  in_gives = follows_by (of_calls o s) (of_links o s) (of_policies o s) (of_stage o s o.stage) action.SettlingBegins at.calm.calls at.calm.links at.calm.policies stage_gives
+
+  pub follows : following s ≡ Some action.SettlingBegins
+  follows = ap (option_and_then (following_in s)) at.current ∙ in_gives
+
+  pub calm_after : IsCalm (in_settling o) (with_open (in_settling o) s)
+  calm_after = calm_stays o s calm_open
+
+  agrees_open : Agrees x (with_open o s)
+  agrees_open = subst (Agrees x) (is_with_open o s at.current) h
+
+  pub begins : Settles x o s
+  begins = record {
+    reaches = record {
+      actions = action.SettlingBegins ∷ [];
+      seen = with_open (in_settling o) s;
+      entry = in_settling o;
+      does = (follows, sym after_is);
+      posts = refl;
+      same = record { moment = refl; word = refl; event = refl; entries = refl; setup = refl };
+      at = record { current = refl; stage_is = refl; calm = calm_after };
+      agrees = reopened x o (in_settling o) s refl refl refl agrees_open;
+    };
+    reply = refl;
+    turn = refl;
+  }
