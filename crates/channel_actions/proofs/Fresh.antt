@@ -80,7 +80,7 @@ module _ (setup : Setup) (policies : List PolicySeen) (alloc : Global) where
       outstanding = record { rising = tt; exact = λ a b. nothing_by (holds (λ (q : Attempt). is_outstanding q && (link_number q == a))) refl b };
       resets = refl;
     };
-    kept = record { calls = tt; attempts = tt; links = tt; owned = refl; ends = refl; asks = refl };
+    kept = record { calls = tt; attempts = tt; links = tt; owned = refl; dialled = refl; ends = refl; asks = refl };
   }
 
   pub new_rests : NewOnesAgree → AreKinds setup.policies policies → are_ready policies ≡ true → Rests x s

@@ -1,10 +1,17 @@
+pub mod Answering
+pub mod Closing
 pub mod Does
 pub mod Entered
 pub mod Fresh
+pub mod Gone
 pub mod Lines
 pub mod Moved
 pub mod Opening
+pub mod Outstanding
 pub mod Quiet
+pub mod Refusing
+pub mod Relinked
 pub mod Running
 pub mod Settles
+pub mod Stamps
 pub mod States

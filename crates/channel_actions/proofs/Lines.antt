@@ -50,9 +50,9 @@ all_sorted P [] h = tt
 all_sorted P (a ∷ xs) h = put_all P a (by_stream xs) h.0 (all_sorted P xs h.1)
 
 -- of a session with another entry, in which all else is the same
-module _ (l : Link) (s : Seen) (entries : List Entry) (current : Option OpenEntry) where
+module _ (l : Link) (s : Seen) (entries : List Entry) (current : Option OpenEntry) (answered wants : Bool) where
   abbrev t : Seen
-  t = record s { entries = entries; current = current }
+  t = record s { entries = entries; current = current; answered = answered; wants = wants }
 
   line_at : (a : Attempt) (c : Call) (row : ℕ) → row ≡ a.place → AtPlace s.attempts a → call_of a s ≡ Some c → lines_in l t row ≡ line_of l t a c
   line_at a c row e at of =

@@ -30,14 +30,19 @@ use Rattle.session_actions.specs.declared.link.Link.{Link}
 use Rattle.session_actions.specs.declared.seen.Seen.{Seen}
 use Rattle.take_actions.specs.Serves.{Holds, Serves}
 
--- a channel at another entry, moment and word
-abbrev pub at_entry : ℕ → ℕ → ℕ → ℕ → StateSeen → StateSeen
-at_entry number moment word drawn x =
-    record x { word = word; drawn = drawn; book = record x.book { ledger = record x.book.ledger { entry = number }; moment = moment } }
+-- a channel at another entry, moment and word, and with another answer of the resolver
+abbrev pub at_entry : ℕ → ℕ → ℕ → ℕ → Bool → Bool → StateSeen → StateSeen
+at_entry number moment word drawn resolver unconfigured x = record x {
+  word = word;
+  drawn = drawn;
+  resolver = resolver;
+  unconfigured = unconfigured;
+  book = record x.book { ledger = record x.book.ledger { entry = number }; moment = moment };
+}
 
-module _ (s : Seen) (entries : List Entry) (current : Option OpenEntry) where
+module _ (s : Seen) (entries : List Entry) (current : Option OpenEntry) (answered wants : Bool) where
   abbrev t : Seen
-  t = record s { entries = entries; current = current }
+  t = record s { entries = entries; current = current; answered = answered; wants = wants }
 
   abbrev with_number : ℕ → Stepped → Stepped
   with_number number x = record x { ledger = record x.ledger { entry = number } }
@@ -100,9 +105,9 @@ module _ (s : Seen) (entries : List Entry) (current : Option OpenEntry) where
   reader_moved None (Some r) h = absurd h
   reader_moved (Some a) None h = absurd h
 
-  module _ (x : StateSeen) (h : Agrees x s) (number moment word drawn : ℕ) (e : entry t ≡ number) where
+  module _ (x : StateSeen) (h : Agrees x s) (number moment word drawn : ℕ) (resolver unconfigured : Bool) (e : entry t ≡ number) where
     abbrev y : StateSeen
-    y = at_entry number moment word drawn x
+    y = at_entry number moment word drawn resolver unconfigured x
 
     call_moved : (n : ℕ) (c : Call) → HasSlot x s c n → HasSlot y t c n
     call_moved n c k = record {
@@ -126,7 +131,7 @@ module _ (s : Seen) (entries : List Entry) (current : Option OpenEntry) where
         over = k.sees.over;
         retiring = k.sees.retiring;
         going = λ goes. let g = k.sees.going goes in record {
-          streams = streams_moved l s entries current k.slot.link.link.wire h.kept.attempts g.streams;
+          streams = streams_moved l s entries current answered wants k.slot.link.link.wire h.kept.attempts g.streams;
           readers = record { each = λ row. reader_moved (attempt_on l s row) (reader_in row k.slot.link.readers) (g.readers.each row); distinct = g.readers.distinct };
           rest = g.rest;
           closed = g.closed;
@@ -134,13 +139,13 @@ module _ (s : Seen) (entries : List Entry) (current : Option OpenEntry) where
       };
     }
 
-    pub agrees_moved : SeesClock y t → links_noted t ≡ x.book.ledger.links
+    pub agrees_moved : SeesClock y t → (x.held ≡ None → answered ≡ unconfigured) → links_noted t ≡ x.book.ledger.links
         → list_all (λ (a : Attempt). option_map_or (λ z. nat_le z.entry (entry t)) a.row.ended true) s.attempts ≡ true
         → list_all (λ k. nat_le k.entry (entry t)) s.asks ≡ true → Agrees y t
-    agrees_moved clock noted ends asks = record {
+    agrees_moved clock config noted ends asks = record {
       clock = clock;
       columns = record { rows = h.columns.rows; calls = h.columns.calls; asks = h.columns.asks; generations = h.columns.generations; links = noted };
-      configs = record { authority = h.configs.authority; shut = h.configs.shut; held = h.configs.held; unconfigured = h.configs.unconfigured; policy = h.configs.policy };
+      configs = record { authority = h.configs.authority; shut = h.configs.shut; held = h.configs.held; unconfigured = config; policy = h.configs.policy };
       buckets = record { runs = h.buckets.runs; throttle = h.buckets.throttle };
       calls = record { count = h.calls.count; each = λ n c at. call_moved n c (h.calls.each n c at) };
       links = record { count = h.links.count; each = λ n l at. link_moved n l (h.links.each n l at) };
@@ -156,5 +161,5 @@ module _ (s : Seen) (entries : List Entry) (current : Option OpenEntry) where
         outstanding = h.sets.outstanding;
         resets = h.sets.resets;
       };
-      kept = record { calls = h.kept.calls; attempts = h.kept.attempts; links = h.kept.links; owned = h.kept.owned; ends = ends; asks = asks };
+      kept = record { calls = h.kept.calls; attempts = h.kept.attempts; links = h.kept.links; owned = h.kept.owned; dialled = h.kept.dialled; ends = ends; asks = asks };
     }

@@ -77,8 +77,9 @@ module _ (x : StateSeen) (s : Seen) (posted word : ℕ) (e : Event) (h : Rests x
 
   pub opens : Agrees (begun_at (length s.entries + 1) (max (last_moment s) posted) word x) (opened posted word e s)
   opens =
-      agrees_moved s s.entries (Some (opened_entry posted word e s)) x h.agrees (length s.entries + 1) (max (last_moment s) posted) word 0 refl
-      (record { entry_is = refl; moment = refl; draws = (refl, refl) })
+      agrees_moved s s.entries (Some (opened_entry posted word e s)) s.answered s.wants x h.agrees (length s.entries + 1) (max (last_moment s) posted) word 0
+      x.resolver x.unconfigured refl
+      (record { entry_is = refl; moment = refl; draws = (refl, refl) }) h.agrees.configs.unconfigured
       (noted_is (opened posted word e s) (unstamped (λ l. is_gone l s) (entry s) (length s.entries + 1) s.links h.noted)
       ∙ sym (noted_is s h.noted) ∙ h.agrees.columns.links)
       (all_weaker (λ (a : Attempt). option_map_or (λ (z : RowEnd). nat_le z.entry (entry s)) a.row.ended true)

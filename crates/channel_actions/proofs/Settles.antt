@@ -10,23 +10,26 @@ use Rattle.channel_actions.specs.Agrees.{Agrees}
 use Rattle.channel_actions.specs.Calm.{IsAt, IsCalm}
 use Rattle.channel_actions.specs.Points.{IsSameEntry, Reaches}
 use Rattle.channel_core.specs.States.{StateSeen}
+use Rattle.grpc_base.specs.declared.address.Address.{Address}
 use Rattle.grpc_base.specs.declared.event.EndCause.TheVariants as ending
+use Rattle.grpc_base.specs.declared.event.Reply.{Reply}
 use Rattle.grpc_base.specs.declared.kind.Kind.{Kind}
 use Rattle.session_actions.specs.Actions.{after, after_if, first_action, following, following_in, of_calls, of_frames, of_links, of_policies, of_stage}
-use Rattle.session_actions.specs.CallEnds.{has_long_request, has_long_response, is_after_event, is_cancelled, is_over_by_row, is_shut_down, next_ended, sends_too_long}
+use Rattle.session_actions.specs.CallEnds.{cancels, has_long_request, has_long_response, is_after_event, is_cancelled, is_over_by_row, is_shut_down, next_ended, sends_too_long}
 use Rattle.session_actions.specs.Calls.{is_open_call}
-use Rattle.session_actions.specs.Configs.{is_too_long}
+use Rattle.session_actions.specs.Configs.{held_config, is_too_long}
 use Rattle.session_actions.specs.Commitments.{next_final, next_headed, next_inherited, next_overflow}
 use Rattle.session_actions.specs.AttemptEnds.{next_cut, next_reset, next_wire_end}
 use Rattle.session_actions.specs.Entries.{settling}
 use Rattle.session_actions.specs.Events.{frame_action, is_loss}
 use Rattle.session_actions.specs.Making.{next_transparent}
-use Rattle.session_actions.specs.Policies.{is_live_policy, is_other_kind, is_pending, is_to_retire, next_begun, next_given, next_of_pick, next_retired, result_of, wanted_kind, wants_addresses}
+use Rattle.session_actions.specs.Policies.{begin_if, is_live_policy, is_other_kind, is_same_kind, is_pending, is_to_retire, next_begun, next_given, next_of_pick, next_retired, result_of, wanted_kind, wants_addresses}
 use Rattle.session_actions.specs.Subchannels.{next_added, next_of_links, next_shut}
 use Rattle.session_actions.specs.Words.{holds}
 use Rattle.session_actions.specs.declared.action.Action.{Action}
 use Rattle.session_actions.specs.declared.action.Action.TheVariants as action
 use Rattle.session_actions.specs.declared.call.Call.{Call}
+use Rattle.session_actions.specs.declared.config.HeldConfig.{HeldConfig}
 use Rattle.session_actions.specs.declared.entry.OpenEntry.{OpenEntry}
 use Rattle.session_actions.specs.declared.entry.Stage.{Stage}
 use Rattle.session_actions.specs.declared.entry.Stage.TheVariants as stage
@@ -56,8 +59,18 @@ abbrev lines_of_policies : OpenEntry → Seen → List (Option Action)
 lines_of_policies o s =
     next_ended ending.Shut (is_shut_down s) s ∷ next_retired o s ∷ next_begun o s ∷ next_given o s ∷ next_shut s ∷ next_added s ∷ []
 
+-- an open entry at another stage, with another reply
+abbrev pub restaged : Stage → Option Reply → OpenEntry → OpenEntry
+restaged st r o = record o { stage = st; reply = r }
+
 abbrev pub in_settling : OpenEntry → OpenEntry
 in_settling o = record o { stage = stage.Settling }
+
+-- nothing follows by the event of an entry itself: no call is cancelled by it or was sent too long a message, and it brought no result
+pub record IsQuiet (o : OpenEntry) : Type 0 where
+  pub cancelled : (number : ℕ) → (is_after_event o && cancels o.event number) ≡ false
+  pub sent : (c : Call) (s : Seen) → (is_after_event o && sends_too_long o.event c s) ≡ false
+  pub result : result_of o ≡ None
 
 -- the session with this open entry
 abbrev pub with_open : OpenEntry → Seen → Seen
@@ -66,27 +79,39 @@ with_open o s = record s { current = Some o }
 pub is_with_open : (o : OpenEntry) (s : Seen) → s.current ≡ Some o → s ≡ with_open o s
 is_with_open o s e = ap (λ (c : Option OpenEntry). record s { current = c }) e
 
-no_and : (a b : Bool) → (a && false && b) ≡ true → ⊥
-no_and true b h = absurd (cc)
-no_and false b h = absurd (cc)
+no_and : (a b c : Bool) → (b && c) ≡ false → (a && b && c) ≡ true → ⊥
+no_and true true true e h = absurd (cc)
+no_and true true false e h = absurd (cc)
+no_and true false c e h = absurd (cc)
+no_and false b c e h = absurd (cc)
 
-request_narrow : (a l b m : Bool) → (a && (l || (false && m))) ≡ true → (a && (l || (b && m))) ≡ true
-request_narrow true true b m h = refl
-request_narrow true false b m h = absurd (cc)
-request_narrow false l b m h = absurd (cc)
+no_both : (a b c : Bool) → b ≡ false → (a && b && c) ≡ true → ⊥
+no_both true true c e h = absurd (cc)
+no_both true false c e h = absurd (cc)
+no_both false b c e h = absurd (cc)
 
-retire_narrow : (a b p w : Bool) → (a && (b || (p && false))) ≡ true → (a && (b || (p && w))) ≡ true
-retire_narrow true true p w h = refl
-retire_narrow true false true w h = absurd (cc)
-retire_narrow true false false w h = absurd (cc)
-retire_narrow false b p w h = absurd (cc)
+request_narrow : (a l b m p : Bool) → p ≡ false → (a && (l || p)) ≡ true → (a && (l || (b && m))) ≡ true
+request_narrow a l b m true e h = absurd (cc)
+request_narrow true true b m false e h = refl
+request_narrow true false b m false e h = absurd (cc)
+request_narrow false l b m false e h = absurd (cc)
+
+retire_narrow : (a b p v w : Bool) → v ≡ false → (a && (b || (p && v))) ≡ true → (a && (b || (p && w))) ≡ true
+retire_narrow a b p true w e h = absurd (cc)
+retire_narrow true true p false w e h = refl
+retire_narrow true false true false w e h = absurd (cc)
+retire_narrow true false false false w e h = absurd (cc)
+retire_narrow false b p false w e h = absurd (cc)
 
 -- what stays of each line
-module _ (o : OpenEntry) (s : Seen) where
-  calls_stay : of_calls o (with_open o s) ≡ None → of_calls (in_settling o) (with_open (in_settling o) s) ≡ None
+module _ (st : Stage) (r : Option Reply) (o : OpenEntry) (s : Seen) (quiet : IsQuiet (restaged st r o)) where
+  abbrev p : OpenEntry
+  p = restaged st r o
+
+  calls_stay : of_calls o (with_open o s) ≡ None → of_calls p (with_open p s) ≡ None
   calls_stay h =
       let n = all_none (lines_of_calls o (with_open o s)) h in
-      none_all (lines_of_calls (in_settling o) (with_open (in_settling o) s)) (
+      none_all (lines_of_calls p (with_open p s)) (
         n.0,
         (
           n.1.0,
@@ -97,11 +122,13 @@ module _ (o : OpenEntry) (s : Seen) where
               (
                 n.1.1.1.1.0,
                 (
-                  ap (option_map (λ (c : Call). action.CallEnds c.number ending.Cancelled)) (never (is_cancelled (in_settling o)) s.calls (λ c e. no_and (is_open_call c) _ e)),
+                  ap (option_map (λ (c : Call). action.CallEnds c.number ending.Cancelled))
+                      (never (is_cancelled p) s.calls (λ c e. no_and (is_open_call c) (is_after_event p) (cancels o.event c.number) (quiet.cancelled c.number) e)),
                   (
                     mapped_narrow (λ (c : Call). action.CallEnds c.number ending.Request) (λ (c : Call). action.CallEnds c.number ending.Request)
-                        (has_long_request (in_settling o) (with_open (in_settling o) s)) (has_long_request o (with_open o s)) s.calls
-                        (λ c e. request_narrow (is_open_call c) (list_any (λ m. is_too_long m c s) c.messages) (is_after_event o) (sends_too_long o.event c s) e) n.1.1.1.1.1.1.0,
+                        (has_long_request p (with_open p s)) (has_long_request o (with_open o s)) s.calls
+                        (λ c e. request_narrow (is_open_call c) (list_any (λ m. is_too_long m c s) c.messages) (is_after_event o) (sends_too_long o.event c s)
+                        (is_after_event p && sends_too_long o.event c s) (quiet.sent c s) e) n.1.1.1.1.1.1.0,
                     n.1.1.1.1.1.1.1,
                   ),
                 ),
@@ -111,29 +138,35 @@ module _ (o : OpenEntry) (s : Seen) where
         ),
       )
 
-  policies_stay : of_policies o (with_open o s) ≡ None → of_policies (in_settling o) (with_open (in_settling o) s) ≡ None
+  unwanted : wanted_kind p (with_open p s) ≡ None
+  unwanted = ap (λ (x : Option (List Address)). if is_some x then option_map (λ (h : HeldConfig). h.config.kind) (held_config s) else None) quiet.result
+
+  policies_stay : of_policies o (with_open o s) ≡ None → of_policies p (with_open p s) ≡ None
   policies_stay h =
       let n = all_none (lines_of_policies o (with_open o s)) h in
-      none_all (lines_of_policies (in_settling o) (with_open (in_settling o) s)) (
+      none_all (lines_of_policies p (with_open p s)) (
         n.0,
         (
           mapped_narrow (λ (g : PolicyUse). action.PolicyRetired g.number) (λ (g : PolicyUse). action.PolicyRetired g.number)
-              (is_to_retire (in_settling o) (with_open (in_settling o) s)) (is_to_retire o (with_open o s)) s.policies
-              (λ g e. retire_narrow (is_live_policy g) s.shut (is_pending g) (holds (λ (k : Kind). is_other_kind k g) (wanted_kind o s)) e) n.1.0,
+              (is_to_retire p (with_open p s)) (is_to_retire o (with_open o s)) s.policies
+              (λ g e. retire_narrow (is_live_policy g) s.shut (is_pending g) (holds (λ (k : Kind). is_other_kind k g) (wanted_kind p (with_open p s)))
+              (holds (λ (k : Kind). is_other_kind k g) (wanted_kind o (with_open o s))) (ap (holds (λ (k : Kind). is_other_kind k g)) unwanted) e) n.1.0,
           (
-            refl,
+            ap (option_and_then (begin_if (with_open p s))) unwanted,
             (
-              ap (option_map (λ (g : PolicyUse). action.AddressesGiven g.number)) (never (wants_addresses (in_settling o) (with_open (in_settling o) s)) s.policies (λ g e. no_and (is_live_policy g) _ e)),
+              ap (option_map (λ (g : PolicyUse). action.AddressesGiven g.number)) (never (wants_addresses p (with_open p s)) s.policies
+                  (λ g e. no_both (is_live_policy g) (holds (λ (k : Kind). is_same_kind g.generation.kind k) (wanted_kind p (with_open p s))) _
+                  (ap (holds (λ (k : Kind). is_same_kind g.generation.kind k)) unwanted) e)),
               n.1.1.1.1,
             ),
           ),
         ),
       )
 
-  calm_stays : IsCalm o (with_open o s) → IsCalm (in_settling o) (with_open (in_settling o) s)
+  pub calm_stays : IsCalm o (with_open o s) → IsCalm p (with_open p s)
   calm_stays c = record { calls = calls_stay c.calls; links = c.links; policies = policies_stay c.policies }
 
-follows_by : (a b c d : Option Action) (z : Action) → a ≡ None → b ≡ None → c ≡ None → d ≡ Some z → first_action (a ∷ b ∷ c ∷ d ∷ []) ≡ Some z
+pub follows_by : (a b c d : Option Action) (z : Action) → a ≡ None → b ≡ None → c ≡ None → d ≡ Some z → first_action (a ∷ b ∷ c ∷ d ∷ []) ≡ Some z
 follows_by a b c d z p q r e =
     ap (λ (w : Option Action). first_action (w ∷ b ∷ c ∷ d ∷ [])) p ∙ ap (λ (w : Option Action). first_action (w ∷ c ∷ d ∷ [])) q
     ∙ ap (λ (w : Option Action). first_action (w ∷ d ∷ [])) r ∙ ap (λ (w : Option Action). first_action (w ∷ [])) e
@@ -141,9 +174,10 @@ follows_by a b c d z p q r e =
 -- the agreement looks at the moment and the words of the open entry alone
 pub reopened : (x : StateSeen) (o p : OpenEntry) (s : Seen) → p.moment ≡ o.moment → p.word ≡ o.word → p.drawn ≡ o.drawn → Agrees x (with_open o s) → Agrees x (with_open p s)
 reopened x o p s moment word drawn h =
-    agrees_moved (with_open o s) s.entries (Some p) x h x.book.ledger.entry x.book.moment x.word x.drawn h.clock.entry_is
+    agrees_moved (with_open o s) s.entries (Some p) s.answered s.wants x h x.book.ledger.entry x.book.moment x.word x.drawn x.resolver x.unconfigured
+    h.clock.entry_is
     (record { entry_is = h.clock.entry_is; moment = moment ∙ h.clock.moment; draws = (word ∙ h.clock.draws.0, h.clock.draws.1 ∙ ap (λ (d : ℕ). d % 2 ^ 64) (sym drawn)) })
-    h.columns.links h.kept.ends h.kept.asks
+    h.configs.unconfigured h.columns.links h.kept.ends h.kept.asks
 
 -- so SettlingBegins follows, and leads to a point of the settling
 pub record Settles (x : StateSeen) (o : OpenEntry) (s : Seen) : Type 0 where
@@ -171,7 +205,7 @@ module _ (x : StateSeen) (o : OpenEntry) (s : Seen) (h : Agrees x s) (at : IsAt 
   follows = ap (option_and_then (following_in s)) at.current ∙ in_gives
 
   pub calm_after : IsCalm (in_settling o) (with_open (in_settling o) s)
-  calm_after = calm_stays o s calm_open
+  calm_after = calm_stays stage.Settling o.reply o s (record { cancelled = λ n. refl; sent = λ c z. refl; result = refl }) calm_open
 
   agrees_open : Agrees x (with_open o s)
   agrees_open = subst (Agrees x) (is_with_open o s at.current) h

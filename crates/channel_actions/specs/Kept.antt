@@ -7,6 +7,7 @@ use Rattle.std.specs.Prelude.{List, [], is_some, map, nat_le, suc, true, ℕ, �
 use Rattle.std.specs.Option.{option_map_or}
 use Rattle.session_actions.specs.Attempts.{call_of}
 use Rattle.session_actions.specs.Entries.{entry}
+use Rattle.session_actions.specs.Words.{numbered}
 use Rattle.session_actions.specs.declared.seen.Seen.{Seen}
 
 -- numbers from one on
@@ -20,6 +21,8 @@ pub record IsKept (s : Seen) : Type 0 where
   pub links : AreCounted 1 (map (λ l. l.number) s.links)
   -- each attempt is of a call
   pub owned : list_all (λ a. is_some (call_of a s)) s.attempts ≡ true
+  -- and each link of a subchannel
+  pub dialled : list_all (λ l. is_some (numbered s.subs l.sub)) s.links ≡ true
   -- nothing is stamped with an entry that is still to come
   pub ends : list_all (λ a. option_map_or (λ e. nat_le e.entry (entry s)) a.row.ended true) s.attempts ≡ true
   pub asks : list_all (λ k. nat_le k.entry (entry s)) s.asks ≡ true

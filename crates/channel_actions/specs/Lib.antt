@@ -1,6 +1,7 @@
 pub mod Agrees
 pub mod Calls
 pub mod Calm
+pub mod Cases
 pub mod Clock
 pub mod Columns
 pub mod Configs

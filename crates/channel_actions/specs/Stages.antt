@@ -4,7 +4,8 @@
 -- EventRefused with CallEnded; `Settlings` has what is due.
 use Rattle.std.specs.Prelude.{None, Option, Some, [], ℕ, length, max, ◌+◌, ◌≡◌}
 use Rattle.channel_actions.specs.Agrees.{Agrees}
-use Rattle.channel_actions.specs.Calm.{IsAt}
+use Rattle.channel_actions.specs.Calm.{AreCalm, IsAt}
+use Rattle.channel_actions.specs.Kept.{IsKept}
 use Rattle.channel_actions.specs.Points.{Reaches, Rests}
 use Rattle.channel_core.specs.Applying.{AnswersBy, begun_at, refusal_of}
 use Rattle.channel_core.specs.Settling.{settled}
@@ -69,3 +70,8 @@ Settlings = SettlingsOf (λ x s. Unit {0})
 abbrev pub Closings : Type 0
 Closings =
     (x : StateSeen) (o : OpenEntry) (s : Seen) → Agrees x s → IsAt stage.Settling o s → following s ≡ Some action.EntryCloses → Rests x (entry_made o s)
+
+-- of the session alone: where an entry that settled closes, nothing follows at once in the next one. (What a line gives hangs on neither the clock nor
+-- the stamp of a link; a reset and the answer of a pick are of their own entry.)
+abbrev pub ClosingsAreCalm : Type 0
+ClosingsAreCalm = (o : OpenEntry) (s : Seen) → IsAt stage.Settling o s → IsKept s → AreCalm (entry_made o s)
