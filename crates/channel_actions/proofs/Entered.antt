@@ -70,7 +70,7 @@ module _ (states : StatesAreSame) (openings : Openings) (deadlines : Deadlines) 
   timely : IsTimely begun start first
   timely =
       deadlines begun start first (openings x s e.moment e.word e.event h)
-      (record { current = refl; stage_is = refl; calm = h.calm e.moment e.word e.event })
+      (record { current = refl; stage_is = refl; calm = h.calm e.moment e.word e.event }) tt
 
   answers : AnswersBy (refusal_of timely.reaches.entry.event (overdue_ended begun)) timely.reaches.entry.event (overdue_ended begun) step.answered r
   answers =
@@ -123,7 +123,7 @@ module _ (states : StatesAreSame) (openings : Openings) (deadlines : Deadlines) 
       ∙ ap (λ (w : ℕ). entry_as (max e.moment (last_moment s)) w last_entry.event (unwrap_or last_entry.reply reply.Done) (channel_state last_seen)) same_last.word
       ∙ ap (λ (v : Event). entry_as (max e.moment (last_moment s)) e.word v (unwrap_or last_entry.reply reply.Done) (channel_state last_seen)) same_last.event
       ∙ ap (λ (o : Option Reply). entry_as (max e.moment (last_moment s)) e.word e.event (unwrap_or o reply.Done) (channel_state last_seen)) reply_last
-      ∙ ap (entry_as (max e.moment (last_moment s)) e.word e.event r) (states_agree states y last_seen agrees_last)
+      ∙ ap (entry_as (max e.moment (last_moment s)) e.word e.event r) (states_agree y last_seen agrees_last states)
 
   abbrev inner : List Action
   inner = timely.reaches.actions ++ (answered.reaches.actions ++ (settling_begins.reaches.actions ++ done.reaches.actions))

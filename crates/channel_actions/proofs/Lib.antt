@@ -1,9 +1,13 @@
 pub mod Answering
 pub mod Closing
+pub mod Dialling
 pub mod Does
 pub mod Entered
 pub mod Fresh
 pub mod Gone
+pub mod Idle
+pub mod IdleCalls
+pub mod IdleNet
 pub mod Lines
 pub mod Moved
 pub mod Opening
@@ -15,3 +19,4 @@ pub mod Running
 pub mod Settles
 pub mod Stamps
 pub mod States
+pub mod Timely

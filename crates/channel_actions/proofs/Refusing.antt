@@ -1,13 +1,7 @@
 -- What the channel refuses by itself is refused by the session, for the same reason: Shut, NoSuchCall, NoSuchLink, LinkGone, RoomTooSmall.
 use Rattle.std.proofs.Common.{◌≡◌, ◌&&◌, ◌∷◌, ap, refl, subst, sym, ◌∙◌, Bool, true, false, List, [], Option, None, Some, ℕ, zero, suc, if◌then◌else◌, not, is_some, slice_get, length}
 use Rattle.std.specs.Prelude.{nat_lt}
-use Rattle.channel_actions.proofs.Answering.{answered_plainly, refused, replied_entry}
-use Rattle.channel_actions.proofs.Settles.{IsQuiet, with_open}
-use Rattle.session_actions.specs.Actions.{after_if}
-use Rattle.session_actions.specs.CallEnds.{cancels, sends_too_long}
-use Rattle.session_actions.specs.Events.{frame_of_event}
-use Rattle.session_actions.specs.Policies.{addresses_in}
-use Rattle.session_actions.specs.declared.action.Action.TheVariants as action
+use Rattle.channel_actions.proofs.Answering.{answered_so, refused_so}
 use Rattle.channel_core.specs.declared.state.links.LinkSlot.{LinkSlot}
 use Rattle.channel_actions.specs.Cases.{IsRefused, IsTick}
 use Rattle.channel_actions.proofs.Gone.{gone_same}
@@ -139,18 +133,11 @@ module _ (x : StateSeen) (s : Seen) (h : Agrees x s) where
   refusals_same (event.Ping link word) why k = unless_shut (event.Ping link word) why k
 
 -- so such an event is refused by both
-refused_by : (x y : StateSeen) (r : Reply) (o : OpenEntry) (s : Seen) (why : Refusal) → channel.refusal_of o.event x ≡ Some why → Agrees x s → IsAt stage.Event o s
-    → o.turn ≡ None → next_deadline s ≡ None → AnswersBy (channel.refusal_of o.event x) o.event x y r → IsAnswered y r o s
-refused_by x y r o s why e h at fresh timely answers =
-    let given : AnswersBy (Some why) o.event x y r = subst (λ (z : Option Refusal). AnswersBy z o.event x y r) e answers in
-    let one : IsAnswered x (reply.Refused why) o s
-    = refused x why o s h at fresh timely (ap (λ (z : Option Refusal). event_action_by z o.event s) (refusals_same x s h o.event why e)) in
-    subst (λ (z : StateSeen). IsAnswered z r o s) (sym given.0) (subst (λ (z : Reply). IsAnswered x z o s) (sym given.1) one)
-
 refused_if_some : (x y : StateSeen) (r : Reply) (o : OpenEntry) (s : Seen) (z : Option Refusal) → channel.refusal_of o.event x ≡ z → is_some z ≡ true → Agrees x s
-    → IsAt stage.Event o s → o.turn ≡ None → next_deadline s ≡ None → AnswersBy (channel.refusal_of o.event x) o.event x y r → IsAnswered y r o s
+    → IsAt stage.Event o s → o.turn ≡ None → next_deadline s ≡ None → AnswersBy z o.event x y r → IsAnswered y r o s
 refused_if_some x y r o s None e some h at fresh timely answers = absurd (cc)
-refused_if_some x y r o s (Some why) e some h at fresh timely answers = refused_by x y r o s why e h at fresh timely answers
+refused_if_some x y r o s (Some why) e some h at fresh timely answers =
+    refused_so x y r why o s h at fresh timely (ap (λ (z : Option Refusal). event_action_by z o.event s) (refusals_same x s h o.event why e)) answers.0 answers.1
 
 pub refused_events : EventsAnswered IsRefused
 refused_events x y r o s h at fresh timely some answers = refused_if_some x y r o s (channel.refusal_of o.event x) refl some h at fresh timely answers
@@ -159,14 +146,5 @@ refused_events x y r o s h at fresh timely some answers = refused_if_some x y r 
 pub ticks : EventsAnswered IsTick
 ticks x y r o s h at fresh timely is answers =
     let given : (y ≡ x) × (r ≡ reply.Done) = subst (λ (e : Event). AnswersBy (channel.refusal_of e x) e x y r) is answers in
-    let gives : event_action o.event s ≡ Some (action.EventAnswered reply.Done) = ap (λ (e : Event). event_action e s) is in
-    let quiet : IsQuiet (replied_entry reply.Done o) = record {
-      cancelled = λ n. ap (λ (e : Event). cancels e n) is;
-      sent = λ c z. ap (λ (e : Event). sends_too_long e c z) is;
-      result = ap addresses_in is;
-    } in
-    let one : IsAnswered x reply.Done o s
-    = answered_plainly x reply.Done o s h at fresh timely (action.EventAnswered reply.Done) gives (λ e. e) refl
-    (ap (λ (c : Option OpenEntry). after_if c (action.EventAnswered reply.Done) s) at.current) quiet
-    (ap (λ (e : Event). frame_of_event e (replied_entry reply.Done o) (with_open (replied_entry reply.Done o) s)) is) in
-    subst (λ (z : StateSeen). IsAnswered z r o s) (sym given.0) (subst (λ (z : Reply). IsAnswered x z o s) (sym given.1) one)
+    answered_so x y r reply.Done o s event.Tick h at fresh timely is
+    (record { cancels_none = λ n. refl; sends_none = λ c z. refl; no_result = refl; no_frame = λ p z. refl }) refl given.0 given.1

@@ -14,7 +14,7 @@ use Rattle.attempt_ledger.specs.declared.row.Row.{Row}
 use Rattle.channel_actions.proofs.Does.{does_on, posted_on}
 use Rattle.channel_actions.proofs.Entered.{Enters, entered, entry_as}
 use Rattle.channel_actions.proofs.Opening.{noted_is}
-use Rattle.channel_actions.specs.Laws.{HadRoom, IsSession, NewChannelsAgree, RunsAreSessions, is_room}
+use Rattle.channel_actions.specs.Laws.{ClosingsCome, HadRoom, IsSession, NewChannelsAgree, RunsAreSessions, is_room}
 use Rattle.channel_actions.specs.Points.{Rests}
 use Rattle.channel_actions.specs.Stages.{Closings, Deadlines, Events, Openings, Settlings}
 use Rattle.channel_core.specs.Applying.{Stepped, conn_of, new_state}
@@ -142,10 +142,10 @@ recorded x s h =
     ∙ ap (λ (z : List LinkSeen). made l.rows l.calls l.asks l.generations z (length s.entries)) links
     ∙ ap (made l.rows l.calls l.asks l.generations l.links) number
 
-pub runs_are_sessions : StatesAreSame → NewChannelsAgree → RunsAreSessions
-runs_are_sessions states news openings deadlines events_ settlings closings setup policies alloc events new core kinds ready is_new runs room =
+pub runs_are_sessions : StatesAreSame → NewChannelsAgree → Openings → ClosingsCome → RunsAreSessions
+runs_are_sessions states news openings closings deadlines events_ settlings calm setup policies alloc events new core kinds ready is_new runs room =
     let begins : Rests new.state (new_session setup) = subst (λ (x : StateSeen). Rests x (new_session setup)) (sym is_new.state) (news setup policies alloc kinds ready) in
-    let ran = run states openings deadlines events_ settlings closings events new core (new_session setup) begins (sym is_new.journal) runs room in
+    let ran = run states openings deadlines events_ settlings (closings calm) events new core (new_session setup) begins (sym is_new.journal) runs room in
     record {
       consistent = record {
         actions = ran.actions;

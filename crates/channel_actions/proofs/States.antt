@@ -15,7 +15,7 @@ use Rattle.session_actions.specs.declared.config.HeldConfig.{HeldConfig}
 use Rattle.session_actions.specs.declared.policy.PolicyUse.{PolicyUse}
 use Rattle.session_actions.specs.declared.seen.Seen.{Seen}
 
-module _ (states : StatesAreSame) (x : StateSeen) (s : Seen) (h : Agrees x s) where
+module _ (x : StateSeen) (s : Seen) (h : Agrees x s) where
   idle_or : Bool → Conn
   idle_or b = if b then conn.Failure else conn.Idle
 
@@ -34,29 +34,30 @@ module _ (states : StatesAreSame) (x : StateSeen) (s : Seen) (h : Agrees x s) wh
   and_yes true b e = e
   and_yes false b e = refl
 
-  unconfigured : x.held ≡ None → is_unconfigured s ≡ x.unconfigured
+  pub unconfigured : x.held ≡ None → is_unconfigured s ≡ x.unconfigured
   unconfigured none = and_yes s.answered (is_none (held_config s)) (none_held (held_config s) refl none) ∙ h.configs.unconfigured none
 
-  by_policy : (o : Option PolicyUse) → current_policy s ≡ o → s.shut ≡ false
-      → option_map_or (λ (g : PolicyUse). policy_state g s) (current_policy s) (if is_unconfigured s then conn.Failure else conn.Idle) ≡ conn_without x.unconfigured (net_state x.net)
-  by_policy None e unshut =
-      let held : x.held ≡ None = unheld x.held refl unshut e in
-      let same : net_state x.net ≡ None = sym (states s x.net h.net) ∙ ap (option_map (λ (g : PolicyUse). policy_state g s)) e in
-      ap (λ (o : Option PolicyUse). option_map_or (λ (g : PolicyUse). policy_state g s) o (if is_unconfigured s then conn.Failure else conn.Idle)) e
-      ∙ ap (λ (b : Bool). if b then conn.Failure else conn.Idle) (unconfigured held) ∙ sym (ap (conn_without x.unconfigured) same)
-  by_policy (Some g) e unshut =
-      let same : net_state x.net ≡ Some (policy_state g s) = sym (states s x.net h.net) ∙ ap (option_map (λ (g : PolicyUse). policy_state g s)) e in
-      ap (λ (o : Option PolicyUse). option_map_or (λ (g : PolicyUse). policy_state g s) o (if is_unconfigured s then conn.Failure else conn.Idle)) e
-      ∙ sym (ap (conn_without x.unconfigured) same)
+  module _ (states : StatesAreSame) where
+    by_policy : (o : Option PolicyUse) → current_policy s ≡ o → s.shut ≡ false
+        → option_map_or (λ (g : PolicyUse). policy_state g s) (current_policy s) (if is_unconfigured s then conn.Failure else conn.Idle) ≡ conn_without x.unconfigured (net_state x.net)
+    by_policy None e unshut =
+        let held : x.held ≡ None = unheld x.held refl unshut e in
+        let same : net_state x.net ≡ None = sym (states s x.net h.net) ∙ ap (option_map (λ (g : PolicyUse). policy_state g s)) e in
+        ap (λ (o : Option PolicyUse). option_map_or (λ (g : PolicyUse). policy_state g s) o (if is_unconfigured s then conn.Failure else conn.Idle)) e
+        ∙ ap (λ (b : Bool). if b then conn.Failure else conn.Idle) (unconfigured held) ∙ sym (ap (conn_without x.unconfigured) same)
+    by_policy (Some g) e unshut =
+        let same : net_state x.net ≡ Some (policy_state g s) = sym (states s x.net h.net) ∙ ap (option_map (λ (g : PolicyUse). policy_state g s)) e in
+        ap (λ (o : Option PolicyUse). option_map_or (λ (g : PolicyUse). policy_state g s) o (if is_unconfigured s then conn.Failure else conn.Idle)) e
+        ∙ sym (ap (conn_without x.unconfigured) same)
 
-  by_shut : (b : Bool) → s.shut ≡ b → channel_state s ≡ conn_of x
-  by_shut true e =
-      ap (λ (b : Bool). if b then conn.Shutdown else option_map_or (λ (g : PolicyUse). policy_state g s) (current_policy s) (if is_unconfigured s then conn.Failure else conn.Idle)) e
-      ∙ sym (ap (λ (b : Bool). if b then conn.Shutdown else conn_without x.unconfigured (net_state x.net)) (sym h.configs.shut ∙ e))
-  by_shut false e =
-      ap (λ (b : Bool). if b then conn.Shutdown else option_map_or (λ (g : PolicyUse). policy_state g s) (current_policy s) (if is_unconfigured s then conn.Failure else conn.Idle)) e
-      ∙ by_policy (current_policy s) refl e
-      ∙ sym (ap (λ (b : Bool). if b then conn.Shutdown else conn_without x.unconfigured (net_state x.net)) (sym h.configs.shut ∙ e))
+    by_shut : (b : Bool) → s.shut ≡ b → channel_state s ≡ conn_of x
+    by_shut true e =
+        ap (λ (b : Bool). if b then conn.Shutdown else option_map_or (λ (g : PolicyUse). policy_state g s) (current_policy s) (if is_unconfigured s then conn.Failure else conn.Idle)) e
+        ∙ sym (ap (λ (b : Bool). if b then conn.Shutdown else conn_without x.unconfigured (net_state x.net)) (sym h.configs.shut ∙ e))
+    by_shut false e =
+        ap (λ (b : Bool). if b then conn.Shutdown else option_map_or (λ (g : PolicyUse). policy_state g s) (current_policy s) (if is_unconfigured s then conn.Failure else conn.Idle)) e
+        ∙ by_policy (current_policy s) refl e
+        ∙ sym (ap (λ (b : Bool). if b then conn.Shutdown else conn_without x.unconfigured (net_state x.net)) (sym h.configs.shut ∙ e))
 
-  pub states_agree : channel_state s ≡ conn_of x
-  states_agree = by_shut s.shut refl
+    pub states_agree : channel_state s ≡ conn_of x
+    states_agree = by_shut s.shut refl

@@ -3,8 +3,9 @@
 -- EventAnswered, SettlingBegins, EntryCloses.
 use Rattle.std.specs.Prelude.{List, Some, [], length, nat_le, nat_lt, true, ℕ, ◌&&◌, ◌++◌, ◌+◌, ◌∷◌, ◌≡◌, Bool}
 use Rattle.std.specs.Global.{Global}
+use Rattle.channel_actions.specs.Cases.{IsIdle, IsInTime, IsNoDial, IsRefused, IsRefusedDial, IsTick, IsUnresolved}
 use Rattle.channel_actions.specs.Points.{Rests}
-use Rattle.channel_actions.specs.Stages.{Closings, Deadlines, Events, Openings, Settlings}
+use Rattle.channel_actions.specs.Stages.{Closings, ClosingsAreCalm, Deadlines, DeadlinesOf, Events, EventsAnswered, Openings, Settlings, SettlingsOf}
 use Rattle.channel_core.specs.Applying.{new_state}
 use Rattle.channel_core.specs.Core.{CoreSeen, IsNewBy, Runs, ledger_in}
 use Rattle.grpc_base.specs.Posts.{event_bytes}
@@ -40,7 +41,35 @@ pub record IsSession (setup : Setup) (events : List Stamped) (core : CoreSeen) :
 
 abbrev pub RunsAreSessions : Type 0
 RunsAreSessions =
-    Openings → Deadlines → Events → Settlings → Closings
+    Deadlines → Events → Settlings → ClosingsAreCalm
     → (setup : Setup) (policies : List PolicySeen) (alloc : Global) (events : List Stamped) (new core : CoreSeen)
     → AreKinds setup.policies policies → are_ready policies ≡ true → IsNewBy alloc setup.authority policies new → Runs new events core
     → HadRoom [] core.journal.entries → IsSession setup events core
+
+-- an entry closes, where the session is calm after it
+abbrev pub ClosingsCome : Type 0
+ClosingsCome = ClosingsAreCalm → Closings
+
+-- What is proved of the stages, case by case.
+-- Events: what the channel refuses before it looks at a call or a subchannel; a Tick; a resolution that failed; a dial where none is to be made, and dials
+-- that are refused. Deadlines: none has come. Settlings: nothing is due
+abbrev pub RefusalsAreAnswered : Type 0
+RefusalsAreAnswered = EventsAnswered IsRefused
+
+abbrev pub TicksAreAnswered : Type 0
+TicksAreAnswered = EventsAnswered IsTick
+
+abbrev pub FailedResolutionsAreAnswered : Type 0
+FailedResolutionsAreAnswered = EventsAnswered IsUnresolved
+
+abbrev pub NoDialsAreAnswered : Type 0
+NoDialsAreAnswered = EventsAnswered IsNoDial
+
+abbrev pub RefusedDialsAreAnswered : Type 0
+RefusedDialsAreAnswered = EventsAnswered IsRefusedDial
+
+abbrev pub DeadlinesAreAhead : Type 0
+DeadlinesAreAhead = DeadlinesOf IsInTime
+
+abbrev pub NothingIsDue : Type 0
+NothingIsDue = SettlingsOf IsIdle

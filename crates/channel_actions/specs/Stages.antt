@@ -35,8 +35,11 @@ pub record IsTimely (x : StateSeen) (o : OpenEntry) (s : Seen) : Type 0 where
   pub fresh : reaches.entry.turn ≡ o.turn
   pub none : next_deadline reaches.seen ≡ None
 
+abbrev pub DeadlinesOf : (StateSeen → Seen → Type 0) → Type 0
+DeadlinesOf Case = (x : StateSeen) (o : OpenEntry) (s : Seen) → Agrees x s → IsAt stage.Event o s → Case x s → IsTimely x o s
+
 abbrev pub Deadlines : Type 0
-Deadlines = (x : StateSeen) (o : OpenEntry) (s : Seen) → Agrees x s → IsAt stage.Event o s → IsTimely x o s
+Deadlines = DeadlinesOf (λ x s. Unit {0})
 
 -- the event is answered, or refused; and of a piece each whole frame is read, of a drain each frame that fits is written
 pub record IsAnswered (y : StateSeen) (r : Reply) (o : OpenEntry) (s : Seen) : Type 0 where

@@ -3,4 +3,7 @@
 
 mod laws;
 
-pub use laws::{new_channels_are_new_sessions, runs_are_sessions};
+pub use laws::{
+    entries_open_and_close, new_channels_are_new_sessions, nothing_due_stays,
+    plain_events_are_answered, runs_are_sessions,
+};
