@@ -8,6 +8,7 @@ use Rattle.std.specs.Prelude.{map, nat_le}
 use Rattle.attempt_ledger.specs.declared.ledger.Ask.{Ask}
 use Rattle.attempt_ledger.specs.declared.ledger.LinkSeen.{LinkSeen}
 use Rattle.attempt_ledger.specs.declared.row.RowEnd.{RowEnd}
+use Rattle.channel_actions.proofs.Dues.{due_same, in_dues_same}
 use Rattle.channel_actions.proofs.Moved.{agrees_moved}
 use Rattle.channel_actions.proofs.Opening.{noted_is, stamp}
 use Rattle.channel_actions.proofs.Relinked.{order_relinked, reader_relinked, serves_relinked, streams_relinked, turn_relinked}
@@ -92,7 +93,7 @@ module _ (x : StateSeen) (s : Seen) (h : Agrees x s) where
       serves = serves_relinked s ls g w is c (lent_to x s k.slot) (reads_kept k.sees.serves.reads) k.sees.serves;
       order = order_relinked s ls g w is c k.sees.order;
       turn = turn_relinked s ls g w is c k.sees.turn;
-      due = k.sees.due;
+      due = due_same s s.entries s.current s.answered s.wants ls c ∙ k.sees.due;
       deadline_is = k.sees.deadline_is;
     };
   }
@@ -151,7 +152,7 @@ module _ (x : StateSeen) (s : Seen) (h : Agrees x s) where
     sets = record {
       queue = h.sets.queue;
       patient = h.sets.patient;
-      dues = h.sets.dues;
+      dues = record { rising = h.sets.dues.rising; exact = λ m n. h.sets.dues.exact m n ∙ sym (in_dues_same s s.entries s.current s.answered s.wants ls m n) };
       deadlines = h.sets.deadlines;
       bare = h.sets.bare;
       impatient = h.sets.impatient;

@@ -2,7 +2,7 @@
 use Rattle.std.proofs.Common.{◌≡◌, ◌&&◌, ◌+◌, ◌||◌, ◌∷◌, ◌⊎◌, inl, inr, ap, refl, subst, sym, ◌∙◌, Bool, true, false, List, [], Option, None, Some, ℕ, zero, suc, if◌then◌else◌, not, is_none, is_some, slice_get}
 use Rattle.channel_actions.proofs.Answering.{IsPlain, answered_so, event_next, plain_frame, plain_quiet, refused_so, replied_entry, replied_is}
 use Rattle.channel_actions.proofs.Moved.{agrees_moved}
-use Rattle.channel_actions.proofs.Settles.{calm_stays, is_with_open, with_open}
+use Rattle.channel_actions.proofs.Settles.{calm_answered, calm_stays, is_with_open, with_open}
 use Rattle.channel_actions.specs.Agrees.{Agrees}
 use Rattle.channel_actions.specs.Calm.{IsAt, IsCalm}
 use Rattle.channel_actions.specs.Cases.{IsNoDial, IsRefusedDial, IsUnresolved}
@@ -188,7 +188,7 @@ module _ (x y : StateSeen) (r : Reply) (o : OpenEntry) (s : Seen) (h : Agrees x 
         current = refl;
         stage_is = refl;
         calm = calm_stays stage.Replied (Some reply.Done) o t (plain_quiet reply.Done o event.ResolveFailed case.event_is is_plain)
-            (record { calls = calm_open.calls; links = calm_open.links; policies = calm_open.policies });
+            (calm_answered o s true false calm_open);
       };
       agrees = agrees_now;
     };

@@ -46,7 +46,10 @@ and_less : (a b : Bool) → false ≡ a → false ≡ (a && b)
 and_less true b e = absurd (cc)
 and_less false b e = refl
 
-none_or_none : (b : Bool) → option_or (if b then None else None {A = Action}) None ≡ None
+abbrev nothing : Option Action
+nothing = None
+
+none_or_none : (b : Bool) → option_or (if b then nothing else nothing) nothing ≡ nothing
 none_or_none true = refl
 none_or_none false = refl
 
@@ -76,7 +79,7 @@ module _ (setup : Setup) (policies : List PolicySeen) (alloc : Global) where
       dues = record { rising = tt; exact = λ a b. nothing_by (holds (λ (c : Call). is_number a (due_of s c))) refl b };
       deadlines = record { rising = tt; exact = λ a b. nothing_by (holds (λ (c : Call). is_number a (deadline_of s c))) refl b };
       bare = record { rising = tt; exact = λ a b. and_never (a == 0) _ (sym (nothing_by (holds (λ (c : Call). is_open_call c && is_none c.config)) refl b)) };
-      impatient = record { rising = tt; exact = λ a b. nothing_by (λ (o : Option Attempt). holds (λ (q : Attempt). (q.row.call == a) && is_queued q s) o && is_patient s a) refl b };
+      impatient = record { rising = tt; exact = λ a b. and_less ((a == 0) && holds (λ (c : Call). is_open_call c && is_none c.config) (numbered [] b)) (not (is_patient s b)) (and_never (a == 0) _ (sym (nothing_by (holds (λ (c : Call). is_open_call c && is_none c.config)) refl b))) };
       outstanding = record { rising = tt; exact = λ a b. nothing_by (holds (λ (q : Attempt). is_outstanding q && (link_number q == a))) refl b };
       resets = refl;
     };

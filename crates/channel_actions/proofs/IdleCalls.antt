@@ -67,7 +67,7 @@ and_false : (a b : Bool) → b ≡ true → (a && b) ≡ false → a ≡ false
 and_false true b e f = absurd (cc)
 and_false false b e f = refl
 
-equal_moment : (n m : ℕ) → (n == m) ≡ true → n ≡ m
+pub equal_moment : (n m : ℕ) → (n == m) ≡ true → n ≡ m
 equal_moment n m h = grind (arith, nat_tests)
 
 -- none of a list passes a test
@@ -80,7 +80,7 @@ filter_none p [] i x h e = absurd (cc)
 filter_none p (y ∷ xs) zero x h e = let one : y ≡ x = (cc) in ap p (sym one) ∙ (kept_none p y xs (p y) refl h).0
 filter_none p (y ∷ xs) (suc i) x h e = filter_none p xs i x (kept_none p y xs (p y) refl h).1 e
 
-filter_none_at : {X : Type 0} (p : X → Bool) (xs : List X) (n : ℕ) (x : X) → filter p xs ≡ [] → numbered xs n ≡ Some x → p x ≡ false
+pub filter_none_at : {X : Type 0} (p : X → Bool) (xs : List X) (n : ℕ) (x : X) → filter p xs ≡ [] → numbered xs n ≡ Some x → p x ≡ false
 filter_none_at p xs zero x h e = absurd (cc)
 filter_none_at p xs (suc i) x h e = filter_none p xs i x h e
 
@@ -228,8 +228,8 @@ module _ (x : StateSeen) (s : Seen) (h : Agrees x s) (idle : IsIdle x s) where
         (λ call row in_set. waiting_none ready call row (numbered s.attempts row) refl (and_parts (is_waiting s call row) (is_patient s call) in_set).0)
 
     unpatient : (a : Attempt) (o : Option Call) → is_some o ≡ true → not (holds (λ (c : Call). waits_for_ready c s) o) ≡ true → holds (λ (c : Call). not (waits_for_ready c s)) o ≡ true
-    unpatient a None some no = absurd (cc)
-    unpatient a (Some c) some no = no
+    unpatient a None some waits = absurd (cc)
+    unpatient a (Some c) some waits = waits
 
     failing_by : (policy_state g s ≡ conn.Failure) → (a : Attempt) (n : ℕ) → numbered s.attempts n ≡ Some a → is_queued a s ≡ true → (call : ℕ) → (a.row.call == call) ≡ true
         → not (is_patient s call) ≡ true → is_served_by (policy_state g s) a s ≡ true

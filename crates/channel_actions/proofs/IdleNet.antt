@@ -11,7 +11,7 @@ use Rattle.channel_net.specs.Stamps.{activated_live, retired_live}
 use Rattle.channel_net.specs.Steps as net
 use Rattle.channel_net.specs.Steps.{NetLeft, NetSeen, clock_round, clock_rounds, clocked_at, clocks_left, connect_rounds, connected_at, first_wished, idle_count, left_of, net_clocked, settle_round, taken_over_stamps}
 use Rattle.net_actions.specs.Laws.{ClockChanges, TakeOversAreSame, WishesConnect, TimesOut, EndsBackoff}
-use Rattle.policy_rack.specs.Steps.{may_follow, may_take_over, state_in}
+use Rattle.policy_rack.specs.Steps.{live_of, may_follow, may_take_over, state_in}
 use Rattle.policy_rack.specs.declared.live.Live.{Live}
 use Rattle.session_actions.specs.Entries.{now}
 use Rattle.session_actions.specs.Policies.{next_take_over}
@@ -90,8 +90,8 @@ module _ (clocks : ClockChanges) (overs : TakeOversAreSame) (wishes : WishesConn
 
   stamps_not : (generations : List Generation) → taken_over_stamps x.book.ledger.entry x.net generations ≡ generations
   stamps_not generations =
-      ap (λ (b : Bool). if b then activated_live x.book.ledger.entry (net.live_of x.net.asker.rack.policies x.net.asker.rack.pending)
-      (retired_live x.book.ledger.entry (net.live_of x.net.asker.rack.policies x.net.asker.rack.current) generations) else generations) may_not
+      ap (λ (b : Bool). if b then activated_live x.book.ledger.entry (live_of x.net.asker.rack.policies x.net.asker.rack.pending)
+      (retired_live x.book.ledger.entry (live_of x.net.asker.rack.policies x.net.asker.rack.current) generations) else generations) may_not
 
   all_stamps_not : net.settled_stamps x.book.ledger.entry x.net x.book.ledger.generations ≡ x.book.ledger.generations
   all_stamps_not =

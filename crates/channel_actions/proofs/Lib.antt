@@ -2,6 +2,7 @@ pub mod Answering
 pub mod Closing
 pub mod Dialling
 pub mod Does
+pub mod Dues
 pub mod Entered
 pub mod Fresh
 pub mod Gone

@@ -5,8 +5,9 @@ use Rattle.std.specs.Option.{option_map_or}
 use Rattle.std.specs.Prelude.{length, nat_le}
 use Rattle.attempt_ledger.specs.declared.ledger.Ledger.{Ledger}
 use Rattle.call_actions.specs.Order.{IsInOrder, IsInTurn}
-use Rattle.call_actions.specs.Sees.{AreAttempts, Sees}
+use Rattle.call_actions.specs.Sees.{AreAttempts, AreDue, Sees}
 use Rattle.call_core.specs.Steps.{Stepped}
+use Rattle.channel_actions.proofs.Dues.{due_same, in_dues_same, state_same}
 use Rattle.channel_actions.proofs.Lines.{streams_moved}
 use Rattle.channel_actions.specs.Agrees.{Agrees}
 use Rattle.channel_actions.specs.Calls.{HasSlot, SeesCall, SeesCalls, lent_to}
@@ -25,6 +26,7 @@ use Rattle.session_actions.specs.Entries.{entry}
 use Rattle.session_actions.specs.Words.{numbered}
 use Rattle.session_actions.specs.declared.attempt.Attempt.{Attempt}
 use Rattle.session_actions.specs.declared.call.Call.{Call}
+use Rattle.session_actions.specs.declared.due.DueState.{DueState}
 use Rattle.session_actions.specs.declared.entry.OpenEntry.{OpenEntry}
 use Rattle.session_actions.specs.declared.link.Link.{Link}
 use Rattle.session_actions.specs.declared.seen.Seen.{Seen}
@@ -50,7 +52,7 @@ module _ (s : Seen) (entries : List Entry) (current : Option OpenEntry) (answere
   attempts_moved : (c : Call) (x : Stepped) → AreAttempts s c x.call.attempts → AreAttempts t c x.call.attempts
   attempts_moved c x a = record {
     sent = a.sent;
-    due = a.due;
+    due = subst (λ (z : DueState). AreDue z x.call.attempts) (sym (state_same s entries current answered wants s.links c)) a.due;
     unplaced = a.unplaced;
     delayed = a.delayed;
     last = a.last;
@@ -94,7 +96,13 @@ module _ (s : Seen) (entries : List Entry) (current : Option OpenEntry) (answere
   }
 
   order_moved : (c : Call) → IsInOrder s c → IsInOrder t c
-  order_moved c h = record { places = h.places; marks = h.marks; numbers = h.numbers; first = h.first; stops = h.stops }
+  order_moved c h = record {
+    places = h.places;
+    marks = h.marks;
+    numbers = h.numbers;
+    first = λ e. ap (λ (z : DueState). z.newest) (state_same s entries current answered wants s.links c) ∙ h.first e;
+    stops = λ e. ap (λ (z : DueState). z.stopped) (state_same s entries current answered wants s.links c) ∙ h.stops e;
+  }
 
   turn_moved : (c : Call) → IsInTurn s c → IsInTurn t c
   turn_moved c h = record { unfollowed = h.unfollowed; latest = h.latest; numbers = h.numbers; counted = h.counted }
@@ -118,7 +126,7 @@ module _ (s : Seen) (entries : List Entry) (current : Option OpenEntry) (answere
         serves = serves_moved c (lent_to x s k.slot) number e k.sees.serves;
         order = order_moved c k.sees.order;
         turn = turn_moved c k.sees.turn;
-        due = k.sees.due;
+        due = due_same s entries current answered wants s.links c ∙ k.sees.due;
         deadline_is = k.sees.deadline_is;
       };
     }
@@ -154,7 +162,7 @@ module _ (s : Seen) (entries : List Entry) (current : Option OpenEntry) (answere
       sets = record {
         queue = h.sets.queue;
         patient = h.sets.patient;
-        dues = h.sets.dues;
+        dues = record { rising = h.sets.dues.rising; exact = λ m n. h.sets.dues.exact m n ∙ sym (in_dues_same s entries current answered wants s.links m n) };
         deadlines = h.sets.deadlines;
         bare = h.sets.bare;
         impatient = h.sets.impatient;

@@ -88,7 +88,7 @@ alike true b f g = sym (f refl)
 alike false true f g = absurd (let bad : false ≡ true = g refl in (cc))
 alike false false f g = refl
 
-same_self : (p : ℕ × ℕ) → is_same p p ≡ true
+pub same_self : (p : ℕ × ℕ) → is_same p p ≡ true
 same_self p = grind (arith, nat_tests)
 
 same_link : (link row : ℕ) (p : ℕ × ℕ) → is_same (link, suc row) p ≡ true → is_of_link link p ≡ true

@@ -32,9 +32,9 @@ pub mapped_narrow : {X Y : Type 0} (f g : X → Y) (p q : X → Bool) (xs : List
 mapped_narrow f g p q xs narrow h = ap (option_map g) (find_narrow p q xs narrow (map_none f (find q xs) h))
 
 never_step : {X : Type 0} (p : X → Bool) (x : X) (xs : List X) (b : Bool) → p x ≡ b → (p x ≡ true → ⊥) → find p xs ≡ None → find p (x ∷ xs) ≡ None
-never_step p x xs true e no rest = absurd (no e)
-never_step p x xs false e no rest = ap (λ (z : Bool). cond z (Some x) (find p xs)) e ∙ rest
+never_step p x xs true e never_so rest = absurd (never_so e)
+never_step p x xs false e never_so rest = ap (λ (z : Bool). cond z (Some x) (find p xs)) e ∙ rest
 
 pub never : {X : Type 0} (p : X → Bool) (xs : List X) → ((x : X) → p x ≡ true → ⊥) → find p xs ≡ None
-never p [] no = refl
-never p (x ∷ xs) no = never_step p x xs (p x) refl (no x) (never p xs no)
+never p [] never_so = refl
+never p (x ∷ xs) never_so = never_step p x xs (p x) refl (never_so x) (never p xs never_so)

@@ -1,5 +1,5 @@
 -- What the channel refuses by itself is refused by the session, for the same reason: Shut, NoSuchCall, NoSuchLink, LinkGone, RoomTooSmall.
-use Rattle.std.proofs.Common.{◌≡◌, ◌&&◌, ◌∷◌, ap, refl, subst, sym, ◌∙◌, Bool, true, false, List, [], Option, None, Some, ℕ, zero, suc, if◌then◌else◌, not, is_some, slice_get, length}
+use Rattle.std.proofs.Common.{◌≡◌, ◌&&◌, ◌∷◌, ap, arith, refl, subst, sym, ◌∙◌, Bool, true, false, List, [], Option, None, Some, ℕ, zero, suc, if◌then◌else◌, not, is_some, slice_get, length}
 use Rattle.std.specs.Prelude.{nat_lt}
 use Rattle.channel_actions.proofs.Answering.{answered_so, refused_so}
 use Rattle.channel_core.specs.declared.state.links.LinkSlot.{LinkSlot}
@@ -65,7 +65,7 @@ module _ (x : StateSeen) (s : Seen) (h : Agrees x s) where
       → lacks_call (slot_at x.book n) ≡ Some why → f o ≡ Some why
   call_by f none n why None e lacks = none ∙ sym (ap lacks_call (none_numbered s.calls x.book.calls n h.calls.count e)) ∙ lacks
   call_by f none n why (Some c) e lacks =
-      absurd (let bad : None {A = Refusal} ≡ Some why = sym (ap lacks_call (h.calls.each n c e).there) ∙ lacks in (cc))
+      absurd (let bad : None ≡ Some why = sym (ap lacks_call (h.calls.each n c e).there) ∙ lacks in (cc))
 
   call_refused : (f : Option Call → Option Refusal) → f None ≡ Some refusal.NoSuchCall → (n : ℕ) (why : Refusal) → lacks_call (slot_at x.book n) ≡ Some why
       → f (numbered s.calls n) ≡ Some why

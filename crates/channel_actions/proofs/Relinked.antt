@@ -6,9 +6,10 @@ use Rattle.std.specs.Prelude.{map, option_and_then}
 use Rattle.attempt_buffer.specs.Buffers.{Buffered, taken_by, text_of}
 use Rattle.attempt_ledger.specs.declared.row.Placed.{Placed}
 use Rattle.call_actions.specs.Order.{IsInOrder, IsInTurn}
-use Rattle.call_actions.specs.Sees.{AreAttempts, Sees}
+use Rattle.call_actions.specs.Sees.{AreAttempts, AreDue, Sees}
 use Rattle.call_core.specs.Laws as channel
 use Rattle.call_core.specs.Steps.{Stepped}
+use Rattle.channel_actions.proofs.Dues.{state_same}
 use Rattle.channel_actions.specs.Readers.{IsReader, IsReaderOf}
 use Rattle.grpc_base.specs.declared.event.Reply.{Reply}
 use Rattle.grpc_frame.specs.Messages.{framed_all}
@@ -28,6 +29,7 @@ use Rattle.session_actions.specs.Reading.{used}
 use Rattle.session_actions.specs.Writing.{drained, streaming_on, waiting_on}
 use Rattle.session_actions.specs.declared.attempt.Attempt.{Attempt}
 use Rattle.session_actions.specs.declared.call.Call.{Call}
+use Rattle.session_actions.specs.declared.due.DueState.{DueState}
 use Rattle.session_actions.specs.declared.link.Link.{Link}
 use Rattle.session_actions.specs.declared.response.Response.{Response}
 use Rattle.session_actions.specs.declared.seen.Seen.{Seen}
@@ -91,7 +93,7 @@ module _ (s : Seen) (ls : List Link) (g : ℕ → Link → Option ℕ) (w : ℕ 
     attempts_relinked : (c : Call) (x : Stepped) → AreAttempts s c x.call.attempts → AreAttempts t c x.call.attempts
     attempts_relinked c x a = record {
       sent = a.sent;
-      due = a.due;
+      due = subst (λ (z : DueState). AreDue z x.call.attempts) (sym (state_same s s.entries s.current s.answered s.wants ls c)) a.due;
       unplaced = a.unplaced;
       delayed = a.delayed;
       last = a.last;
@@ -143,7 +145,13 @@ module _ (s : Seen) (ls : List Link) (g : ℕ → Link → Option ℕ) (w : ℕ 
     }
 
     pub order_relinked : (c : Call) → IsInOrder s c → IsInOrder t c
-    order_relinked c k = record { places = k.places; marks = k.marks; numbers = k.numbers; first = k.first; stops = k.stops }
+    order_relinked c k = record {
+      places = k.places;
+      marks = k.marks;
+      numbers = k.numbers;
+      first = λ e. ap (λ (z : DueState). z.newest) (state_same s s.entries s.current s.answered s.wants ls c) ∙ k.first e;
+      stops = λ e. ap (λ (z : DueState). z.stopped) (state_same s s.entries s.current s.answered s.wants ls c) ∙ k.stops e;
+    }
 
     pub turn_relinked : (c : Call) → IsInTurn s c → IsInTurn t c
     turn_relinked c k = record { unfollowed = k.unfollowed; latest = k.latest; numbers = k.numbers; counted = k.counted }

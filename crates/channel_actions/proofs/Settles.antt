@@ -4,6 +4,7 @@ use Rattle.std.proofs.lemmas.Bool.{and_parts}
 use Rattle.std.specs.List.{list_any}
 use Rattle.std.specs.Option.{option_map, option_or}
 use Rattle.std.specs.Prelude.{find, option_and_then}
+use Rattle.channel_actions.proofs.Dues.{next_final_same}
 use Rattle.channel_actions.proofs.Moved.{agrees_moved}
 use Rattle.channel_actions.proofs.Quiet.{find_narrow, mapped_narrow, never, or_both_none, or_parts_none}
 use Rattle.channel_actions.specs.Agrees.{Agrees}
@@ -111,32 +112,17 @@ module _ (st : Stage) (r : Option Reply) (o : OpenEntry) (s : Seen) (quiet : IsQ
   calls_stay : of_calls o (with_open o s) ≡ None → of_calls p (with_open p s) ≡ None
   calls_stay h =
       let n = all_none (lines_of_calls o (with_open o s)) h in
-      none_all (lines_of_calls p (with_open p s)) (
-        n.0,
-        (
-          n.1.0,
-          (
-            n.1.1.0,
-            (
-              n.1.1.1.0,
-              (
-                n.1.1.1.1.0,
-                (
-                  ap (option_map (λ (c : Call). action.CallEnds c.number ending.Cancelled))
-                      (never (is_cancelled p) s.calls (λ c e. no_and (is_open_call c) (is_after_event p) (cancels o.event c.number) (quiet.cancelled c.number) e)),
-                  (
-                    mapped_narrow (λ (c : Call). action.CallEnds c.number ending.Request) (λ (c : Call). action.CallEnds c.number ending.Request)
-                        (has_long_request p (with_open p s)) (has_long_request o (with_open o s)) s.calls
-                        (λ c e. request_narrow (is_open_call c) (list_any (λ m. is_too_long m c s) c.messages) (is_after_event o) (sends_too_long o.event c s)
-                        (is_after_event p && sends_too_long o.event c s) (quiet.sent c s) e) n.1.1.1.1.1.1.0,
-                    n.1.1.1.1.1.1.1,
-                  ),
-                ),
-              ),
-            ),
-          ),
-        ),
-      )
+      let final : next_final (with_open p s) ≡ None = next_final_same (with_open o s) s.entries (Some p) s.answered s.wants s.links ∙ n.1.1.1.1.0 in
+      let cancelled : next_ended ending.Cancelled (is_cancelled p) (with_open p s) ≡ None
+      = ap (option_map (λ (c : Call). action.CallEnds c.number ending.Cancelled))
+      (never (is_cancelled p) s.calls (λ c e. no_and (is_open_call c) (is_after_event p) (cancels o.event c.number) (quiet.cancelled c.number) e)) in
+      let request : next_ended ending.Request (has_long_request p (with_open p s)) (with_open p s) ≡ None
+      = mapped_narrow (λ (c : Call). action.CallEnds c.number ending.Request) (λ (c : Call). action.CallEnds c.number ending.Request)
+      (has_long_request p (with_open p s)) (has_long_request o (with_open o s)) s.calls
+      (λ c e. request_narrow (is_open_call c) (list_any (λ m. is_too_long m c s) c.messages) (is_after_event o) (sends_too_long o.event c (with_open o s))
+      (is_after_event p && sends_too_long o.event c (with_open p s)) (quiet.sent c (with_open p s)) e) n.1.1.1.1.1.1.0 in
+      let after = n.1.1.1.1.1.1.1 in
+      none_all (lines_of_calls p (with_open p s)) (n.0, (n.1.0, (n.1.1.0, (n.1.1.1.0, (final, (cancelled, (request, after)))))))
 
   unwanted : wanted_kind p (with_open p s) ≡ None
   unwanted = ap (λ (x : Option (List Address)). if is_some x then option_map (λ (h : HeldConfig). h.config.kind) (held_config s) else None) quiet.result
@@ -144,27 +130,36 @@ module _ (st : Stage) (r : Option Reply) (o : OpenEntry) (s : Seen) (quiet : IsQ
   policies_stay : of_policies o (with_open o s) ≡ None → of_policies p (with_open p s) ≡ None
   policies_stay h =
       let n = all_none (lines_of_policies o (with_open o s)) h in
-      none_all (lines_of_policies p (with_open p s)) (
-        n.0,
-        (
-          mapped_narrow (λ (g : PolicyUse). action.PolicyRetired g.number) (λ (g : PolicyUse). action.PolicyRetired g.number)
-              (is_to_retire p (with_open p s)) (is_to_retire o (with_open o s)) s.policies
-              (λ g e. retire_narrow (is_live_policy g) s.shut (is_pending g) (holds (λ (k : Kind). is_other_kind k g) (wanted_kind p (with_open p s)))
-              (holds (λ (k : Kind). is_other_kind k g) (wanted_kind o (with_open o s))) (ap (holds (λ (k : Kind). is_other_kind k g)) unwanted) e) n.1.0,
-          (
-            ap (option_and_then (begin_if (with_open p s))) unwanted,
-            (
-              ap (option_map (λ (g : PolicyUse). action.AddressesGiven g.number)) (never (wants_addresses p (with_open p s)) s.policies
-                  (λ g e. no_both (is_live_policy g) (holds (λ (k : Kind). is_same_kind g.generation.kind k) (wanted_kind p (with_open p s))) _
-                  (ap (holds (λ (k : Kind). is_same_kind g.generation.kind k)) unwanted) e)),
-              n.1.1.1.1,
-            ),
-          ),
-        ),
-      )
+      let retired : next_retired p (with_open p s) ≡ None
+      = mapped_narrow (λ (g : PolicyUse). action.PolicyRetired g.number) (λ (g : PolicyUse). action.PolicyRetired g.number)
+      (is_to_retire p (with_open p s)) (is_to_retire o (with_open o s)) s.policies
+      (λ g e. retire_narrow (is_live_policy g) s.shut (is_pending g) (holds (λ (k : Kind). is_other_kind k g) (wanted_kind p (with_open p s)))
+      (holds (λ (k : Kind). is_other_kind k g) (wanted_kind o (with_open o s))) (ap (holds (λ (k : Kind). is_other_kind k g)) unwanted) e) n.1.0 in
+      let begun : next_begun p (with_open p s) ≡ None = ap (option_and_then (begin_if (with_open p s))) unwanted in
+      let given : next_given p (with_open p s) ≡ None
+      = ap (option_map (λ (g : PolicyUse). action.AddressesGiven g.number))
+      (never (wants_addresses p (with_open p s)) s.policies
+      (λ g e. no_both (is_live_policy g) (holds (λ (k : Kind). is_same_kind g.generation.kind k) (wanted_kind p (with_open p s))) _
+      (ap (holds (λ (k : Kind). is_same_kind g.generation.kind k)) unwanted) e)) in
+      let after = n.1.1.1.1 in
+      none_all (lines_of_policies p (with_open p s)) (n.0, (retired, (begun, (given, after))))
 
   pub calm_stays : IsCalm o (with_open o s) → IsCalm p (with_open p s)
   calm_stays c = record { calls = calls_stay c.calls; links = c.links; policies = policies_stay c.policies }
+
+-- what the resolver answered bears on no line
+pub calm_answered : (o : OpenEntry) (s : Seen) (answered wants : Bool) → IsCalm o (with_open o s)
+    → IsCalm o (with_open o (record s { answered = answered; wants = wants }))
+calm_answered o s answered wants c =
+    let n = all_none (lines_of_calls o (with_open o s)) c.calls in
+    let final : next_final (with_open o (record s { answered = answered; wants = wants })) ≡ None
+    = next_final_same (with_open o s) s.entries (Some o) answered wants s.links ∙ n.1.1.1.1.0 in
+    let after = n.1.1.1.1.1 in
+    record {
+      calls = none_all (lines_of_calls o (with_open o (record s { answered = answered; wants = wants }))) (n.0, (n.1.0, (n.1.1.0, (n.1.1.1.0, (final, after)))));
+      links = c.links;
+      policies = c.policies;
+    }
 
 pub follows_by : (a b c d : Option Action) (z : Action) → a ≡ None → b ≡ None → c ≡ None → d ≡ Some z → first_action (a ∷ b ∷ c ∷ d ∷ []) ≡ Some z
 follows_by a b c d z p q r e =
