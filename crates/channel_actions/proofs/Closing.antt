@@ -8,13 +8,11 @@ use Rattle.std.specs.Prelude.{map, nat_le}
 use Rattle.attempt_ledger.specs.declared.ledger.Ask.{Ask}
 use Rattle.attempt_ledger.specs.declared.ledger.LinkSeen.{LinkSeen}
 use Rattle.attempt_ledger.specs.declared.row.RowEnd.{RowEnd}
-use Rattle.channel_actions.proofs.Dues.{due_same, in_dues_same}
 use Rattle.channel_actions.proofs.Moved.{agrees_moved}
 use Rattle.channel_actions.proofs.Opening.{noted_is, stamp}
-use Rattle.channel_actions.proofs.Relinked.{order_relinked, reader_relinked, serves_relinked, streams_relinked, turn_relinked}
+use Rattle.channel_actions.proofs.Relinked.{agrees_relinked, owed_relinked, reader_relinked, streams_relinked}
 use Rattle.channel_actions.proofs.Stamps.{all_mapped, counted_at, map_same, map_same_some, numbered_map, stamp_form, stamp_keeps, stamp_twice}
 use Rattle.channel_actions.specs.Agrees.{Agrees}
-use Rattle.channel_actions.specs.Calls.{HasSlot, lent_to}
 use Rattle.channel_actions.specs.Calm.{AreCalm, IsAt}
 use Rattle.channel_actions.specs.Columns.{links_noted}
 use Rattle.channel_actions.specs.Kept.{AreCounted}
@@ -34,7 +32,6 @@ use Rattle.session_actions.specs.Responses.{is_read_by}
 use Rattle.session_actions.specs.Sessions.{link_seen}
 use Rattle.session_actions.specs.Words.{last_of, numbered}
 use Rattle.session_actions.specs.declared.attempt.Attempt.{Attempt}
-use Rattle.session_actions.specs.declared.call.Call.{Call}
 use Rattle.session_actions.specs.declared.entry.OpenEntry.{OpenEntry}
 use Rattle.session_actions.specs.declared.entry.Stage.TheVariants as stage
 use Rattle.session_actions.specs.declared.link.Link.{Link}
@@ -84,20 +81,6 @@ module _ (x : StateSeen) (s : Seen) (h : Agrees x s) where
       all_mapped (λ (l : Link). list_all (is_read_by (read_bytes l)) l.traffic) (noted_gone s)
       (stamp_keeps gone_now blind (λ (l : Link). list_all (is_read_by (read_bytes l)) l.traffic) (λ l z. refl) (entry s)) s.links ∙ e
 
-  call_noted : (n : ℕ) (c : Call) → HasSlot x s c n → HasSlot x t c n
-  call_noted n c k = record {
-    slot = k.slot;
-    there = k.there;
-    sees = record {
-      bucket = k.sees.bucket;
-      serves = serves_relinked s ls g w is c (lent_to x s k.slot) (reads_kept k.sees.serves.reads) k.sees.serves;
-      order = order_relinked s ls g w is c k.sees.order;
-      turn = turn_relinked s ls g w is c k.sees.turn;
-      due = due_same s s.entries s.current s.answered s.wants ls c ∙ k.sees.due;
-      deadline_is = k.sees.deadline_is;
-    };
-  }
-
   link_noted : (n : ℕ) (l : Link) → l.number ≡ n → HasLink x s l n → HasLink x t (record l { gone = g n l; owed = w n l }) n
   link_noted n l own k = record {
     slot = k.slot;
@@ -106,7 +89,8 @@ module _ (x : StateSeen) (s : Seen) (h : Agrees x s) where
       over = k.sees.over;
       retiring = k.sees.retiring;
       going = λ goes. let q = k.sees.going goes in record {
-        streams = streams_relinked s ls g w is n l refl k.slot.link.link.wire (lines_in l s) own q.streams;
+        streams = streams_relinked s ls g w is n l k.slot.link.link.wire.queue k.slot.link.link.wire (lines_in l s) own
+            (owed_relinked s ls g w is n l k.slot.link.link.wire refl q.streams.sees.owes) q.streams;
         readers = record { each = λ row. reader_relinked s ls g w is (attempt_on l s row) (reader_in row k.slot.link.readers) (q.readers.each row); distinct = q.readers.distinct };
         rest = q.rest;
         closed = q.closed;
@@ -134,41 +118,10 @@ module _ (x : StateSeen) (s : Seen) (h : Agrees x s) where
   as_seen = map-map link_seen (noted_gone s) s.links
 
   pub agrees_noted : Agrees x t
-  agrees_noted = record {
-    clock = record { entry_is = h.clock.entry_is; moment = h.clock.moment; draws = h.clock.draws };
-    columns = record {
-      rows = h.columns.rows;
-      calls = h.columns.calls;
-      asks = h.columns.asks;
-      generations = h.columns.generations;
-      links = noted_is t (twice (entry s)) ∙ as_seen ∙ h.columns.links;
-    };
-    configs = record { authority = h.configs.authority; shut = h.configs.shut; held = h.configs.held; unconfigured = h.configs.unconfigured; policy = h.configs.policy };
-    buckets = record { runs = h.buckets.runs; throttle = h.buckets.throttle };
-    calls = record { count = h.calls.count; each = λ n c e. call_noted n c (h.calls.each n c e) };
-    links = record { count = length-map s.links (noted_gone s) ∙ h.links.count; each = λ n l e. link_by n l (numbered s.links n) refl (sym (is n) ∙ e) };
-    net = h.net;
-    orderly = h.orderly;
-    sets = record {
-      queue = h.sets.queue;
-      patient = h.sets.patient;
-      dues = record { rising = h.sets.dues.rising; exact = λ m n. h.sets.dues.exact m n ∙ sym (in_dues_same s s.entries s.current s.answered s.wants ls m n) };
-      deadlines = h.sets.deadlines;
-      bare = h.sets.bare;
-      impatient = h.sets.impatient;
-      outstanding = h.sets.outstanding;
-      resets = h.sets.resets;
-    };
-    kept = record {
-      calls = h.kept.calls;
-      attempts = h.kept.attempts;
-      links = subst (AreCounted 1) (sym numbers_noted) h.kept.links;
-      owned = h.kept.owned;
-      dialled = dialled_noted ∙ h.kept.dialled;
-      ends = h.kept.ends;
-      asks = h.kept.asks;
-    };
-  }
+  agrees_noted =
+      agrees_relinked s ls g w is x x.links h reads_kept
+      (record { count = length-map s.links (noted_gone s) ∙ h.links.count; each = λ n l e. link_by n l (numbered s.links n) refl (sym (is n) ∙ e) })
+      (noted_is t (twice (entry s)) ∙ as_seen ∙ h.columns.links) (subst (AreCounted 1) (sym numbers_noted) h.kept.links) (dialled_noted ∙ h.kept.dialled)
 
 -- and the entry is made
 module _ (x : StateSeen) (o : OpenEntry) (s : Seen) (h : Agrees x s) (at : IsAt stage.Settling o s) where

@@ -54,7 +54,7 @@ dial_by true c e = sym (ap (λ (z : Bool). refused_if (not z) refusal.NotDialing
 dial_by false c e = sym (ap (λ (z : Bool). refused_if (not z) refusal.NotDialing None) e)
 
 -- a channel that does not refuse is open
-unshut_by : (b : Bool) (z : Option Refusal) → (if b then Some refusal.Shut else z) ≡ None → (b ≡ false) × (z ≡ None)
+pub unshut_by : (b : Bool) (z : Option Refusal) → (if b then Some refusal.Shut else z) ≡ None → (b ≡ false) × (z ≡ None)
 unshut_by true z e = absurd (cc)
 unshut_by false z e = (refl, e)
 
@@ -63,7 +63,7 @@ pub open_in : (s : Seen) (z : Option Refusal) → s.shut ≡ false → refused_i
 open_in s z e = ap (λ (b : Bool). refused_if b refusal.Shut z) e
 
 -- what the event applies, where neither refuses
-applied_next : (e : Event) (s : Seen) (a : Option Action) → refusal_of e s ≡ None → event_applied e s ≡ a → event_action e s ≡ a
+pub applied_next : (e : Event) (s : Seen) (a : Option Action) → refusal_of e s ≡ None → event_applied e s ≡ a → event_action e s ≡ a
 applied_next e s a none is = ap (λ (z : Option Refusal). event_action_by z e s) none ∙ is
 
 -- no dial is to be made

@@ -13,11 +13,13 @@ pub mod Lines
 pub mod Moved
 pub mod Opening
 pub mod Outstanding
+pub mod Pinging
 pub mod Quiet
 pub mod Refusing
 pub mod Relinked
 pub mod Running
 pub mod Settles
+pub mod Splitting
 pub mod Stamps
 pub mod States
 pub mod Timely

@@ -9,7 +9,16 @@ use Rattle.call_actions.specs.Order.{IsInOrder, IsInTurn}
 use Rattle.call_actions.specs.Sees.{AreAttempts, AreDue, Sees}
 use Rattle.call_core.specs.Laws as channel
 use Rattle.call_core.specs.Steps.{Stepped}
-use Rattle.channel_actions.proofs.Dues.{state_same}
+use Rattle.channel_actions.proofs.Dues.{due_same, in_dues_same, state_same}
+use Rattle.channel_actions.specs.Agrees.{Agrees}
+use Rattle.channel_actions.specs.Calls.{HasSlot, lent_to}
+use Rattle.channel_actions.specs.Clock.{DrawsAlike}
+use Rattle.channel_actions.specs.Columns.{links_noted}
+use Rattle.channel_actions.specs.Kept.{AreCounted}
+use Rattle.channel_actions.specs.Links.{SeesLinks}
+use Rattle.channel_core.specs.States.{StateSeen}
+use Rattle.channel_core.specs.declared.state.links.LinkSlot.{LinkSlot}
+use Rattle.h2_link.specs.Queues.{Queue}
 use Rattle.channel_actions.specs.Readers.{IsReader, IsReaderOf}
 use Rattle.grpc_base.specs.declared.event.Reply.{Reply}
 use Rattle.grpc_frame.specs.Messages.{framed_all}
@@ -30,6 +39,7 @@ use Rattle.session_actions.specs.Writing.{drained, streaming_on, waiting_on}
 use Rattle.session_actions.specs.declared.attempt.Attempt.{Attempt}
 use Rattle.session_actions.specs.declared.call.Call.{Call}
 use Rattle.session_actions.specs.declared.due.DueState.{DueState}
+use Rattle.session_actions.specs.declared.entry.OpenEntry.{OpenEntry}
 use Rattle.session_actions.specs.declared.link.Link.{Link}
 use Rattle.session_actions.specs.declared.response.Response.{Response}
 use Rattle.session_actions.specs.declared.seen.Seen.{Seen}
@@ -169,8 +179,8 @@ module _ (s : Seen) (ls : List Link) (g : ℕ → Link → Option ℕ) (w : ℕ 
     reader_relinked None (Some r) k = absurd k
     reader_relinked (Some a) None k = absurd k
 
-    -- a link on which nothing is queued
-    module _ (k : ℕ) (l : Link) (unqueued : w k l ≡ l.owed) where
+    -- a link, and what is queued on it
+    module _ (k : ℕ) (l : Link) where
       live_relinked : (xs : List LiveStream) (as_ : List Attempt) → AreLive l xs as_ → AreLive (h k l) xs as_
       live_relinked [] [] q = tt
       live_relinked (x ∷ xs) (a ∷ as_) q =
@@ -193,13 +203,17 @@ module _ (s : Seen) (ls : List Link) (g : ℕ → Link → Option ℕ) (w : ℕ 
       heard_relinked [] (a ∷ as_) q = absurd q
       heard_relinked (x ∷ xs) [] q = absurd q
 
-      owed_relinked : (v : Wire) → SeesOwed l v → SeesOwed (h k l) v
-      owed_relinked v q =
+      -- where nothing more is queued
+      pub owed_relinked : (v : Wire) → w k l ≡ l.owed → SeesOwed l v → SeesOwed (h k l) v
+      owed_relinked v unqueued q =
           subst (λ (z : List FrameSeen). SeesOwed (record l { gone = g k l; owed = z }) v) (sym unqueued)
           (record { queue = q.queue; names = q.names; resizes = q.resizes; written = q.written; answered = q.answered })
 
-      read_relinked : (v : Wire) → SeesRead l v → SeesRead (h k l) v
-      read_relinked v q = record {
+      abbrev pub queueing : Queue → Wire → Wire
+      queueing queue v = record v { queue = queue }
+
+      read_relinked : (queue : Queue) (v : Wire) → SeesRead l v → SeesRead (h k l) (queueing queue v)
+      read_relinked queue v q = record {
         whole = q.whole;
         read = q.read;
         ready = q.ready;
@@ -212,13 +226,14 @@ module _ (s : Seen) (ls : List Link) (g : ℕ → Link → Option ℕ) (w : ℕ 
         table = q.table;
       }
 
-      pub streams_relinked : (v : Wire) (f : ℕ → Line) → l.number ≡ k → SeesStreams l s v f → SeesStreams (h k l) t v f
-      streams_relinked v f own q =
+      pub streams_relinked : (queue : Queue) (v : Wire) (f : ℕ → Line) → l.number ≡ k → SeesOwed (h k l) (queueing queue v) → SeesStreams l s v f
+          → SeesStreams (h k l) t (queueing queue v) f
+      streams_relinked queue v f own owes q =
           let old = q.sees in
-          let new : SeesLink (h k l) t v f = record {
+          let new : SeesLink (h k l) t (queueing queue v) f = record {
             at = ap (numbered ls) own ∙ is k ∙ ap (λ (o : Option Link). option_map (h k) o) (sym (ap (numbered s.links) own) ∙ old.at);
-            sees = record { reads = read_relinked v old.sees.reads; live = live_relinked v.live (by_stream (streaming_on l s)) old.sees.live };
-            owes = owed_relinked v old.owes;
+            sees = record { reads = read_relinked queue v old.sees.reads; live = live_relinked v.live (by_stream (streaming_on l s)) old.sees.live };
+            owes = owes;
             waits = old.waits;
             fed = fed_relinked f v.live (by_stream (streaming_on l s)) old.fed;
             wait_fed = all_map (λ (a : Attempt). IsFed l s a (f a.place)) (λ (a : Attempt). IsFed (h k l) t a (f a.place)) (λ a e. fed_one a (f a.place) e) (waiting_on l s) old.wait_fed;
@@ -228,3 +243,71 @@ module _ (s : Seen) (ls : List Link) (g : ℕ → Link → Option ℕ) (w : ℕ 
             places = old.places;
           } in
           record { sees = new; heard = heard_relinked v.live (by_stream (streaming_on l s)) q.heard; unheard = q.unheard; begun = q.begun }
+
+    -- the whole, where the links agree
+    module _ (x : StateSeen) (slots : List LinkSlot) (agrees : Agrees x s)
+        (reads : list_all (λ (l : Link). list_all (is_read_by (read_bytes l)) l.traffic) s.links ≡ true → list_all (λ (l : Link). list_all (is_read_by (read_bytes l)) l.traffic) ls ≡ true) where
+      abbrev pub y : StateSeen
+      y = record x { links = slots }
+
+      call_relinked : (n : ℕ) (c : Call) → HasSlot x s c n → HasSlot y t c n
+      call_relinked n c k = record {
+        slot = k.slot;
+        there = k.there;
+        sees = record {
+          bucket = k.sees.bucket;
+          serves = serves_relinked c (lent_to x s k.slot) (reads k.sees.serves.reads) k.sees.serves;
+          order = order_relinked c k.sees.order;
+          turn = turn_relinked c k.sees.turn;
+          due = due_same s s.entries s.current s.answered s.wants ls c ∙ k.sees.due;
+          deadline_is = k.sees.deadline_is;
+        };
+      }
+
+      draws_with : (o : Option OpenEntry) → DrawsAlike o x → DrawsAlike o y
+      draws_with None d = tt
+      draws_with (Some o) d = (d.0, d.1)
+
+      pub agrees_relinked : SeesLinks y t → links_noted t ≡ x.book.ledger.links → AreCounted 1 (map (λ (l : Link). l.number) ls)
+          → list_all (λ (l : Link). is_some (numbered s.subs l.sub)) ls ≡ true → Agrees y t
+      agrees_relinked links noted counted dialled = record {
+        clock = record { entry_is = agrees.clock.entry_is; moment = agrees.clock.moment; draws = draws_with s.current agrees.clock.draws };
+        columns = record {
+          rows = agrees.columns.rows;
+          calls = agrees.columns.calls;
+          asks = agrees.columns.asks;
+          generations = agrees.columns.generations;
+          links = noted;
+        };
+        configs = record {
+          authority = agrees.configs.authority;
+          shut = agrees.configs.shut;
+          held = agrees.configs.held;
+          unconfigured = agrees.configs.unconfigured;
+          policy = agrees.configs.policy;
+        };
+        buckets = record { runs = agrees.buckets.runs; throttle = agrees.buckets.throttle };
+        calls = record { count = agrees.calls.count; each = λ n c e. call_relinked n c (agrees.calls.each n c e) };
+        links = links;
+        net = agrees.net;
+        orderly = agrees.orderly;
+        sets = record {
+          queue = agrees.sets.queue;
+          patient = agrees.sets.patient;
+          dues = record { rising = agrees.sets.dues.rising; exact = λ m n. agrees.sets.dues.exact m n ∙ sym (in_dues_same s s.entries s.current s.answered s.wants ls m n) };
+          deadlines = agrees.sets.deadlines;
+          bare = agrees.sets.bare;
+          impatient = agrees.sets.impatient;
+          outstanding = agrees.sets.outstanding;
+          resets = agrees.sets.resets;
+        };
+        kept = record {
+          calls = agrees.kept.calls;
+          attempts = agrees.kept.attempts;
+          links = counted;
+          owned = agrees.kept.owned;
+          dialled = dialled;
+          ends = agrees.kept.ends;
+          asks = agrees.kept.asks;
+        };
+      }

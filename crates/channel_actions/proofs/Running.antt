@@ -14,6 +14,7 @@ use Rattle.attempt_ledger.specs.declared.row.Row.{Row}
 use Rattle.channel_actions.proofs.Does.{does_on, posted_on}
 use Rattle.channel_actions.proofs.Entered.{Enters, entered, entry_as}
 use Rattle.channel_actions.proofs.Opening.{noted_is}
+use Rattle.channel_actions.proofs.Splitting.{deadlines_split, events_split, settlings_split}
 use Rattle.channel_actions.specs.Laws.{ClosingsCome, HadRoom, IsSession, NewChannelsAgree, RunsAreSessions, is_room}
 use Rattle.channel_actions.specs.Points.{Rests}
 use Rattle.channel_actions.specs.Stages.{Closings, Deadlines, Events, Openings, Settlings}
@@ -23,7 +24,7 @@ use Rattle.channel_core.specs.States.{StateSeen}
 use Rattle.grpc_base.specs.declared.event.Entry.{Entry}
 use Rattle.grpc_base.specs.declared.event.Reply.{Reply}
 use Rattle.grpc_base.specs.declared.event.Stamped.{Stamped}
-use Rattle.net_actions.specs.Laws.{StatesAreSame}
+use Rattle.net_actions.specs.Laws.{ClockChanges, NoneToDial, StatesAreSame, TakeOversAreSame, WishesConnect}
 use Rattle.session_actions.specs.Entries as entries
 use Rattle.session_actions.specs.Entries.{has_room}
 use Rattle.session_actions.specs.Laws.{posted_by, posted_in}
@@ -142,10 +143,10 @@ recorded x s h =
     ∙ ap (λ (z : List LinkSeen). made l.rows l.calls l.asks l.generations z (length s.entries)) links
     ∙ ap (made l.rows l.calls l.asks l.generations l.links) number
 
-pub runs_are_sessions : StatesAreSame → NewChannelsAgree → Openings → ClosingsCome → RunsAreSessions
-runs_are_sessions states news openings closings deadlines events_ settlings calm setup policies alloc events new core kinds ready is_new runs room =
+pub runs_are_sessions : StatesAreSame → NoneToDial → ClockChanges → TakeOversAreSame → WishesConnect → NewChannelsAgree → Openings → ClosingsCome → RunsAreSessions
+runs_are_sessions states none_to_dial clocks overs wishes news openings closings overdue does due calm setup policies alloc events new core kinds ready is_new runs room =
     let begins : Rests new.state (new_session setup) = subst (λ (x : StateSeen). Rests x (new_session setup)) (sym is_new.state) (news setup policies alloc kinds ready) in
-    let ran = run states openings deadlines events_ settlings (closings calm) events new core (new_session setup) begins (sym is_new.journal) runs room in
+    let ran = run states openings (deadlines_split overdue) (events_split none_to_dial does) (settlings_split clocks overs wishes states due) (closings calm) events new core (new_session setup) begins (sym is_new.journal) runs room in
     record {
       consistent = record {
         actions = ran.actions;

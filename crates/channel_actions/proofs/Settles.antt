@@ -13,6 +13,8 @@ use Rattle.channel_actions.specs.Points.{IsSameEntry, Reaches}
 use Rattle.channel_core.specs.States.{StateSeen}
 use Rattle.grpc_base.specs.declared.address.Address.{Address}
 use Rattle.grpc_base.specs.declared.event.EndCause.TheVariants as ending
+use Rattle.grpc_base.specs.declared.event.Event.{Event}
+use Rattle.grpc_base.specs.declared.event.Event.TheVariants as event
 use Rattle.grpc_base.specs.declared.event.Reply.{Reply}
 use Rattle.grpc_base.specs.declared.kind.Kind.{Kind}
 use Rattle.session_actions.specs.Actions.{after, after_if, first_action, following, following_in, of_calls, of_frames, of_links, of_policies, of_stage}
@@ -148,15 +150,28 @@ module _ (st : Stage) (r : Option Reply) (o : OpenEntry) (s : Seen) (quiet : IsQ
   calm_stays c = record { calls = calls_stay c.calls; links = c.links; policies = policies_stay c.policies }
 
 -- what the resolver answered bears on no line
+sends_same : (o : OpenEntry) (s : Seen) (answered wants : Bool) (c : Call) (e : Event)
+    → sends_too_long e c (with_open o (record s { answered = answered; wants = wants })) ≡ sends_too_long e c (with_open o s)
+sends_same o s answered wants c (event.Send call message) = refl
+sends_same o s answered wants c _ = refl
+
 pub calm_answered : (o : OpenEntry) (s : Seen) (answered wants : Bool) → IsCalm o (with_open o s)
     → IsCalm o (with_open o (record s { answered = answered; wants = wants }))
 calm_answered o s answered wants c =
     let n = all_none (lines_of_calls o (with_open o s)) c.calls in
     let final : next_final (with_open o (record s { answered = answered; wants = wants })) ≡ None
     = next_final_same (with_open o s) s.entries (Some o) answered wants s.links ∙ n.1.1.1.1.0 in
-    let after = n.1.1.1.1.1 in
+    let request : next_ended ending.Request (has_long_request o (with_open o (record s { answered = answered; wants = wants })))
+    (with_open o (record s { answered = answered; wants = wants })) ≡ None
+    = mapped_narrow (λ (c : Call). action.CallEnds c.number ending.Request) (λ (c : Call). action.CallEnds c.number ending.Request)
+    (has_long_request o (with_open o (record s { answered = answered; wants = wants }))) (has_long_request o (with_open o s)) s.calls
+    (λ k e. sym (ap (λ (b : Bool). is_open_call k && (list_any (λ m. is_too_long m k s) k.messages || (is_after_event o && b))) (sends_same o s answered wants k o.event)) ∙ e)
+    n.1.1.1.1.1.1.0 in
+    let after = n.1.1.1.1.1.1.1 in
     record {
-      calls = none_all (lines_of_calls o (with_open o (record s { answered = answered; wants = wants }))) (n.0, (n.1.0, (n.1.1.0, (n.1.1.1.0, (final, after)))));
+      calls =
+          none_all (lines_of_calls o (with_open o (record s { answered = answered; wants = wants })))
+          (n.0, (n.1.0, (n.1.1.0, (n.1.1.1.0, (final, (n.1.1.1.1.1.0, (request, after)))))));
       links = c.links;
       policies = c.policies;
     }

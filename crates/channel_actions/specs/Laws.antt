@@ -3,9 +3,9 @@
 -- EventAnswered, SettlingBegins, EntryCloses.
 use Rattle.std.specs.Prelude.{List, Some, [], length, nat_le, nat_lt, true, ℕ, ◌&&◌, ◌++◌, ◌+◌, ◌∷◌, ◌≡◌, Bool}
 use Rattle.std.specs.Global.{Global}
-use Rattle.channel_actions.specs.Cases.{IsIdle, IsInTime, IsNoDial, IsRefused, IsRefusedDial, IsTick, IsUnresolved}
+use Rattle.channel_actions.specs.Cases.{DoesSomething, HasDue, HasOverdue, IsIdle, IsInTime, IsNoDial, IsPing, IsRefused, IsRefusedDial, IsTick, IsUnresolved, PingsStayCalm}
 use Rattle.channel_actions.specs.Points.{Rests}
-use Rattle.channel_actions.specs.Stages.{Closings, ClosingsAreCalm, Deadlines, DeadlinesOf, Events, EventsAnswered, Openings, Settlings, SettlingsOf}
+use Rattle.channel_actions.specs.Stages.{Closings, ClosingsAreCalm, DeadlinesOf, EventsAnswered, SettlingsOf}
 use Rattle.channel_core.specs.Applying.{new_state}
 use Rattle.channel_core.specs.Core.{CoreSeen, IsNewBy, Runs, ledger_in}
 use Rattle.grpc_base.specs.Posts.{event_bytes}
@@ -39,9 +39,10 @@ pub record IsSession (setup : Setup) (events : List Stamped) (core : CoreSeen) :
   pub consistent : IsConsistent setup core.journal.entries (ledger_in core)
   pub posted : posted_in consistent.actions ≡ events
 
+-- (the premises are what is left of the stages; the rest of each is proved below)
 abbrev pub RunsAreSessions : Type 0
 RunsAreSessions =
-    Deadlines → Events → Settlings → ClosingsAreCalm
+    DeadlinesOf HasOverdue → EventsAnswered DoesSomething → SettlingsOf HasDue → ClosingsAreCalm
     → (setup : Setup) (policies : List PolicySeen) (alloc : Global) (events : List Stamped) (new core : CoreSeen)
     → AreKinds setup.policies policies → are_ready policies ≡ true → IsNewBy alloc setup.authority policies new → Runs new events core
     → HadRoom [] core.journal.entries → IsSession setup events core
@@ -67,6 +68,10 @@ NoDialsAreAnswered = EventsAnswered IsNoDial
 
 abbrev pub RefusedDialsAreAnswered : Type 0
 RefusedDialsAreAnswered = EventsAnswered IsRefusedDial
+
+-- a PING is queued, where nothing follows from it by the session
+abbrev pub PingsAreQueued : Type 0
+PingsAreQueued = PingsStayCalm → EventsAnswered IsPing
 
 abbrev pub DeadlinesAreAhead : Type 0
 DeadlinesAreAhead = DeadlinesOf IsInTime

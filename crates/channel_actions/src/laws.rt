@@ -1,7 +1,8 @@
 // What the channel does, as actions of a session; nothing runs.
-ghost use Rattle.channel_actions.specs.Laws.{ClosingsCome, DeadlinesAreAhead, FailedResolutionsAreAnswered, NewChannelsAgree, NoDialsAreAnswered, NothingIsDue, RefusalsAreAnswered, RefusedDialsAreAnswered, RunsAreSessions, TicksAreAnswered};
+ghost use Rattle.channel_actions.specs.Laws.{ClosingsCome, DeadlinesAreAhead, FailedResolutionsAreAnswered, NewChannelsAgree, NoDialsAreAnswered, NothingIsDue, PingsAreQueued, RefusalsAreAnswered, RefusedDialsAreAnswered, RunsAreSessions, TicksAreAnswered};
 ghost use Rattle.channel_actions.specs.Stages.{Openings};
 
+use link_actions::pings_are_actions;
 use net_actions::{
     new_nets_are_new_sessions, policy_steps_are_actions, subchannel_steps_are_actions,
 };
@@ -31,6 +32,13 @@ pub fn plain_events_are_answered()
     subchannel_steps_are_actions();
 }
 
+/// A PING of the environment is queued on its link in both, where nothing follows from it by the session.
+pub fn pings_are_queued()
+    ensures { PingsAreQueued }
+{
+    pings_are_actions();
+}
+
 /// Where by the session no deadline has come, no call ends by one; and where nothing is due by it, the channel settles as it is, and the entry closes.
 pub fn nothing_due_stays()
     ensures deadline { DeadlinesAreAhead }
@@ -40,11 +48,13 @@ pub fn nothing_due_stays()
     subchannel_steps_are_actions();
 }
 
-/// Every run of a channel is a session, where each stage of an entry is: its journal and its ledger are those of a list of actions, of the same events.
+/// Every run of a channel is a session, where what is left of the stages of an entry is: its journal and its ledger are those of a list of actions, of
+/// the same events.
 pub fn runs_are_sessions()
     ensures { RunsAreSessions }
 {
     new_channels_are_new_sessions();
     entries_open_and_close();
     policy_steps_are_actions();
+    subchannel_steps_are_actions();
 }

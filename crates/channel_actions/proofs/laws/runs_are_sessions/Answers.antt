@@ -3,5 +3,6 @@ use Rattle.channel_actions.proofs.laws.runs_are_sessions.Goals as goal
 
 pub returns : goal.returns
 returns c =
-    runs_are_sessions c.policy_steps_are_actions.ensures.state c.new_channels_are_new_sessions.ensures c.entries_open_and_close.ensures.opens
-    c.entries_open_and_close.ensures.closes
+    runs_are_sessions c.policy_steps_are_actions.ensures.state c.subchannel_steps_are_actions.ensures.none c.subchannel_steps_are_actions.ensures.clock
+    c.policy_steps_are_actions.ensures.over c.subchannel_steps_are_actions.ensures.wish c.new_channels_are_new_sessions.ensures
+    c.entries_open_and_close.ensures.opens c.entries_open_and_close.ensures.closes

@@ -1,0 +1,5 @@
+use Rattle.channel_actions.proofs.Pinging.{pings_answered}
+use Rattle.channel_actions.proofs.laws.pings_are_queued.Goals as goal
+
+pub returns : goal.returns
+returns c = pings_answered c.pings_are_actions.ensures
