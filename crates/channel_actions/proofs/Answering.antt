@@ -1,6 +1,6 @@
 -- An event that is answered by one action, which leaves all as it is but for the entry.
-use Rattle.std.proofs.Common.{◌≡◌, ◌&&◌, ◌∷◌, ap, refl, subst, sym, ◌∙◌, Bool, true, false, List, [], Option, None, Some, ℕ, if◌then◌else◌}
-use Rattle.std.specs.Option.{option_and_then, option_or}
+use Rattle.std.proofs.Common.{◌≡◌, ◌&&◌, ◌∷◌, ap, refl, subst, sym, ◌∙◌, Bool, true, false, [], Option, None, Some, ℕ, if◌then◌else◌}
+use Rattle.std.specs.Option.{option_and_then}
 use Rattle.channel_actions.proofs.Settles.{IsQuiet, calm_stays, follows_by, is_with_open, reopened, restaged, with_open}
 use Rattle.channel_actions.specs.Agrees.{Agrees}
 use Rattle.channel_actions.specs.Calm.{IsAt, IsCalm}

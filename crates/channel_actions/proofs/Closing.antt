@@ -1,12 +1,11 @@
 -- An entry closes: channel and session agree between two entries, and each link that is gone is stamped in both.
-use Rattle.std.proofs.Common.{◌≡◌, ◌++◌, ◌+◌, ◌∷◌, ap, arith, length-append, refl, subst, sym, ◌∙◌, Bool, true, List, [], Option, None, Some, ℕ, zero, suc, if◌then◌else◌, is_some, slice_get, length}
+use Rattle.std.proofs.Common.{◌≡◌, ◌++◌, ◌+◌, ◌∷◌, ap, arith, length-append, refl, subst, sym, ◌∙◌, Bool, true, List, [], Option, None, Some, ℕ, suc, if◌then◌else◌, is_some, slice_get, length}
 use Rattle.std.proofs.lemmas.List.{length-map}
 use Rattle.std.proofs.lemmas.Simd.{map-map}
 use Rattle.std.specs.List.{list_all}
 use Rattle.std.specs.Option.{option_map, option_map_or}
 use Rattle.std.specs.Prelude.{map, nat_le}
 use Rattle.attempt_ledger.specs.declared.ledger.Ask.{Ask}
-use Rattle.attempt_ledger.specs.declared.ledger.LinkSeen.{LinkSeen}
 use Rattle.attempt_ledger.specs.declared.row.RowEnd.{RowEnd}
 use Rattle.channel_actions.proofs.Moved.{agrees_moved}
 use Rattle.channel_actions.proofs.Opening.{noted_is, stamp}

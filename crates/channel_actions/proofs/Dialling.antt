@@ -1,5 +1,5 @@
 -- Events of dialers and of the resolver that leave the net: a resolution that failed, a dial where there is none to make, and dials that are refused.
-use Rattle.std.proofs.Common.{◌≡◌, ◌&&◌, ◌+◌, ◌||◌, ◌∷◌, ◌⊎◌, inl, inr, ap, refl, subst, sym, ◌∙◌, Bool, true, false, List, [], Option, None, Some, ℕ, zero, suc, if◌then◌else◌, not, is_none, is_some, slice_get}
+use Rattle.std.proofs.Common.{◌≡◌, ◌+◌, ◌||◌, ◌∷◌, inl, inr, ap, refl, subst, sym, ◌∙◌, Bool, true, false, List, [], Option, None, Some, ℕ, zero, suc, if◌then◌else◌, not, is_none, is_some, slice_get}
 use Rattle.channel_actions.proofs.Answering.{IsPlain, answered_so, event_next, plain_frame, plain_quiet, refused_so, replied_entry, replied_is}
 use Rattle.channel_actions.proofs.Moved.{agrees_moved}
 use Rattle.channel_actions.proofs.Settles.{calm_answered, calm_stays, is_with_open, with_open}
@@ -9,7 +9,7 @@ use Rattle.channel_actions.specs.Cases.{IsNoDial, IsRefusedDial, IsUnresolved}
 use Rattle.channel_actions.specs.Stages.{EventsAnswered, IsAnswered}
 use Rattle.channel_core.specs.Applying as channel
 use Rattle.channel_core.specs.Applying.{Applies, AnswersBy}
-use Rattle.channel_core.specs.Arrivals.{dial_asked, dial_failed_by, dial_failed_for, dial_reply, linked_for, linked_up}
+use Rattle.channel_core.specs.Arrivals.{dial_asked, dial_failed_for, dial_reply, linked_for}
 use Rattle.channel_core.specs.States.{StateSeen}
 use Rattle.channel_core.specs.Steps as channel_steps
 use Rattle.channel_core.specs.Steps.{dial_draw, unresolved}
@@ -27,13 +27,11 @@ use Rattle.net_actions.specs.Laws.{NoneToDial}
 use Rattle.net_actions.specs.Sees.{AreSubs}
 use Rattle.service_config.specs.declared.config.Config.{Config}
 use Rattle.session_actions.specs.Actions.{after, after_if}
-use Rattle.session_actions.specs.CallEnds.{cancels, next_deadline, sends_too_long}
+use Rattle.session_actions.specs.CallEnds.{next_deadline}
 use Rattle.session_actions.specs.Configs.{resolver_answered}
-use Rattle.session_actions.specs.Entries.{replied}
-use Rattle.session_actions.specs.Events.{event_action, event_action_by, event_applied, frame_of_event}
-use Rattle.session_actions.specs.Policies.{addresses_in}
-use Rattle.session_actions.specs.Refusals.{dial_refusal, refusal_of, refusal_when_open, refused_if}
-use Rattle.session_actions.specs.Subchannels.{is_dialling, take_dial}
+use Rattle.session_actions.specs.Events.{event_action, event_action_by, event_applied}
+use Rattle.session_actions.specs.Refusals.{dial_refusal, refusal_of, refused_if}
+use Rattle.session_actions.specs.Subchannels.{is_dialling}
 use Rattle.session_actions.specs.Words.{numbered}
 use Rattle.session_actions.specs.declared.action.Action.{Action}
 use Rattle.session_actions.specs.declared.action.Action.TheVariants as action

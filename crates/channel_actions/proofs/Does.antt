@@ -1,5 +1,5 @@
 -- Lists of actions, one after the other.
-use Rattle.std.proofs.Common.{◌≡◌, ◌++◌, ◌∷◌, ap, append_assoc, refl, subst, sym, ◌∙◌, List, [], Option, None, Some}
+use Rattle.std.proofs.Common.{◌≡◌, ◌++◌, ◌∷◌, ap, append_assoc, refl, subst, sym, ◌∙◌, List, []}
 use Rattle.std.specs.Prelude.{option_to_list}
 use Rattle.session_actions.specs.Actions.{after}
 use Rattle.session_actions.specs.Laws.{posted_by, posted_in}

@@ -1,5 +1,5 @@
 -- The due moments of attempts hang on neither the entry that is open, nor on links: what is kept of a call decides them.
-use Rattle.std.proofs.Common.{◌≡◌, ◌&&◌, ◌||◌, ◌∷◌, ap, refl, sym, ◌∙◌, Bool, true, false, List, [], Option, None, Some, ℕ, cond, if◌then◌else◌, is_none, not}
+use Rattle.std.proofs.Common.{◌≡◌, ◌&&◌, ◌||◌, ◌∷◌, ap, refl, ◌∙◌, Bool, List, [], Option, None, Some, ℕ, cond, if◌then◌else◌, is_none, not}
 use Rattle.std.specs.Option.{option_map, option_map_or}
 use Rattle.std.specs.Prelude.{find, fold}
 use Rattle.attempt_ledger.specs.Throttling.{codes_of}
@@ -14,9 +14,8 @@ use Rattle.session_actions.specs.Attempts.{counts_by, is_counted}
 use Rattle.session_actions.specs.Calls.{is_open_call}
 use Rattle.session_actions.specs.Commitments.{is_final_end, is_free_call, next_final}
 use Rattle.session_actions.specs.Configs.{plan_of}
-use Rattle.session_actions.specs.DueAttempts.{attempts_made, due_after_end, due_after_making, due_after_mark, due_by, due_by_plan, due_state, has_going, is_final_by, last_counted, next_due, no_due}
+use Rattle.session_actions.specs.DueAttempts.{attempts_made, due_after_end, due_after_mark, due_by, due_by_plan, due_state, has_going, is_final_by, last_counted, next_due, no_due}
 use Rattle.session_actions.specs.Words.{holds, is_number, numbered}
-use Rattle.session_actions.specs.declared.action.Action.{Action}
 use Rattle.session_actions.specs.declared.action.Action.TheVariants as action
 use Rattle.session_actions.specs.declared.action.CommitCause.TheVariants as commit
 use Rattle.session_actions.specs.declared.attempt.Attempt.{Attempt}

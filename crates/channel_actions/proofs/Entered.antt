@@ -1,16 +1,14 @@
 -- One event: from a point between two entries channel and session go on to the next, by the stages of the entry.
-use Rattle.std.proofs.Common.{◌≡◌, ◌++◌, ◌+◌, ◌&&◌, ◌∷◌, ap, refl, subst, sym, ◌∙◌, Bool, true, List, [], Option, None, Some, ℕ, is_none, length}
+use Rattle.std.proofs.Common.{◌≡◌, ◌++◌, ◌+◌, ◌&&◌, ◌∷◌, ap, refl, subst, sym, ◌∙◌, true, List, [], Option, Some, ℕ, is_none, length}
 use Rattle.std.proofs.Math.Nat.{max_comm}
 use Rattle.std.specs.Prelude.{max, unwrap_or}
 use Rattle.channel_actions.proofs.Does.{does_on, none_on}
 use Rattle.channel_actions.proofs.Settles.{Settles, begins}
 use Rattle.channel_actions.proofs.States.{states_agree}
 use Rattle.channel_actions.specs.Agrees.{Agrees}
-use Rattle.channel_actions.specs.Calm.{IsAt}
-use Rattle.channel_actions.specs.Points.{IsSameEntry, Reaches, Rests}
+use Rattle.channel_actions.specs.Points.{IsSameEntry, Rests}
 use Rattle.channel_actions.specs.Stages.{Closings, Deadlines, Events, IsAnswered, IsSettled, IsTimely, Openings, Settlings}
 use Rattle.channel_core.specs.Applying.{AnswersBy, Stepped, begun_at, conn_of, refusal_of}
-use Rattle.channel_core.specs.Settling.{settled}
 use Rattle.channel_core.specs.States.{StateSeen}
 use Rattle.channel_core.specs.Steps.{overdue_ended}
 use Rattle.grpc_base.specs.declared.event.Conn.{Conn}
@@ -29,9 +27,7 @@ use Rattle.session_actions.specs.Sessions.{Does}
 use Rattle.session_actions.specs.declared.action.Action.{Action}
 use Rattle.session_actions.specs.declared.action.Action.TheVariants as action
 use Rattle.session_actions.specs.declared.entry.OpenEntry.{OpenEntry}
-use Rattle.session_actions.specs.declared.entry.Stage.TheVariants as stage
 use Rattle.session_actions.specs.declared.seen.Seen.{Seen}
-use Rattle.session_actions.specs.declared.seen.Setup.{Setup}
 
 abbrev pub entry_as : ℕ → ℕ → Event → Reply → Conn → Entry
 entry_as moment word e r state = record { moment = moment; word = word; event = e; reply = r; state = state }

@@ -1,17 +1,15 @@
 -- A new channel agrees with a new session: nothing has happened in either.
-use Rattle.std.proofs.Common.{◌≡◌, ◌&&◌, ◌==◌, ◌∷◌, ap, refl, subst, sym, ◌∙◌, Bool, true, false, List, [], Option, None, Some, ℕ, zero, suc, if◌then◌else◌, is_none, not, slice_get}
+use Rattle.std.proofs.Common.{◌≡◌, ◌&&◌, ◌==◌, refl, sym, Bool, true, false, List, [], Option, None, Some, ℕ, zero, suc, if◌then◌else◌, is_none, not}
 use Rattle.std.specs.Global.{Global}
 use Rattle.std.specs.Option.{option_or}
 use Rattle.channel_actions.specs.Agrees.{Agrees}
-use Rattle.channel_actions.specs.Calls.{HasSlot, deadline_of, due_of}
+use Rattle.channel_actions.specs.Calls.{deadline_of, due_of}
 use Rattle.channel_actions.specs.Calm.{AreCalm}
 use Rattle.channel_actions.specs.Laws.{NewChannelsAgree}
-use Rattle.channel_actions.specs.Links.{HasLink}
 use Rattle.channel_actions.specs.Points.{Rests}
-use Rattle.channel_actions.specs.Sets.{AreExactly, is_patient}
+use Rattle.channel_actions.specs.Sets.{is_patient}
 use Rattle.channel_core.specs.Applying.{new_state}
 use Rattle.channel_core.specs.States.{StateSeen}
-use Rattle.grpc_base.specs.declared.event.Event.{Event}
 use Rattle.lb_policy.specs.Table.{PolicySeen}
 use Rattle.net_actions.specs.Laws.{NewOnesAgree}
 use Rattle.net_actions.specs.Sees.{AreKinds}
@@ -25,7 +23,6 @@ use Rattle.session_actions.specs.Words.{holds, is_number, numbered}
 use Rattle.session_actions.specs.declared.action.Action.{Action}
 use Rattle.session_actions.specs.declared.attempt.Attempt.{Attempt}
 use Rattle.session_actions.specs.declared.call.Call.{Call}
-use Rattle.session_actions.specs.declared.link.Link.{Link}
 use Rattle.session_actions.specs.declared.seen.Seen.{Seen}
 use Rattle.session_actions.specs.declared.seen.Setup.{Setup}
 

@@ -1,15 +1,12 @@
 -- Which links are gone is the same in the channel and in the session.
-use Rattle.std.proofs.Common.{◌≡◌, ◌&&◌, ◌||◌, ◌+◌, ◌∷◌, ap, arith, refl, subst, sym, ◌∙◌, Bool, true, false, List, [], Option, None, Some, ℕ, zero, suc, not, is_some, slice_get, length}
+use Rattle.std.proofs.Common.{◌≡◌, ◌&&◌, ◌||◌, ◌+◌, ◌∷◌, ap, refl, subst, sym, ◌∙◌, Bool, true, List, [], Some, ℕ, zero, suc, not, is_some, slice_get}
 use Rattle.std.proofs.lemmas.Bool.{and_parts}
 use Rattle.std.specs.List.{list_all, list_any}
 use Rattle.std.specs.Option.{option_map}
-use Rattle.std.specs.Prelude.{map}
 use Rattle.attempt_ledger.specs.declared.ledger.LinkSeen.{LinkSeen}
-use Rattle.channel_actions.proofs.Opening.{stamp}
 use Rattle.channel_actions.proofs.Outstanding.{outstanding_same}
 use Rattle.channel_actions.proofs.Stamps.{counted_at, numbered_map, stamp_keeps}
 use Rattle.channel_actions.specs.Agrees.{Agrees}
-use Rattle.channel_actions.specs.Columns.{links_noted}
 use Rattle.channel_actions.specs.Links.{HasLink}
 use Rattle.channel_core.specs.Books.{link_at}
 use Rattle.channel_core.specs.States.{StateSeen}
@@ -17,7 +14,6 @@ use Rattle.channel_core.specs.Steps as channel
 use Rattle.channel_core.specs.Steps.{has_outstanding, is_of_shut_sub, is_shut_state, sub_of}
 use Rattle.channel_core.specs.Tables as channel_tables
 use Rattle.channel_core.specs.Tables.{is_dead_at, is_retiring_at}
-use Rattle.channel_core.specs.declared.state.links.LinkSlot.{LinkSlot}
 use Rattle.channel_net.specs.Lists.{state_at}
 use Rattle.channel_net.specs.declared.links.OwnLink.{OwnLink}
 use Rattle.grpc_base.specs.declared.event.Conn.{Conn}

@@ -1,5 +1,5 @@
 -- A settling in which nothing is due: the channel stays as it is, and the entry closes.
-use Rattle.std.proofs.Common.{◌≡◌, ◌∷◌, ap, refl, subst, sym, ◌∙◌, List, [], Option, None, Some}
+use Rattle.std.proofs.Common.{◌≡◌, ◌∷◌, ap, refl, subst, sym, ◌∙◌, [], Option, None, Some}
 use Rattle.std.specs.Prelude.{option_and_then}
 use Rattle.channel_actions.proofs.IdleCalls.{bare_idle, rounds_idle}
 use Rattle.channel_actions.proofs.IdleNet.{clocked_idle, net_settled_idle}
@@ -12,7 +12,7 @@ use Rattle.channel_core.specs.Settling.{most, rounds, settled}
 use Rattle.channel_core.specs.States.{StateSeen}
 use Rattle.channel_core.specs.Steps.{bare_served, net_settled}
 use Rattle.net_actions.specs.Laws.{ClockChanges, StatesAreSame, TakeOversAreSame, WishesConnect}
-use Rattle.session_actions.specs.Actions.{config_action, first_action, following, following_in, of_calls, of_links, of_policies, of_settling, of_stage}
+use Rattle.session_actions.specs.Actions.{config_action, first_action, following, following_in, of_calls, of_links, of_policies, of_stage}
 use Rattle.session_actions.specs.Making.{next_due_attempt}
 use Rattle.session_actions.specs.Policies.{is_after, next_asked, next_of_pass, next_of_queue, next_take_over}
 use Rattle.session_actions.specs.Subchannels.{next_connected, next_of_clock}

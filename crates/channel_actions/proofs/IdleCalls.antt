@@ -1,9 +1,9 @@
 -- Where nothing is due of calls and attempts, they stay as they are: none gets a config, none ends, no attempt is made, and none asks.
-use Rattle.std.proofs.Common.{◌≡◌, ◌&&◌, ◌||◌, ◌-◌, ◌<◌, ◌==◌, ◌∷◌, ap, arith, refl, subst, sym, ◌∙◌, Bool, true, false, List, [], Option, None, Some, ℕ, zero, suc, cond, if◌then◌else◌, filter, is_none, is_some, not, slice_get}
+use Rattle.std.proofs.Common.{◌≡◌, ◌&&◌, ◌-◌, ◌<◌, ◌==◌, ◌∷◌, ap, arith, refl, sym, ◌∙◌, Bool, true, false, List, [], Option, None, Some, ℕ, zero, suc, cond, if◌then◌else◌, filter, is_none, is_some, not, slice_get}
 use Rattle.std.proofs.lemmas.Bool.{and_parts}
 use Rattle.std.proofs.lemmas.Bool.Decides.{nat_tests}
-use Rattle.std.specs.Option.{option_map, option_or}
-use Rattle.std.specs.Prelude.{find, nat_le, option_and_then}
+use Rattle.std.specs.Option.{option_map}
+use Rattle.std.specs.Prelude.{nat_le, option_and_then}
 use Rattle.channel_actions.proofs.Outstanding.{any_of, same_self}
 use Rattle.channel_actions.proofs.Gone.{all_numbered}
 use Rattle.channel_actions.proofs.Quiet.{or_parts_none}
@@ -16,17 +16,16 @@ use Rattle.channel_core.proofs.Idling.{nothing_made}
 use Rattle.channel_core.proofs.SettlingLaws.{passed_step, rounds_step}
 use Rattle.channel_core.specs.Settling.{also, most, passed, passed_on, queue_served, round, round_on, rounds, rounds_on, stays}
 use Rattle.channel_core.specs.States.{StateSeen}
-use Rattle.channel_core.specs.Steps.{Moved, all_configured, all_unconfigured, bare_served, next_served, round_made, served_in}
+use Rattle.channel_core.specs.Steps.{all_configured, all_unconfigured, bare_served, next_served, round_made, served_in}
 use Rattle.channel_core.specs.Timing.{due_keys, first_pair, later}
-use Rattle.channel_net.specs.Steps.{net_state}
 use Rattle.grpc_base.specs.declared.event.Conn.{Conn}
 use Rattle.grpc_base.specs.declared.event.Conn.TheVariants as conn
 use Rattle.lb_policy.specs.Table.{pick_of}
 use Rattle.net_actions.specs.Laws.{StatesAreSame}
-use Rattle.picker_gate.specs.Pairs.{first_due, has, is_same, next_behind}
+use Rattle.picker_gate.specs.Pairs.{first_due, is_same, next_behind}
 use Rattle.service_config.specs.declared.config.Config.{Config}
 use Rattle.session_actions.specs.Actions.{config_action}
-use Rattle.session_actions.specs.Attempts.{call_of, is_queued, of_its_call}
+use Rattle.session_actions.specs.Attempts.{call_of, is_queued}
 use Rattle.session_actions.specs.Calls.{is_open_call}
 use Rattle.session_actions.specs.Configs.{held_config, is_to_configure, is_unconfigured, waits_for_ready}
 use Rattle.session_actions.specs.CallEnds.{lacks_config}

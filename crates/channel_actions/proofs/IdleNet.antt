@@ -1,5 +1,5 @@
 -- Where nothing is due of subchannels and policies, the net stays as it is.
-use Rattle.std.proofs.Common.{◌≡◌, ◌⊎◌, inl, inr, ap, refl, subst, sym, ◌∙◌, Bool, true, false, List, [], Option, None, Some, ℕ, zero, suc, if◌then◌else◌}
+use Rattle.std.proofs.Common.{◌≡◌, ◌⊎◌, inl, inr, ap, refl, sym, ◌∙◌, Bool, true, false, List, [], Option, None, Some, ℕ, zero, suc, if◌then◌else◌}
 use Rattle.std.specs.Option.{option_map}
 use Rattle.attempt_ledger.specs.declared.ledger.Generation.{Generation}
 use Rattle.channel_actions.specs.Agrees.{Agrees}
@@ -16,7 +16,6 @@ use Rattle.policy_rack.specs.declared.live.Live.{Live}
 use Rattle.session_actions.specs.Entries.{now}
 use Rattle.session_actions.specs.Policies.{next_take_over}
 use Rattle.session_actions.specs.Subchannels.{next_connected, next_of_clock}
-use Rattle.session_actions.specs.declared.action.Action.{Action}
 use Rattle.session_actions.specs.declared.action.Action.TheVariants as action
 use Rattle.session_actions.specs.declared.seen.Seen.{Seen}
 use Rattle.subchannel.specs.Boards.{first_number}

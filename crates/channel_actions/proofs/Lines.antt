@@ -1,5 +1,5 @@
 -- What a link is fed with goes on with the clock: each attempt on it stands at its place, so its line is that of its call at the moment that is.
-use Rattle.std.proofs.Common.{◌≡◌, ◌+◌, ◌∷◌, ap, arith, refl, subst, sym, ◌∙◌, Bool, true, false, List, [], Option, None, Some, ℕ, zero, suc, cond, filter, slice_get}
+use Rattle.std.proofs.Common.{◌≡◌, ◌+◌, ◌∷◌, ap, arith, refl, subst, sym, ◌∙◌, Bool, true, false, List, [], Option, Some, ℕ, zero, suc, cond, filter, slice_get}
 use Rattle.std.specs.List.{AllByRecursion}
 use Rattle.std.specs.Option.{option_map_or}
 use Rattle.std.specs.Prelude.{map}
@@ -19,7 +19,7 @@ use Rattle.session_actions.specs.declared.call.Call.{Call}
 use Rattle.session_actions.specs.declared.entry.OpenEntry.{OpenEntry}
 use Rattle.session_actions.specs.declared.link.Link.{Link}
 use Rattle.session_actions.specs.declared.seen.Seen.{Seen}
-use Rattle.stream_actions.specs.Sees.{AreHeard, IsHeard, SeesStreams}
+use Rattle.stream_actions.specs.Sees.{AreHeard, SeesStreams}
 
 -- each attempt stands at its place
 abbrev pub AtPlace : List Attempt → Attempt → Type 0

@@ -1,29 +1,24 @@
 -- Channel and session still agree where only the clock goes on: another entry is open, or none, or the same at another stage.
-use Rattle.std.proofs.Common.{◌≡◌, ◌+◌, ap, refl, subst, sym, ◌∙◌, Bool, true, List, [], Option, None, Some, ℕ, if◌then◌else◌}
+use Rattle.std.proofs.Common.{◌≡◌, ap, subst, sym, ◌∙◌, Bool, true, List, Option, None, Some, ℕ}
 use Rattle.std.specs.List.{list_all}
 use Rattle.std.specs.Option.{option_map_or}
-use Rattle.std.specs.Prelude.{length, nat_le}
-use Rattle.attempt_ledger.specs.declared.ledger.Ledger.{Ledger}
+use Rattle.std.specs.Prelude.{nat_le}
 use Rattle.call_actions.specs.Order.{IsInOrder, IsInTurn}
 use Rattle.call_actions.specs.Sees.{AreAttempts, AreDue, Sees}
 use Rattle.call_core.specs.Steps.{Stepped}
 use Rattle.channel_actions.proofs.Dues.{due_same, in_dues_same, state_same}
 use Rattle.channel_actions.proofs.Lines.{streams_moved}
 use Rattle.channel_actions.specs.Agrees.{Agrees}
-use Rattle.channel_actions.specs.Calls.{HasSlot, SeesCall, SeesCalls, lent_to}
+use Rattle.channel_actions.specs.Calls.{HasSlot, lent_to}
 use Rattle.channel_actions.specs.Clock.{SeesClock}
 use Rattle.channel_actions.specs.Columns.{links_noted}
-use Rattle.channel_actions.specs.Kept.{IsKept}
-use Rattle.channel_actions.specs.Links.{HasLink, IsGoing, SeesLinkOf, SeesLinks}
-use Rattle.channel_actions.specs.Readers.{IsReader, IsReaderOf, SeesReaders, attempt_on}
+use Rattle.channel_actions.specs.Links.{HasLink}
+use Rattle.channel_actions.specs.Readers.{IsReaderOf, attempt_on}
 use Rattle.channel_core.specs.States.{StateSeen}
-use Rattle.channel_core.specs.declared.state.links.LinkSlot.{LinkSlot}
-use Rattle.channel_core.specs.declared.state.slots.CallSlot.{CallSlot}
 use Rattle.grpc_base.specs.declared.event.Entry.{Entry}
 use Rattle.grpc_link.specs.Links.{reader_in}
 use Rattle.grpc_link.specs.Readers.{ReaderSeen}
 use Rattle.session_actions.specs.Entries.{entry}
-use Rattle.session_actions.specs.Words.{numbered}
 use Rattle.session_actions.specs.declared.attempt.Attempt.{Attempt}
 use Rattle.session_actions.specs.declared.call.Call.{Call}
 use Rattle.session_actions.specs.declared.due.DueState.{DueState}

@@ -1,7 +1,7 @@
 -- What stays quiet where an entry goes on to its settling: the lines that look at the event give nothing more.
-use Rattle.std.proofs.Common.{◌≡◌, ◌&&◌, ◌||◌, ◌∷◌, ap, refl, subst, sym, ◌∙◌, Bool, true, false, List, [], Option, None, Some, cond, ℕ, if◌then◌else◌}
+use Rattle.std.proofs.Common.{◌≡◌, ◌∷◌, ap, refl, sym, ◌∙◌, Bool, true, false, List, [], Option, None, Some, cond}
 use Rattle.std.specs.Option.{option_map, option_or}
-use Rattle.std.specs.Prelude.{find, option_and_then}
+use Rattle.std.specs.Prelude.{find}
 
 -- the first of several is nothing where none is something
 pub or_parts_none : {X : Type 0} (a b : Option X) → option_or a b ≡ None → (a ≡ None) × (b ≡ None)

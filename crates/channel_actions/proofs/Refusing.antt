@@ -1,22 +1,18 @@
 -- What the channel refuses by itself is refused by the session, for the same reason: Shut, NoSuchCall, NoSuchLink, LinkGone, RoomTooSmall.
-use Rattle.std.proofs.Common.{◌≡◌, ◌&&◌, ◌∷◌, ap, arith, refl, subst, sym, ◌∙◌, Bool, true, false, List, [], Option, None, Some, ℕ, zero, suc, if◌then◌else◌, not, is_some, slice_get, length}
+use Rattle.std.proofs.Common.{◌≡◌, ◌∷◌, ap, arith, refl, subst, sym, ◌∙◌, Bool, true, false, List, [], Option, None, Some, ℕ, zero, suc, if◌then◌else◌, not, is_some, slice_get, length}
 use Rattle.std.specs.Prelude.{nat_lt}
 use Rattle.channel_actions.proofs.Answering.{answered_so, refused_so}
 use Rattle.channel_core.specs.declared.state.links.LinkSlot.{LinkSlot}
 use Rattle.channel_actions.specs.Cases.{IsRefused, IsTick}
 use Rattle.channel_actions.proofs.Gone.{gone_same}
 use Rattle.channel_actions.specs.Agrees.{Agrees}
-use Rattle.channel_actions.specs.Calls.{HasSlot}
 use Rattle.channel_actions.specs.Calm.{IsAt}
-use Rattle.channel_actions.specs.Links.{HasLink}
 use Rattle.channel_actions.specs.Stages.{EventsAnswered, IsAnswered}
 use Rattle.channel_core.specs.Applying as channel
 use Rattle.channel_core.specs.Applying.{Answers, AnswersBy, or_room, open_refusal}
 use Rattle.channel_core.specs.Books.{lacks_call, slot_at}
 use Rattle.channel_core.specs.States.{StateSeen}
 use Rattle.channel_core.specs.Steps as channel_steps
-use Rattle.channel_core.specs.Tables.{has_link}
-use Rattle.channel_core.specs.declared.state.slots.CallSlot.{CallSlot}
 use Rattle.grpc_base.specs.declared.event.Event.{Event}
 use Rattle.grpc_base.specs.declared.event.Event.TheVariants as event
 use Rattle.grpc_base.specs.declared.event.Refusal.{Refusal}
@@ -24,7 +20,7 @@ use Rattle.grpc_base.specs.declared.event.Refusal.TheVariants as refusal
 use Rattle.grpc_base.specs.declared.event.Reply.{Reply}
 use Rattle.grpc_base.specs.declared.event.Reply.TheVariants as reply
 use Rattle.session_actions.specs.CallEnds.{next_deadline}
-use Rattle.session_actions.specs.Events.{event_action, event_action_by}
+use Rattle.session_actions.specs.Events.{event_action_by}
 use Rattle.session_actions.specs.Refusals.{cancel_refusal, is_gone, link_refusal, refusal_of, refusal_when_open, refused_if, send_refusal, take_refusal}
 use Rattle.session_actions.specs.Words.{numbered}
 use Rattle.session_actions.specs.declared.call.Call.{Call}

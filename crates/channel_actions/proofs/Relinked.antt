@@ -1,5 +1,5 @@
 -- What is queued on links, or stamped on them, leaves all that calls and attempts have of them: what passed on them is the same.
-use Rattle.std.proofs.Common.{◌≡◌, ◌∷◌, ap, refl, subst, sym, ◌∙◌, Bool, true, false, List, [], Option, None, Some, ℕ, filter, is_some}
+use Rattle.std.proofs.Common.{◌≡◌, ◌∷◌, ap, refl, subst, sym, ◌∙◌, true, List, [], Option, None, Some, ℕ, filter, is_some}
 use Rattle.std.specs.List.{AllByRecursion, list_all}
 use Rattle.std.specs.Option.{option_map, option_map_or}
 use Rattle.std.specs.Prelude.{map, option_and_then}
@@ -19,7 +19,7 @@ use Rattle.channel_actions.specs.Links.{SeesLinks}
 use Rattle.channel_core.specs.States.{StateSeen}
 use Rattle.channel_core.specs.declared.state.links.LinkSlot.{LinkSlot}
 use Rattle.h2_link.specs.Queues.{Queue}
-use Rattle.channel_actions.specs.Readers.{IsReader, IsReaderOf}
+use Rattle.channel_actions.specs.Readers.{IsReaderOf}
 use Rattle.grpc_base.specs.declared.event.Reply.{Reply}
 use Rattle.grpc_frame.specs.Messages.{framed_all}
 use Rattle.grpc_link.specs.Readers.{ReaderSeen}
@@ -27,7 +27,7 @@ use Rattle.h2_frame.specs.Frames.{FrameSeen}
 use Rattle.h2_link.specs.Feeds.{Line}
 use Rattle.h2_link.specs.Wire.{Wire}
 use Rattle.h2_link.specs.declared.live.LiveStream.{LiveStream}
-use Rattle.link_actions.specs.Sees.{AreFed, AreLive, IsFed, SeesLink, SeesOwed, SeesRead, WaitFed, by_stream}
+use Rattle.link_actions.specs.Sees.{AreFed, AreLive, IsFed, SeesLink, SeesOwed, SeesRead, by_stream}
 use Rattle.session_actions.specs.Attempts.{commitment, is_of, is_outstanding}
 use Rattle.session_actions.specs.Deliveries.{response_items}
 use Rattle.session_actions.specs.Links.{link_of, read_bytes}

@@ -1,10 +1,8 @@
 -- A run of a channel, event by event: each leads from a point between two entries to the next, so the whole is a session.
-use Rattle.std.proofs.Common.{◌≡◌, ◌++◌, ◌+◌, ◌-◌, ◌∷◌, ap, append_assoc, arith, refl, subst, sym, ◌∙◌, Bool, true, List, [], Option, None, Some, ℕ, zero, suc, if◌then◌else◌, is_some, length, slice_get}
+use Rattle.std.proofs.Common.{◌≡◌, ◌++◌, ◌+◌, ◌-◌, ◌∷◌, ap, append_assoc, arith, refl, subst, sym, ◌∙◌, true, List, [], Option, ℕ, zero, suc, if◌then◌else◌, is_some, length, slice_get}
 use Rattle.std.proofs.lemmas.List.{append-nil}
-use Rattle.std.proofs.lemmas.Simd.{map-map}
-use Rattle.std.specs.Global.{Global}
 use Rattle.std.specs.Option.{option_map_or}
-use Rattle.std.specs.Prelude.{map, max, option_to_list}
+use Rattle.std.specs.Prelude.{map, max}
 use Rattle.attempt_ledger.specs.declared.ledger.Ask.{Ask}
 use Rattle.attempt_ledger.specs.declared.ledger.CallSeen.{CallSeen}
 use Rattle.attempt_ledger.specs.declared.ledger.Generation.{Generation}
@@ -15,11 +13,11 @@ use Rattle.channel_actions.proofs.Does.{does_on, posted_on}
 use Rattle.channel_actions.proofs.Entered.{Enters, entered, entry_as}
 use Rattle.channel_actions.proofs.Opening.{noted_is}
 use Rattle.channel_actions.proofs.Splitting.{deadlines_split, events_split, settlings_split}
-use Rattle.channel_actions.specs.Laws.{ClosingsCome, HadRoom, IsSession, NewChannelsAgree, RunsAreSessions, is_room}
+use Rattle.channel_actions.specs.Laws.{ClosingsCome, HadRoom, NewChannelsAgree, RunsAreSessions, is_room}
 use Rattle.channel_actions.specs.Points.{Rests}
 use Rattle.channel_actions.specs.Stages.{Closings, Deadlines, Events, Openings, Settlings}
-use Rattle.channel_core.specs.Applying.{Stepped, conn_of, new_state}
-use Rattle.channel_core.specs.Core.{CoreSeen, IsNewBy, Runs, Steps, last_moment, ledger_in}
+use Rattle.channel_core.specs.Applying.{Stepped, conn_of}
+use Rattle.channel_core.specs.Core.{CoreSeen, Runs, Steps, last_moment}
 use Rattle.channel_core.specs.States.{StateSeen}
 use Rattle.grpc_base.specs.declared.event.Entry.{Entry}
 use Rattle.grpc_base.specs.declared.event.Reply.{Reply}
@@ -27,7 +25,7 @@ use Rattle.grpc_base.specs.declared.event.Stamped.{Stamped}
 use Rattle.net_actions.specs.Laws.{ClockChanges, NoneToDial, StatesAreSame, TakeOversAreSame, WishesConnect}
 use Rattle.session_actions.specs.Entries as entries
 use Rattle.session_actions.specs.Entries.{has_room}
-use Rattle.session_actions.specs.Laws.{posted_by, posted_in}
+use Rattle.session_actions.specs.Laws.{posted_in}
 use Rattle.session_actions.specs.Sessions.{Does, call_seen, ledger_of, link_seen, new_session}
 use Rattle.session_actions.specs.Words.{last_of, numbered}
 use Rattle.session_actions.specs.declared.action.Action.{Action}

@@ -1,15 +1,14 @@
 -- SettlingBegins: an entry whose event was answered goes on to its settling, where nothing follows at once either.
-use Rattle.std.proofs.Common.{◌≡◌, ◌&&◌, ◌||◌, ◌∷◌, ◌%◌, ◌^◌, ap, refl, subst, sym, ◌∙◌, Bool, true, false, List, [], Option, None, Some, if◌then◌else◌, ℕ, is_some, not}
-use Rattle.std.proofs.lemmas.Bool.{and_parts}
+use Rattle.std.proofs.Common.{◌≡◌, ◌&&◌, ◌||◌, ◌∷◌, ◌%◌, ◌^◌, ap, refl, subst, sym, ◌∙◌, Bool, true, false, List, [], Option, None, Some, if◌then◌else◌, ℕ, is_some}
 use Rattle.std.specs.List.{list_any}
 use Rattle.std.specs.Option.{option_map, option_or}
-use Rattle.std.specs.Prelude.{find, option_and_then}
+use Rattle.std.specs.Prelude.{option_and_then}
 use Rattle.channel_actions.proofs.Dues.{next_final_same}
 use Rattle.channel_actions.proofs.Moved.{agrees_moved}
-use Rattle.channel_actions.proofs.Quiet.{find_narrow, mapped_narrow, never, or_both_none, or_parts_none}
+use Rattle.channel_actions.proofs.Quiet.{mapped_narrow, never, or_both_none, or_parts_none}
 use Rattle.channel_actions.specs.Agrees.{Agrees}
 use Rattle.channel_actions.specs.Calm.{IsAt, IsCalm}
-use Rattle.channel_actions.specs.Points.{IsSameEntry, Reaches}
+use Rattle.channel_actions.specs.Points.{Reaches}
 use Rattle.channel_core.specs.States.{StateSeen}
 use Rattle.grpc_base.specs.declared.address.Address.{Address}
 use Rattle.grpc_base.specs.declared.event.EndCause.TheVariants as ending
@@ -17,17 +16,17 @@ use Rattle.grpc_base.specs.declared.event.Event.{Event}
 use Rattle.grpc_base.specs.declared.event.Event.TheVariants as event
 use Rattle.grpc_base.specs.declared.event.Reply.{Reply}
 use Rattle.grpc_base.specs.declared.kind.Kind.{Kind}
-use Rattle.session_actions.specs.Actions.{after, after_if, first_action, following, following_in, of_calls, of_frames, of_links, of_policies, of_stage}
+use Rattle.session_actions.specs.Actions.{after, after_if, first_action, following, following_in, of_calls, of_links, of_policies, of_stage}
 use Rattle.session_actions.specs.CallEnds.{cancels, has_long_request, has_long_response, is_after_event, is_cancelled, is_over_by_row, is_shut_down, next_ended, sends_too_long}
 use Rattle.session_actions.specs.Calls.{is_open_call}
 use Rattle.session_actions.specs.Configs.{held_config, is_too_long}
 use Rattle.session_actions.specs.Commitments.{next_final, next_headed, next_inherited, next_overflow}
-use Rattle.session_actions.specs.AttemptEnds.{next_cut, next_reset, next_wire_end}
+use Rattle.session_actions.specs.AttemptEnds.{next_cut}
 use Rattle.session_actions.specs.Entries.{settling}
-use Rattle.session_actions.specs.Events.{frame_action, is_loss}
+use Rattle.session_actions.specs.Events.{frame_action}
 use Rattle.session_actions.specs.Making.{next_transparent}
-use Rattle.session_actions.specs.Policies.{begin_if, is_live_policy, is_other_kind, is_same_kind, is_pending, is_to_retire, next_begun, next_given, next_of_pick, next_retired, result_of, wanted_kind, wants_addresses}
-use Rattle.session_actions.specs.Subchannels.{next_added, next_of_links, next_shut}
+use Rattle.session_actions.specs.Policies.{begin_if, is_live_policy, is_other_kind, is_same_kind, is_pending, is_to_retire, next_begun, next_given, next_retired, result_of, wanted_kind, wants_addresses}
+use Rattle.session_actions.specs.Subchannels.{next_added, next_shut}
 use Rattle.session_actions.specs.Words.{holds}
 use Rattle.session_actions.specs.declared.action.Action.{Action}
 use Rattle.session_actions.specs.declared.action.Action.TheVariants as action

@@ -1,14 +1,13 @@
 -- Where no deadline has come by the session, none has in the channel.
-use Rattle.std.proofs.Common.{◌≡◌, ◌&&◌, ◌==◌, ◌∷◌, ap, refl, subst, sym, ◌∙◌, Bool, true, false, List, [], Option, None, Some, ℕ, if◌then◌else◌, filter}
+use Rattle.std.proofs.Common.{◌≡◌, ◌&&◌, ◌∷◌, ap, refl, subst, sym, ◌∙◌, Bool, true, false, List, [], Option, None, Some, ℕ, if◌then◌else◌, filter}
 use Rattle.std.specs.Option.{option_map}
 use Rattle.std.specs.Prelude.{nat_le}
 use Rattle.channel_actions.proofs.IdleCalls.{equal_moment, filter_none_at}
 use Rattle.channel_actions.proofs.Outstanding.{any_of, same_self}
 use Rattle.channel_actions.specs.Agrees.{Agrees}
 use Rattle.channel_actions.specs.Calls.{deadline_of}
-use Rattle.channel_actions.specs.Calm.{IsAt}
 use Rattle.channel_actions.specs.Sets.{AreExactly, is_in_deadlines}
-use Rattle.channel_actions.specs.Stages.{DeadlinesOf, IsTimely}
+use Rattle.channel_actions.specs.Stages.{DeadlinesOf}
 use Rattle.channel_actions.specs.Cases.{IsInTime}
 use Rattle.channel_core.proofs.Idling.{none_overdue}
 use Rattle.channel_core.specs.States.{StateSeen}
@@ -19,10 +18,7 @@ use Rattle.session_actions.specs.Calls.{is_open_call}
 use Rattle.session_actions.specs.Configs.{deadline}
 use Rattle.session_actions.specs.Entries.{now}
 use Rattle.session_actions.specs.Words.{foremost, holds, is_number, numbered}
-use Rattle.session_actions.specs.declared.action.Action.{Action}
 use Rattle.session_actions.specs.declared.call.Call.{Call}
-use Rattle.session_actions.specs.declared.entry.OpenEntry.{OpenEntry}
-use Rattle.session_actions.specs.declared.entry.Stage.TheVariants as stage
 use Rattle.session_actions.specs.declared.seen.Seen.{Seen}
 use Rattle.grpc_base.specs.declared.event.EndCause.TheVariants as ending
 

@@ -1,7 +1,7 @@
 -- Where nothing follows at once: none of the lines of `following` that come before all others gives an action, whichever stage the entry is at.
 -- Example: a frame with GOAWAY was read on link 1, of subchannel 1. LinkDown of subchannel 1 follows at once; after it, and after the ends of attempts that
 -- it brings, nothing does, and the next frame is read.
-use Rattle.std.specs.Prelude.{None, Option, Some, [], ◌≡◌, ℕ}
+use Rattle.std.specs.Prelude.{None, Some, ◌≡◌, ℕ}
 use Rattle.grpc_base.specs.declared.event.Event.{Event}
 use Rattle.session_actions.specs.Actions.{of_calls, of_links, of_policies}
 use Rattle.session_actions.specs.Entries.{opened, opened_entry}

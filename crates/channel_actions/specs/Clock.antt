@@ -1,7 +1,7 @@
 -- The clock of channel and session: the entry that is being made, its moment, its random word and how many were drawn of it.
 -- Example: entry 3 is being made at 7 s with the word 9, and two words were drawn. In the session the open entry says so; in the channel the ledger has
 -- the entry 3, the book the moment, and the state the word 9 and 2 draws. Between two entries no word is kept.
-use Rattle.std.specs.Prelude.{None, Option, Some, ℕ, ◌%◌, ◌^◌, ◌≡◌}
+use Rattle.std.specs.Prelude.{None, Option, Some, ◌%◌, ◌^◌, ◌≡◌}
 use Rattle.channel_core.specs.States.{StateSeen}
 use Rattle.session_actions.specs.Entries.{entry, now}
 use Rattle.session_actions.specs.declared.entry.OpenEntry.{OpenEntry}

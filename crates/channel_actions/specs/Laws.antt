@@ -1,7 +1,7 @@
 -- The headline: every run of a channel is a session. It is put together here from what each stage of an entry asks (`Stages`).
 -- Example: a new channel is given one Tick. Its journal has one entry with reply Done and state IDLE, and its ledger is empty. The actions are EntryOpens,
 -- EventAnswered, SettlingBegins, EntryCloses.
-use Rattle.std.specs.Prelude.{List, Some, [], length, nat_le, nat_lt, true, ℕ, ◌&&◌, ◌++◌, ◌+◌, ◌∷◌, ◌≡◌, Bool}
+use Rattle.std.specs.Prelude.{List, [], length, nat_le, nat_lt, true, ◌&&◌, ◌++◌, ◌+◌, ◌∷◌, ◌≡◌, Bool}
 use Rattle.std.specs.Global.{Global}
 use Rattle.channel_actions.specs.Cases.{DoesSomething, HasDue, HasOverdue, IsIdle, IsInTime, IsNoDial, IsPing, IsRefused, IsRefusedDial, IsTick, IsUnresolved, PingsStayCalm}
 use Rattle.channel_actions.specs.Points.{Rests}

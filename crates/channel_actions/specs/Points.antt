@@ -1,7 +1,7 @@
 -- From one point at which channel and session agree to the next: the channel goes on, and so does the session, by the actions that follow.
 -- Example: a Tick. Its entry opens; EventAnswered leads to its answer; SettlingBegins, and then EntryCloses. The channel sets its moment and word, answers
 -- Done, and settles. The two agree at each of these points.
-use Rattle.std.specs.Prelude.{List, None, Option, Some, [], map, ◌≡◌}
+use Rattle.std.specs.Prelude.{List, None, [], map, ◌≡◌}
 use Rattle.channel_actions.specs.Agrees.{Agrees}
 use Rattle.channel_actions.specs.Calm.{AreCalm, IsAt}
 use Rattle.channel_core.specs.States.{StateSeen}

@@ -6,7 +6,7 @@ use Rattle.std.specs.Prelude.{Bool, List, [], is_none, not, true, ℕ, ◌&&◌,
 use Rattle.channel_actions.specs.Calls.{deadline_of, due_of}
 use Rattle.channel_core.specs.States.{StateSeen}
 use Rattle.picker_gate.specs.Pairs.{has, is_behind}
-use Rattle.session_actions.specs.Attempts.{is_outstanding, is_queued, of_its_call}
+use Rattle.session_actions.specs.Attempts.{is_outstanding, is_queued}
 use Rattle.session_actions.specs.Calls.{is_open_call}
 use Rattle.session_actions.specs.Configs.{waits_for_ready}
 use Rattle.session_actions.specs.Links.{link_number}

@@ -2,7 +2,7 @@
 -- session. These are what a run needs of the parts. Each is proved case by case, by its event or by what is due.
 -- Example: a deadline has come, and then call 1 is cancelled, which it ended. `Deadlines` has CallEnds 1 and the ends of its attempts; `Events` has
 -- EventRefused with CallEnded; `Settlings` has what is due.
-use Rattle.std.specs.Prelude.{None, Option, Some, [], ℕ, length, max, ◌+◌, ◌≡◌}
+use Rattle.std.specs.Prelude.{None, Some, ℕ, length, max, ◌+◌, ◌≡◌}
 use Rattle.channel_actions.specs.Agrees.{Agrees}
 use Rattle.channel_actions.specs.Calm.{AreCalm, IsAt}
 use Rattle.channel_actions.specs.Kept.{IsKept}
@@ -16,7 +16,7 @@ use Rattle.grpc_base.specs.declared.event.Reply.{Reply}
 use Rattle.session_actions.specs.Actions.{following}
 use Rattle.session_actions.specs.CallEnds.{next_deadline}
 use Rattle.session_actions.specs.Closing.{entry_made}
-use Rattle.session_actions.specs.Entries.{last_moment, opened, opened_entry}
+use Rattle.session_actions.specs.Entries.{last_moment, opened}
 use Rattle.session_actions.specs.Events.{frame_action}
 use Rattle.session_actions.specs.declared.action.Action.TheVariants as action
 use Rattle.session_actions.specs.declared.entry.OpenEntry.{OpenEntry}
