@@ -17,6 +17,7 @@ pub mod Pinging
 pub mod Quiet
 pub mod Refusing
 pub mod Relinked
+pub mod Resting
 pub mod Running
 pub mod Settles
 pub mod Splitting

@@ -13,7 +13,7 @@ use Rattle.channel_actions.proofs.Does.{does_on, posted_on}
 use Rattle.channel_actions.proofs.Entered.{Enters, entered, entry_as}
 use Rattle.channel_actions.proofs.Opening.{noted_is}
 use Rattle.channel_actions.proofs.Splitting.{deadlines_split, events_split, settlings_split}
-use Rattle.channel_actions.specs.Laws.{ClosingsCome, HadRoom, NewChannelsAgree, RunsAreSessions, is_room}
+use Rattle.channel_actions.specs.Laws.{HadRoom, NewChannelsAgree, RunsAreSessions, is_room}
 use Rattle.channel_actions.specs.Points.{Rests}
 use Rattle.channel_actions.specs.Stages.{Closings, Deadlines, Events, Openings, Settlings}
 use Rattle.channel_core.specs.Applying.{Stepped, conn_of}
@@ -141,10 +141,10 @@ recorded x s h =
     ∙ ap (λ (z : List LinkSeen). made l.rows l.calls l.asks l.generations z (length s.entries)) links
     ∙ ap (made l.rows l.calls l.asks l.generations l.links) number
 
-pub runs_are_sessions : StatesAreSame → NoneToDial → ClockChanges → TakeOversAreSame → WishesConnect → NewChannelsAgree → Openings → ClosingsCome → RunsAreSessions
-runs_are_sessions states none_to_dial clocks overs wishes news openings closings overdue does due calm setup policies alloc events new core kinds ready is_new runs room =
+pub runs_are_sessions : StatesAreSame → NoneToDial → ClockChanges → TakeOversAreSame → WishesConnect → NewChannelsAgree → Openings → Closings → RunsAreSessions
+runs_are_sessions states none_to_dial clocks overs wishes news openings closings overdue does due setup policies alloc events new core kinds ready is_new runs room =
     let begins : Rests new.state (new_session setup) = subst (λ (x : StateSeen). Rests x (new_session setup)) (sym is_new.state) (news setup policies alloc kinds ready) in
-    let ran = run states openings (deadlines_split overdue) (events_split none_to_dial does) (settlings_split clocks overs wishes states due) (closings calm) events new core (new_session setup) begins (sym is_new.journal) runs room in
+    let ran = run states openings (deadlines_split overdue) (events_split none_to_dial does) (settlings_split clocks overs wishes states due) closings events new core (new_session setup) begins (sym is_new.journal) runs room in
     record {
       consistent = record {
         actions = ran.actions;

@@ -3,9 +3,9 @@
 -- EventAnswered, SettlingBegins, EntryCloses.
 use Rattle.std.specs.Prelude.{List, [], length, nat_le, nat_lt, true, ◌&&◌, ◌++◌, ◌+◌, ◌∷◌, ◌≡◌, Bool}
 use Rattle.std.specs.Global.{Global}
-use Rattle.channel_actions.specs.Cases.{DoesSomething, HasDue, HasOverdue, IsIdle, IsInTime, IsNoDial, IsPing, IsRefused, IsRefusedDial, IsTick, IsUnresolved, PingsStayCalm}
+use Rattle.channel_actions.specs.Cases.{DoesSomething, HasDue, HasOverdue, IsIdle, IsInTime, IsNoDial, IsPing, IsRefused, IsRefusedDial, IsTick, IsUnresolved}
 use Rattle.channel_actions.specs.Points.{Rests}
-use Rattle.channel_actions.specs.Stages.{Closings, ClosingsAreCalm, DeadlinesOf, EventsAnswered, SettlingsOf}
+use Rattle.channel_actions.specs.Stages.{DeadlinesOf, EventsAnswered, SettlingsOf}
 use Rattle.channel_core.specs.Applying.{new_state}
 use Rattle.channel_core.specs.Core.{CoreSeen, IsNewBy, Runs, ledger_in}
 use Rattle.grpc_base.specs.Posts.{event_bytes}
@@ -42,14 +42,10 @@ pub record IsSession (setup : Setup) (events : List Stamped) (core : CoreSeen) :
 -- (the premises are what is left of the stages; the rest of each is proved below)
 abbrev pub RunsAreSessions : Type 0
 RunsAreSessions =
-    DeadlinesOf HasOverdue → EventsAnswered DoesSomething → SettlingsOf HasDue → ClosingsAreCalm
+    DeadlinesOf HasOverdue → EventsAnswered DoesSomething → SettlingsOf HasDue
     → (setup : Setup) (policies : List PolicySeen) (alloc : Global) (events : List Stamped) (new core : CoreSeen)
     → AreKinds setup.policies policies → are_ready policies ≡ true → IsNewBy alloc setup.authority policies new → Runs new events core
     → HadRoom [] core.journal.entries → IsSession setup events core
-
--- an entry closes, where the session is calm after it
-abbrev pub ClosingsCome : Type 0
-ClosingsCome = ClosingsAreCalm → Closings
 
 -- What is proved of the stages, case by case.
 -- Events: what the channel refuses before it looks at a call or a subchannel; a Tick; a resolution that failed; a dial where none is to be made, and dials
@@ -69,9 +65,9 @@ NoDialsAreAnswered = EventsAnswered IsNoDial
 abbrev pub RefusedDialsAreAnswered : Type 0
 RefusedDialsAreAnswered = EventsAnswered IsRefusedDial
 
--- a PING is queued, where nothing follows from it by the session
+-- a PING is queued
 abbrev pub PingsAreQueued : Type 0
-PingsAreQueued = PingsStayCalm → EventsAnswered IsPing
+PingsAreQueued = EventsAnswered IsPing
 
 abbrev pub DeadlinesAreAhead : Type 0
 DeadlinesAreAhead = DeadlinesOf IsInTime

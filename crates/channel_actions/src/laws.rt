@@ -1,11 +1,12 @@
 // What the channel does, as actions of a session; nothing runs.
-ghost use Rattle.channel_actions.specs.Laws.{ClosingsCome, DeadlinesAreAhead, FailedResolutionsAreAnswered, NewChannelsAgree, NoDialsAreAnswered, NothingIsDue, PingsAreQueued, RefusalsAreAnswered, RefusedDialsAreAnswered, RunsAreSessions, TicksAreAnswered};
-ghost use Rattle.channel_actions.specs.Stages.{Openings};
+ghost use Rattle.channel_actions.specs.Laws.{DeadlinesAreAhead, FailedResolutionsAreAnswered, NewChannelsAgree, NoDialsAreAnswered, NothingIsDue, PingsAreQueued, RefusalsAreAnswered, RefusedDialsAreAnswered, RunsAreSessions, TicksAreAnswered};
+ghost use Rattle.channel_actions.specs.Stages.{Closings, Openings};
 
 use link_actions::pings_are_actions;
 use net_actions::{
     new_nets_are_new_sessions, policy_steps_are_actions, subchannel_steps_are_actions,
 };
+use session_order::{calm_is_exact, entries_rest, links_stir};
 
 /// A new channel agrees with a new session.
 pub fn new_channels_are_new_sessions()
@@ -17,8 +18,11 @@ pub fn new_channels_are_new_sessions()
 /// Channel and session agree on an entry that opens, and after one that closes, with each link that is gone stamped in both.
 pub fn entries_open_and_close()
     ensures opens { Openings }
-    ensures closes { ClosingsCome }
-{}
+    ensures closes { Closings }
+{
+    calm_is_exact();
+    entries_rest();
+}
 
 /// An event that brings no more than its answer is answered alike: refused, a Tick, a resolution that failed, a dial where none is to be made, and
 /// a dial that is not under way.
@@ -32,10 +36,12 @@ pub fn plain_events_are_answered()
     subchannel_steps_are_actions();
 }
 
-/// A PING of the environment is queued on its link in both, where nothing follows from it by the session.
+/// A PING of the environment is queued on its link in both, and nothing follows from it.
 pub fn pings_are_queued()
     ensures { PingsAreQueued }
 {
+    calm_is_exact();
+    links_stir();
     pings_are_actions();
 }
 
