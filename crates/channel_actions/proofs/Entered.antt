@@ -1,0 +1,158 @@
+-- One event: from a point between two entries channel and session go on to the next, by the stages of the entry.
+use Rattle.std.proofs.Common.{◌≡◌, ◌++◌, ◌+◌, ◌&&◌, ◌∷◌, ap, refl, subst, sym, ◌∙◌, true, List, [], Option, Some, ℕ, is_none, length}
+use Rattle.std.proofs.Math.Nat.{max_comm}
+use Rattle.std.specs.Prelude.{max, unwrap_or}
+use Rattle.channel_actions.proofs.Does.{does_on, none_on}
+use Rattle.channel_actions.proofs.Settles.{Settles, begins}
+use Rattle.channel_actions.proofs.States.{states_agree}
+use Rattle.channel_actions.specs.Agrees.{Agrees}
+use Rattle.channel_actions.specs.Points.{IsSameEntry, Rests}
+use Rattle.channel_actions.specs.Stages.{Closings, Deadlines, Events, IsAnswered, IsSettled, IsTimely, Openings, Settlings}
+use Rattle.channel_core.specs.Applying.{AnswersBy, Stepped, begun_at, conn_of, refusal_of}
+use Rattle.channel_core.specs.States.{StateSeen}
+use Rattle.channel_core.specs.Steps.{overdue_ended}
+use Rattle.grpc_base.specs.declared.event.Conn.{Conn}
+use Rattle.grpc_base.specs.declared.event.Entry.{Entry}
+use Rattle.grpc_base.specs.declared.event.Event.{Event}
+use Rattle.grpc_base.specs.declared.event.Reply.{Reply}
+use Rattle.grpc_base.specs.declared.event.Reply.TheVariants as reply
+use Rattle.grpc_base.specs.declared.event.Stamped.{Stamped}
+use Rattle.net_actions.specs.Laws.{StatesAreSame}
+use Rattle.session_actions.specs.Actions.{after, after_if}
+use Rattle.session_actions.specs.Closing.{entry_made, made_entry}
+use Rattle.session_actions.specs.Entries.{has_room, last_moment, may_open, opened, opened_entry}
+use Rattle.session_actions.specs.Laws.{posted_in}
+use Rattle.session_actions.specs.Policies.{channel_state}
+use Rattle.session_actions.specs.Sessions.{Does}
+use Rattle.session_actions.specs.declared.action.Action.{Action}
+use Rattle.session_actions.specs.declared.action.Action.TheVariants as action
+use Rattle.session_actions.specs.declared.entry.OpenEntry.{OpenEntry}
+use Rattle.session_actions.specs.declared.seen.Seen.{Seen}
+
+abbrev pub entry_as : ℕ → ℕ → Event → Reply → Conn → Entry
+entry_as moment word e r state = record { moment = moment; word = word; event = e; reply = r; state = state }
+
+-- the session goes on to the point behind an entry
+pub record Enters (y : StateSeen) (s : Seen) (e : Stamped) (r : Reply) : Type 0 where
+  pub actions : List Action
+  pub seen : Seen
+  pub does : Does actions s seen
+  pub posted : posted_in actions ≡ e ∷ []
+  pub rests : Rests y seen
+  pub journal : seen.entries ≡ s.entries ++ entry_as (max e.moment (last_moment s)) e.word e.event r (conn_of y) ∷ []
+  pub setup : seen.setup ≡ s.setup
+
+same_on : (o : OpenEntry) (s : Seen) (p : OpenEntry) (t : Seen) (q : OpenEntry) (u : Seen) → IsSameEntry o s p t → IsSameEntry p t q u → IsSameEntry o s q u
+same_on o s p t q u a b = record {
+  moment = b.moment ∙ a.moment;
+  word = b.word ∙ a.word;
+  event = b.event ∙ a.event;
+  entries = b.entries ∙ a.entries;
+  setup = b.setup ∙ a.setup;
+}
+
+module _ (states : StatesAreSame) (openings : Openings) (deadlines : Deadlines) (events : Events) (settlings : Settlings) (closings : Closings)
+    (x y : StateSeen) (s : Seen) (e : Stamped) (r : Reply) (h : Rests x s) (room : has_room e.event s ≡ true)
+    (step : Stepped (length s.entries + 1) (max e.moment (last_moment s)) e.word e.event x y r) where
+  abbrev begun : StateSeen
+  begun = begun_at (length s.entries + 1) (max (last_moment s) e.moment) e.word x
+
+  abbrev start : OpenEntry
+  start = opened_entry e.moment e.word e.event s
+
+  abbrev first : Seen
+  first = opened e.moment e.word e.event s
+
+  timely : IsTimely begun start first
+  timely =
+      deadlines begun start first (openings x s e.moment e.word e.event h)
+      (record { current = refl; stage_is = refl; calm = h.calm e.moment e.word e.event }) tt
+
+  answers : AnswersBy (refusal_of timely.reaches.entry.event (overdue_ended begun)) timely.reaches.entry.event (overdue_ended begun) step.answered r
+  answers =
+      let was : AnswersBy (refusal_of e.event (overdue_ended begun)) e.event (overdue_ended begun) step.answered r
+      = subst (λ (m : ℕ). AnswersBy (refusal_of e.event (overdue_ended (begun_at (length s.entries + 1) m e.word x))) e.event
+      (overdue_ended (begun_at (length s.entries + 1) m e.word x)) step.answered r) (max_comm e.moment (last_moment s)) step.answers in
+      subst (λ (v : Event). AnswersBy (refusal_of v (overdue_ended begun)) v (overdue_ended begun) step.answered r) (sym timely.reaches.same.event) was
+
+  answered : IsAnswered step.answered r timely.reaches.entry timely.reaches.seen
+  answered =
+      events (overdue_ended begun) step.answered r timely.reaches.entry timely.reaches.seen timely.reaches.agrees timely.reaches.at timely.fresh timely.none tt answers
+
+  settling_begins : Settles step.answered answered.reaches.entry answered.reaches.seen
+  settling_begins = begins step.answered answered.reaches.entry answered.reaches.seen answered.reaches.agrees answered.reaches.at answered.none
+
+  done : IsSettled step.answered settling_begins.reaches.entry settling_begins.reaches.seen
+  done =
+      settlings step.answered settling_begins.reaches.entry settling_begins.reaches.seen settling_begins.reaches.agrees settling_begins.reaches.at
+      (settling_begins.turn ∙ answered.fresh) tt
+
+  abbrev last_entry : OpenEntry
+  last_entry = done.reaches.entry
+
+  abbrev last_seen : Seen
+  last_seen = done.reaches.seen
+
+  same_last : IsSameEntry start first last_entry last_seen
+  same_last =
+      same_on start first timely.reaches.entry timely.reaches.seen last_entry last_seen timely.reaches.same
+      (same_on timely.reaches.entry timely.reaches.seen answered.reaches.entry answered.reaches.seen last_entry last_seen answered.reaches.same
+      (same_on answered.reaches.entry answered.reaches.seen settling_begins.reaches.entry settling_begins.reaches.seen last_entry last_seen
+      settling_begins.reaches.same done.reaches.same))
+
+  agrees_last : Agrees y last_seen
+  agrees_last = subst (λ (z : StateSeen). Agrees z last_seen) (sym step.settles) done.reaches.agrees
+
+  rests_last : Rests y (entry_made last_entry last_seen)
+  rests_last = closings y last_entry last_seen agrees_last done.reaches.at done.closes
+
+  after_last : after action.EntryCloses last_seen ≡ entry_made last_entry last_seen
+  after_last = ap (λ (c : Option OpenEntry). after_if c action.EntryCloses last_seen) done.reaches.at.current
+
+  reply_last : last_entry.reply ≡ Some r
+  reply_last = done.reply ∙ settling_begins.reply ∙ answered.reply
+
+  made_last : made_entry last_entry last_seen ≡ entry_as (max e.moment (last_moment s)) e.word e.event r (conn_of y)
+  made_last =
+      ap (λ (m : ℕ). entry_as m last_entry.word last_entry.event (unwrap_or last_entry.reply reply.Done) (channel_state last_seen))
+      (same_last.moment ∙ max_comm (last_moment s) e.moment)
+      ∙ ap (λ (w : ℕ). entry_as (max e.moment (last_moment s)) w last_entry.event (unwrap_or last_entry.reply reply.Done) (channel_state last_seen)) same_last.word
+      ∙ ap (λ (v : Event). entry_as (max e.moment (last_moment s)) e.word v (unwrap_or last_entry.reply reply.Done) (channel_state last_seen)) same_last.event
+      ∙ ap (λ (o : Option Reply). entry_as (max e.moment (last_moment s)) e.word e.event (unwrap_or o reply.Done) (channel_state last_seen)) reply_last
+      ∙ ap (entry_as (max e.moment (last_moment s)) e.word e.event r) (states_agree y last_seen agrees_last states)
+
+  abbrev inner : List Action
+  inner = timely.reaches.actions ++ (answered.reaches.actions ++ (settling_begins.reaches.actions ++ done.reaches.actions))
+
+  inner_does : Does inner first last_seen
+  inner_does =
+      does_on timely.reaches.actions _ first timely.reaches.seen last_seen timely.reaches.does
+      (does_on answered.reaches.actions _ timely.reaches.seen answered.reaches.seen last_seen answered.reaches.does
+      (does_on settling_begins.reaches.actions done.reaches.actions answered.reaches.seen settling_begins.reaches.seen last_seen settling_begins.reaches.does
+      done.reaches.does))
+
+  inner_posts : posted_in inner ≡ []
+  inner_posts =
+      none_on timely.reaches.actions _ timely.reaches.posts
+      (none_on answered.reaches.actions _ answered.reaches.posts (none_on settling_begins.reaches.actions done.reaches.actions settling_begins.reaches.posts done.reaches.posts))
+
+  opens_to : after (action.EntryOpens e.moment e.word e.event) s ≡ first
+  opens_to = ap (λ (c : Option OpenEntry). after_if c (action.EntryOpens e.moment e.word e.event) s) h.between
+
+  may : may_open e.event s ≡ true
+  may = ap (λ (c : Option OpenEntry). is_none c && has_room e.event s) h.between ∙ room
+
+  pub entered : Enters y s e r
+  entered = record {
+    actions = action.EntryOpens e.moment e.word e.event ∷ (inner ++ action.EntryCloses ∷ []);
+    seen = entry_made last_entry last_seen;
+    does = (
+      may,
+      subst (λ (v : Seen). Does (inner ++ action.EntryCloses ∷ []) v (entry_made last_entry last_seen)) (sym opens_to)
+          (does_on inner (action.EntryCloses ∷ []) first last_seen (entry_made last_entry last_seen) inner_does (done.closes, sym after_last)),
+    );
+    posted = ap (λ (l : List Stamped). e ∷ l) (none_on inner (action.EntryCloses ∷ []) inner_posts refl);
+    rests = rests_last;
+    journal = ap (λ (l : List Entry). l ++ made_entry last_entry last_seen ∷ []) same_last.entries ∙ ap (λ (m : Entry). s.entries ++ m ∷ []) made_last;
+    setup = same_last.setup;
+  }

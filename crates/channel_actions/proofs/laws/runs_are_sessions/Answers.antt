@@ -1,0 +1,8 @@
+use Rattle.channel_actions.proofs.Running.{runs_are_sessions}
+use Rattle.channel_actions.proofs.laws.runs_are_sessions.Goals as goal
+
+pub returns : goal.returns
+returns c =
+    runs_are_sessions c.policy_steps_are_actions.ensures.state c.subchannel_steps_are_actions.ensures.none c.subchannel_steps_are_actions.ensures.clock
+    c.policy_steps_are_actions.ensures.over c.subchannel_steps_are_actions.ensures.wish c.new_channels_are_new_sessions.ensures
+    c.entries_open_and_close.ensures.opens c.entries_open_and_close.ensures.closes

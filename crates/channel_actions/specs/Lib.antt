@@ -1,0 +1,14 @@
+pub mod Agrees
+pub mod Calls
+pub mod Calm
+pub mod Cases
+pub mod Clock
+pub mod Columns
+pub mod Configs
+pub mod Kept
+pub mod Laws
+pub mod Links
+pub mod Points
+pub mod Readers
+pub mod Sets
+pub mod Stages
