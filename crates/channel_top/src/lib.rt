@@ -10,7 +10,6 @@ mod live;
 mod live_words;
 mod load;
 mod migrate;
-mod relay;
 mod replay;
 mod run;
 mod serve;

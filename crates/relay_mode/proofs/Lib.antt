@@ -1,3 +1,0 @@
-pub mod FrontLaws
-pub mod PostLaws
-pub mod RelayLaws

@@ -1,5 +1,0 @@
-use Rattle.live_channel.proofs.SeatLaws.{told_left}
-use Rattle.relay_mode.proofs.session.run_world.Goals as goal
-
-pub returns-clause-told : goal.returns-clause-told
-returns-clause-told g c = told_left _ _ c.in_ok-seat.seat c.run_front.result c.in_ok-seat.ensures.told c.run_front.ensures.sees
