@@ -1,5 +1,5 @@
 -- Asks that are posted one after the other.
-use Rattle.std.proofs.Common.{◌≡◌, ◌⊎◌, ℕ, Result, Ok, Err, List, [], ◌∷◌, ◌++◌, inl, inr, refl, sym, ap, subst}
+use Rattle.std.proofs.Common.{◌≡◌, Result, Ok, Err, List, [], ◌∷◌, ◌++◌, inl, inr, refl, sym, subst}
 use Rattle.relay_asks.specs.declared.ask.RelayAsk.{RelayAsk}
 use Rattle.relay_calls.specs.Calls.{Calls}
 use Rattle.relay_calls.specs.Posting.{Eyes, PostsAll, PostsAsk, PostsTurn}

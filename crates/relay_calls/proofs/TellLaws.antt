@@ -1,5 +1,5 @@
 -- What the answer of a post says of its errors.
-use Rattle.std.proofs.Common.{◌≡◌, ◌≤◌, ℕ, Option, Some, Result, Ok, Err, List, [], ◌∷◌, refl, sym, ap, subst, ◌∙◌, length}
+use Rattle.std.proofs.Common.{◌≡◌, ℕ, Option, Result, Ok, Err, List, [], ◌∷◌, refl, sym, ap, subst, ◌∙◌}
 use Rattle.std.specs.List.{Contains}
 use Rattle.std.proofs.lemmas.List.Elements.{All-cons, All-contains, All-nil}
 use Rattle.grpc_base.specs.Posts.{refusals_of}
@@ -14,10 +14,9 @@ use Rattle.grpc_base.specs.declared.event.Refusal.TheVariants as refusal
 use Rattle.grpc_base.specs.declared.post.PostError.{PostError}
 use Rattle.grpc_base.specs.declared.request.Request.{Request}
 use Rattle.live_pump.specs.Pumps.{HandleSeen, PostsOne}
-use Rattle.relay_asks.specs.declared.ask.RelayAsk.{RelayAsk}
 use Rattle.relay_asks.specs.declared.ask.RelayAsk.TheVariants as ask
 use Rattle.relay_calls.specs.Calls.{Calls, begun, closed, held, silenced}
-use Rattle.relay_calls.specs.Posting.{Becomes, Tells, came_of, replied}
+use Rattle.relay_calls.specs.Posting.{Becomes, Tells, came_of}
 use Rattle.relay_calls.specs.Taking.{GaveUp, Gives, TellsError}
 use Rattle.relay_calls.specs.declared.call.RelayCall.{RelayCall}
 use Rattle.relay_calls.specs.declared.fault.CallsFault.{CallsFault}

@@ -1,5 +1,5 @@
 -- What becomes of an ask: it is posted, it waits, or its stream has no call.
-use Rattle.std.specs.Prelude.{◌≡◌, ◌⊎◌, ℕ, Bool, true, false, MatchOption, min, Option, Some, None, Result, Ok, Err, List, [], ◌∷◌, ◌++◌, length}
+use Rattle.std.specs.Prelude.{◌≡◌, ◌⊎◌, ℕ, Bool, true, false, MatchOption, min, Option, Some, Result, Ok, Err, List, [], ◌∷◌, ◌++◌, length}
 use Rattle.grpc_base.specs.Counts.{one_more}
 use Rattle.grpc_base.specs.Refusals.{refusal_number}
 use Rattle.grpc_base.specs.declared.event.Entry.{Entry}

@@ -1,5 +1,5 @@
 -- What is taken of the calls, and how they are given up.
-use Rattle.std.specs.Prelude.{◌≡◌, ◌<◌, ◌⊎◌, ℕ, zero, suc, Bool, true, false, Option, Some, None, Result, Ok, Err, List, [], ◌∷◌, ◌++◌, length, slice_get, slice_set}
+use Rattle.std.specs.Prelude.{◌≡◌, ◌<◌, ℕ, zero, suc, Bool, true, false, Option, Some, None, Result, Ok, Err, length, slice_get, slice_set}
 use Rattle.grpc_base.specs.Counts.{one_more}
 use Rattle.grpc_base.specs.declared.event.Event.TheVariants as event
 use Rattle.grpc_base.specs.declared.event.Reply.{Reply}

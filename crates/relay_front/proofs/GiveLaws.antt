@@ -1,5 +1,5 @@
 -- What a Take came to, given to its stream.
-use Rattle.std.proofs.Common.{◌≡◌, ℕ, Option, Some, Result, Ok, Err, subst}
+use Rattle.std.proofs.Common.{◌≡◌, ℕ, Option, Result, subst}
 use Rattle.std.specs.Prelude.{IfSome, slice_get}
 use Rattle.grpc_base.specs.declared.event.Reply.{Reply}
 use Rattle.grpc_base.specs.declared.post.PostError.{PostError}

@@ -1,5 +1,5 @@
 -- What goes out of a connection.
-use Rattle.std.proofs.Common.{◌≡◌, ℕ, Bool, true, false, Option, Some, None, Result, Ok, Err, List, inl, inr, refl, sym, ap, subst, ◌∙◌}
+use Rattle.std.proofs.Common.{◌≡◌, ℕ, Bool, true, false, Option, Some, None, Result, Err, List, inl, inr, refl, sym, ap, subst, ◌∙◌}
 use Rattle.live_pump.specs.Pumps.{HandleSeen, OutSeen}
 use Rattle.std.specs.Prelude.{◌↔◌}
 use Rattle.relay_connection.specs.declared.fault.RelayFault.{RelayFault}

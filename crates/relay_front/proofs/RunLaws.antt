@@ -1,6 +1,5 @@
 -- Steps of a link's job.
-use Rattle.std.proofs.Common.{◌≡◌, ◌<◌, ◌⊎◌, ℕ, Bool, true, false, Option, Some, None, Result, Ok, Err, List, [], ◌∷◌, ◌++◌, length, inl, inr, refl, sym, ap, subst, ◌∙◌}
-use Rattle.live_pump.specs.Pumps.{HandleSeen}
+use Rattle.std.proofs.Common.{None, List, [], ◌∷◌, ◌++◌, refl, subst}
 use Rattle.relay_front.specs.Rounds.{LinkEyes, RoundOf, RoundsOn, Stand}
 
 -- a round more

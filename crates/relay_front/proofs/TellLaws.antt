@@ -1,5 +1,5 @@
 -- What the answer of a turn says of the posts that failed.
-use Rattle.std.proofs.Common.{◌≡◌, Some, None, Option, Result, Ok, Err, refl, sym, subst, ap, ◌∙◌}
+use Rattle.std.proofs.Common.{◌≡◌, Option, Result, Ok, Err, sym, subst, ap, ◌∙◌}
 use Rattle.grpc_base.specs.Counts.{one_more}
 use Rattle.grpc_base.specs.declared.event.Reply.{Reply}
 use Rattle.grpc_base.specs.declared.post.PostError.{PostError}

@@ -105,18 +105,24 @@ pub fn plans(plan: &mut Plan, word: &str, rest: &'static str) -> Result<bool, Fa
     Ok(true)
 }
 
+/// A new connection, and a channel of which nothing is to come.
+pub fn parts(alloc: Global) -> Result<(RelayCore, Channel), Fail> {
+    let core = RelayCore::new(alloc)?;
+    match Channel::new(alloc, Plan::new(alloc)) {
+        Some(channel) => Ok((core, channel)),
+        None => Err("a channel".into()),
+    }
+}
+
 impl Bench {
     /// A new connection at a channel of which nothing is to come.
     pub fn new(alloc: Global) -> Result<Bench, Fail> {
-        let core = RelayCore::new(alloc)?;
-        match Channel::new(alloc, Plan::new(alloc)) {
-            Some(channel) => Ok(Bench {
-                core,
-                channel,
-                seen: 0,
-            }),
-            None => Err("a channel".into()),
-        }
+        let (core, channel) = parts(alloc)?;
+        Ok(Bench {
+            core,
+            channel,
+            seen: 0,
+        })
     }
 
     /// Whether a turn or a close was answered so, and made these entries.
@@ -124,7 +130,10 @@ impl Bench {
         let (answer, entries) = words.split_once(' ').unwrap_or((words, "-"));
         let made = self.channel.entries();
         let count = made.len();
-        let text = words_of_all(alloc, made.get(self.seen..).unwrap_or(&[]))?;
+        let text = match made.get(self.seen..) {
+            Some(later) => words_of_all(alloc, later)?,
+            None => return Ok(false),
+        };
         self.seen = count;
         let word = word_of(alloc, turn)?;
         Ok(word.as_str() == answer && text.as_str() == entries)

@@ -1,5 +1,5 @@
 // The job of a link over memory: what goes out, what is posted, and how it ends.
-use crate::bench::{Bench, plans, word_of, words_of_all};
+use crate::bench::{parts, plans, word_of, words_of_all};
 use crate::exchange::bytes_of;
 use gate_io::{MemLinkIn, MemLinkOut, MemSink, MemSource};
 use relay_front::relay_link;
@@ -52,10 +52,10 @@ const UNARY: Row = Row {
 
 /// Runs the job of a link, and says whether all is as the row has it, and the link closed.
 fn goes<R: Wait>(rt: &R, alloc: Global, row: &Row, cut: Cut) -> Result<bool, Fail> {
-    let mut bench = Bench::new(alloc)?;
+    let (mut core, mut channel) = parts(alloc)?;
     for line in row.plan.split('\n') {
         let (word, rest) = line.split_once(' ').unwrap_or((line, ""));
-        plans(&mut bench.channel.plan, word, rest)?;
+        plans(&mut channel.plan, word, rest)?;
     }
     let comes = bytes_of(alloc, row.comes)?;
     let source = MemSource::new(
@@ -66,16 +66,10 @@ fn goes<R: Wait>(rt: &R, alloc: Global, row: &Row, cut: Cut) -> Result<bool, Fai
     let mut input = MemLinkIn::new(source, true);
     let sink = MemSink::new(alloc, cut.write.max(1), vec![in alloc; cut.failed_write]?);
     let mut output = MemLinkOut::new(sink);
-    let turn = relay_link(
-        rt,
-        &mut bench.channel,
-        &mut bench.core,
-        &mut input,
-        &mut output,
-    );
+    let turn = relay_link(rt, &mut channel, &mut core, &mut input, &mut output);
     let bytes = bytes_of(alloc, row.goes)?;
     let answer = word_of(alloc, turn)?;
-    let posts = words_of_all(alloc, bench.channel.entries())?;
+    let posts = words_of_all(alloc, channel.entries())?;
     Ok(
         output.is_closed()
             && output.taken() == bytes.as_slice()

@@ -1,6 +1,6 @@
-use Rattle.std.proofs.Common.{◌≡◌, arith, refl}
+use Rattle.std.proofs.Common.{arith}
 use Rattle.live_pump.specs.Pumps.{InSeen}
-use Rattle.relay_front.proofs.ReadLaws.{Told, over_ended, over_failed, reads_got, reads_quiet}
+use Rattle.relay_front.proofs.ReadLaws.{Told, reads_got, reads_quiet}
 use Rattle.relay_front.proofs.links.read_link.Goals as goal
 
 pub returns-in-Got-clause-reads : goal.returns-in-Got-clause-reads

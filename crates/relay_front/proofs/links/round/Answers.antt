@@ -1,6 +1,4 @@
-use Rattle.std.proofs.Common.{inl, inr, refl, sym, subst, List, ℕ}
-use Rattle.live_pump.specs.Pumps.{InSeen}
-use Rattle.relay_front.specs.Rounds.{Reads}
+use Rattle.std.proofs.Common.{inr, refl}
 use Rattle.relay_front.proofs.links.round.Goals as goal
 
 pub returns-in-None-clause-round : goal.returns-in-None-clause-round

@@ -15,7 +15,8 @@ loop-preserved g c =
       errors = c.in_default.ensures.tells ∙ c.loop.invariant.errors;
       share = c.round.ensures.share ∙ c.loop.invariant.share;
       rounds = c.loop.invariant.rounds ++ record { core = c.round.new.core; post = c.round.new.post; input = c.round.new.input; output = c.round.new.output } ∷ [];
-      goes_on = rounds_more eyes _ c.loop.invariant.rounds _ _ c.loop.invariant.goes_on c.in_default.ensures.round;
+      goes_on = rounds_more eyes (record { core = c.args.core.now; post = c.args.post.now; input = c.args.input.now; output = c.args.output.now }) c.loop.invariant.rounds
+          (record { core = c.loop.core; post = c.loop.post; input = c.loop.input; output = c.loop.output }) (record { core = c.round.new.core; post = c.round.new.post; input = c.round.new.input; output = c.round.new.output }) c.loop.invariant.goes_on c.in_default.ensures.round;
     }
 
 pub returns-in-Some-round-clause-run : goal.returns-in-Some-round-clause-run

@@ -1,4 +1,4 @@
-use Rattle.std.proofs.Common.{Ok, Err, refl}
+use Rattle.std.proofs.Common.{Ok}
 use Rattle.live_pump.specs.Pumps.{HandleSeen}
 use Rattle.relay_calls.specs.Posting.{Eyes, eyes_of}
 use Rattle.relay_front.proofs.TellLaws.{faulted_tells, turn_from}

@@ -1,4 +1,3 @@
-use Rattle.std.proofs.Common.{Err}
 use Rattle.live_pump.specs.Pumps.{HandleSeen}
 use Rattle.relay_calls.specs.Posting.{Eyes, eyes_of}
 use Rattle.relay_calls.proofs.PostLaws.{posts_turn, posts_turn_cut}
