@@ -1,5 +1,5 @@
 -- The one channel of a live run: what its report is of.
-use Rattle.std.proofs.Common.{◌≡◌, ◌∙◌, ◌+◌, ℕ, Option, List, [], ◌∷◌, ap, inl, inr, length, map, refl, sym, subst}
+use Rattle.std.proofs.Common.{◌≡◌, ◌∙◌, ◌+◌, ℕ, Option, List, [], ◌∷◌, ap, inl, inr, length, map, refl, suc, sym, subst}
 use Rattle.grpc_base.specs.declared.event.Entry.{Entry}
 use Rattle.grpc_base.specs.declared.script.CallLine.{CallLine}
 use Rattle.resolver_core.specs.AnyTargets.{authority_of}
@@ -12,7 +12,8 @@ use Rattle.session_text.specs.declared.ran.Ran.{Ran}
 use Rattle.session_text.specs.declared.ran.Ran.TheVariants as ran
 use Rattle.live_run.specs.declared.outcome.Outcome.{Outcome}
 use Rattle.live_run.specs.declared.outcome.Outcome.TheVariants as outcome
-use Rattle.live_channel.specs.Handles.{IsStarted, Splits}
+use Rattle.live_channel.specs.Handles.{IsStarted, Splits, seats_in}
+use Rattle.live_run.specs.declared.link_job.LinkJob.{LinkJob}
 use Rattle.live_channel.specs.Reported.{ReportsOn}
 use Rattle.live_channel.specs.Told.{TellsTarget}
 use Rattle.live_channel.proofs.SeatLaws.{left_by, told_stays}
@@ -44,6 +45,11 @@ live_report r lock o script groups seat text root told whole same left is =
     }
 
 -- ---- the run
+
+-- as many handles as jobs
+pub seats_length : {H N L D : Type 0} (jobs : List (LinkJob H N L D)) (seat_of : H → SeatSeen Entry) → length jobs ≡ length (seats_in seat_of jobs)
+seats_length [] seat_of = refl
+seats_length (job ∷ jobs) seat_of = ap suc (seats_length jobs seat_of)
 
 -- what a run left of a handle of which others were split off before
 pub left_calls : {H N L D : Type 0} (seat_of : H → SeatSeen Entry) (lock : LockId) (o : Outcome) (groups : List (List CallLine)) (linkers : Linkers H N L D) (calls : Callers H) (links others : List (SeatSeen Entry)) (seat mid out : SeatSeen Entry)

@@ -1,10 +1,9 @@
 use Rattle.std.proofs.Common.{◌∙◌, ap, sym}
 use Rattle.grpc_base.specs.declared.event.Entry.{Entry}
 use Rattle.turn_lock.specs.History.{SeatSeen}
-use Rattle.live_channel.specs.Handles.{handle_in}
 use Rattle.live_channel.proofs.SeatLaws.{fresh_at, map_length}
 use Rattle.live_channel.proofs.ShareLaws.{left_sees}
-use Rattle.live_mode.proofs.LiveLaws.{left_calls}
+use Rattle.live_mode.proofs.LiveLaws.{left_calls, seats_length}
 use Rattle.live_mode.proofs.start.run_calls.Goals as goal
 
 pub run_sides-requires-clause-calls : goal.run_sides-requires-clause-calls
@@ -16,7 +15,7 @@ run_sides-requires-clause-links g c κs within = fresh_at _ _ _ (ap (λ (s : Sea
 pub returns-clause-left : goal.returns-clause-left
 returns-clause-left g c =
     left_calls (λ h. h.seat) _ _ _ _ _ _ _ c.args.seat c.call_jobs.new.seat _ c.requires.started c.in_ok-jobs.ensures.splits c.handle.ensures.seat c.in_ok-jobs.ensures.lines
-    (sym (map_length (λ j. j.post.seat) c.in_ok-jobs.jobs.items)) (sym (map_length (λ j. (handle_in j).seat) c.args.links.items)) c.in_ok-left.ensures
+    (sym (map_length (λ j. j.post.seat) c.in_ok-jobs.jobs.items)) (seats_length c.args.links.items (λ h. h.seat)) c.in_ok-left.ensures
 
 pub returns-clause-sees : goal.returns-clause-sees
 returns-clause-sees g c = left_sees _ _ c.args.seat c.call_jobs.new.seat c.handle.result.seat _ _ c.in_ok-jobs.ensures.splits c.handle.ensures.seat c.in_ok-left.ensures.leaves
