@@ -3,8 +3,10 @@
 -- Example: hedgingDelay is 1 s, and attempt 1 ends at once with UNAVAILABLE, a code of the policy. Attempt 2 is due now. Where the tokens are not above half,
 -- it is withheld: CallCommitted 1, and the call ends with UNAVAILABLE.
 use Rattle.std.specs.Option.{option_and_then}
-use Rattle.std.specs.Prelude.{None, Some, [], is_some, true, ℕ, ◌≡◌}
-use Rattle.call_actions.specs.Laws.{IsCounting, IsEnding, ends_alike}
+use Rattle.std.specs.List.{list_any}
+use Rattle.std.specs.Prelude.{List, None, Some, [], false, is_none, is_some, map, true, ℕ, ◌≡◌}
+use Rattle.attempt_ledger.specs.declared.row.RowEnd.{RowEnd}
+use Rattle.call_actions.specs.Laws.{IsCounting, IsEnding, ends_alike, is_last_end, news_of}
 use Rattle.call_actions.specs.Order.{IsInOrder, IsInTurn, Keeps}
 use Rattle.call_actions.specs.Sees.{Sees}
 use Rattle.call_core.specs.Steps as steps
@@ -19,13 +21,16 @@ use Rattle.session_actions.specs.CallEnds.{call_ended}
 use Rattle.session_actions.specs.Commitments.{call_committed}
 use Rattle.session_actions.specs.Configs.{plan_of}
 use Rattle.session_actions.specs.DueAttempts.{last_counted, next_due}
-use Rattle.session_actions.specs.Entries.{now}
+use Rattle.session_actions.specs.Entries.{next_word, now}
 use Rattle.session_actions.specs.Making.{hedge_withheld}
+use Rattle.session_actions.specs.Sessions.{link_seen}
 use Rattle.session_actions.specs.Words.{numbered}
+use Rattle.session_actions.specs.declared.action.Action.{Action}
 use Rattle.session_actions.specs.declared.attempt.Attempt.{Attempt}
 use Rattle.session_actions.specs.declared.call.Call.{Call}
 use Rattle.session_actions.specs.declared.response.Outcome.{Outcome}
 use Rattle.session_actions.specs.declared.seen.Seen.{Seen}
+use Rattle.take_actions.specs.Cuts.{AreCut, is_twin}
 
 -- an end of a hedged call, with a code of its policy, after which a further attempt is due: whether another one goes on or not, the call does
 abbrev pub DueHedgesGoOn : Type 0
@@ -41,3 +46,27 @@ WithheldHedgesClose =
     (s : Seen) (c : Call) (x : Stepped) (place : ℕ) (a : Attempt) → Sees s c x → IsInOrder s c → c.end ≡ None → commitment c s ≡ None → x.call.live ≡ []
     → last_counted c s ≡ Some place → numbered s.attempts place ≡ Some a → is_of c a ≡ true
     → Keeps (call_ended c.number ending.Row (call_committed place (hedge_withheld c.number s))) c.number (steps.refused_due (now s) x)
+
+-- an attempt that has ended, to which its call can be committed: the call is open and not committed, and no other attempt of it that goes on has its number
+pub record CanClose (s : Seen) (c : Call) (k : Attempt) : Type 0 where
+  pub at : numbered s.attempts k.place ≡ Some k
+  pub mine : is_of c k ≡ true
+  pub over : is_none k.row.ended ≡ false
+  pub open_now : c.end ≡ None
+  pub free : commitment c s ≡ None
+  pub alone : list_any (is_twin s c k) s.attempts ≡ false
+
+-- an attempt ends, and no further attempt follows it: the call is committed to it, each other attempt of the call that is outstanding is cut off right then,
+-- and the call ends by it (gRFC A6, "Hedging Policy"). (`links`: the ledger has the links of the session.)
+pub record ClosesWithCuts (s : Seen) (c : Call) (place : ℕ) (end : RowEnd) (x : Stepped) : Type 0 where
+  pub cuts : List Action
+  pub seen : Seen
+  pub cut : AreCut c.number cuts (call_committed place (attempt_ended place end s)) seen
+  pub closes : Keeps (call_ended c.number ending.Row seen) c.number x
+
+abbrev pub FinalEndsCutOthers : Type 0
+FinalEndsCutOthers =
+    (s : Seen) (c : Call) (x : Stepped) (place : ℕ) (a : Attempt) (out : Outcome) → is_some s.current ≡ true → Sees s c x → IsInOrder s c → IsInTurn s c
+    → map link_seen s.links ≡ x.ledger.links → IsEnding s c place a out → IsCounting s c out → commitment c s ≡ None
+    → is_last_end (plan_of c s) c a out s ≡ true
+    → ClosesWithCuts s c place (end_of a out s) (steps.ended_at place (news_of a out s) (now s) (next_word s) x)

@@ -1,5 +1,5 @@
-// Ends of a hedged call's attempts where none goes on any more; nothing runs.
-ghost use Rattle.last_ends.specs.Laws.{DueHedgesGoOn, WithheldHedgesClose};
+// Ends of a hedged call's attempts that a call goes on after, or ends by; nothing runs.
+ghost use Rattle.last_ends.specs.Laws.{DueHedgesGoOn, FinalEndsCutOthers, WithheldHedgesClose};
 
 /// An end of a hedged call's attempt, with a code of its policy, after which a further attempt is due (gRFC A6, "Hedging Policy"): the call goes on in session
 /// and channel, whether another attempt does or not.
@@ -11,4 +11,10 @@ pub fn due_hedges_go_on()
 /// whose end counted last, and end the call by it.
 pub fn withheld_hedges_close()
     ensures { WithheldHedgesClose }
+{}
+
+/// An attempt ends, and no further attempt follows it, by a code that hedgingPolicy does not name, or else (gRFC A6, "Hedging Policy"): session and channel
+/// commit the call to it, cut the other attempts off, and end the call by it.
+pub fn final_ends_cut_others()
+    ensures { FinalEndsCutOthers }
 {}
