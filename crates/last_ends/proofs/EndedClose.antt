@@ -1,5 +1,5 @@
 -- A call is committed to an attempt that has ended; its other attempts are cut off, one by one; and it ends by that attempt.
-use Rattle.std.proofs.Common.{◌≡◌, ◌==◌, ◌∷◌, ◌++◌, not, append-nil, ap, refl, subst, sym, ◌∙◌, Bool, true, false, List, [], Option, None, Some, ℕ, filter, if◌then◌else◌, is_some, map}
+use Rattle.std.proofs.Common.{◌≡◌, ◌==◌, ◌∷◌, not, append-nil, ap, refl, subst, sym, ◌∙◌, Bool, true, false, List, [], Option, None, Some, ℕ, filter, if◌then◌else◌, is_some, map}
 use Rattle.std.proofs.lemmas.Bool.{both_ways, eq-eqb, eqb-true, ne_eqb}
 use Rattle.std.specs.List.{list_all}
 use Rattle.std.specs.Option.{option_map, option_map_or}

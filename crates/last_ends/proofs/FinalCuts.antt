@@ -1,5 +1,5 @@
 -- An attempt ends, and no further attempt follows it: the call is committed to it, its other attempts are cut off, and it ends.
-use Rattle.std.proofs.Common.{◌≡◌, ◌<◌, ◌≤◌, ◌+◌, ◌∷◌, ◌++◌, ◌&&◌, ◌||◌, ◌==◌, not, nat_lt, ap, arith, refl, subst, sym, ◌∙◌, Bool, true, false, List, [], Option, None, Some, ℕ, if◌then◌else◌, is_none, is_some, map, option_map}
+use Rattle.std.proofs.Common.{◌≡◌, ◌<◌, ◌+◌, ◌∷◌, ◌++◌, ◌&&◌, ◌||◌, ◌==◌, not, nat_lt, ap, arith, refl, subst, sym, ◌∙◌, Bool, true, false, List, [], Option, None, Some, ℕ, if◌then◌else◌, is_none, is_some, map, option_map}
 use Rattle.std.proofs.lemmas.Bool.{and_right, both_ways, eq-eqb, eqb-false, eqb-true, lt-ltb, ne_eqb}
 use Rattle.std.proofs.lemmas.List.Folds.{list_all-append}
 use Rattle.std.specs.List.{AllByRecursion, list_all, list_any}
@@ -39,7 +39,7 @@ use Rattle.last_ends.proofs.EndedClose.{ClosesSo, closes_with_cuts}
 use Rattle.last_ends.proofs.EndedCut.{KnowsAlike}
 use Rattle.last_ends.specs.Laws.{CanClose, ClosesWithCuts, FinalEndsCutOthers}
 use Rattle.ledger_stamps.specs.Steps as stamps
-use Rattle.session_actions.specs.AttemptEnds.{attempt_ended, is_drawing, tokens_at, tokens_at_end, will_count}
+use Rattle.session_actions.specs.AttemptEnds.{is_drawing, tokens_at, tokens_at_end, will_count}
 use Rattle.session_actions.specs.Attempts.{commitment, is_followed, is_later_of, is_of, is_outstanding, is_over, is_queued}
 use Rattle.session_actions.specs.CallEnds.{call_ended}
 use Rattle.session_actions.specs.Commitments.{call_committed}

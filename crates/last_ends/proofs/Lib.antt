@@ -5,3 +5,6 @@ pub mod EndedCut
 pub mod Moments
 pub mod EndedClose
 pub mod FinalCuts
+pub mod Following
+pub mod Inheriting
+pub mod TakeOver

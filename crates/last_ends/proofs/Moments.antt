@@ -1,5 +1,5 @@
 -- What is cut off is cut off at the moment of the entry.
-use Rattle.std.proofs.Common.{◌≡◌, ◌+◌, ◌==◌, ◌∷◌, ◌++◌, ◌&&◌, not, ap, refl, sym, subst, ◌∙◌, Bool, true, false, List, [], Option, None, Some, ℕ, filter, if◌then◌else◌, is_some}
+use Rattle.std.proofs.Common.{◌≡◌, ◌+◌, ◌==◌, ◌∷◌, ◌++◌, ◌&&◌, not, ap, refl, subst, ◌∙◌, Bool, true, false, List, [], Option, None, Some, ℕ, filter, if◌then◌else◌, is_some}
 use Rattle.std.specs.Option.{option_and_then, option_map, option_map_or, option_or}
 use Rattle.attempt_ledger.specs.Ends.{is_cut}
 use Rattle.attempt_ledger.specs.declared.row.RowEnd.{RowEnd}

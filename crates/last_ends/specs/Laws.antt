@@ -1,11 +1,16 @@
--- Ends of a hedged call's attempts where none goes on any more. One with a code of its policy after which a further attempt is due lets the call go on; and a
--- hedge that the tokens then forbid ends the call by the last end that counted (gRFC A6, "Hedging Policy" and "Throttling Retry Attempts and Hedged RPCs").
+-- Ends of attempts after which a call goes on, or by which it ends. An end with a code of a hedged call's policy after which a further attempt is due lets the
+-- call go on; a hedge that the tokens then forbid ends the call by the last end that counted; an end that no further attempt follows ends it at once, and cuts
+-- off the attempts that go on; and the attempt to which a call is committed may be retried transparently (gRFC A6, "Hedging Policy", "Throttling Retry
+-- Attempts and Hedged RPCs" and "Transparent Retries").
 -- Example: hedgingDelay is 1 s, and attempt 1 ends at once with UNAVAILABLE, a code of the policy. Attempt 2 is due now. Where the tokens are not above half,
 -- it is withheld: CallCommitted 1, and the call ends with UNAVAILABLE.
+-- Example: the attempts 1, 2 and 3 are outstanding, and 2 ends with INTERNAL, which the policy does not name: CallCommitted 2, 1 and 3 end, cut off, and the
+-- call ends with INTERNAL.
 use Rattle.std.specs.Option.{option_and_then}
 use Rattle.std.specs.List.{list_any}
-use Rattle.std.specs.Prelude.{List, None, Some, [], false, is_none, is_some, map, true, ℕ, ◌≡◌}
+use Rattle.std.specs.Prelude.{List, None, Some, [], false, is_none, is_some, length, map, true, ℕ, ◌&&◌, ◌+◌, ◌≡◌}
 use Rattle.attempt_ledger.specs.declared.row.RowEnd.{RowEnd}
+use Rattle.attempt_ledger.specs.declared.row.RowKind.TheVariants as kind
 use Rattle.call_actions.specs.Laws.{IsCounting, IsEnding, ends_alike, is_last_end, news_of}
 use Rattle.call_actions.specs.Order.{IsInOrder, IsInTurn, Keeps}
 use Rattle.call_actions.specs.Sees.{Sees}
@@ -16,13 +21,13 @@ use Rattle.grpc_base.specs.declared.event.EndCause.TheVariants as ending
 use Rattle.grpc_base.specs.declared.plan.CallPlan.TheVariants as plan
 use Rattle.grpc_base.specs.declared.plan.HedgePolicy.{HedgePolicy}
 use Rattle.session_actions.specs.AttemptEnds.{attempt_ended, end_of}
-use Rattle.session_actions.specs.Attempts.{commitment, is_of}
+use Rattle.session_actions.specs.Attempts.{commitment, is_of, is_to_follow, wants_follower}
 use Rattle.session_actions.specs.CallEnds.{call_ended}
 use Rattle.session_actions.specs.Commitments.{call_committed}
 use Rattle.session_actions.specs.Configs.{plan_of}
 use Rattle.session_actions.specs.DueAttempts.{last_counted, next_due}
 use Rattle.session_actions.specs.Entries.{next_word, now}
-use Rattle.session_actions.specs.Making.{hedge_withheld}
+use Rattle.session_actions.specs.Making.{attempt_made, hedge_withheld}
 use Rattle.session_actions.specs.Sessions.{link_seen}
 use Rattle.session_actions.specs.Words.{numbered}
 use Rattle.session_actions.specs.declared.action.Action.{Action}
@@ -70,3 +75,13 @@ FinalEndsCutOthers =
     → map link_seen s.links ≡ x.ledger.links → IsEnding s c place a out → IsCounting s c out → commitment c s ≡ None
     → is_last_end (plan_of c s) c a out s ≡ true
     → ClosesWithCuts s c place (end_of a out s) (steps.ended_at place (news_of a out s) (now s) (next_word s) x)
+
+-- the attempt to which a call is committed ends, and was never sent: a transparent retry follows it at once, of its number, and takes the commitment over
+-- (gRFC A6, "Transparent Retries"). (`calm`: no other attempt of the call waits for its follower.)
+abbrev pub CommittedAreRetried : Type 0
+CommittedAreRetried =
+    (s : Seen) (c : Call) (x : Stepped) (place : ℕ) (a : Attempt) (out : Outcome) → Sees s c x → IsInOrder s c → IsInTurn s c → IsEnding s c place a out
+    → c.end ≡ None → commitment c s ≡ Some a → is_to_follow c out.cause out.unseen s ≡ true
+    → list_any (λ q. is_of c q && wants_follower q s) s.attempts ≡ false
+    → Keeps (call_committed (length s.attempts + 1) (attempt_made c.number a.row.number kind.Transparent (now s) (attempt_ended place (end_of a out s) s))) c.number
+    (steps.ended_at place (news_of a out s) (now s) (next_word s) x)

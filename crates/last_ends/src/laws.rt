@@ -1,5 +1,5 @@
-// Ends of a hedged call's attempts that a call goes on after, or ends by; nothing runs.
-ghost use Rattle.last_ends.specs.Laws.{DueHedgesGoOn, FinalEndsCutOthers, WithheldHedgesClose};
+// Ends of attempts that a call goes on after, or ends by; nothing runs.
+ghost use Rattle.last_ends.specs.Laws.{CommittedAreRetried, DueHedgesGoOn, FinalEndsCutOthers, WithheldHedgesClose};
 
 /// An end of a hedged call's attempt, with a code of its policy, after which a further attempt is due (gRFC A6, "Hedging Policy"): the call goes on in session
 /// and channel, whether another attempt does or not.
@@ -17,4 +17,10 @@ pub fn withheld_hedges_close()
 /// commit the call to it, cut the other attempts off, and end the call by it.
 pub fn final_ends_cut_others()
     ensures { FinalEndsCutOthers }
+{}
+
+/// The attempt to which a call is committed ends, and was never sent (gRFC A6, "Transparent Retries"): in session and channel a transparent retry follows it
+/// at once, and takes the commitment over.
+pub fn committed_are_retried()
+    ensures { CommittedAreRetried }
 {}

@@ -3,4 +3,6 @@
 
 mod laws;
 
-pub use laws::{due_hedges_go_on, final_ends_cut_others, withheld_hedges_close};
+pub use laws::{
+    committed_are_retried, due_hedges_go_on, final_ends_cut_others, withheld_hedges_close,
+};
