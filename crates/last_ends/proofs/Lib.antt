@@ -8,3 +8,4 @@ pub mod FinalCuts
 pub mod Following
 pub mod Inheriting
 pub mod TakeOver
+pub mod LastWithheld

@@ -14,6 +14,7 @@ use Rattle.attempt_ledger.specs.declared.row.RowKind.TheVariants as kind
 use Rattle.call_actions.specs.Laws.{IsCounting, IsEnding, ends_alike, is_last_end, news_of}
 use Rattle.call_actions.specs.Order.{IsInOrder, IsInTurn, Keeps}
 use Rattle.call_actions.specs.Sees.{Sees}
+use Rattle.call_core.specs.Going.{IsGoing}
 use Rattle.call_core.specs.Steps as steps
 use Rattle.call_core.specs.Steps.{Stepped}
 use Rattle.grpc_base.specs.Codes.{has_code}
@@ -27,10 +28,11 @@ use Rattle.session_actions.specs.Commitments.{call_committed}
 use Rattle.session_actions.specs.Configs.{plan_of}
 use Rattle.session_actions.specs.DueAttempts.{last_counted, next_due}
 use Rattle.session_actions.specs.Entries.{next_word, now}
-use Rattle.session_actions.specs.Making.{attempt_made, hedge_withheld}
+use Rattle.session_actions.specs.Making.{attempt_made, due_action, hedge_withheld}
 use Rattle.session_actions.specs.Sessions.{link_seen}
 use Rattle.session_actions.specs.Words.{numbered}
 use Rattle.session_actions.specs.declared.action.Action.{Action}
+use Rattle.session_actions.specs.declared.action.Action.TheVariants as action
 use Rattle.session_actions.specs.declared.attempt.Attempt.{Attempt}
 use Rattle.session_actions.specs.declared.call.Call.{Call}
 use Rattle.session_actions.specs.declared.response.Outcome.{Outcome}
@@ -51,6 +53,17 @@ WithheldHedgesClose =
     (s : Seen) (c : Call) (x : Stepped) (place : ℕ) (a : Attempt) → Sees s c x → IsInOrder s c → c.end ≡ None → commitment c s ≡ None → x.call.live ≡ []
     → last_counted c s ≡ Some place → numbered s.attempts place ≡ Some a → is_of c a ≡ true
     → Keeps (call_ended c.number ending.Row (call_committed place (hedge_withheld c.number s))) c.number (steps.refused_due (now s) x)
+
+-- so it is where the session's line withholds the hedge, of a call of the channel that goes on (`IsGoing` of `call_core`): an end has counted then
+pub record ClosesByLast (s : Seen) (c : Call) (x : Stepped) : Type 0 where
+  pub place : ℕ
+  pub last : last_counted c s ≡ Some place
+  pub closes : Keeps (call_ended c.number ending.Row (call_committed place (hedge_withheld c.number s))) c.number x
+
+abbrev pub WithheldHedgesEnd : Type 0
+WithheldHedgesEnd =
+    (s : Seen) (c : Call) (x : Stepped) → Sees s c x → IsInOrder s c → IsGoing x.call → x.call.live ≡ [] → due_action s c ≡ Some (action.HedgeWithheld c.number)
+    → ClosesByLast s c (steps.made_due (now s) x)
 
 -- an attempt that has ended, to which its call can be committed: the call is open and not committed, and no other attempt of it that goes on has its number
 pub record CanClose (s : Seen) (c : Call) (k : Attempt) : Type 0 where

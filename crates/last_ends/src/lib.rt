@@ -5,4 +5,5 @@ mod laws;
 
 pub use laws::{
     committed_are_retried, due_hedges_go_on, final_ends_cut_others, withheld_hedges_close,
+    withheld_hedges_end,
 };
