@@ -158,68 +158,68 @@ plain_end_run s place false o = refl
 plain_end_run s place true None = refl
 plain_end_run s place true (Some run) = refl
 
-links_of_run : (s : Seen) (a : Attempt) (e : RowEnd) (o : Option Call) → (option_map_or (with_end_in_run a e s) o s).links ≡ s.links
+pub links_of_run : (s : Seen) (a : Attempt) (e : RowEnd) (o : Option Call) → (option_map_or (with_end_in_run a e s) o s).links ≡ s.links
 links_of_run s a e None = refl
 links_of_run s a e (Some d) =
     plain_end_run s a.place (not (is_cut e.cause) && not (is_to_follow d e.cause e.unseen s)) (option_and_then (λ (h : HeldConfig). h.run) (config_of_call d s))
 
-links_of_end : (s : Seen) (e : RowEnd) (o : Option Attempt) → (option_map_or (attempt_ended_as e s) o s).links ≡ s.links
+pub links_of_end : (s : Seen) (e : RowEnd) (o : Option Attempt) → (option_map_or (attempt_ended_as e s) o s).links ≡ s.links
 links_of_end s e None = refl
 links_of_end s e (Some a) = links_of_run s a e (call_of a s)
 
-links_of_mark : (s : Seen) (what : MarkKind) (o : Option Attempt) → (option_map_or (λ (a : Attempt). marked what a.row.call s) o s).links ≡ s.links
+pub links_of_mark : (s : Seen) (what : MarkKind) (o : Option Attempt) → (option_map_or (λ (a : Attempt). marked what a.row.call s) o s).links ≡ s.links
 links_of_mark s what None = refl
 links_of_mark s what (Some a) = refl
 
-links_of_turn : (b : Bool) (z : Seen) → (without_turn_unless b z).links ≡ z.links
+pub links_of_turn : (b : Bool) (z : Seen) → (without_turn_unless b z).links ≡ z.links
 links_of_turn true z = refl
 links_of_turn false z = refl
 
-links_of_event : (e : Event) (s : Seen) → (call_begun_by e s).links ≡ s.links
+pub links_of_event : (e : Event) (s : Seen) → (call_begun_by e s).links ≡ s.links
 links_of_event (event.Begin request) s = refl
 links_of_event _ s = refl
 
-links_of_throttle : (config : Config) (t : Throttle) (o : Option ℕ) (z : Seen) → (with_throttled config t o z).links ≡ z.links
+pub links_of_throttle : (config : Config) (t : Throttle) (o : Option ℕ) (z : Seen) → (with_throttled config t o z).links ≡ z.links
 links_of_throttle config t None z = refl
 links_of_throttle config t (Some run) z = refl
 
-links_of_held : (config : Config) (o : Option Throttle) (z : Seen) → (with_held config o z).links ≡ z.links
+pub links_of_held : (config : Config) (o : Option Throttle) (z : Seen) → (with_held config o z).links ≡ z.links
 links_of_held config None z = refl
 links_of_held config (Some t) z = links_of_throttle config t (run_to_join t z) z
 
-links_of_config : (x : Result Config ConfigFault) (s : Seen) → (config_read x s).links ≡ s.links
+pub links_of_config : (x : Result Config ConfigFault) (s : Seen) → (config_read x s).links ≡ s.links
 links_of_config (Ok config) s = links_of_held config config.throttle (replied reply.Done (resolver_answered s))
 links_of_config (Err fault) s = refl
 
-links_of_note : (z : Seen) (o : Option Subchannel) → (option_map_or (λ (b : Subchannel). noted_by_policies b z) o z).links ≡ z.links
+pub links_of_note : (z : Seen) (o : Option Subchannel) → (option_map_or (λ (b : Subchannel). noted_by_policies b z) o z).links ≡ z.links
 links_of_note z None = refl
 links_of_note z (Some b) = refl
 
-links_of_sub : (f : Subchannel → Subchannel) (n : ℕ) (z : Seen) → (with_sub f n z).links ≡ z.links
+pub links_of_sub : (f : Subchannel → Subchannel) (n : ℕ) (z : Seen) → (with_sub f n z).links ≡ z.links
 links_of_sub f n z =
     let t : Seen = record z { subs = changed f n z.subs } in links_of_note t (numbered t.subs n)
 
-links_of_dial : (again until : ℕ) (s : Seen) (o : Option Subchannel) → (option_map_or (dial_taken_of again until s) o s).links ≡ s.links
+pub links_of_dial : (again until : ℕ) (s : Seen) (o : Option Subchannel) → (option_map_or (dial_taken_of again until s) o s).links ≡ s.links
 links_of_dial again until s None = refl
 links_of_dial again until s (Some b) = links_of_sub (with_dial again until) b.number s
 
-links_of_addresses : (g : ℕ) (s : Seen) (o : Option (List Address)) → (option_map_or (λ (addresses : List Address). with_policy (given_addresses addresses s) g s) o s).links ≡ s.links
+pub links_of_addresses : (g : ℕ) (s : Seen) (o : Option (List Address)) → (option_map_or (λ (addresses : List Address). with_policy (given_addresses addresses s) g s) o s).links ≡ s.links
 links_of_addresses g s None = refl
 links_of_addresses g s (Some addresses) = refl
 
-links_of_policy : (s : Seen) (o : Option PolicyUse) → (option_map_or (λ (p : PolicyUse). policy_retired p.number s) o s).links ≡ s.links
+pub links_of_policy : (s : Seen) (o : Option PolicyUse) → (option_map_or (λ (p : PolicyUse). policy_retired p.number s) o s).links ≡ s.links
 links_of_policy s None = refl
 links_of_policy s (Some p) = refl
 
-links_of_stream : (f : FrameSeen) (s : Seen) (o : Option Attempt) → (option_map_or (λ (a : Attempt). with_attempt (with_stream f.stream) a.place s) o s).links ≡ s.links
+pub links_of_stream : (f : FrameSeen) (s : Seen) (o : Option Attempt) → (option_map_or (λ (a : Attempt). with_attempt (with_stream f.stream) a.place s) o s).links ≡ s.links
 links_of_stream f s None = refl
 links_of_stream f s (Some a) = refl
 
-links_of_opening : (f : FrameSeen) (l : Link) (s : Seen) (b : Bool) → (if b then stream_opened f l s else s).links ≡ s.links
+pub links_of_opening : (f : FrameSeen) (l : Link) (s : Seen) (b : Bool) → (if b then stream_opened f l s else s).links ≡ s.links
 links_of_opening f l s true = links_of_stream f s (slice_get (waiting_on l s) 0)
 links_of_opening f l s false = refl
 
-links_of_opened : (x : Sent) (l : Link) (s : Seen) → (stream_opened_by x l s).links ≡ s.links
+pub links_of_opened : (x : Sent) (l : Link) (s : Seen) → (stream_opened_by x l s).links ≡ s.links
 links_of_opened sent.Preface l s = refl
 links_of_opened (sent.Frame f) l s = links_of_opening f l s (f.kind == headers_type)
 

@@ -2,7 +2,7 @@
 -- frames follow one another). It is of the session alone.
 -- Example: on a link SETTINGS of 9 bytes and HEADERS of 30 bytes were read, which end at 9 and at 39; 39 bytes were read. DATA of 14 bytes ends at 53 then.
 use Rattle.std.specs.List.{list_all}
-use Rattle.std.specs.Prelude.{Bool, Some, true, ℕ, ◌≡◌, ◌≤◌}
+use Rattle.std.specs.Prelude.{Bool, List, Some, [], suc, true, ℕ, ◌∷◌, ◌≡◌, ◌≤◌}
 use Rattle.session_actions.specs.Actions.{after}
 use Rattle.session_actions.specs.Links.{read_bytes}
 use Rattle.session_actions.specs.Responses.{is_read_by}
@@ -39,3 +39,19 @@ abbrev pub FramesComeAfter : Type 0
 FramesComeAfter =
     (s : Seen) (link : ℕ) (l : Link) (r : ReadFrame) → numbered s.links link ≡ Some l → next_frame_read link s ≡ Some (action.FrameRead link r)
     → read_bytes l ≤ r.end
+
+-- links have the numbers of their places: of a new session, and after each action
+abbrev pub AreLinks : ℕ → List Link → Type 0
+AreLinks n [] = Unit {0}
+AreLinks n (l ∷ links) = (l.number ≡ n) × AreLinks (suc n) links
+
+abbrev pub LinksBegin : Type 0
+LinksBegin = (setup : Setup) → AreLinks 1 (new_session setup).links
+
+abbrev pub LinksStay : Type 0
+LinksStay = (s : Seen) (a : Action) → AreLinks 1 s.links → AreLinks 1 (after a s).links
+
+-- so the frame that a link shows next is such a one
+abbrev pub NextReadsOn : Type 0
+NextReadsOn =
+    (s : Seen) (link : ℕ) (r : ReadFrame) → AreLinks 1 s.links → next_frame_read link s ≡ Some (action.FrameRead link r) → ReadsOn (action.FrameRead link r) s

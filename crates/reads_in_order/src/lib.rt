@@ -3,4 +3,4 @@
 
 mod laws;
 
-pub use laws::reads_stay_in_order;
+pub use laws::{links_have_their_numbers, reads_stay_in_order};
