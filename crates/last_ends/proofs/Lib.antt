@@ -1,2 +1,11 @@
 pub mod Withheld
 pub mod Going
+pub mod EndedLive
+pub mod EndedCut
+pub mod Moments
+pub mod EndedClose
+pub mod FinalCuts
+pub mod Following
+pub mod Inheriting
+pub mod TakeOver
+pub mod LastWithheld

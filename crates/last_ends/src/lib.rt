@@ -1,6 +1,9 @@
-// Ends of a hedged call's attempts where none goes on any more.
+// Ends of attempts that a call goes on after, or ends by.
 #![tactic(auto)]
 
 mod laws;
 
-pub use laws::{due_hedges_go_on, withheld_hedges_close};
+pub use laws::{
+    committed_are_retried, due_hedges_go_on, final_ends_cut_others, withheld_hedges_close,
+    withheld_hedges_end,
+};
