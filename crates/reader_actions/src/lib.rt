@@ -3,4 +3,4 @@
 
 mod laws;
 
-pub use laws::readers_come_and_open;
+pub use laws::{goaways_keep_readers, readers_come_and_open};
