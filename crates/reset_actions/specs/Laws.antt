@@ -2,13 +2,14 @@
 -- HTTP/2, "Errors").
 -- Example: the head of attempt 2 comes on stream 3 of link 1, and its call is committed to it. Attempts 1 and 3, on the streams 1 and 5, end, cut off; then RST_STREAM
 -- with CANCEL is queued for 1, and for 5. So it is in the link, whichever was cut off first.
--- The laws, in the order of this file: a link that is ahead by none; one more that is cut off; a reset that the session queues too.
-use Rattle.std.specs.Prelude.{List, Some, [], length, ℕ, ◌∷◌, ◌≡◌}
+-- The laws, in the order of this file: a link that is ahead by none; one more that is cut off, with a stream or waiting for one; a reset that the session queues too.
+use Rattle.std.specs.Prelude.{List, Some, [], length, true, ℕ, ◌∷◌, ◌≡◌}
 use Rattle.attempt_ledger.specs.declared.row.RowEnd.{RowEnd}
 use Rattle.h2_frame.specs.Sent.{rst_stream_frame}
 use Rattle.h2_link.specs.Feeds.{Line}
 use Rattle.h2_link.specs.Steps.{cut, sealed_wire}
 use Rattle.h2_link.specs.Wire.{Wire}
+use Rattle.lb_policy.specs.Table.{is_one_of}
 use Rattle.link_actions.specs.Laws.{with_owed}
 use Rattle.reset_actions.specs.Ahead.{SeesAhead, put_reset}
 use Rattle.session_actions.specs.AttemptEnds.{attempt_ended, stream_reset}
@@ -36,6 +37,12 @@ abbrev pub CutsGoAhead : Type 0
 CutsGoAhead =
     (resets : List (ℕ × ℕ)) (l : Link) (s : Seen) (w : Wire) (g : ℕ → Line) (n number : ℕ) (a : Attempt) (e : RowEnd) → IsCut resets l s w g → IsOn l s n a
     → IsCut (put_reset n number resets) l (attempt_ended a.place e s) (cut w a.place number) g
+
+-- one more that waits for a stream is cut off: it ends, and nothing is reset
+abbrev pub WaitsAreCut : Type 0
+WaitsAreCut =
+    (resets : List (ℕ × ℕ)) (l : Link) (s : Seen) (w : Wire) (g : ℕ → Line) (number : ℕ) (a : Attempt) (e : RowEnd) → IsCut resets l s w g
+    → numbered s.attempts a.place ≡ Some a → is_one_of w.waiting a.place ≡ true → IsCut resets l (attempt_ended a.place e s) (cut w a.place number) g
 
 -- the action is complete: whatever is reset from here on comes after it
 abbrev pub SealsKeep : Type 0

@@ -1,5 +1,5 @@
 // Several attempts that are cut off, as actions of a session; nothing runs.
-ghost use Rattle.reset_actions.specs.Laws.{CutsGoAhead, NoneIsAhead, NoneIsLeft, ResetsCatchUp, SealsKeep};
+ghost use Rattle.reset_actions.specs.Laws.{CutsGoAhead, NoneIsAhead, NoneIsLeft, ResetsCatchUp, SealsKeep, WaitsAreCut};
 
 /// Attempts on one link that are cut off by one action end one after the other; their resets stand in the order of their streams in both (RFC 9113,
 /// section 6.4).
@@ -8,5 +8,6 @@ pub fn several_are_cut()
     ensures begins { NoneIsAhead }
     ensures ends { NoneIsLeft }
     ensures cuts { CutsGoAhead }
+    ensures waits { WaitsAreCut }
     ensures resets { ResetsCatchUp }
 {}

@@ -51,12 +51,12 @@ response_ended s u b (Some n) links limit =
     ap (λ (k : ℕ). option_map_or (λ (l : Link). response_in k n (traffic_of b l.traffic)) (option_and_then (λ (at : Placed). numbered u.links at.link) b.row.placed) no_response) limit
     ∙ ap (λ (ls : List Link). option_map_or (response_on b n s) (option_and_then (λ (at : Placed). numbered ls at.link) b.row.placed) no_response) links
 
-reader_ended : (s u : Seen) (b : Attempt) (y : ReaderSeen) → u.links ≡ s.links → limit_of_attempt b u ≡ limit_of_attempt b s → IsReader s b y → IsReader u b y
+pub reader_ended : (s u : Seen) (b : Attempt) (y : ReaderSeen) → u.links ≡ s.links → limit_of_attempt b u ≡ limit_of_attempt b s → IsReader s b y → IsReader u b y
 reader_ended s u b y links limit is =
     let same : response b u ≡ response b s = response_ended s u b b.row.stream links limit in
     same_reader s u b y (ap (λ (p : Response). is_some p.head) same) (ap (λ (p : Response). p.rest) same) limit is
 
-moved_on : (s u : Seen) (o : Option Attempt) (x : Option ReaderSeen) → ((b : Attempt) (y : ReaderSeen) → IsReader s b y → IsReader u b y) → IsReaderOf s o x → IsReaderOf u o x
+pub moved_on : (s u : Seen) (o : Option Attempt) (x : Option ReaderSeen) → ((b : Attempt) (y : ReaderSeen) → IsReader s b y → IsReader u b y) → IsReaderOf s o x → IsReaderOf u o x
 moved_on s u None None keeps is = tt
 moved_on s u (Some b) (Some y) keeps is = keeps b y is
 moved_on s u None (Some y) keeps is = absurd is

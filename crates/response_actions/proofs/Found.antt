@@ -118,7 +118,7 @@ distinct_left tag readers all =
     subst AreDistinct (sym (map_filter (λ (t : TagReader). t.tag) (is_other tag) readers)) (distinct_filter (is_other tag) (tags readers) all)
 
 -- a reader after the others
-behind_by : (tag k : ℕ) (r : ReaderSeen) (readers : List TagReader) → (k == tag) ≡ false → reader_in k (with_reader tag r readers) ≡ reader_in k readers
+pub behind_by : (tag k : ℕ) (r : ReaderSeen) (readers : List TagReader) → (k == tag) ≡ false → reader_in k (with_reader tag r readers) ≡ reader_in k readers
 behind_by tag k r [] apart = (let none : Option ReaderSeen = None in if_false (tag == k) (Some r) none (turned k tag apart))
 behind_by tag k r (t ∷ readers) apart = ap (λ (o : Option ReaderSeen). if t.tag == k then Some t.reader else o) (behind_by tag k r readers apart)
 
@@ -127,7 +127,7 @@ own_by : (tag : ℕ) (t : TagReader) (o : Option ReaderSeen) (r : ReaderSeen) (b
 own_by tag t o r true e next = absurd (cc)
 own_by tag t o r false e next = next e
 
-own_behind : (tag : ℕ) (r : ReaderSeen) (readers : List TagReader) → reader_in tag readers ≡ None → reader_in tag (with_reader tag r readers) ≡ Some r
+pub own_behind : (tag : ℕ) (r : ReaderSeen) (readers : List TagReader) → reader_in tag readers ≡ None → reader_in tag (with_reader tag r readers) ≡ Some r
 own_behind tag r [] none = (let no : Option ReaderSeen = None in if_true (tag == tag) (Some r) no (let same : (tag == tag) ≡ true = grind (arith, nat_tests) in same))
 own_behind tag r (t ∷ readers) none = own_first tag r t readers (t.tag == tag) none (λ h. own_behind tag r readers h)
   where
@@ -142,13 +142,13 @@ none_snoc k t (n ∷ ns) none off =
     let parts = none_of (n == k) (is_one_of ns k) none in
     ap (λ (b : Bool). b || is_one_of (ns ++ t ∷ []) k) parts.0 ∙ none_snoc k t ns parts.1 off
 
-distinct_snoc : (t : ℕ) (ns : List ℕ) → AreDistinct ns → is_one_of ns t ≡ false → AreDistinct (ns ++ t ∷ [])
+pub distinct_snoc : (t : ℕ) (ns : List ℕ) → AreDistinct ns → is_one_of ns t ≡ false → AreDistinct (ns ++ t ∷ [])
 distinct_snoc t [] all none = (refl, tt)
 distinct_snoc t (n ∷ ns) all none =
     let parts = none_of (n == t) (is_one_of ns t) none in
     (none_snoc n t ns all.0 (turned n t parts.0), distinct_snoc t ns all.1 parts.1)
 
-tags_snoc : (tag : ℕ) (r : ReaderSeen) (readers : List TagReader) → tags (with_reader tag r readers) ≡ tags readers ++ tag ∷ []
+pub tags_snoc : (tag : ℕ) (r : ReaderSeen) (readers : List TagReader) → tags (with_reader tag r readers) ≡ tags readers ++ tag ∷ []
 tags_snoc tag r [] = refl
 tags_snoc tag r (t ∷ readers) = ap (λ (ns : List ℕ). t.tag ∷ ns) (tags_snoc tag r readers)
 

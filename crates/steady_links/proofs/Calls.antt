@@ -72,7 +72,7 @@ all_are_fed l s w g is =
     (either F (outstanding_on l s) (unfilter F streams (outstanding_on l s) some) (unfilter F waits (outstanding_on l s) is.wait_fed))
 
 -- a change that leaves links
-left_by : (s t : Seen) → t.links ≡ s.links → ((l : Link) (g : ℕ → Line) → AreAllFed l s g s.attempts → AreSameOn l l s t g s.attempts t.attempts)
+pub left_by : (s t : Seen) → t.links ≡ s.links → ((l : Link) (g : ℕ → Line) → AreAllFed l s g s.attempts → AreSameOn l l s t g s.attempts t.attempts)
     → (ArePlaced 1 s.attempts → ArePlaced 1 t.attempts) → IsLeft s t
 left_by s t links same places = record {
   streams = λ l w g is. links_are_left l l s t w g g is (record { number = refl; traffic_ = refl; owed = refl }) (ap (λ (ls : List Link). numbered ls l.number) links ∙ is.sees.at)

@@ -6,22 +6,29 @@
 -- 1. Whatever a link cannot tell.
 -- 2. A commitment; the end of a call; an attempt that is made.
 -- 3. An attempt that is placed on the link.
-use Rattle.std.specs.Prelude.{None, Some, false, ℕ, ◌==◌, ◌≡◌}
+-- 4. What is noted of the entry; a message that is accepted; a request that is finished; an entry that opens.
+use Rattle.std.specs.Prelude.{List, None, Some, false, ℕ, ◌==◌, ◌≡◌}
 use Rattle.attempt_ledger.specs.declared.row.Placed.{Placed}
 use Rattle.attempt_ledger.specs.declared.row.RowKind.{RowKind}
 use Rattle.grpc_base.specs.declared.event.EndCause.{EndCause}
+use Rattle.grpc_base.specs.declared.event.Event.{Event}
+use Rattle.grpc_base.specs.declared.event.Event.TheVariants as event
 use Rattle.h2_link.specs.Feeds.{Line}
 use Rattle.h2_link.specs.Steps.{placed}
 use Rattle.h2_link.specs.Wire.{Wire}
 use Rattle.link_actions.specs.Sees.{ArePlaced, IsFed}
 use Rattle.session_actions.specs.CallEnds.{call_ended}
 use Rattle.session_actions.specs.Commitments.{call_committed}
+use Rattle.session_actions.specs.Deliveries.{message_accepted, request_finished}
+use Rattle.session_actions.specs.Entries.{opened, with_entry}
 use Rattle.session_actions.specs.Making.{attempt_made}
 use Rattle.session_actions.specs.Policies.{attempt_placed}
 use Rattle.session_actions.specs.Words.{numbered}
 use Rattle.session_actions.specs.declared.attempt.Attempt.{Attempt}
+use Rattle.session_actions.specs.declared.entry.OpenEntry.{OpenEntry}
 use Rattle.session_actions.specs.declared.link.Link.{Link}
 use Rattle.session_actions.specs.declared.seen.Seen.{Seen}
+use Rattle.steady_links.specs.Fed.{AreChangedOf, AreOfMoment, with_end, with_message_left}
 use Rattle.steady_links.specs.Same.{AreSameOn, IsSameLink}
 use Rattle.stream_actions.specs.Sees.{SeesBut, SeesStreams}
 
@@ -66,3 +73,25 @@ abbrev pub PlacingsKeep : Type 0
 PlacingsKeep =
     (l : Link) (s : Seen) (w : Wire) (g h : ℕ → Line) (place : ℕ) (a : Attempt) (at : Placed) → SeesStreams l s w g → numbered s.attempts place ≡ Some a → CanPlace l a at
     → ((k : ℕ) → (k == place) ≡ false → h k ≡ g k) → IsFed l s a (h place) → SeesStreams l (attempt_placed place at s) (placed w place) h
+
+-- what is noted of the entry, but for its moment: its answer, that the channel settles, a random word more, the pass over the queue
+abbrev pub EntriesLeaveLinks : Type 0
+EntriesLeaveLinks = (s : Seen) (f : OpenEntry → OpenEntry) → ((o : OpenEntry) → (f o).moment ≡ o.moment) → IsLeft s (with_entry f s)
+
+-- a message of a call is accepted: each of its attempts is fed with it too, after what it had (gRPC over HTTP/2, "Length-Prefixed-Message")
+abbrev pub MessagesFeed : Type 0
+MessagesFeed =
+    (l : Link) (s : Seen) (w : Wire) (g h : ℕ → Line) (call : ℕ) (message : List ℕ) → SeesStreams l s w g → AreChangedOf call (with_message_left message) s g h
+    → SeesStreams l (message_accepted call (event.Send call message) s) w h
+
+-- the request of a call is finished: nothing is added any more to what its attempts are fed with (gRPC over HTTP/2, "Requests": EOS)
+abbrev pub FinishesFeed : Type 0
+FinishesFeed =
+    (l : Link) (s : Seen) (w : Wire) (g h : ℕ → Line) (call : ℕ) → SeesStreams l s w g → AreChangedOf call with_end s g h
+    → SeesStreams l (request_finished call s) w h
+
+-- an entry opens: its moment is the later one, and the header list of each request names the time that is left then (gRPC over HTTP/2, "Requests": Timeout)
+abbrev pub MomentsFeed : Type 0
+MomentsFeed =
+    (l : Link) (s : Seen) (w : Wire) (g h : ℕ → Line) (posted word : ℕ) (e : Event) → SeesStreams l s w g → AreOfMoment s (opened posted word e s) g h
+    → SeesStreams l (opened posted word e s) w h

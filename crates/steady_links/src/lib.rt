@@ -3,4 +3,4 @@
 
 mod laws;
 
-pub use laws::{calls_leave_links, links_are_left, placings_keep};
+pub use laws::{calls_feed_links, calls_leave_links, links_are_left, placings_keep};

@@ -1,4 +1,5 @@
 use Rattle.reset_actions.proofs.Cuts.{cuts_go_ahead, none_is_ahead, none_is_left, resets_catch_up, seals_keep}
+use Rattle.reset_actions.proofs.Waits.{waits_are_cut}
 use Rattle.reset_actions.proofs.laws.several_are_cut.Goals as goal
 
 pub returns-clause-seals : goal.returns-clause-seals
@@ -15,3 +16,6 @@ returns-clause-cuts c = cuts_go_ahead
 
 pub returns-clause-resets : goal.returns-clause-resets
 returns-clause-resets c = resets_catch_up
+
+pub returns-clause-waits : goal.returns-clause-waits
+returns-clause-waits c = waits_are_cut

@@ -1,0 +1,13 @@
+use Rattle.reader_actions.proofs.Openings.{openings_add_up}
+use Rattle.reader_actions.proofs.Placed.{placings_give_readers}
+use Rattle.reader_actions.proofs.Written.{writes_keep_readers}
+use Rattle.reader_actions.proofs.laws.readers_come_and_open.Goals as goal
+
+pub returns-clause-placed : goal.returns-clause-placed
+returns-clause-placed c = placings_give_readers
+
+pub returns-clause-written : goal.returns-clause-written
+returns-clause-written c = writes_keep_readers
+
+pub returns-clause-drained : goal.returns-clause-drained
+returns-clause-drained c = openings_add_up
