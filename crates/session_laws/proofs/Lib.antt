@@ -1,0 +1,5 @@
+pub mod Lists
+pub mod Lines
+pub mod Same
+pub mod Caps
+pub mod Numbers

@@ -1,0 +1,6 @@
+// What a user of gRPC may count on in every session.
+#![tactic(auto)]
+
+mod laws;
+
+pub use laws::{attempts_are_capped, attempts_are_numbered};
