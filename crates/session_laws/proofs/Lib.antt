@@ -3,3 +3,4 @@ pub mod Lines
 pub mod Same
 pub mod Caps
 pub mod Numbers
+pub mod Calls

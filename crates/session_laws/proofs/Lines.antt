@@ -8,6 +8,7 @@ use Rattle.grpc_base.specs.declared.event.EndCause.{EndCause}
 use Rattle.grpc_base.specs.declared.event.Event.TheVariants as event
 use Rattle.grpc_base.specs.declared.event.Event.{Event}
 use Rattle.grpc_base.specs.declared.event.Refusal.{Refusal}
+use Rattle.grpc_base.specs.declared.event.Refusal.TheVariants as refusal
 use Rattle.grpc_base.specs.declared.event.Reply.TheVariants as reply
 use Rattle.grpc_base.specs.declared.event.Reply.{Reply}
 use Rattle.grpc_base.specs.declared.kind.Kind.{Kind}
@@ -31,7 +32,7 @@ use Rattle.session_actions.specs.Links.{is_stream_before}
 use Rattle.session_actions.specs.Making.{due_action, due_attempt, due_if_past, next_due_attempt, next_transparent, transparent_retry}
 use Rattle.session_actions.specs.Policies.{asking, begin_if, current_policy, follow_ask, follow_pick, is_after, is_queued_before, is_same_kind, is_served, is_to_retire, is_unfollowed, listed, live_policies, live_sub, may_take_over, next_asked, next_begun, next_given, next_of_pass, next_of_pick, next_of_queue, next_retired, next_take_over, pending_policy, placed_on, policy_of, wanted_kind, wants_addresses}
 use Rattle.session_actions.specs.Reading.{next_read}
-use Rattle.session_actions.specs.Refusals.{refusal_of}
+use Rattle.session_actions.specs.Refusals.{refusal_of, refused_if, take_refusal}
 use Rattle.session_actions.specs.Sessions.{IsNext}
 use Rattle.session_actions.specs.Subchannels.{clock_action, dial_action, is_dialable, is_idle, is_rested, is_to_be_ready, is_to_go_down, is_too_late, is_unlisted, is_wished, link_action, next_added, next_connected, next_of_clock, next_of_links, next_shut}
 use Rattle.session_actions.specs.Tokens.{has_tokens}
@@ -75,6 +76,7 @@ pub record IsDueBy (its_call its_number : ℕ) (sort : RowKind) (moment : ℕ) (
   pub number : its_number ≡ attempts_made here s + 1
   pub kind : sort ≡ kind_of_next here s
   pub due : next_due here s ≡ Some moment
+  pub goes : is_open_call here ≡ true
 
 pub record IsConfigurable (call config : ℕ) (s : Seen) : Type 0 where
   pub index : ℕ
@@ -85,7 +87,16 @@ pub record IsConfigurable (call config : ℕ) (s : Seen) : Type 0 where
   pub held : is_some (held_config s) ≡ true
   pub last : config ≡ length s.configs
 
+-- an item that is next for an application
+pub record IsTakeable (its_call : ℕ) (item : Reply) (s : Seen) : Type 0 where
+  pub here : Call
+  pub there : numbered s.calls its_call ≡ Some here
+  pub next : next_item here s ≡ Some item
+  pub more : here.end_taken ≡ false
+
 abbrev pub Asks : Action → Seen → Type 0
+Asks action.CallBegins s = s.shut ≡ false
+Asks (action.ItemTaken call item) s = IsTakeable call item s
 Asks (action.AttemptMade call number k due) s = IsRetried call number k s ⊎ IsDueBy call number k due s
 Asks (action.CallConfigured call config) s = IsConfigurable call config s
 Asks _ s = Unit {0}
@@ -183,22 +194,28 @@ module _ (s : Seen) where
   asked_config i c got = config_if i c (is_to_configure s c) (lacks_config s c) got refl
 
   -- an attempt that is due
-  due_made : (i : ℕ) (c : Call) (d : ℕ) → slice_get s.calls i ≡ Some c → next_due c s ≡ Some d
+  due_made : (i : ℕ) (c : Call) (d : ℕ) → slice_get s.calls i ≡ Some c → next_due c s ≡ Some d → is_open_call c ≡ true
       → Asks (action.AttemptMade c.number (attempts_made c s + 1) (kind_of_next c s) d) s
-  due_made i c d got due = inr (record { index = i; here = c; there = got; is = refl; number = refl; kind = refl; due = due })
+  due_made i c d got due goes = inr (record { index = i; here = c; there = got; is = refl; number = refl; kind = refl; due = due; goes = goes })
 
-  due_asked : (i : ℕ) (c : Call) (d : ℕ) (b : Bool) → slice_get s.calls i ≡ Some c → next_due c s ≡ Some d
+  due_asked : (i : ℕ) (c : Call) (d : ℕ) (b : Bool) → slice_get s.calls i ≡ Some c → next_due c s ≡ Some d → is_open_call c ≡ true
       → Asks (if b then action.HedgeWithheld c.number else action.AttemptMade c.number (attempts_made c s + 1) (kind_of_next c s) d) s
-  due_asked i c d true got due = tt
-  due_asked i c d false got due = due_made i c d got due
+  due_asked i c d true got due goes = tt
+  due_asked i c d false got due goes = due_made i c d got due goes
 
-  due_by_now : (i : ℕ) (c : Call) (o : Option ℕ) → slice_get s.calls i ≡ Some c → next_due c s ≡ o → AsksIf s (option_and_then (due_if_past c s) o)
-  due_by_now i c None got due = tt
-  due_by_now i c (Some d) got due =
-      asked_if s (nat_le d (now s)) (Some (due_attempt c s d)) None (due_asked i c d (is_hedge (kind_of_next c s) && not (has_tokens c s)) got due) tt
+  due_by_now : (i : ℕ) (c : Call) (o : Option ℕ) → slice_get s.calls i ≡ Some c → next_due c s ≡ o → is_open_call c ≡ true
+      → AsksIf s (option_and_then (due_if_past c s) o)
+  due_by_now i c None got due goes = tt
+  due_by_now i c (Some d) got due goes =
+      asked_if s (nat_le d (now s)) (Some (due_attempt c s d)) None (due_asked i c d (is_hedge (kind_of_next c s) && not (has_tokens c s)) got due goes) tt
+
+  due_if : (i : ℕ) (c : Call) (b : Bool) → slice_get s.calls i ≡ Some c → is_open_call c ≡ b
+      → AsksIf s (if b then option_and_then (due_if_past c s) (next_due c s) else None)
+  due_if i c false got goes = tt
+  due_if i c true got goes = due_by_now i c (next_due c s) got refl goes
 
   asked_due : (i : ℕ) (c : Call) → slice_get s.calls i ≡ Some c → AsksIf s (due_action s c)
-  asked_due i c got = asked_if s (is_open_call c) (option_and_then (due_if_past c s) (next_due c s)) None (due_by_now i c (next_due c s) got refl) tt
+  asked_due i c got = due_if i c (is_open_call c) got refl
 
   asked_asked : (test : Attempt → Bool) → AsksIf s (next_asked test s)
   asked_asked test =
@@ -213,24 +230,34 @@ module _ (s : Seen) where
   send_asked call c false true held = tt
   send_asked call c false false held = tt
 
-  take_asked : (call : ℕ) (o : Option Reply) → Asks (take_action call o) s
-  take_asked call None = tt
-  take_asked call (Some item) = tt
+  take_asked : (call : ℕ) (c : Call) (o : Option Reply) → numbered s.calls call ≡ Some c → next_item c s ≡ o → c.end_taken ≡ false → Asks (take_action call o) s
+  take_asked call c None here next more = tt
+  take_asked call c (Some item) here next more = record { here = c; there = here; next = next; more = more }
+
+  untaken : (b : Bool) (why : Refusal) → refused_if b why None ≡ None → b ≡ false
+  untaken true why e = absurd (cc)
+  untaken false why e = refl
+
+  taken_by : (call : ℕ) (o : Option Call) → numbered s.calls call ≡ o → take_refusal o ≡ None
+      → AsksIf s (option_map (λ (c : Call). take_action call (next_item c s)) o)
+  taken_by call None here e = tt
+  taken_by call (Some c) here e = take_asked call c (next_item c s) here refl (untaken c.end_taken refusal.CallEnded e)
 
   dial_asked : (o : Option Subchannel) → Asks (option_map_or (dial_action s) o (action.EventAnswered reply.NotYet)) s
   dial_asked None = tt
   dial_asked (Some b) = tt
 
-  asked_event : (e : Event) → AsksIf s (event_applied e s)
-  asked_event (event.Send call message) =
+  asked_event : (e : Event) → refusal_of e s ≡ None → AsksIf s (event_applied e s)
+  asked_event (event.Begin request) goes = untaken s.shut refusal.Shut goes
+  asked_event (event.Send call message) goes =
       asked_map s (send_action call message s) (λ c. send_asked call c (is_too_long message c s) (is_accepted c message s) (held_bytes c s)) (numbered s.calls call)
-  asked_event (event.Take call) = asked_map s (λ (c : Call). take_action call (next_item c s)) (λ c. take_asked call (next_item c s)) (numbered s.calls call)
-  asked_event event.TakeDial = dial_asked (find is_dialable s.subs)
-  asked_event _ = tt
+  asked_event (event.Take call) goes = taken_by call (numbered s.calls call) refl goes
+  asked_event event.TakeDial goes = dial_asked (find is_dialable s.subs)
+  asked_event _ goes = tt
 
-  asked_event_by : (o : Option Refusal) (e : Event) → AsksIf s (event_action_by o e s)
-  asked_event_by None e = asked_event e
-  asked_event_by (Some why) e = tt
+  asked_event_by : (o : Option Refusal) (e : Event) → refusal_of e s ≡ o → AsksIf s (event_action_by o e s)
+  asked_event_by None e goes = asked_event e goes
+  asked_event_by (Some why) e goes = tt
 
   -- frames
   asked_read : (link : ℕ) (n : NextRead) → AsksIf s (read_action link n)
@@ -338,7 +365,7 @@ module _ (s : Seen) where
   asked_stage o stage.Event =
       plain_or (next_deadline s) (event_action o.event s ∷ [])
       (asked_map s (ending_call ending.Deadline) (λ c. tt) (foremost (is_due_before s) (filter (is_past_deadline s) s.calls)))
-      (plain_or (event_action o.event s) [] (asked_event_by (refusal_of o.event s) o.event) tt)
+      (plain_or (event_action o.event s) [] (asked_event_by (refusal_of o.event s) o.event refl) tt)
   asked_stage o stage.Replied =
       plain_or (frame_action o s) (Some action.SettlingBegins ∷ []) (asked_if s (is_after_event o) (frame_of_event o.event o s) None (asked_frame o o.event) tt) tt
   asked_stage o stage.Settling = asked_settling o
@@ -359,4 +386,6 @@ lines_ask s a e = subst (AsksIf s) e (asked_following s)
 pub next_asks : (s : Seen) (a : Action) → IsNext a s → Asks a s
 next_asks s (action.AttemptMade call number k due) next = lines_ask s (action.AttemptMade call number k due) next
 next_asks s (action.CallConfigured call config) next = lines_ask s (action.CallConfigured call config) next
+next_asks s action.CallBegins next = lines_ask s action.CallBegins next
+next_asks s (action.ItemTaken call item) next = lines_ask s (action.ItemTaken call item) next
 next_asks s _ next = tt

@@ -1,5 +1,6 @@
 // What a user of gRPC may count on in every session; nothing runs.
 ghost use Rattle.session_laws.specs.Attempts.{AttemptsAreCapped, AttemptsAreNumbered, AttemptsNeedConfigs};
+ghost use Rattle.session_laws.specs.Calls.{OpenCallsAttempt, OpenChannelsBegin, TakesAreNext};
 
 /// A call has at most as many attempts as its configuration allows: maxAttempts of its retryPolicy or hedgingPolicy, and one without (gRFC A6, "Maximum
 /// Number of Retries" and "Hedging Policy"). Before it has a configuration it has none. A transparent retry is no further attempt ("Transparent Retries").
@@ -12,4 +13,17 @@ pub fn attempts_are_capped()
 /// before it (gRFC A6, "Maximum Number of Retries" and "Transparent Retries").
 pub fn attempts_are_numbered()
     ensures { AttemptsAreNumbered }
+{}
+
+/// No attempt is made of a call that has ended, but a transparent retry, and no call begins on a channel that was shut down (gRPC, "Core concepts": RPC
+/// life cycle).
+pub fn ended_calls_rest()
+    ensures calls { OpenCallsAttempt }
+    ensures channels { OpenChannelsBegin }
+{}
+
+/// What an application takes is the next of the head and the messages of the committed attempt's response, and then the end of the call, once (gRPC, "Core
+/// concepts": unary and streaming calls).
+pub fn takes_are_next()
+    ensures { TakesAreNext }
 {}

@@ -3,4 +3,4 @@
 
 mod laws;
 
-pub use laws::{attempts_are_capped, attempts_are_numbered};
+pub use laws::{attempts_are_capped, attempts_are_numbered, ended_calls_rest, takes_are_next};
