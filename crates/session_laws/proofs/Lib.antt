@@ -4,3 +4,4 @@ pub mod Same
 pub mod Caps
 pub mod Numbers
 pub mod Calls
+pub mod Deadlines

@@ -1,6 +1,7 @@
 // What a user of gRPC may count on in every session; nothing runs.
 ghost use Rattle.session_laws.specs.Attempts.{AttemptsAreCapped, AttemptsAreNumbered, AttemptsNeedConfigs};
 ghost use Rattle.session_laws.specs.Calls.{OpenCallsAttempt, OpenChannelsBegin, TakesAreNext};
+ghost use Rattle.session_laws.specs.Deadlines.{DeadlinesEndCalls, EventsFollowDeadlines};
 
 /// A call has at most as many attempts as its configuration allows: maxAttempts of its retryPolicy or hedgingPolicy, and one without (gRFC A6, "Maximum
 /// Number of Retries" and "Hedging Policy"). Before it has a configuration it has none. A transparent retry is no further attempt ("Transparent Retries").
@@ -26,4 +27,11 @@ pub fn ended_calls_rest()
 /// concepts": unary and streaming calls).
 pub fn takes_are_next()
     ensures { TakesAreNext }
+{}
+
+/// An event is applied where the deadline of no open call has come: a call whose deadline has come by the moment of the entry ends before it (gRPC, "Core
+/// concepts": Deadlines/Timeouts).
+pub fn deadlines_come_first()
+    ensures event { EventsFollowDeadlines }
+    ensures calls { DeadlinesEndCalls }
 {}

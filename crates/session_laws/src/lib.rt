@@ -3,4 +3,7 @@
 
 mod laws;
 
-pub use laws::{attempts_are_capped, attempts_are_numbered, ended_calls_rest, takes_are_next};
+pub use laws::{
+    attempts_are_capped, attempts_are_numbered, deadlines_come_first, ended_calls_rest,
+    takes_are_next,
+};
