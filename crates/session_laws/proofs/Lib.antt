@@ -5,3 +5,4 @@ pub mod Caps
 pub mod Numbers
 pub mod Calls
 pub mod Deadlines
+pub mod Policies

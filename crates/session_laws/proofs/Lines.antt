@@ -94,9 +94,17 @@ pub record IsTakeable (its_call : ℕ) (item : Reply) (s : Seen) : Type 0 where
   pub next : next_item here s ≡ Some item
   pub more : here.end_taken ≡ false
 
+-- a pick request, of the current policy
+pub record IsAsked (generation : ℕ) (answer : Pick) (s : Seen) : Type 0 where
+  pub here : PolicyUse
+  pub current : current_policy s ≡ Some here
+  pub is : here.number ≡ generation
+  pub gives : answer ≡ pick_of (policy_of here s)
+
 abbrev pub Asks : Action → Seen → Type 0
 Asks action.CallBegins s = s.shut ≡ false
 Asks (action.ItemTaken call item) s = IsTakeable call item s
+Asks (action.PickRequested row generation answer) s = IsAsked generation answer s
 Asks (action.AttemptMade call number k due) s = IsRetried call number k s ⊎ IsDueBy call number k due s
 Asks (action.CallConfigured call config) s = IsConfigurable call config s
 Asks _ s = Unit {0}
@@ -217,10 +225,15 @@ module _ (s : Seen) where
   asked_due : (i : ℕ) (c : Call) → slice_get s.calls i ≡ Some c → AsksIf s (due_action s c)
   asked_due i c got = due_if i c (is_open_call c) got refl
 
+  asked_current : (a : Attempt) (o : Option PolicyUse) → current_policy s ≡ o
+      → AsksIf s (option_map (λ (g : PolicyUse). action.PickRequested a.place g.number (pick_of (policy_of g s))) o)
+  asked_current a None e = tt
+  asked_current a (Some g) e = record { here = g; current = e; is = refl; gives = refl }
+
   asked_asked : (test : Attempt → Bool) → AsksIf s (next_asked test s)
   asked_asked test =
       asked_then s (asking s)
-      (λ a. asked_map s (λ (g : PolicyUse). action.PickRequested a.place g.number (pick_of (policy_of g s))) (λ g. tt) (current_policy s))
+      (λ a. asked_current a (current_policy s) refl)
       (foremost is_queued_before (filter (λ (a : Attempt). is_served s a && test a) s.attempts))
 
   -- the event
@@ -388,4 +401,5 @@ next_asks s (action.AttemptMade call number k due) next = lines_ask s (action.At
 next_asks s (action.CallConfigured call config) next = lines_ask s (action.CallConfigured call config) next
 next_asks s action.CallBegins next = lines_ask s action.CallBegins next
 next_asks s (action.ItemTaken call item) next = lines_ask s (action.ItemTaken call item) next
+next_asks s (action.PickRequested row generation answer) next = lines_ask s (action.PickRequested row generation answer) next
 next_asks s _ next = tt

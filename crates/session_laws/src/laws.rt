@@ -2,6 +2,7 @@
 ghost use Rattle.session_laws.specs.Attempts.{AttemptsAreCapped, AttemptsAreNumbered, AttemptsNeedConfigs};
 ghost use Rattle.session_laws.specs.Calls.{OpenCallsAttempt, OpenChannelsBegin, TakesAreNext};
 ghost use Rattle.session_laws.specs.Deadlines.{DeadlinesEndCalls, EventsFollowDeadlines};
+ghost use Rattle.session_laws.specs.Policies.{CurrentOnesAreAsked};
 
 /// A call has at most as many attempts as its configuration allows: maxAttempts of its retryPolicy or hedgingPolicy, and one without (gRFC A6, "Maximum
 /// Number of Retries" and "Hedging Policy"). Before it has a configuration it has none. A transparent retry is no further attempt ("Transparent Retries").
@@ -34,4 +35,9 @@ pub fn takes_are_next()
 pub fn deadlines_come_first()
     ensures event { EventsFollowDeadlines }
     ensures calls { DeadlinesEndCalls }
+{}
+
+/// A pick is asked of the load balancing policy that is current then, and of no retired one ("Load Balancing in gRPC").
+pub fn current_policies_are_asked()
+    ensures { CurrentOnesAreAsked }
 {}
