@@ -10,19 +10,12 @@ use Rattle.session_actions.specs.declared.action.Action.{Action}
 use Rattle.session_actions.specs.declared.call.Call.{Call}
 use Rattle.session_actions.specs.declared.seen.Seen.{Seen}
 use Rattle.session_actions.specs.declared.seen.Setup.{Setup}
+use Rattle.session_laws.proofs.Found.{none_of, same_of}
 use Rattle.session_laws.proofs.Lines.{IsDueBy, IsRetried, IsTakeable, next_asks}
 use Rattle.session_laws.specs.Calls.{OpenCallsAttempt, OpenChannelsBegin, TakesAreNext}
 use Rattle.session_order.proofs.Places.{sessions_are_in_place}
 use Rattle.session_order.specs.Order.{IsInPlace}
 use Rattle.session_actions.specs.declared.action.Action.TheVariants as action
-
-none_of : {X : Type 0} (o : Option X) → is_none o ≡ true → o ≡ None
-none_of None e = refl
-none_of (Some x) e = absurd (cc)
-
-same_of : {X : Type 0} (o : Option X) (x y : X) → o ≡ Some x → o ≡ Some y → x ≡ y
-same_of None x y e f = absurd (cc)
-same_of (Some z) x y e f = (cc)
 
 open_by : (s : Seen) (call number due : ℕ) (sort : RowKind) → IsInPlace s → IsRetried call number sort s ⊎ IsDueBy call number sort due s
     → is_transparent sort ≡ false → (c : Call) → numbered s.calls call ≡ Some c → c.end ≡ None

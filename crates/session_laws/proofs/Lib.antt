@@ -1,3 +1,4 @@
+pub mod Found
 pub mod Lists
 pub mod Lines
 pub mod Same
@@ -6,3 +7,4 @@ pub mod Numbers
 pub mod Calls
 pub mod Deadlines
 pub mod Policies
+pub mod Chains

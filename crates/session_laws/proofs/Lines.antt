@@ -19,13 +19,13 @@ use Rattle.attempt_ledger.specs.declared.row.RowKind.{RowKind}
 use Rattle.attempt_ledger.specs.declared.row.RowKind.TheVariants as kind
 use Rattle.session_actions.specs.Actions.{config_action, first_action, following, following_in, of_calls, of_links, of_policies, of_settling, of_stage}
 use Rattle.session_actions.specs.AttemptEnds.{cut, cut_end, end_of, next_cut, next_reset, next_wire_end, outcome_of, reset_code_of, reset_of, wire_end}
-use Rattle.session_actions.specs.Attempts.{is_outstanding, is_over, wants_follower}
+use Rattle.session_actions.specs.Attempts.{is_outstanding, is_over, wants_follower, call_of, commitment, is_counted, is_of, of_its_call}
 use Rattle.session_actions.specs.CallEnds.{ending_call, has_long_request, has_long_response, is_after_event, is_cancelled, is_due_before, is_over_by_row, is_past_deadline, is_shut_down, lacks_config, next_deadline, next_ended}
 use Rattle.session_actions.specs.Calls.{is_open_call}
-use Rattle.session_actions.specs.Commitments.{committing, is_final_end, is_headed, is_inherited, next_final, next_headed, next_inherited, next_overflow, overflow_row}
+use Rattle.session_actions.specs.Commitments.{committing, is_final_end, is_headed, is_inherited, next_final, next_headed, next_inherited, next_overflow, overflow_row, furthest, has_head_in, is_final_in, is_free_call, is_further, is_inherited_by, is_inherited_in}
 use Rattle.session_actions.specs.Configs.{held_config, is_to_configure, is_too_long}
 use Rattle.session_actions.specs.Deliveries.{held_bytes, is_accepted, next_item, send_action, take_action}
-use Rattle.session_actions.specs.DueAttempts.{attempts_made, kind_of_next, next_due}
+use Rattle.session_actions.specs.DueAttempts.{attempts_made, kind_of_next, next_due, is_final}
 use Rattle.session_actions.specs.Entries.{entry, now}
 use Rattle.session_actions.specs.Events.{event_action, event_action_by, event_applied, frame_action, frame_of_event, is_loss}
 use Rattle.session_actions.specs.Links.{is_stream_before}
@@ -36,8 +36,11 @@ use Rattle.session_actions.specs.Refusals.{refusal_of, refused_if, take_refusal}
 use Rattle.session_actions.specs.Sessions.{IsNext}
 use Rattle.session_actions.specs.Subchannels.{clock_action, dial_action, is_dialable, is_idle, is_rested, is_to_be_ready, is_to_go_down, is_too_late, is_unlisted, is_wished, link_action, next_added, next_connected, next_of_clock, next_of_links, next_shut}
 use Rattle.session_actions.specs.Tokens.{has_tokens}
-use Rattle.session_actions.specs.Words.{first_of, foremost, last_of, numbered}
-use Rattle.session_actions.specs.Writing.{fits_drain, frame_to_write, read_action, read_next, sendable}
+use Rattle.session_laws.proofs.Found.{AtFiltered, AtFirst, AtSome, filter_at, find_at, first_at, foremost_at, found_passes, none_of, same_of}
+use Rattle.session_order.specs.Order.{IsInPlace}
+use Rattle.session_actions.specs.Responses.{response}
+use Rattle.session_actions.specs.Words.{first_of, foremost, last_of, numbered, holds}
+use Rattle.session_actions.specs.Writing.{fits_drain, frame_to_write, read_action, read_next, sendable, accepted_bytes}
 use Rattle.session_actions.specs.declared.action.Action.TheVariants as action
 use Rattle.session_actions.specs.declared.action.Action.{Action}
 use Rattle.session_actions.specs.declared.action.CommitCause.TheVariants as commit
@@ -54,8 +57,8 @@ use Rattle.session_actions.specs.declared.policy.PolicyUse.{PolicyUse}
 use Rattle.session_actions.specs.declared.response.Outcome.{Outcome}
 use Rattle.session_actions.specs.declared.seen.Seen.{Seen}
 use Rattle.session_actions.specs.declared.subchannel.Subchannel.{Subchannel}
-use Rattle.std.proofs.Common.{◌⊎◌, inl, inr, Bool, List, None, Option, Some, [], false, filter, find, if◌then◌else◌, is_none, is_some, length, nat_le, not, option_and_then, option_map, refl, slice_get, subst, suc, true, ℕ, ◌&&◌, ◌+◌, ◌==◌, ◌∷◌, ◌≡◌}
-use Rattle.std.proofs.lemmas.Bool.{and_parts}
+use Rattle.std.proofs.Common.{◌⊎◌, inl, inr, Bool, List, None, Option, Some, [], false, filter, find, if◌then◌else◌, is_none, is_some, length, nat_le, not, option_and_then, option_map, refl, slice_get, subst, suc, true, ℕ, ◌&&◌, ◌+◌, ◌==◌, ◌∷◌, ◌≡◌, nat_lt, ap, sym, ◌∙◌}
+use Rattle.std.proofs.lemmas.Bool.{and_parts, eqb-true}
 use Rattle.std.specs.List.{list_any}
 use Rattle.std.specs.Option.{option_map_or, option_or}
 
@@ -101,30 +104,20 @@ pub record IsAsked (generation : ℕ) (answer : Pick) (s : Seen) : Type 0 where
   pub is : here.number ≡ generation
   pub gives : answer ≡ pick_of (policy_of here s)
 
+-- an attempt to which its call may be committed: the call is not committed yet, or to an attempt of its number
+pub record IsChained (row : ℕ) (s : Seen) : Type 0 where
+  pub here : Attempt
+  pub there : numbered s.attempts row ≡ Some here
+  pub joins : (c : Call) → numbered s.calls here.row.call ≡ Some c → (k : Attempt) → commitment c s ≡ Some k → k.row.number ≡ here.row.number
+
 abbrev pub Asks : Action → Seen → Type 0
 Asks action.CallBegins s = s.shut ≡ false
 Asks (action.ItemTaken call item) s = IsTakeable call item s
+Asks (action.CallCommitted row why) s = IsInPlace s → IsChained row s
 Asks (action.PickRequested row generation answer) s = IsAsked generation answer s
 Asks (action.AttemptMade call number k due) s = IsRetried call number k s ⊎ IsDueBy call number k due s
 Asks (action.CallConfigured call config) s = IsConfigurable call config s
 Asks _ s = Unit {0}
-
-none_of : {X : Type 0} (o : Option X) → is_none o ≡ true → o ≡ None
-none_of None e = refl
-none_of (Some x) e = absurd (cc)
-
-record AtSome {X : Type 0} (xs : List X) (x : X) : Type 0 where
-  index : ℕ
-  here : slice_get xs index ≡ Some x
-
-find_if : {X : Type 0} (test : X → Bool) (z : X) (xs : List X) (x : X) (b : Bool) → test z ≡ b → find test (z ∷ xs) ≡ Some x
-    → (find test xs ≡ Some x → AtSome xs x) → AtSome (z ∷ xs) x
-find_if test z xs x true is e rest = record { index = 0; here = (cc) }
-find_if test z xs x false is e rest = (let there : AtSome xs x = rest (cc) in record { index = suc there.index; here = there.here })
-
-find_at : {X : Type 0} (test : X → Bool) (xs : List X) (x : X) → find test xs ≡ Some x → AtSome xs x
-find_at test [] x e = absurd (cc)
-find_at test (z ∷ xs) x e = find_if test z xs x (test z) refl e (find_at test xs x)
 
 -- what a line gives, if it gives anything
 abbrev AsksIf : Seen → Option Action → Type 0
@@ -296,6 +289,75 @@ module _ (s : Seen) where
       asked_if s (is_to_be_ready s b) (Some (action.SettingsArrive b.number)) (if is_to_go_down s b then Some (action.LinkDown b.number) else None) tt
       (asked_if s (is_to_go_down s b) (Some (action.LinkDown b.number)) None tt tt)
 
+  -- a commitment
+  at_place : (a : Attempt) → AtSome s.attempts a → IsInPlace s → numbered s.attempts a.place ≡ Some a
+  at_place a f place = ap (numbered s.attempts) (place.attempts (suc f.index) a f.here) ∙ f.here
+
+  some_free : (c : Call) (k : Attempt) (n : ℕ) → is_free_call s c ≡ true → commitment c s ≡ Some k → k.row.number ≡ n
+  some_free c k n free is =
+      let none : is_none (commitment c s) ≡ true = (and_parts (is_none c.end) (is_none (commitment c s)) free).1 in
+      let some : is_none (commitment c s) ≡ false = ap is_none is in absurd (cc)
+
+  joined : (a : Attempt) (test : Call → Bool) → AtSome s.attempts a → holds test (call_of a s) ≡ true
+      → ((c : Call) (k : Attempt) → test c ≡ true → commitment c s ≡ Some k → k.row.number ≡ a.row.number) → IsInPlace s → IsChained a.place s
+  joined a test f held each place =
+      record { here = a; there = at_place a f place; joins = λ c is k commits. each c k (sym (ap (holds test) is) ∙ held) commits }
+
+  inherits : (a : Attempt) (c : Call) (k : Attempt) → is_inherited_in a s c ≡ true → commitment c s ≡ Some k → k.row.number ≡ a.row.number
+  inherits a c k t is =
+      let one : holds (is_inherited_by a) (commitment c s) ≡ true = (and_parts (is_none c.end) (holds (is_inherited_by a) (commitment c s)) t).1 in
+      let two : is_inherited_by a k ≡ true = sym (ap (holds (is_inherited_by a)) is) ∙ one in
+      eqb-true k.row.number a.row.number (and_parts (k.row.number == a.row.number) (nat_lt k.place a.place) two).0
+
+  asked_inherited : (o : Option Attempt) → find (is_inherited s) s.attempts ≡ o → AsksIf s (option_map (committing commit.Inherited) o)
+  asked_inherited None e = tt
+  asked_inherited (Some a) e =
+      joined a (is_inherited_in a s) (find_at (is_inherited s) s.attempts a e)
+      (and_parts (is_none a.row.committed) (of_its_call (is_inherited_in a s) a s) (found_passes (is_inherited s) s.attempts a e)).1 (inherits a)
+
+  asked_final : (o : Option Attempt) → find (is_final_end s) s.attempts ≡ o → AsksIf s (option_map (committing commit.Final) o)
+  asked_final None e = tt
+  asked_final (Some a) e =
+      joined a (is_final_in a s) (find_at (is_final_end s) s.attempts a e) (found_passes (is_final_end s) s.attempts a e)
+      (λ c k t is. some_free c k a.row.number
+      (and_parts (is_free_call s c) (is_counted a s) (and_parts (is_free_call s c && is_counted a s) (is_final c a s) t).0).0 is)
+
+  asked_headed : (o : Option Attempt) → find (is_headed s) s.attempts ≡ o → AsksIf s (option_map (committing commit.Head) o)
+  asked_headed None e = tt
+  asked_headed (Some a) e =
+      joined a (has_head_in a s) (find_at (is_headed s) s.attempts a e)
+      (and_parts (is_outstanding a) (of_its_call (has_head_in a s) a s) (found_passes (is_headed s) s.attempts a e)).1
+      (λ c k t is. some_free c k a.row.number (and_parts (is_free_call s c) (is_some (response a s).head) t).0 is)
+
+  overflows : (a : Attempt) (d : Call) (j i : ℕ) → slice_get s.calls j ≡ Some d → is_free_call s d ≡ true
+      → slice_get (filter (λ (x : Attempt). is_of d x && is_outstanding x) s.attempts) i ≡ Some a → IsInPlace s → IsChained a.place s
+  overflows a d j i at free got place =
+      let f : AtFiltered (λ (x : Attempt). is_of d x && is_outstanding x) s.attempts a = filter_at (λ (x : Attempt). is_of d x && is_outstanding x) s.attempts i a got in
+      let its : a.row.call ≡ d.number = eqb-true a.row.call d.number (and_parts (is_of d a) (is_outstanding a) f.passes).0 in
+      let own : numbered s.calls a.row.call ≡ Some d = ap (numbered s.calls) (its ∙ place.calls (suc j) d at) ∙ at in
+      record {
+        here = a;
+        there = at_place a f.at place;
+        joins = λ c is k commits.
+            (let one : c ≡ d = same_of (numbered s.calls a.row.call) c d is own in
+            some_free d k a.row.number free (ap (λ (x : Call). commitment x s) (sym one) ∙ commits));
+      }
+
+  overflow_if : (a : Attempt) (d : Call) (j : ℕ) (b l : Bool) → slice_get s.calls j ≡ Some d → is_free_call s d ≡ b
+      → (if b && l then furthest d s else None) ≡ Some a → IsInPlace s → IsChained a.place s
+  overflow_if a d j false l at free e place = absurd (cc)
+  overflow_if a d j true false at free e place = absurd (cc)
+  overflow_if a d j true true at free e place =
+      let f : AtSome (filter (λ (x : Attempt). is_of d x && is_outstanding x) s.attempts) a =
+      foremost_at (is_further s) (filter (λ (x : Attempt). is_of d x && is_outstanding x) s.attempts) a e in
+      overflows a d j f.index at free f.here place
+
+  asked_overflow : (o : Option Attempt) → first_of (overflow_row s) s.calls ≡ o → AsksIf s (option_map (committing commit.Overflow) o)
+  asked_overflow None e = tt
+  asked_overflow (Some a) e =
+      let f : AtFirst (overflow_row s) s.calls a = first_at (overflow_row s) s.calls a e in
+      λ place. overflow_if a f.item f.index (is_free_call s f.item) (nat_lt 262144 (accepted_bytes f.item)) f.here refl f.gives place
+
   -- line by line
   plain_or : (o : Option Action) (rest : List (Option Action)) → AsksIf s o → AsksIf s (first_action rest) → AsksIf s (first_action (o ∷ rest))
   plain_or o rest f g = asked_or s o (first_action rest) f g
@@ -313,22 +375,22 @@ module _ (s : Seen) where
       (asked_transparent (find (λ (a : Attempt). wants_follower a s) s.attempts) refl)
       (plain_or (next_inherited s) (next_ended ending.Row (is_over_by_row s) s ∷ next_final s
       ∷ next_ended ending.Cancelled (is_cancelled o) s ∷ next_ended ending.Request (has_long_request o s) s ∷ next_overflow s ∷ next_headed s ∷ next_ended ending.Response (has_long_response s) s ∷ [])
-      (asked_map s (committing commit.Inherited) (λ a. tt) (find (is_inherited s) s.attempts))
+      (asked_inherited (find (is_inherited s) s.attempts) refl)
       (plain_or (next_ended ending.Row (is_over_by_row s) s) (next_final s
       ∷ next_ended ending.Cancelled (is_cancelled o) s ∷ next_ended ending.Request (has_long_request o s) s ∷ next_overflow s ∷ next_headed s ∷ next_ended ending.Response (has_long_response s) s ∷ [])
       (asked_ended ending.Row (is_over_by_row s))
       (plain_or (next_final s) (next_ended ending.Cancelled (is_cancelled o) s ∷ next_ended ending.Request (has_long_request o s) s ∷ next_overflow s ∷ next_headed s
       ∷ next_ended ending.Response (has_long_response s) s ∷ [])
-      (asked_map s (committing commit.Final) (λ a. tt) (find (is_final_end s) s.attempts))
+      (asked_final (find (is_final_end s) s.attempts) refl)
       (plain_or (next_ended ending.Cancelled (is_cancelled o) s) (next_ended ending.Request (has_long_request o s) s ∷ next_overflow s ∷ next_headed s
       ∷ next_ended ending.Response (has_long_response s) s ∷ [])
       (asked_ended ending.Cancelled (is_cancelled o))
       (plain_or (next_ended ending.Request (has_long_request o s) s) (next_overflow s ∷ next_headed s ∷ next_ended ending.Response (has_long_response s) s ∷ [])
       (asked_ended ending.Request (has_long_request o s))
       (plain_or (next_overflow s) (next_headed s ∷ next_ended ending.Response (has_long_response s) s ∷ [])
-      (asked_map s (committing commit.Overflow) (λ a. tt) (first_of (overflow_row s) s.calls))
+      (asked_overflow (first_of (overflow_row s) s.calls) refl)
       (plain_or (next_headed s) (next_ended ending.Response (has_long_response s) s ∷ [])
-      (asked_map s (committing commit.Head) (λ a. tt) (find (is_headed s) s.attempts))
+      (asked_headed (find (is_headed s) s.attempts) refl)
       (plain_or (next_ended ending.Response (has_long_response s) s) [] (asked_ended ending.Response (has_long_response s)) tt)))))))))
 
   asked_loss : (b : Bool) → AsksIf s (if b then None else next_wire_end s)
@@ -402,4 +464,5 @@ next_asks s (action.CallConfigured call config) next = lines_ask s (action.CallC
 next_asks s action.CallBegins next = lines_ask s action.CallBegins next
 next_asks s (action.ItemTaken call item) next = lines_ask s (action.ItemTaken call item) next
 next_asks s (action.PickRequested row generation answer) next = lines_ask s (action.PickRequested row generation answer) next
+next_asks s (action.CallCommitted row why) next = lines_ask s (action.CallCommitted row why) next
 next_asks s _ next = tt

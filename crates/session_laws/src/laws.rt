@@ -2,6 +2,7 @@
 ghost use Rattle.session_laws.specs.Attempts.{AttemptsAreCapped, AttemptsAreNumbered, AttemptsNeedConfigs};
 ghost use Rattle.session_laws.specs.Calls.{OpenCallsAttempt, OpenChannelsBegin, TakesAreNext};
 ghost use Rattle.session_laws.specs.Deadlines.{DeadlinesEndCalls, EventsFollowDeadlines};
+ghost use Rattle.session_laws.specs.Chains.{CommitmentsChain};
 ghost use Rattle.session_laws.specs.Policies.{CurrentOnesAreAsked};
 
 /// A call has at most as many attempts as its configuration allows: maxAttempts of its retryPolicy or hedgingPolicy, and one without (gRFC A6, "Maximum
@@ -40,4 +41,10 @@ pub fn deadlines_come_first()
 /// A pick is asked of the load balancing policy that is current then, and of no retired one ("Load Balancing in gRPC").
 pub fn current_policies_are_asked()
     ensures { CurrentOnesAreAsked }
+{}
+
+/// A call is committed to an attempt where it is not committed yet, or where it is committed to one of the same number, which a transparent retry has (gRFC
+/// A6, "When Retries are Valid" and "Transparent Retries").
+pub fn commitments_chain()
+    ensures { CommitmentsChain }
 {}

@@ -4,6 +4,6 @@
 mod laws;
 
 pub use laws::{
-    attempts_are_capped, attempts_are_numbered, current_policies_are_asked, deadlines_come_first,
-    ended_calls_rest, takes_are_next,
+    attempts_are_capped, attempts_are_numbered, commitments_chain, current_policies_are_asked,
+    deadlines_come_first, ended_calls_rest, takes_are_next,
 };
