@@ -1,15 +1,10 @@
 -- What is asked of a call where something is done to it.
-use Rattle.std.proofs.Common.{◌≡◌, ◌⊎◌, inl, inr, ap, refl, sym, ◌∙◌, Bool, true, false, List, Option, None, Some, ℕ, suc, is_none}
+use Rattle.std.proofs.Common.{◌≡◌, ◌⊎◌, inl, inr, ap, sym, ◌∙◌, true, false, None, Some, ℕ, suc}
 use Rattle.attempt_ledger.specs.Numbering.{is_transparent}
 use Rattle.attempt_ledger.specs.declared.row.RowKind.{RowKind}
-use Rattle.grpc_base.specs.declared.event.Reply.{Reply}
-use Rattle.session_actions.specs.Calls.{is_open_call}
-use Rattle.session_actions.specs.Sessions.{Does, IsNext, new_session}
 use Rattle.session_actions.specs.Words.{numbered}
-use Rattle.session_actions.specs.declared.action.Action.{Action}
 use Rattle.session_actions.specs.declared.call.Call.{Call}
 use Rattle.session_actions.specs.declared.seen.Seen.{Seen}
-use Rattle.session_actions.specs.declared.seen.Setup.{Setup}
 use Rattle.session_laws.proofs.Found.{none_of, same_of}
 use Rattle.session_laws.proofs.Lines.{IsDueBy, IsRetried, IsTakeable, next_asks}
 use Rattle.session_laws.specs.Calls.{OpenCallsAttempt, OpenChannelsBegin, TakesAreNext}

@@ -1,9 +1,9 @@
 -- Deadlines that have come end their calls before the event is applied.
-use Rattle.std.proofs.Common.{◌≡◌, ◌∷◌, ◌||◌, ap, refl, sym, ◌∙◌, Bool, true, false, List, [], Option, None, Some, ℕ, zero, suc, cond, filter, if◌then◌else◌, slice_get}
+use Rattle.std.proofs.Common.{◌≡◌, ◌∷◌, ◌||◌, ap, refl, ◌∙◌, Bool, true, false, List, [], Option, None, Some, ℕ, zero, suc, cond, filter, if◌then◌else◌, slice_get}
 use Rattle.std.proofs.lemmas.Bool.{or_parts}
 use Rattle.std.specs.List.{list_any}
 use Rattle.std.specs.Option.{option_map, option_or}
-use Rattle.session_actions.specs.Actions.{following, of_event, of_stage}
+use Rattle.session_actions.specs.Actions.{following, of_stage}
 use Rattle.session_actions.specs.CallEnds.{ending_call, is_due_before, is_past_deadline}
 use Rattle.session_actions.specs.Events.{event_action}
 use Rattle.session_actions.specs.Words.{earlier, foremost}

@@ -1,9 +1,7 @@
 -- Which load balancing policy is asked for a pick.
-use Rattle.std.proofs.Common.{◌≡◌, ◌∷◌, ◌&&◌, ap, refl, ◌∙◌, Bool, true, false, List, [], Option, None, Some, ℕ, find, is_none, is_some}
+use Rattle.std.proofs.Common.{◌≡◌, true, is_none, is_some}
 use Rattle.std.proofs.lemmas.Bool.{and_parts}
-use Rattle.session_actions.specs.Policies.{current_policy, is_current}
-use Rattle.session_actions.specs.declared.policy.PolicyUse.{PolicyUse}
-use Rattle.session_actions.specs.declared.seen.Seen.{Seen}
+use Rattle.session_actions.specs.Policies.{is_current}
 use Rattle.session_laws.proofs.Found.{found_passes, none_of}
 use Rattle.session_laws.proofs.Lines.{IsAsked, next_asks}
 use Rattle.session_laws.specs.Policies.{CurrentOnesAreAsked}
