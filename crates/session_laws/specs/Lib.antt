@@ -1,0 +1,5 @@
+pub mod Attempts
+pub mod Calls
+pub mod Deadlines
+pub mod Policies
+pub mod Chains
