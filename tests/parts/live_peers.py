@@ -49,6 +49,12 @@ def run(program, words, script, output=subprocess.PIPE, env=None):
     return done.returncode, (done.stdout or b"").decode()
 
 
+def summed_up(program, script):
+    """The status of a live run and what it says on standard error, with its milliseconds told as `N`."""
+    done = subprocess.run([program, "live"], input=script.encode(), stdout=subprocess.PIPE, stderr=subprocess.PIPE, timeout=LONGEST)
+    return done.returncode, re.sub(r"\d+ ms$", "N ms", done.stderr.decode(), flags=re.M)
+
+
 class Live:
     """A live run that goes on beside the test."""
 

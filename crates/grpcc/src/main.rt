@@ -140,7 +140,7 @@ fn main(rt: HostRuntime) -> ExitCode {
     let is_refused = is_misspelled(words.as_slice());
     let run_words: &[String] = if is_refused { &[] } else { words.as_slice() };
     let mut input = Remembering::new(alloc, rt, words.as_slice(), rt.reader());
-    let mut output = Fronted::new(io::writer(&rt));
+    let mut output = Fronted::new(words.as_slice(), io::writer(&rt));
     let ended = run(
         &rt,
         alloc,

@@ -1,12 +1,16 @@
 // Standard input and output, as they are remembered for the words on standard error; and these words.
 use crate::NO_MEMORY;
 use fault_words::{Ended, Failure, Remembered, explain, warn};
+use run_words::RunTally;
 use std::alloc::Global;
 use std::io;
 use std::io::{ErrorKind, IsTerminal, Read, Write};
 
 /// How many bytes of the front of standard output are remembered: more than a fault line has.
 const FRONT: usize = 256;
+
+/// The status where a session had no room for an event.
+const SESSION_FULL: u8 = 7;
 
 /// A reader that remembers what it read, and why a read failed. It says on standard error that it reads from a terminal, and at the
 /// end of a server script what is strange in it.
@@ -84,7 +88,7 @@ impl<R: Read + IsTerminal, E: Eprint> Read for Remembering<R, E> {
     }
 }
 
-/// A writer that remembers the front of what it wrote, and why a write failed.
+/// A writer that remembers the front of what it wrote, and why a write failed. Of a run over a network it counts how its calls ended.
 #[derive(Drop)]
 pub struct Fronted<W> {
     writer: W,
@@ -92,16 +96,22 @@ pub struct Fronted<W> {
     /// How many bytes the front has.
     count: usize,
     failure: Option<Failure>,
+    tally: Option<RunTally>,
 }
 
 impl<W: Write> Fronted<W> {
-    /// A writer over this one.
-    pub fn new(writer: W) -> Fronted<W> {
+    /// A writer over this one, for the output of the mode that these words name.
+    pub fn new(words: &[String], writer: W) -> Fronted<W> {
+        let tally = match words {
+            [first, ..] if first.as_bytes() == b"live".as_slice() => Some(RunTally::new()),
+            _ => None,
+        };
         Fronted {
             writer,
             front: [0; FRONT],
             count: 0,
             failure: None,
+            tally,
         }
     }
 }
@@ -123,6 +133,9 @@ impl<W: Write> Write for Fronted<W> {
         match self.writer.write(buf) {
             Ok(count) => {
                 keep(&mut self.front, &mut self.count, &buf[..count]);
+                if let Some(tally) = &mut self.tally {
+                    tally.take(&buf[..count]);
+                }
                 Ok(count)
             }
             Err(error) => {
@@ -180,6 +193,19 @@ pub fn tell<E: Eprint, R, T, W>(
         Ok(text) => print(rt, text.as_slice()),
         Err(_) if status == NO_MEMORY => print(rt, b"error: out of memory\n"),
         Err(_) => {}
+    }
+    sum_up(rt, alloc, &ended, &output.tally);
+}
+
+/// Says of a run over a network whose report was written how its calls ended.
+fn sum_up<E: Eprint>(rt: &E, alloc: Global, ended: &Ended<'_>, tally: &Option<RunTally>) {
+    let is_written = ended.status == 0 || ended.status == SESSION_FULL;
+    if let [mode, ..] = ended.words
+        && let Some(tally) = tally
+        && is_written
+        && let Ok(text) = tally.words(alloc, mode.as_bytes())
+    {
+        print(rt, text.as_slice());
     }
 }
 
