@@ -1,33 +1,22 @@
 -- Each single thing that is done to a channel lets its calls go on; so does a whole step, and so do its parts.
-use Rattle.std.proofs.Common.{◌≡◌, ◌≤◌, ◌∙◌, ℕ, Bool, true, false, Option, Some, None, IfSome, is_some, List, [], length, Ok, refl, sym, ap, subst, if◌then◌else◌}
-use Rattle.a6_numbers.specs.Throttling.{Bucket}
+use Rattle.std.proofs.Common.{◌≡◌, ◌≤◌, ℕ, Option, Some, None, refl, sym, ap, subst}
 use Rattle.attempt_ledger.specs.Numbering.{most_attempts}
-use Rattle.attempt_ledger.specs.declared.news.News.{News}
-use Rattle.call_core.specs.Parts.{first_of}
 use Rattle.call_core.specs.Steps as call
-use Rattle.call_core.specs.declared.state.CallState.{CallState}
-use Rattle.channel_core.proofs.Carrying.{Begins, Carried, Carries, ComesUp, Configures, Holds, overdue, with_book}
+use Rattle.channel_core.proofs.Carrying.{Carried, Carries, Configures, overdue}
 use Rattle.channel_core.proofs.CarryingSteps.{answered, settle, carried}
-use Rattle.channel_core.specs.Applying as applying
-use Rattle.channel_core.specs.Applying.{config_read}
-use Rattle.channel_core.specs.Books.{book_acted, book_asked, book_configured, bucket_at, bucket_set, slot_at}
+use Rattle.channel_core.specs.Books.{bucket_set, slot_at}
 use Rattle.channel_core.specs.States.{StateSeen}
-use Rattle.channel_core.specs.Steps.{chosen_in, configured_by, next_word}
-use Rattle.channel_core.specs.Tables.{fed_call, last_run, tokens_in, with_bucket, with_timers, without_due}
+use Rattle.channel_core.specs.Steps.{chosen_in, next_word}
+use Rattle.channel_core.specs.Tables.{fed_call, last_run, with_bucket, with_timers, without_due}
 use Rattle.channel_core.specs.declared.state.slots.CallSlot.{CallSlot}
-use Rattle.going_calls.proofs.Arms.{go_closed, go_configured, go_failed, go_heard, go_like, go_made, go_new, go_placed, go_sent, go_timed_out}
+use Rattle.going_calls.proofs.Arms.{CallLaws}
 use Rattle.going_calls.proofs.Slots.{AllGo, all_acted, all_beside, all_changed, all_more, all_numbered}
-use Rattle.going_calls.specs.Going.{AllowsAttempts, CallsGoOn, GoesOn}
+use Rattle.going_calls.specs.Going.{AllowsAttempts, CallsGoOn}
 use Rattle.going_calls.specs.Laws.{AnswersGoOn, DeadlinesGoOn, EachGoesOn, NewCallsGoOn, SettlingsGoOn, StepsGoOn}
-use Rattle.grpc_base.specs.Kinds.{KindsSeen}
-use Rattle.grpc_base.specs.declared.event.EndCause.{EndCause}
 use Rattle.grpc_base.specs.declared.event.Event.{Event}
 use Rattle.grpc_base.specs.declared.event.Event.TheVariants as event
-use Rattle.grpc_base.specs.declared.event.Refusal.{Refusal}
-use Rattle.grpc_base.specs.declared.fields.Field.{Field}
 use Rattle.grpc_base.specs.declared.plan.Chosen.{Chosen}
 use Rattle.link_laws.proofs.Knowing.{allowed}
-use Rattle.link_laws.proofs.SoundCalls.{IsAllowed}
 use Rattle.service_config.specs.Choice.{chosen_for}
 use Rattle.service_config.specs.declared.config.Config.{Config}
 
@@ -51,95 +40,75 @@ chosen_allows (Some config) (Some slot) chosen allows e =
 bucketed : (bucket : ℕ) (slot : CallSlot) → (with_bucket bucket slot).call ≡ slot.call
 bucketed bucket slot = refl
 
--- what an application finishes and takes
-go_finished : (refusal : Option Refusal) (c : CallState) → GoesOn c → GoesOn (call.finished_if refusal c)
-go_finished None c g = go_like c _ refl refl refl refl g
-go_finished (Some why) c g = g
+module _ (laws : CallLaws) where
+  go_carries : Carries GoOn
+  go_carries = record {
+    joined = λ s t u first second g. second (first g);
+    beside = λ s t book held links shut. left s t (ap (λ b. b.calls) book) held;
+    timed_out = λ number s. into s _ refl (all_acted (call.timed_out s.book.moment) s.book.ledger _ (λ c. laws.timed_out s.book.moment _) s.book.calls number);
+    closed = λ why number s by. into s _ refl (all_acted (call.closed_by why s.book.moment) s.book.ledger _ (λ c. laws.closed why s.book.moment _ by) s.book.calls number);
+    sent = λ message number s. into s _ refl (all_acted (call.sent message s.book.moment) s.book.ledger _ (λ c. laws.sent message s.book.moment _) s.book.calls number);
+    made = λ number s. into s _ refl (all_acted (call.made_due s.book.moment) s.book.ledger _ (λ c. laws.made s.book.moment _) s.book.calls number);
+    heard = λ row told number s fair. into s _ refl (all_acted (call.heard_news row told s.book.moment (next_word s)) s.book.ledger _ (λ c. laws.heard row told s.book.moment (next_word s) _) s.book.calls number);
+    failed = λ row number s. into s _ refl (all_acted (call.pick_failed row s.book.moment (next_word s)) s.book.ledger _ (λ c. laws.failed row s.book.moment (next_word s) _) s.book.calls number);
+    placed = λ row at number s entry moment. into s _ refl (all_acted (call.placed_at row at) s.book.ledger None (λ c. laws.placed row at _ entry) s.book.calls number);
+    finished = λ number s. into s _ refl (all_changed call.finished (λ c g. laws.same c _ (laws.finished c) g) s.book.calls number);
+    taken = λ number s. into s _ refl (all_changed call.taken (λ c g. laws.same c _ (laws.taken c) g) s.book.calls number);
+    fed = λ row len s. into s _ refl (all_changed (fed_call row len) (λ c g. laws.same c _ (laws.fed row len c) g) s.book.calls _);
+    timers = λ due deadline number s. into s _ refl (all_beside (with_timers due deadline) (λ slot. refl) s.book.calls number);
+    forgotten = λ number s. into s _ refl (all_beside without_due (λ slot. refl) s.book.calls number);
+    streamed = λ row stream s. left s _ refl refl;
+    asked = λ a s entry. left s _ refl refl;
+    gone = λ link s. left s _ refl refl;
+    read = λ link read s. left s _ refl refl;
+    added = λ kind s. left s _ refl refl;
+    activated = λ number s. left s _ refl refl;
+    retired = λ number s. left s _ refl refl;
+  }
 
-go_taken_end : (why : Option EndCause) (c d : CallState) → d.live ≡ c.live → d.ended ≡ c.ended → d.attempts ≡ c.attempts → d.chosen ≡ c.chosen → GoesOn c → GoesOn (call.taken_end why d)
-go_taken_end None c d live ended attempts chosen g = go_like c d live ended attempts chosen g
-go_taken_end (Some why) c d live ended attempts chosen g = go_like c _ live ended attempts chosen g
+  go_events : (e : Event) → Carried GoOn e
+  go_events (event.Begin request) = λ s. into s _ refl (λ all. all_more s.book.calls _ all (laws.begun _ request s.book.moment))
+  go_events (event.LinkUp sub) = λ s. left s _ refl refl
+  go_events (event.Resolved addresses text) = λ config kinds s read g. record {
+    calls = g.calls;
+    allows = λ path. (allowed config kinds text read path).least;
+  }
+  go_events (event.Send number message) = tt
+  go_events (event.Finish number) = tt
+  go_events (event.Take number) = tt
+  go_events (event.Cancel number) = tt
+  go_events event.ResolveFailed = tt
+  go_events event.TakeDial = tt
+  go_events (event.DialFailed sub) = tt
+  go_events (event.Arrived link piece) = tt
+  go_events (event.LinkLost link) = tt
+  go_events (event.Drain link room) = tt
+  go_events (event.Ping link word) = tt
+  go_events event.Tick = tt
+  go_events event.Shutdown = tt
 
-go_taken_message : (message : Option (List ℕ)) (c d : CallState) → d.live ≡ c.live → d.ended ≡ c.ended → d.attempts ≡ c.attempts → d.chosen ≡ c.chosen → GoesOn c → GoesOn (call.taken_message message d)
-go_taken_message None c d live ended attempts chosen g = go_taken_end d.ended c (call.with_rest d) live ended attempts chosen g
-go_taken_message (Some octets) c d live ended attempts chosen g = go_like c _ live ended attempts chosen g
+  go_chosen : Configures GoOn
+  go_chosen chosen number s e g =
+      let most : 1 ≤ most_attempts chosen.plan = chosen_allows s.held (slot_at s.book number) chosen g.allows e in
+      into s _ refl (λ all. all_acted (call.configured chosen s.book.moment) s.book.ledger None (λ c. laws.configured chosen s.book.moment _ most) (bucket_set number s.book) number
+      (all_beside (with_bucket (last_run s.book.buckets)) (bucketed (last_run s.book.buckets)) s.book.calls number all)) g
 
-go_taken_item : (head : Option (List Field)) (c : CallState) → GoesOn c → GoesOn (call.taken_item head c)
-go_taken_item None c g = go_taken_message (first_of c.inbox.messages) c (call.without_head c) refl refl refl refl g
-go_taken_item (Some meta) c g = go_like c _ refl refl refl refl g
+  -- the laws
+  pub new_calls_go_on : NewCallsGoOn
+  new_calls_go_on alloc authority policies = record { calls = tt; allows = tt }
 
-go_either : (b : Bool) (c d : CallState) → GoesOn c → GoesOn d → GoesOn (if b then c else d)
-go_either true c d g h = g
-go_either false c d g h = h
+  pub deadlines_go_on : DeadlinesGoOn
+  deadlines_go_on x = overdue GoOn go_carries x
 
-go_carries : Carries GoOn
-go_carries = record {
-  joined = λ s t u first second g. second (first g);
-  beside = λ s t book held links shut. left s t (ap (λ b. b.calls) book) held;
-  timed_out = λ number s. into s _ refl (all_acted (call.timed_out s.book.moment) s.book.ledger _ (λ c. go_timed_out s.book.moment _) s.book.calls number);
-  closed = λ why number s by. into s _ refl (all_acted (call.closed_by why s.book.moment) s.book.ledger _ (λ c. go_closed why s.book.moment _ by) s.book.calls number);
-  sent = λ message number s. into s _ refl (all_acted (call.sent message s.book.moment) s.book.ledger _ (λ c. go_sent message s.book.moment _) s.book.calls number);
-  made = λ number s. into s _ refl (all_acted (call.made_due s.book.moment) s.book.ledger _ (λ c. go_made s.book.moment _) s.book.calls number);
-  heard = λ row told number s fair. into s _ refl (all_acted (call.heard_news row told s.book.moment (next_word s)) s.book.ledger _ (λ c. go_heard row told s.book.moment (next_word s) _) s.book.calls number);
-  failed = λ row number s. into s _ refl (all_acted (call.pick_failed row s.book.moment (next_word s)) s.book.ledger _ (λ c. go_failed row s.book.moment (next_word s) _) s.book.calls number);
-  placed = λ row at number s entry moment. into s _ refl (all_acted (call.placed_at row at) s.book.ledger None (λ c. go_placed row at _ entry) s.book.calls number);
-  finished = λ number s. into s _ refl (all_changed call.finished (λ c g. go_finished (call.send_refusal c) c g) s.book.calls number);
-  taken = λ number s. into s _ refl (all_changed call.taken (λ c g. go_either c.inbox.is_end_taken c _ g (go_taken_item c.inbox.head c g)) s.book.calls number);
-  fed = λ row len s. into s _ refl (all_changed (fed_call row len) (λ c. go_like c _ refl refl refl refl) s.book.calls _);
-  timers = λ due deadline number s. into s _ refl (all_beside (with_timers due deadline) (λ slot. refl) s.book.calls number);
-  forgotten = λ number s. into s _ refl (all_beside without_due (λ slot. refl) s.book.calls number);
-  streamed = λ row stream s. left s _ refl refl;
-  asked = λ a s entry. left s _ refl refl;
-  gone = λ link s. left s _ refl refl;
-  read = λ link read s. left s _ refl refl;
-  added = λ kind s. left s _ refl refl;
-  activated = λ number s. left s _ refl refl;
-  retired = λ number s. left s _ refl refl;
-}
+  pub answers_go_on : AnswersGoOn
+  answers_go_on refused e x y r by = answered GoOn go_carries refused e x y r (go_events e) by
 
-go_events : (e : Event) → Carried GoOn e
-go_events (event.Begin request) = λ s. into s _ refl (λ all. all_more s.book.calls _ all (go_new _ request s.book.moment))
-go_events (event.LinkUp sub) = λ s. left s _ refl refl
-go_events (event.Resolved addresses text) = λ config kinds s read g. record {
-  calls = g.calls;
-  allows = λ path. (allowed config kinds text read path).least;
-}
-go_events (event.Send number message) = tt
-go_events (event.Finish number) = tt
-go_events (event.Take number) = tt
-go_events (event.Cancel number) = tt
-go_events event.ResolveFailed = tt
-go_events event.TakeDial = tt
-go_events (event.DialFailed sub) = tt
-go_events (event.Arrived link piece) = tt
-go_events (event.LinkLost link) = tt
-go_events (event.Drain link room) = tt
-go_events (event.Ping link word) = tt
-go_events event.Tick = tt
-go_events event.Shutdown = tt
+  pub settlings_go_on : SettlingsGoOn
+  settlings_go_on x = settle GoOn go_carries x go_chosen
 
-go_chosen : Configures GoOn
-go_chosen chosen number s e g =
-    let most : 1 ≤ most_attempts chosen.plan = chosen_allows s.held (slot_at s.book number) chosen g.allows e in
-    into s _ refl (λ all. all_acted (call.configured chosen s.book.moment) s.book.ledger None (λ c. go_configured chosen s.book.moment _ most) (bucket_set number s.book) number
-        (all_beside (with_bucket (last_run s.book.buckets)) (bucketed (last_run s.book.buckets)) s.book.calls number all)) g
+  pub steps_go_on : StepsGoOn
+  steps_go_on entry moment word e old new r steps g =
+      carried GoOn go_carries entry moment word e old new r go_chosen (go_events e) steps (left old _ refl refl g)
 
--- the laws
-pub new_calls_go_on : NewCallsGoOn
-new_calls_go_on alloc authority policies = record { calls = tt; allows = tt }
-
-pub deadlines_go_on : DeadlinesGoOn
-deadlines_go_on x = overdue GoOn go_carries x
-
-pub answers_go_on : AnswersGoOn
-answers_go_on refused e x y r by = answered GoOn go_carries refused e x y r (go_events e) by
-
-pub settlings_go_on : SettlingsGoOn
-settlings_go_on x = settle GoOn go_carries x go_chosen
-
-pub steps_go_on : StepsGoOn
-steps_go_on entry moment word e old new r steps g =
-    carried GoOn go_carries entry moment word e old new r go_chosen (go_events e) steps (left old _ refl refl g)
-
-pub each_goes_on : EachGoesOn
-each_goes_on x number slot g e = all_numbered x.book.calls number slot g.calls e
+  pub each_goes_on : EachGoesOn
+  each_goes_on x number slot g e = all_numbered x.book.calls number slot g.calls e

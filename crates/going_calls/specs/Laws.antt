@@ -3,7 +3,7 @@
 -- Example: a call is cancelled. It ended, so it need not go on; the others go on as before.
 use Rattle.std.specs.Global.{Global}
 use Rattle.std.specs.Prelude.{List, Option, Some, ℕ, ◌≡◌}
-use Rattle.channel_core.specs.Applying.{AnswersBy, Stepped, begun_at, new_state}
+use Rattle.channel_core.specs.Applying.{AnswersBy, Stepped, new_state}
 use Rattle.channel_core.specs.Books.{slot_at}
 use Rattle.channel_core.specs.Settling.{settled}
 use Rattle.channel_core.specs.States.{StateSeen}

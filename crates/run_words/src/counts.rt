@@ -5,7 +5,8 @@ use grpc_base::{NoMemory, append_decimal};
 const CODES: usize = 17;
 
 /// The names of the status codes, from number 0 on.
-const NAMES: &str = "OK CANCELLED UNKNOWN INVALID_ARGUMENT DEADLINE_EXCEEDED NOT_FOUND ALREADY_EXISTS PERMISSION_DENIED RESOURCE_EXHAUSTED FAILED_PRECONDITION ABORTED OUT_OF_RANGE UNIMPLEMENTED INTERNAL UNAVAILABLE DATA_LOSS UNAUTHENTICATED";
+const NAMES: &str =
+    "OK CANCELLED UNKNOWN INVALID_ARGUMENT DEADLINE_EXCEEDED NOT_FOUND ALREADY_EXISTS PERMISSION_DENIED RESOURCE_EXHAUSTED FAILED_PRECONDITION ABORTED OUT_OF_RANGE UNIMPLEMENTED INTERNAL UNAVAILABLE DATA_LOSS UNAUTHENTICATED";
 
 /// Nanoseconds of a millisecond.
 const MILLISECOND: u64 = 1000000;
@@ -68,9 +69,17 @@ impl Counts {
         append_counted(out, self.attempts, b"attempt", b"attempts")?;
         append_some(out, self.retries, b"retry", b"retries")?;
         append_some(out, self.hedges, b"hedge", b"hedges")?;
-        append_some(out, self.transparent, b"transparent retry", b"transparent retries")?;
+        append_some(
+            out,
+            self.transparent,
+            b"transparent retry",
+            b"transparent retries",
+        )?;
         out.extend_from_slice(b"; ")?;
-        append_decimal(out, self.last.saturating_sub(self.first.unwrap_or(0)) / MILLISECOND)?;
+        append_decimal(
+            out,
+            self.last.saturating_sub(self.first.unwrap_or(0)) / MILLISECOND,
+        )?;
         out.extend_from_slice(b" ms")?;
         Ok(())
     }
