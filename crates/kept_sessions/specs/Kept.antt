@@ -53,6 +53,7 @@ pub record IsKept (s : Seen) : Type 0 where
   pub attempts : AreCounted 1 (map (λ a. a.place) s.attempts)
   pub links : AreCounted 1 (map (λ l. l.number) s.links)
   pub subs : AreCounted 1 (map (λ b. b.number) s.subs)
+  pub policies : AreCounted 1 (map (λ g. g.number) s.policies)
   -- each attempt is of a call
   pub owned : list_all (λ a. is_some (call_of a s)) s.attempts ≡ true
   -- and each link of a subchannel
