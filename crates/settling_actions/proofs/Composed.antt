@@ -19,8 +19,9 @@ use Rattle.session_actions.specs.declared.action.Action.TheVariants as action
 use Rattle.session_actions.specs.declared.entry.OpenEntry.{OpenEntry}
 use Rattle.session_actions.specs.declared.entry.Stage.TheVariants as stage
 use Rattle.session_actions.specs.declared.seen.Seen.{Seen}
-use Rattle.settling_actions.specs.Laws.{RoundsAreSteps, SettlingsAreSteps}
-use Rattle.settling_actions.specs.Steps.{ClockSteps, ConfigSteps, IsBegun, IsDone, IsFit, IsPassed, IsTended, Leads, MakingSteps, NetSteps, QueueSteps, RoundSteps, RoundsEnd, are_over}
+use Rattle.settling_actions.specs.Laws.{RoundsAreSteps, SettlingKeeps, SettlingsAreSteps}
+use Rattle.settling_actions.specs.Sound.{IsSound}
+use Rattle.settling_actions.specs.Steps.{ClockSteps, ConfigSteps, IsBegun, IsClocked, IsDone, IsJoined, IsMade, IsPassed, IsRound, IsTended, Leads, MakingSteps, NetSteps, QueueSteps, RoundSteps, RoundsEnd, are_over, round_made_state}
 
 -- from one point to the next, and from that one further
 pub leads_on : (y z : StateSeen) (o : OpenEntry) (s : Seen) (Mid After : OpenEntry → Seen → Type 0) (l : Leads y o s Mid)
@@ -73,48 +74,58 @@ neither : (a b : Bool) → (if a then true else b) ≡ false → (a ≡ false) �
 neither true b e = absurd (cc)
 neither false b e = (refl, e)
 
-module _ (fits : Seen → Bool) (makes : MakingSteps fits) (serves : QueueSteps fits) (x : StateSeen) (o : OpenEntry) (s : Seen) (h : Agrees x s)
-    (at : IsAt stage.Settling o s) (within : fits s ≡ true) (tended : IsTended o s) where
+module _ (keeps : SettlingKeeps) (makes : MakingSteps) (serves : QueueSteps) (x : StateSeen) (o : OpenEntry) (s : Seen) (h : Agrees x s) (sound : IsSound x s)
+    (at : IsAt stage.Settling o s) (tended : IsTended o s) where
   abbrev y : StateSeen
-  y = (round_made x).state
+  y = round_made_state x
 
-  quieter : (p : OpenEntry) (t : Seen) → IsFit fits (IsPassed (queue_served y).moved) p t → IsFit fits (IsPassed (round x).moved) p t
-  quieter p t f = record {
-    within = f.within;
-    point = record { tended = f.point.tended; done = λ still. f.point.done (neither (round_made x).moved (queue_served y).moved still).1 };
-  }
+  module _ (made : Leads y o s IsMade) (steady : IsSound y made.reaches.seen)
+      (served : Leads (queue_served y).state made.reaches.entry made.reaches.seen (IsPassed (queue_served y).moved)) where
+    end_sound : IsSound (round x).state served.reaches.seen
+    end_sound =
+        keeps.queue y made.reaches.seen served.reaches.seen served.reaches.actions made.reaches.agrees steady served.reaches.does served.reaches.agrees
 
-  pub one_round : Leads (round x).state o s (IsFit fits (IsPassed (round x).moved))
+    passed : IsPassed (round x).moved served.reaches.entry served.reaches.seen
+    passed = record {
+      tended = served.point.tended;
+      done = λ still. served.point.done (neither (round_made x).moved (queue_served y).moved still).1;
+    }
+
+    both : Leads (round x).state o s (IsRound (round x).state (round x).moved)
+    both =
+        leads_on y (round x).state o s IsMade (IsRound (round x).state (round x).moved) made
+        (record { reaches = served.reaches; reply = served.reply; point = record { passed = passed; sound = end_sound } })
+
+  pub one_round : Leads (round x).state o s (IsRound (round x).state (round x).moved)
   one_round =
-      let made = makes x o s h at within tended in
-      let served = serves y made.reaches.entry made.reaches.seen made.reaches.agrees made.reaches.at made.point.within made.point.point in
-      leads_to (round x).state o s (IsFit fits (IsPassed (queue_served y).moved)) (IsFit fits (IsPassed (round x).moved)) quieter
-      (leads_on y (queue_served y).state o s _ (IsFit fits (IsPassed (queue_served y).moved)) made served)
+      let made = makes x o s h sound at tended in
+      let steady = keeps.making x s made.reaches.seen made.reaches.actions h sound made.reaches.does made.reaches.agrees in
+      both made steady (serves y made.reaches.entry made.reaches.seen made.reaches.agrees steady made.reaches.at made.point)
 
 pub rounds_are_steps : RoundsAreSteps
-rounds_are_steps fits makes serves x o s h at within tended = one_round fits makes serves x o s h at within tended
+rounds_are_steps keeps makes serves x o s h sound at tended = one_round keeps makes serves x o s h sound at tended
 
 -- rounds, until one does nothing
-module _ (fits : Seen → Bool) (steps : RoundSteps fits) where
+module _ (steps : RoundSteps) where
   rounds_by : (left : ℕ) (x : StateSeen) (o : OpenEntry) (s : Seen) (moved : Bool) → (round x).moved ≡ moved
-      → ((y : StateSeen) (p : OpenEntry) (t : Seen) → Agrees y t → IsAt stage.Settling p t → fits t ≡ true → IsTended p t → are_over left y ≡ true → Leads (rounds left y) p t IsDone)
+      → ((y : StateSeen) (p : OpenEntry) (t : Seen) → Agrees y t → IsSound y t → IsAt stage.Settling p t → IsTended p t → are_over left y ≡ true → Leads (rounds left y) p t IsDone)
       → (if moved then are_over left (round x).state else true) ≡ true
-      → Leads (round x).state o s (IsFit fits (IsPassed (round x).moved))
+      → Leads (round x).state o s (IsRound (round x).state (round x).moved)
       → Leads (if moved then rounds left (round x).state else (round x).state) o s IsDone
   rounds_by left x o s true e further over l =
-      leads_on (round x).state (rounds left (round x).state) o s _ IsDone l
-      (further (round x).state l.reaches.entry l.reaches.seen l.reaches.agrees l.reaches.at l.point.within l.point.point.tended over)
+      leads_on (round x).state (rounds left (round x).state) o s (IsRound (round x).state (round x).moved) IsDone l
+      (further (round x).state l.reaches.entry l.reaches.seen l.reaches.agrees l.point.sound l.reaches.at l.point.passed.tended over)
   rounds_by left x o s false e further over l =
-      leads_to (round x).state o s (IsFit fits (IsPassed (round x).moved)) IsDone (λ p t f. f.point.done e) l
+      leads_to (round x).state o s (IsRound (round x).state (round x).moved) IsDone (λ p t f. f.passed.done e) l
 
-  pub all_rounds : (left : ℕ) (x : StateSeen) (o : OpenEntry) (s : Seen) → Agrees x s → IsAt stage.Settling o s → fits s ≡ true → IsTended o s
+  pub all_rounds : (left : ℕ) (x : StateSeen) (o : OpenEntry) (s : Seen) → Agrees x s → IsSound x s → IsAt stage.Settling o s → IsTended o s
       → are_over left x ≡ true → Leads (rounds left x) o s IsDone
   unfolding rounds
 
   unfolding are_over
-  all_rounds zero x o s h at within tended over = absurd (cc)
-  all_rounds (suc left) x o s h at within tended over =
-      rounds_by left x o s (round x).moved refl (λ y p t. all_rounds left y p t) over (steps x o s h at within tended)
+  all_rounds zero x o s h sound at tended over = absurd (cc)
+  all_rounds (suc left) x o s h sound at tended over =
+      rounds_by left x o s (round x).moved refl (λ y p t. all_rounds left y p t) over (steps x o s h sound at tended)
 
 -- where no line gives anything, the entry closes
 last_by : (a b c d e f g : Option Action) (z : Action) → a ≡ None → b ≡ None → c ≡ None → d ≡ None → e ≡ None → f ≡ None → g ≡ None
@@ -136,18 +147,45 @@ closes_by o s at done =
     ap (option_and_then (following_in s)) at.current
     ∙ follows_by (of_calls o s) (of_links o s) (of_policies o s) (of_stage o s o.stage) action.EntryCloses at.calm.calls at.calm.links at.calm.policies stage_gives
 
+module _ (keeps : SettlingKeeps) (clocks : ClockSteps) (nets : NetSteps) (configs : ConfigSteps) (steps : RoundSteps) (ends : RoundsEnd) (x : StateSeen) (o : OpenEntry)
+    (s : Seen) (h : Agrees x s) (sound : IsSound x s) (at : IsAt stage.Settling o s) (fresh : o.turn ≡ None) where
+  one : Leads (clocked x) o s IsClocked
+  one = clocks x o s h sound at (record { turn = fresh })
+
+  one_sound : IsSound (clocked x) one.reaches.seen
+  one_sound = keeps.clocks x s one.reaches.seen one.reaches.actions h sound one.reaches.does one.reaches.agrees
+
+  two : Leads (net_settled (clocked x)) one.reaches.entry one.reaches.seen IsJoined
+  two = nets (clocked x) one.reaches.entry one.reaches.seen one.reaches.agrees one_sound one.reaches.at one.point
+
+  two_sound : IsSound (net_settled (clocked x)) two.reaches.seen
+  two_sound = keeps.nets (clocked x) one.reaches.seen two.reaches.seen two.reaches.actions one.reaches.agrees one_sound two.reaches.does two.reaches.agrees
+
+  three : Leads (prepared x) two.reaches.entry two.reaches.seen IsTended
+  three = configs (net_settled (clocked x)) two.reaches.entry two.reaches.seen two.reaches.agrees two_sound two.reaches.at two.point
+
+  three_sound : IsSound (prepared x) three.reaches.seen
+  three_sound =
+      keeps.configs (net_settled (clocked x)) two.reaches.seen three.reaches.seen three.reaches.actions two.reaches.agrees two_sound three.reaches.does three.reaches.agrees
+
+  over : are_over most (prepared x) ≡ true
+  over = ends (prepared x) three.reaches.entry three.reaches.seen three.reaches.agrees three_sound three.reaches.at three.point
+
+  four : Leads (settled x) three.reaches.entry three.reaches.seen IsDone
+  four = all_rounds steps most (prepared x) three.reaches.entry three.reaches.seen three.reaches.agrees three_sound three.reaches.at three.point over
+
+  last : Leads (settled x) two.reaches.entry two.reaches.seen IsDone
+  last = leads_on (prepared x) (settled x) two.reaches.entry two.reaches.seen IsTended IsDone three four
+
+  further : Leads (settled x) one.reaches.entry one.reaches.seen IsDone
+  further = leads_on (net_settled (clocked x)) (settled x) one.reaches.entry one.reaches.seen IsJoined IsDone two last
+
+  whole : Leads (settled x) o s IsDone
+  whole = leads_on (clocked x) (settled x) o s IsClocked IsDone one further
+
+  pub whole_settles : IsSettled x o s
+  whole_settles = record { reaches = whole.reaches; reply = whole.reply; closes = closes_by whole.reaches.entry whole.reaches.seen whole.reaches.at whole.point }
+
 pub settlings_are_steps : SettlingsAreSteps
-settlings_are_steps fits clocks nets configs steps ends x o s h at fresh within =
-    let one = clocks x o s h at within (record { turn = fresh }) in
-    let two = nets (clocked x) one.reaches.entry one.reaches.seen one.reaches.agrees one.reaches.at one.point.within one.point.point in
-    let three = configs (net_settled (clocked x)) two.reaches.entry two.reaches.seen two.reaches.agrees two.reaches.at two.point.within two.point.point in
-    let over = ends (prepared x) three.reaches.entry three.reaches.seen three.reaches.agrees three.reaches.at three.point.within three.point.point in
-    let four = all_rounds fits steps most (prepared x) three.reaches.entry three.reaches.seen three.reaches.agrees three.reaches.at three.point.within three.point.point over in
-    let last : Leads (settled x) two.reaches.entry two.reaches.seen IsDone = leads_on (prepared x) (settled x) two.reaches.entry two.reaches.seen _ IsDone three four in
-    let further : Leads (settled x) one.reaches.entry one.reaches.seen IsDone = leads_on (net_settled (clocked x)) (settled x) one.reaches.entry one.reaches.seen _ IsDone two last in
-    let whole : Leads (settled x) o s IsDone = leads_on (clocked x) (settled x) o s _ IsDone one further in
-    record {
-      reaches = whole.reaches;
-      reply = whole.reply;
-      closes = closes_by whole.reaches.entry whole.reaches.seen whole.reaches.at whole.point;
-    }
+settlings_are_steps keeps clocks nets configs makes serves ends x o s h at fresh sound =
+    whole_settles keeps clocks nets configs (rounds_are_steps keeps makes serves) ends x o s h sound at fresh

@@ -17,6 +17,7 @@ use Rattle.session_actions.specs.Words.{first_of}
 use Rattle.session_actions.specs.declared.entry.OpenEntry.{OpenEntry}
 use Rattle.session_actions.specs.declared.entry.Stage.TheVariants as stage
 use Rattle.session_actions.specs.declared.seen.Seen.{Seen}
+use Rattle.settling_actions.specs.Sound.{IsSound}
 
 -- the points of a settling. It begins without a pass over the queue
 pub record IsBegun (o : OpenEntry) (s : Seen) : Type 0 where
@@ -63,48 +64,51 @@ pub record Leads (y : StateSeen) (o : OpenEntry) (s : Seen) (After : OpenEntry �
   pub reply : reaches.entry.reply ≡ o.reply
   pub point : After reaches.entry reaches.seen
 
--- a step of the channel leads from each point of one kind to one of another. `fits` is what is asked of a session throughout, as that its numbers are in
--- the range of their types; each step keeps it
-pub record IsFit (fits : Seen → Bool) (Point : OpenEntry → Seen → Type 0) (o : OpenEntry) (s : Seen) : Type 0 where
-  pub within : fits s ≡ true
-  pub point : Point o s
-
-abbrev pub IsStep : (Seen → Bool) → (OpenEntry → Seen → Type 0) → (StateSeen → StateSeen) → (OpenEntry → Seen → Type 0) → Type 0
-IsStep fits Before step After =
-    (x : StateSeen) (o : OpenEntry) (s : Seen) → Agrees x s → IsAt stage.Settling o s → fits s ≡ true → Before o s → Leads (step x) o s (IsFit fits After)
+-- a step of the channel leads from each point of one kind to one of another
+abbrev pub IsStep : (OpenEntry → Seen → Type 0) → (StateSeen → StateSeen) → (OpenEntry → Seen → Type 0) → Type 0
+IsStep Before step After =
+    (x : StateSeen) (o : OpenEntry) (s : Seen) → Agrees x s → IsSound x s → IsAt stage.Settling o s → Before o s → Leads (step x) o s After
 
 -- the steps. The clock: dials that took too long, and backoffs that are over
-abbrev pub ClockSteps : (Seen → Bool) → Type 0
-ClockSteps fits = IsStep fits IsBegun clocked IsClocked
+abbrev pub ClockSteps : Type 0
+ClockSteps = IsStep IsBegun clocked IsClocked
 
 -- a policy takes over, and subchannels that are wished connect, until neither is left
-abbrev pub NetSteps : (Seen → Bool) → Type 0
-NetSteps fits = IsStep fits IsClocked net_settled IsJoined
+abbrev pub NetSteps : Type 0
+NetSteps = IsStep IsClocked net_settled IsJoined
 
 -- calls get their configs, or end for want of one
-abbrev pub ConfigSteps : (Seen → Bool) → Type 0
-ConfigSteps fits = IsStep fits IsJoined bare_served IsTended
+abbrev pub ConfigSteps : Type 0
+ConfigSteps = IsStep IsJoined bare_served IsTended
 
 -- the attempts that are due are made, by call, or a hedge is withheld
-abbrev pub MakingSteps : (Seen → Bool) → Type 0
-MakingSteps fits = IsStep fits IsTended (λ x. (round_made x).state) IsMade
+abbrev pub round_made_state : StateSeen → StateSeen
+round_made_state x = (round_made x).state
+
+abbrev pub MakingSteps : Type 0
+MakingSteps = IsStep IsTended round_made_state IsMade
 
 -- each queued attempt asks for a pick, by call and place, and is placed or ends
-abbrev pub QueueSteps : (Seen → Bool) → Type 0
-QueueSteps fits =
-    (x : StateSeen) (o : OpenEntry) (s : Seen) → Agrees x s → IsAt stage.Settling o s → fits s ≡ true → IsMade o s
-    → Leads (queue_served x).state o s (IsFit fits (IsPassed (queue_served x).moved))
+abbrev pub QueueSteps : Type 0
+QueueSteps =
+    (x : StateSeen) (o : OpenEntry) (s : Seen) → Agrees x s → IsSound x s → IsAt stage.Settling o s → IsMade o s
+    → Leads (queue_served x).state o s (IsPassed (queue_served x).moved)
 
 -- a round of both, and rounds until one does nothing
-abbrev pub RoundSteps : (Seen → Bool) → Type 0
-RoundSteps fits =
-    (x : StateSeen) (o : OpenEntry) (s : Seen) → Agrees x s → IsAt stage.Settling o s → fits s ≡ true → IsTended o s
-    → Leads (round x).state o s (IsFit fits (IsPassed (round x).moved))
+pub record IsRound (y : StateSeen) (moved : Bool) (o : OpenEntry) (s : Seen) : Type 0 where
+  pub passed : IsPassed moved o s
+  pub sound : IsSound y s
+
+abbrev pub RoundSteps : Type 0
+RoundSteps =
+    (x : StateSeen) (o : OpenEntry) (s : Seen) → Agrees x s → IsSound x s → IsAt stage.Settling o s → IsTended o s
+    → Leads (round x).state o s (IsRound (round x).state (round x).moved)
 
 unfoldable pub are_over : ℕ → StateSeen → Bool
 are_over zero x = false
 are_over (suc left) x = if (round x).moved then are_over left (round x).state else true
 
 -- the rounds of a channel end before 2^64 - 1 of them went by. (Each but the last makes or serves an attempt, or withholds a hedge.)
-abbrev pub RoundsEnd : (Seen → Bool) → Type 0
-RoundsEnd fits = (x : StateSeen) (o : OpenEntry) (s : Seen) → Agrees x s → IsAt stage.Settling o s → fits s ≡ true → IsTended o s → are_over most x ≡ true
+abbrev pub RoundsEnd : Type 0
+RoundsEnd =
+    (x : StateSeen) (o : OpenEntry) (s : Seen) → Agrees x s → IsSound x s → IsAt stage.Settling o s → IsTended o s → are_over most x ≡ true
