@@ -14,7 +14,7 @@ use Rattle.channel_actions.proofs.Stamps.{all_mapped, counted_at, map_same, map_
 use Rattle.channel_actions.specs.Agrees.{Agrees}
 use Rattle.channel_actions.specs.Calm.{AreCalm, IsAt}
 use Rattle.channel_actions.specs.Columns.{links_noted}
-use Rattle.channel_actions.specs.Kept.{AreCounted}
+use Rattle.kept_sessions.specs.Kept.{AreCounted}
 use Rattle.channel_actions.specs.Links.{HasLink, lines_in}
 use Rattle.channel_actions.specs.Points.{Rests}
 use Rattle.channel_actions.specs.Readers.{attempt_on}

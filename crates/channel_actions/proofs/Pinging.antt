@@ -16,7 +16,7 @@ use Rattle.channel_actions.specs.Agrees.{Agrees}
 use Rattle.channel_actions.specs.Calm.{IsAt}
 use Rattle.channel_actions.specs.Cases.{IsPing, PingsStayCalm}
 use Rattle.channel_actions.specs.Columns.{links_noted}
-use Rattle.channel_actions.specs.Kept.{AreCounted}
+use Rattle.kept_sessions.specs.Kept.{AreCounted}
 use Rattle.channel_actions.specs.Links.{HasLink, IsGoing, lines_in}
 use Rattle.channel_actions.specs.Readers.{attempt_on}
 use Rattle.channel_actions.specs.Stages.{EventsAnswered, IsAnswered}

@@ -14,7 +14,7 @@ use Rattle.channel_actions.specs.Agrees.{Agrees}
 use Rattle.channel_actions.specs.Calls.{HasSlot, lent_to}
 use Rattle.channel_actions.specs.Clock.{DrawsAlike}
 use Rattle.channel_actions.specs.Columns.{links_noted}
-use Rattle.channel_actions.specs.Kept.{AreCounted}
+use Rattle.kept_sessions.specs.Kept.{AreCounted}
 use Rattle.channel_actions.specs.Links.{SeesLinks}
 use Rattle.channel_core.specs.States.{StateSeen}
 use Rattle.channel_core.specs.declared.state.links.LinkSlot.{LinkSlot}
