@@ -1,0 +1,4 @@
+pub mod Closed
+pub mod NetLines
+pub mod Slots
+pub mod Unserved
