@@ -16,7 +16,7 @@ use Rattle.channel_core.specs.Steps.{closed, clothed, followed, links_sealed, re
 use Rattle.channel_core.specs.Tables.{changed_slot, numbered, tokens_in, with_call, with_timers}
 use Rattle.channel_core.specs.declared.state.book.Book.{Book}
 use Rattle.channel_core.specs.declared.state.slots.CallSlot.{CallSlot}
-use Rattle.config_actions.proofs.Slots.{asked_is, changed_slot_is, put_away}
+use Rattle.set_frames.proofs.Slots.{asked_is, changed_slot_is, put_away}
 use Rattle.grpc_base.specs.declared.event.EndCause.{EndCause}
 use Rattle.picker_gate.specs.Pairs.{is_same}
 use Rattle.set_frames.proofs.Keys.{head_out}

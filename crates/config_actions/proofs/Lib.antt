@@ -1,4 +1,3 @@
 pub mod Closed
 pub mod NetLines
-pub mod Slots
 pub mod Unserved
