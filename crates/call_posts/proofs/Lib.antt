@@ -5,3 +5,5 @@ pub mod Agreeing
 pub mod Answered
 pub mod Finishing
 pub mod Taking
+pub mod Asked
+pub mod Sending

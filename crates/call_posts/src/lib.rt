@@ -3,4 +3,4 @@
 
 mod laws;
 
-pub use laws::{finishes_are_answered, takes_are_answered};
+pub use laws::{finishes_are_answered, sends_are_answered, takes_are_answered};
