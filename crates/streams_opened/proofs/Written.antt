@@ -245,7 +245,7 @@ module _ (s : Seen) (l : Link) where
   current_of (sent.Frame f) = current_if f (f.kind == headers_type)
 
 plain_drain : (link room : ℕ) → IsPlain (event.Drain link room)
-plain_drain link room = record { cancels_none = λ n. refl; sends_none = λ c s. refl; no_result = refl }
+plain_drain link room = record { cancels = λ k. refl; sends = λ c s. refl; addresses = refl }
 
 pub writes_stir_nothing : WritesStirNothing
 writes_stir_nothing link room l x o p s m open_ is can now h =
