@@ -14,9 +14,12 @@ use Rattle.session_actions.specs.declared.link.LinkOver.TheVariants as over
 fewer : (i n : ℕ) → nat_lt (suc i) (suc n) ≡ false → nat_lt i n ≡ false
 fewer i n e = grind (arith, nat_tests)
 
+some_first : (n : ℕ) → nat_lt 0 (suc n) ≡ false → ⊥
+some_first n e = grind (arith, nat_tests)
+
 out_of : {Y : Type 0} (g : Y → Y) (ys : List Y) (i : ℕ) → nat_lt i (length ys) ≡ false → stamps.changed g ys i ≡ ys
 out_of g [] i e = refl
-out_of g (y ∷ ys) zero e = absurd (cc)
+out_of g (y ∷ ys) zero e = absurd (some_first (length ys) e)
 out_of g (y ∷ ys) (suc i) e = ap (λ (l : List _). y ∷ l) (out_of g ys i (fewer i (length ys) e))
 
 in_range : {Y : Type 0} (g : Y → Y) (ys : List Y) (i : ℕ) (b : Bool) → nat_lt i (length ys) ≡ b
