@@ -34,9 +34,9 @@ all_by test (p ∷ pairs) each =
     ap (λ (b : Bool). b && list_all test pairs) (each p (ap (λ (b : Bool). b || has pairs p) (self_same p)))
     ∙ all_by test pairs (λ q e. each q (ap (λ (b : Bool). is_same q p || b) e ∙ or_true (is_same q p)))
   where
-  or_true : (b : Bool) → (b || true) ≡ true
-  or_true true = refl
-  or_true false = refl
+    or_true : (b : Bool) → (b || true) ≡ true
+    or_true true = refl
+    or_true false = refl
 
 pub plain_by : (pairs : List (ℕ × ℕ)) (test : ℕ → ℕ → Bool) → AreExactly pairs test → ((a b : ℕ) → test a b ≡ true → (a == 0) ≡ true) → are_plain pairs ≡ true
 plain_by pairs test h zero_ = all_by (λ (p : ℕ × ℕ). p.0 == 0) pairs (λ q e. zero_ q.0 q.1 (sym (h.exact q.0 q.1) ∙ e))

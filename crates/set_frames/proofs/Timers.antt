@@ -19,10 +19,10 @@ same_moment None (Some n) e = absurd (cc)
 same_moment (Some m) None e = absurd (cc)
 same_moment (Some m) (Some n) e = ap (λ (k : ℕ). Some k) (equal_numbers m n e)
 
-own_key : (moment m n : ℕ) → is_same (moment, n) (m, n) ≡ (moment == m)
+pub own_key : (moment m n : ℕ) → is_same (moment, n) (m, n) ≡ (moment == m)
 own_key moment m n = grind (arith, nat_tests)
 
-other_key : (moment m k n : ℕ) → (k == n) ≡ false → is_same (moment, n) (m, k) ≡ false
+pub other_key : (moment m k n : ℕ) → (k == n) ≡ false → is_same (moment, n) (m, k) ≡ false
 other_key moment m k n e = grind (arith, nat_tests)
 
 and_true : (b : Bool) → (b && true) ≡ b
@@ -38,7 +38,7 @@ or_false true = refl
 or_false false = refl
 
 -- what a set has of one number, and of others: two tests are the same where they are of both
-by_number : (n : ℕ) (one other : ℕ → ℕ → Bool) → ((m k : ℕ) → (k == n) ≡ false → one m k ≡ other m k) → ((m : ℕ) → one m n ≡ other m n) → (m k : ℕ) (b : Bool)
+pub by_number : (n : ℕ) (one other : ℕ → ℕ → Bool) → ((m k : ℕ) → (k == n) ≡ false → one m k ≡ other m k) → ((m : ℕ) → one m n ≡ other m n) → (m k : ℕ) (b : Bool)
     → (k == n) ≡ b → one m k ≡ other m k
 by_number n one other away here m k true e = subst (λ (z : ℕ). one m z ≡ other m z) (sym (equal_numbers k n e)) (here m)
 by_number n one other away here m k false e = away m k e
