@@ -1,0 +1,5 @@
+pub mod Steps
+pub mod Pairs
+pub mod Streams
+pub mod Readers
+pub mod Frame

@@ -1,0 +1,4 @@
+pub mod Alike
+pub mod Boards
+pub mod Passing
+pub mod Stepped
