@@ -6,9 +6,15 @@ use Rattle.kept_calls.proofs.Steps.{early_after}
 use Rattle.kept_calls.specs.Early.{IsEarlyKept, has_none, is_early, is_past}
 use Rattle.kept_calls.specs.Laws.{CallsAreBare, EarlyAlong, EarlyBegins, EarlyStays}
 use Rattle.kept_sessions.proofs.Along.{kept_stays}
+use Rattle.kept_sessions.proofs.Lines.{next_sound}
 use Rattle.kept_sessions.proofs.Lists.{all_at, counted_places}
+use Rattle.kept_sessions.specs.Kept.{IsKept}
+use Rattle.reads_in_order.specs.Laws.{ReadsOn}
 use Rattle.session_actions.specs.Actions.{after}
+use Rattle.session_actions.specs.Sessions.{IsNext}
 use Rattle.session_actions.specs.Words.{holds, numbered}
+use Rattle.session_actions.specs.declared.action.Action.TheVariants as action
+use Rattle.session_actions.specs.declared.action.Action.{Action}
 use Rattle.session_actions.specs.declared.attempt.Attempt.{Attempt}
 use Rattle.session_actions.specs.declared.call.Call.{Call}
 use Rattle.session_actions.specs.declared.call.Mark.{Mark}
@@ -18,12 +24,18 @@ use Rattle.std.proofs.lemmas.Bool.{and_parts, or_from}
 use Rattle.std.specs.List.{list_all, list_any}
 
 pub early_begins : EarlyBegins
-early_begins setup = record { resets = refl; made = refl; bare = refl; boards = refl }
+early_begins setup = record { resets = refl; saw = refl; made = refl; bare = refl; boards = refl }
+
+reads_so : (s : Seen) (a : Action) → IsKept s → IsNext a s → ReadsOn a s
+reads_so s (action.FrameRead link r) kept next = next_sound s (action.FrameRead link r) kept next
+reads_so s _ kept next = tt
 
 pub early_stays : EarlyStays
 early_stays s a kept early next =
-    let h : Early (after a s) = early_after s a (next_fits s a kept early next) (record { resets = early.resets; made = early.made; bare = early.bare; boards = early.boards }) in
-    record { resets = h.resets; made = h.made; bare = h.bare; boards = h.boards }
+    let h : Early (after a s)
+    = early_after s a (next_fits s a kept early next) (reads_so s a kept next)
+    (record { resets = early.resets; saw = early.saw; made = early.made; bare = early.bare; boards = early.boards }) in
+    record { resets = h.resets; saw = h.saw; made = h.made; bare = h.bare; boards = h.boards }
 
 pub early_along : EarlyAlong
 early_along [] s t kept early does = subst IsEarlyKept (sym does) early

@@ -17,11 +17,11 @@ use Rattle.grpc_base.specs.declared.kind.Pick.{Pick}
 use Rattle.grpc_base.specs.declared.plan.CallPlan.{CallPlan}
 use Rattle.kept_calls.proofs.Fits.{FitsEarly}
 use Rattle.kept_calls.specs.Early.{IsEarlyKept, has_none, is_early, is_past}
-use Rattle.kept_sessions.proofs.Lists.{all_at, all_found, own_number}
+use Rattle.kept_sessions.proofs.Lists.{all_at, all_found, counted_places, own_number}
 use Rattle.kept_sessions.specs.Kept.{IsKept}
 use Rattle.lb_policy.specs.Table.{pick_of}
 use Rattle.session_actions.specs.Actions.{config_action, first_action, following, following_in, of_calls, of_links, of_policies, of_settling, of_stage}
-use Rattle.session_actions.specs.AttemptEnds.{code_at_end, cut, cut_end, end_of, next_cut, next_reset, next_wire_end, outcome_of, reset_code_of, reset_of, wire_end}
+use Rattle.session_actions.specs.AttemptEnds.{code_at_end, cut, cut_end, end_of, next_cut, next_reset, next_wire_end, outcome_of, pick_end, reset_code_of, reset_of, wire_end}
 use Rattle.session_actions.specs.Attempts.{call_of, is_outstanding, is_over, wants_follower}
 use Rattle.session_actions.specs.CallEnds.{ending_call, has_long_request, has_long_response, is_after_event, is_cancelled, is_due_before, is_over_by_row, is_past_deadline, is_shut_down, lacks_config, next_deadline, next_ended}
 use Rattle.session_actions.specs.Calls.{is_open_call}
@@ -31,7 +31,7 @@ use Rattle.session_actions.specs.Deliveries.{held_bytes, is_accepted, next_item,
 use Rattle.session_actions.specs.DueAttempts.{attempts_made, due_after_mark, due_by, due_state, hedge_due, kind_of_next, next_due, no_due}
 use Rattle.session_actions.specs.Entries.{entry, now}
 use Rattle.session_actions.specs.Events.{event_action, event_action_by, event_applied, frame_action, frame_of_event, is_loss}
-use Rattle.session_actions.specs.Links.{is_stream_before}
+use Rattle.session_actions.specs.Links.{is_stream_before, link_of, read_bytes}
 use Rattle.session_actions.specs.Making.{due_action, due_attempt, due_if_past, next_due_attempt, next_transparent, transparent_retry}
 use Rattle.session_actions.specs.Policies.{asking, begin_if, current_policy, follow_ask, follow_pick, is_after, is_failure, is_queued_before, is_same_kind, is_served, is_to_retire, is_unfollowed, listed, live_policies, live_sub, may_take_over, next_asked, next_begun, next_given, next_of_pass, next_of_pick, next_of_queue, next_retired, next_take_over, pending_policy, placed_on, policy_of, wanted_kind, wants_addresses}
 use Rattle.session_actions.specs.Reading.{next_read}
@@ -59,7 +59,8 @@ use Rattle.session_actions.specs.declared.policy.PolicyUse.{PolicyUse}
 use Rattle.session_actions.specs.declared.response.Outcome.{Outcome}
 use Rattle.session_actions.specs.declared.seen.Seen.{Seen}
 use Rattle.session_actions.specs.declared.subchannel.Subchannel.{Subchannel}
-use Rattle.std.proofs.Common.{Bool, List, None, Option, Some, [], ap, cond, false, filter, find, fold, if◌then◌else◌, is_none, is_some, length, nat_le, not, option_and_then, option_map, refl, slice_get, subst, suc, sym, true, zero, ℕ, ◌&&◌, ◌+◌, ◌==◌, ◌||◌, ◌∙◌, ◌∷◌, ◌≡◌}
+use Rattle.std.proofs.Common.{Bool, List, None, Option, Some, [], ap, arith, cond, false, filter, find, fold, if◌then◌else◌, is_none, is_some, length, nat_le, not, option_and_then, option_map, refl, slice_get, subst, suc, sym, true, zero, ℕ, ◌&&◌, ◌+◌, ◌==◌, ◌||◌, ◌∙◌, ◌∷◌, ◌≡◌}
+use Rattle.std.proofs.lemmas.Bool.Decides.{nat_tests}
 use Rattle.std.proofs.lemmas.Bool.{and_parts}
 use Rattle.std.specs.List.{list_any}
 use Rattle.std.specs.Option.{option_map_or, option_or}
@@ -106,6 +107,9 @@ plain_or s o rest f g = sound_or s o (first_action rest) f g
 then_there : {X Y : Type 0} (f : X → Option Y) (o : Option X) → is_some (option_and_then f o) ≡ true → is_some o ≡ true
 then_there f None e = absurd (cc)
 then_there f (Some x) e = refl
+
+itself : (n : ℕ) → nat_le n n ≡ true
+itself n = grind (arith, nat_tests)
 
 one_of : {X : Type 0} (o : Option X) (x y : X) → o ≡ Some x → o ≡ Some y → x ≡ y
 one_of None x y e f = absurd (cc)
@@ -163,27 +167,56 @@ undue : (p : CallPlan) (made : ℕ) (d : DueState) → d.stopped ≡ true → du
 undue p made d e = ap (λ (b : Bool). if b || nat_le (most_attempts p) made then None else option_or d.forced (hedge_due p d)) e
 
 module _ (s : Seen) (kept : IsKept s) (early : IsEarlyKept s) where
-  cut_sound : (a : Attempt) → FitsIf s (cut s a)
-  cut_sound a = sound_if s (is_outstanding a && is_over a s) (Some (action.AttemptEnds a.place (end_of a cut_end s))) None tt tt
+  abbrev IsOwn : Attempt → Type 0
+  IsOwn a = numbered s.attempts a.place ≡ Some a
 
-  wire_sound : (a : Attempt) → FitsIf s (wire_end s a)
-  wire_sound a =
+  own_at : (i : ℕ) (a : Attempt) → slice_get s.attempts i ≡ Some a → IsOwn a
+  own_at i a got = own_number (λ (z : Attempt). z.place) s.attempts i a kept.attempts got
+
+  same_one : (a b q : Attempt) → IsOwn a → numbered s.attempts a.place ≡ Some b → numbered s.attempts b.place ≡ Some q → a ≡ q
+  same_one a b q own first second =
+      let one : a ≡ b = one_of (numbered s.attempts a.place) a b own first in
+      one_of (numbered s.attempts a.place) a q own (ap (λ (z : Attempt). numbered s.attempts z.place) one ∙ second)
+
+  -- an end has seen what was read of its link
+  end_sound : (a : Attempt) (t : Outcome) → IsOwn a → FitsEarly (action.AttemptEnds a.place (end_of a t s)) s
+  end_sound a t own b q first second =
+      let same : a ≡ q = same_one a b q own first second in
+      ap (λ (z : Attempt). nat_le (option_map_or read_bytes (link_of a s) 0) (option_map_or read_bytes (link_of z s) 0)) (sym same)
+      ∙ itself (option_map_or read_bytes (link_of a s) 0)
+
+  cut_sound : (a : Attempt) → IsOwn a → FitsIf s (cut s a)
+  cut_sound a own = sound_if s (is_outstanding a && is_over a s) (Some (action.AttemptEnds a.place (end_of a cut_end s))) None (end_sound a cut_end own) tt
+
+  wire_sound : (a : Attempt) → IsOwn a → FitsIf s (wire_end s a)
+  wire_sound a own =
       sound_if s (is_outstanding a && not (is_over a s)) (option_map (λ (t : Outcome). action.AttemptEnds a.place (end_of a t s)) (outcome_of a s)) None
-      (sound_map s (λ (t : Outcome). action.AttemptEnds a.place (end_of a t s)) (λ t. tt) (outcome_of a s)) tt
+      (sound_map s (λ (t : Outcome). action.AttemptEnds a.place (end_of a t s)) (λ t. end_sound a t own) (outcome_of a s)) tt
 
   wires_sound : FitsIf s (next_wire_end s)
-  wires_sound = sound_first s (wire_end s) s.attempts (λ i a got. wire_sound a)
+  wires_sound = sound_first s (wire_end s) s.attempts (λ i a got. wire_sound a (own_at i a got))
 
   -- the answer of a pick request
-  pick_sound : (ask : Ask) (a : Attempt) (p : Pick) → FitsIf s (follow_pick ask s a p)
-  pick_sound ask a (pick.Place sub) = sound_map s (λ (b : Subchannel). action.AttemptPlaced a.place (placed_on ask s b)) (λ b. tt) (numbered s.subs sub)
-  pick_sound ask a pick.Fail = tt
-  pick_sound ask a pick.Wait = tt
+  pick_sound : (ask : Ask) (a : Attempt) (p : Pick) → IsOwn a → is_none a.row.ended ≡ true → FitsIf s (follow_pick ask s a p)
+  pick_sound ask a (pick.Place sub) own unended =
+      sound_map s (λ (b : Subchannel). action.AttemptPlaced a.place (placed_on ask s b)) (λ b. ap (holds (λ (z : Attempt). is_none z.row.ended)) own ∙ unended) (numbered s.subs sub)
+  pick_sound ask a pick.Fail own unended = end_sound a pick_end own
+  pick_sound ask a pick.Wait own unended = tt
+
+  pick_if : (ask : Ask) (a : Attempt) (u b : Bool) → IsOwn a → is_unfollowed a ≡ u → FitsIf s (if u && b then follow_pick ask s a ask.answer else None)
+  pick_if ask a false b own e = tt
+  pick_if ask a true false own e = tt
+  pick_if ask a true true own e = pick_sound ask a ask.answer own (and_parts (is_none a.row.placed) (is_none a.row.ended) e).1
+
+  pick_of_row : (ask : Ask) (o : Option Attempt) → numbered s.attempts ask.row ≡ o
+      → FitsIf s (option_and_then (λ (a : Attempt). if is_unfollowed a && (ask.entry == entry s) then follow_pick ask s a ask.answer else None) o)
+  pick_of_row ask None got = tt
+  pick_of_row ask (Some a) got =
+      let at : a.place ≡ ask.row = counted_places (λ (z : Attempt). z.place) s.attempts kept.attempts ask.row a got in
+      pick_if ask a (is_unfollowed a) (ask.entry == entry s) (ap (numbered s.attempts) at ∙ got) refl
 
   ask_sound : (ask : Ask) → FitsIf s (follow_ask s ask)
-  ask_sound ask =
-      sound_then s (λ (a : Attempt). if is_unfollowed a && (ask.entry == entry s) then follow_pick ask s a ask.answer else None)
-      (λ a. sound_if s (is_unfollowed a && (ask.entry == entry s)) (follow_pick ask s a ask.answer) None (pick_sound ask a ask.answer) tt) (numbered s.attempts ask.row)
+  ask_sound ask = pick_of_row ask (numbered s.attempts ask.row) refl
 
   -- calls
   ended_sound : (why : EndCause) (test : Call → Bool) → FitsIf s (next_ended why test s)
@@ -195,7 +228,7 @@ module _ (s : Seen) (kept : IsKept s) (early : IsEarlyKept s) where
 
   calls_sound : (o : OpenEntry) → FitsIf s (of_calls o s)
   calls_sound o =
-      plain_or s (next_cut s) (next_transparent s ∷ after_cuts o) (sound_first s (cut s) s.attempts (λ i a got. cut_sound a))
+      plain_or s (next_cut s) (next_transparent s ∷ after_cuts o) (sound_first s (cut s) s.attempts (λ i a got. cut_sound a (own_at i a got)))
       (plain_or s (next_transparent s) (after_cuts o)
       (sound_of s (λ (a : Attempt). holds is_past (call_of a s)) (transparent_retry s) (λ a e. e) (find (λ (a : Attempt). wants_follower a s) s.attempts)
       (all_found (λ (a : Attempt). holds is_past (call_of a s)) (λ (a : Attempt). wants_follower a s) s.attempts early.made))
@@ -219,15 +252,10 @@ module _ (s : Seen) (kept : IsKept s) (early : IsEarlyKept s) where
       (plain_or s (next_ended ending.Response (has_long_response s) s) [] (ended_sound ending.Response (has_long_response s)) tt)))))))))
 
   -- a stream that is reset: its attempt ended
-  abbrev IsOwn : Attempt → Type 0
-  IsOwn a = numbered s.attempts a.place ≡ Some a
-
   reset_at : (a : Attempt) → IsOwn a → is_some (reset_code_of s a) ≡ true → (b q : Attempt) → numbered s.attempts a.place ≡ Some b → numbered s.attempts b.place ≡ Some q
       → is_some q.row.ended ≡ true
   reset_at a own given b q first second =
-      let one : a ≡ b = one_of (numbered s.attempts a.place) a b own first in
-      let two : a ≡ q = one_of (numbered s.attempts a.place) a q own (ap (λ (z : Attempt). numbered s.attempts z.place) one ∙ second) in
-      ap (λ (z : Attempt). is_some z.row.ended) (sym two) ∙ then_there (code_at_end a s) a.row.ended given
+      ap (λ (z : Attempt). is_some z.row.ended) (sym (same_one a b q own first second)) ∙ then_there (code_at_end a s) a.row.ended given
 
   reset_by : (a : Attempt) (o : Option ℕ) → reset_code_of s a ≡ o → IsOwn a → FitsIf s (option_map (λ (number : ℕ). action.StreamReset a.place number) o)
   reset_by a None got own = tt
@@ -242,7 +270,7 @@ module _ (s : Seen) (kept : IsKept s) (early : IsEarlyKept s) where
       let test : Attempt → Bool = λ (a : Attempt). is_some (reset_code_of s a) in
       reset_if (foremost is_stream_before (filter test s.attempts))
       (foremost_has IsOwn is_stream_before (filter test s.attempts)
-      (each_filter IsOwn test s.attempts (each_from IsOwn s.attempts (λ i a got. own_number (λ (z : Attempt). z.place) s.attempts i a kept.attempts got))))
+      (each_filter IsOwn test s.attempts (each_from IsOwn s.attempts own_at)))
 
   link_sound : (b : Subchannel) → FitsIf s (link_action s b)
   link_sound b =
@@ -404,6 +432,8 @@ pub next_fits : (s : Seen) (a : Action) → IsKept s → IsEarlyKept s → IsNex
 next_fits s (action.AttemptMade call number k due) kept early next = lines_sound s (action.AttemptMade call number k due) kept early next
 next_fits s (action.HedgeWithheld call) kept early next = lines_sound s (action.HedgeWithheld call) kept early next
 next_fits s (action.StreamReset row number) kept early next = lines_sound s (action.StreamReset row number) kept early next
+next_fits s (action.AttemptPlaced row at) kept early next = lines_sound s (action.AttemptPlaced row at) kept early next
+next_fits s (action.AttemptEnds row end) kept early next = lines_sound s (action.AttemptEnds row end) kept early next
 next_fits s (action.BackoffEnds sub) kept early next = lines_sound s (action.BackoffEnds sub) kept early next
 next_fits s (action.LinkUp sub) kept early next = lines_sound s (action.LinkUp sub) kept early next
 next_fits s _ kept early next = tt
