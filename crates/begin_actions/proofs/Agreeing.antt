@@ -23,8 +23,7 @@ use Rattle.grpc_base.specs.declared.event.Event.TheVariants as event
 use Rattle.kept_sessions.proofs.Along.{kept_stays}
 use Rattle.kept_sessions.specs.Kept.{IsKept}
 use Rattle.ledger_stamps.specs.Steps as stamps
-use Rattle.link_frames.specs.Alike.{CannotTell}
-use Rattle.link_frames.specs.Laws.{ActionsAreUntold, LinksStay}
+use Rattle.begin_actions.proofs.Links.{links_still}
 use Rattle.other_calls.specs.Laws.{AllCallsStay, SetsStay}
 use Rattle.other_calls.specs.Others.{BooksApart, GoesApart, IsBooked}
 use Rattle.session_actions.specs.Actions.{after, following}
@@ -52,7 +51,7 @@ map_more f (b ∷ xs) a = ap (λ (l : List _). f b ∷ l) (map_more f xs a)
 booked : (s : Seen) → IsKept s → IsBooked s
 booked s k = record { book = k.book; owned = k.owned; reads = k.reads }
 
-module _ (frame : AllCallsStay) (sets : SetsStay) (steady : LinksStay) (untold : ActionsAreUntold) (comes : PairsComeIn) (same : TestsAreSame)
+module _ (frame : AllCallsStay) (sets : SetsStay) (comes : PairsComeIn) (same : TestsAreSame)
     (o : OpenEntry) (z : Seen) (request : RequestSeen) (x : StateSeen) (h : Agrees x (before o z request)) (is : o.event ≡ event.Begin request)
     (next : following (before o z request) ≡ Some action.CallBegins) where
   abbrev s : Seen
@@ -153,9 +152,7 @@ module _ (frame : AllCallsStay) (sets : SetsStay) (steady : LinksStay) (untold :
   calls_now = frame n x y s t goes books h.calls long_now new_one
 
   links_now : SeesLinks y t
-  links_now =
-      steady (λ link. false) x y s t h.links h.kept kept (λ link away. refl)
-      (subst (λ (v : Seen). CannotTell (λ link. false) s v) gone (untold action.CallBegins s h.kept tt)) h.links.count (λ link l touched got. (let no : false ≡ true = touched in absurd (cc)))
+  links_now = links_still o z request h.kept.owned x y refl h.links
 
   pub agrees_now : Agrees y t
   agrees_now = record {

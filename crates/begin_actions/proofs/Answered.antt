@@ -23,7 +23,6 @@ use Rattle.grpc_base.specs.declared.event.Refusal.{Refusal}
 use Rattle.grpc_base.specs.declared.event.Reply.TheVariants as reply
 use Rattle.grpc_base.specs.declared.event.Reply.{Reply}
 use Rattle.kept_sessions.specs.Kept.{IsKept}
-use Rattle.link_frames.specs.Laws.{ActionsAreUntold, LinksStay}
 use Rattle.other_calls.specs.Laws.{AllCallsStay, SetsStay}
 use Rattle.session_actions.specs.Actions.{after, following}
 use Rattle.session_actions.specs.CallEnds.{next_deadline}
@@ -46,7 +45,7 @@ calm_after exact stir o z request is unshut kept calm =
     (of_order exact p (after action.CallBegins s)
     (λ l. stir.begun o s refl (request, is, unshut, have_calls s kept) l p (ap (λ (v : Seen). v.current) gone) refl (to_order exact o s calm l)))
 
-module _ (exact : CalmIsExact) (stir : CallsStir) (others : AllCallsStay) (sets : SetsStay) (steady : LinksStay) (untold : ActionsAreUntold) (comes : PairsComeIn) (same : TestsAreSame)
+module _ (exact : CalmIsExact) (stir : CallsStir) (others : AllCallsStay) (sets : SetsStay) (comes : PairsComeIn) (same : TestsAreSame)
     (o : OpenEntry) (z : Seen) (request : RequestSeen) (x : StateSeen) (h : Agrees x (before o z request)) (at : IsAt stage.Event o (before o z request)) (fresh : o.turn ≡ None)
     (timely : next_deadline (before o z request) ≡ None) (is : o.event ≡ event.Begin request) (kept : channel.refusal_of o.event x ≡ None) where
   abbrev s : Seen
@@ -77,7 +76,7 @@ module _ (exact : CalmIsExact) (stir : CallsStir) (others : AllCallsStay) (sets 
       posts = refl;
       same = record { moment = refl; word = refl; event = refl; entries = refl; setup = refl };
       at = record { current = refl; stage_is = refl; calm = calm_after exact stir o z request is unshut h.kept at.calm };
-      agrees = agrees_now others sets steady untold comes same o z request x h is next;
+      agrees = agrees_now others sets comes same o z request x h is next;
     };
     reply = refl;
     fresh = fresh;
@@ -85,18 +84,18 @@ module _ (exact : CalmIsExact) (stir : CallsStir) (others : AllCallsStay) (sets 
   }
 
   state_is : begun request x ≡ y
-  state_is = begun_so x request (number o z request) (ledger_is others sets steady untold comes same o z request x h is next) (here others sets steady untold comes same o z request x h is next)
+  state_is = begun_so x request (number o z request) (ledger_is others sets comes same o z request x h is next) (here others sets comes same o z request x h is next)
 
   pub begin_so : (v : StateSeen) (r : Reply) → AnswersBy (channel.refusal_of o.event x) o.event x v r → IsAnswered v r o s
   begin_so v r answers =
       let given : AnswersBy None (event.Begin request) x v r
       = subst (λ (e : Event). AnswersBy None e x v r) is (subst (λ (q : Option Refusal). AnswersBy q o.event x v r) kept answers) in
       subst (λ (w : StateSeen). IsAnswered w r o s) (sym (given.0 ∙ state_is))
-      (subst (λ (q : Reply). IsAnswered y q o s) (sym (given.1 ∙ reply_is x request (number o z request) (ledger_is others sets steady untold comes same o z request x h is next) (here others sets steady untold comes same o z request x h is next))) begins)
+      (subst (λ (q : Reply). IsAnswered y q o s) (sym (given.1 ∙ reply_is x request (number o z request) (ledger_is others sets comes same o z request x h is next) (here others sets comes same o z request x h is next))) begins)
 
-pub begins_answered : CalmIsExact → CallsStir → BeginsAreAnswered
-begins_answered exact stir others sets steady untold comes same x y r o s h at fresh timely case answers =
+pub begins_answered : CalmIsExact → CallsStir → AllCallsStay → SetsStay → PairsComeIn → TestsAreSame → BeginsAreAnswered
+begins_answered exact stir others sets comes same x y r o s h at fresh timely case answers =
     let open_ : s ≡ with_open o s = is_with_open o s at.current in
     subst (λ (v : Seen). IsAnswered y r o v) (sym open_)
-    (begin_so exact stir others sets steady untold comes same o s case.request x (subst (Agrees x) open_ h) (subst (IsAt stage.Event o) open_ at) fresh
+    (begin_so exact stir others sets comes same o s case.request x (subst (Agrees x) open_ h) (subst (IsAt stage.Event o) open_ at) fresh
     (ap next_deadline (sym open_) ∙ timely) case.event_is case.kept y r answers)

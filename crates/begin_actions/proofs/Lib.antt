@@ -1,5 +1,6 @@
 mod Agreeing
 mod Answered
+mod Links
 mod New
 mod Sets
 mod Slot
