@@ -33,8 +33,9 @@ test_by : (a b m n : ℕ) (c d : Bool) → is_same (a, b) (m, n) ≡ c → ((a =
 test_by a b m n true true e f = refl
 test_by a b m n false false e f = refl
 test_by a b m n true false e f =
-    let pair : (a, b) ≡ (m, n) = same_is (a, b) (m, n) e in
-    let both : true ≡ false = sym (and_from (a == m) (b == n) (eq-eqb a m (ap (λ (p : ℕ × ℕ). p.0) pair)) (eq-eqb b n (ap (λ (p : ℕ × ℕ). p.1) pair))) ∙ f in absurd (cc)
+    let first : a ≡ m = ap (λ (p : ℕ × ℕ). p.0) (same_is (a, b) (m, n) e) in
+    let second : b ≡ n = ap (λ (p : ℕ × ℕ). p.1) (same_is (a, b) (m, n) e) in
+    let both : true ≡ false = sym (and_from (a == m) (b == n) (eq-eqb a m first) (eq-eqb b n second)) ∙ f in absurd (cc)
 test_by a b m n false true e f =
     let parts : ((a == m) ≡ true) × ((b == n) ≡ true) = and_parts (a == m) (b == n) f in
     let yes : is_same (a, b) (m, n) ≡ true
