@@ -1,4 +1,5 @@
 use Rattle.kept_calls.proofs.Along.{calls_are_bare, early_along, early_begins, early_stays}
+use Rattle.kept_calls.proofs.Fresh.{frames_are_fresh}
 use Rattle.kept_calls.proofs.laws.calls_are_kept.Goals as goal
 
 pub returns-clause-begins : goal.returns-clause-begins
@@ -12,3 +13,6 @@ returns-clause-along c = early_along
 
 pub returns-clause-bare : goal.returns-clause-bare
 returns-clause-bare c = calls_are_bare
+
+pub returns-clause-fresh : goal.returns-clause-fresh
+returns-clause-fresh c = frames_are_fresh
