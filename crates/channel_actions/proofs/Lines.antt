@@ -3,7 +3,7 @@ use Rattle.std.proofs.Common.{◌≡◌, ◌+◌, ◌∷◌, ap, arith, refl, su
 use Rattle.std.specs.List.{AllByRecursion}
 use Rattle.std.specs.Option.{option_map_or}
 use Rattle.std.specs.Prelude.{map}
-use Rattle.channel_actions.specs.Kept.{AreCounted}
+use Rattle.kept_sessions.specs.Kept.{AreCounted}
 use Rattle.channel_actions.specs.Links.{line_of, lines_in, no_line}
 use Rattle.grpc_base.specs.declared.event.Entry.{Entry}
 use Rattle.h2_link.specs.Feeds.{Line}

@@ -5,7 +5,6 @@ pub mod Cases
 pub mod Clock
 pub mod Columns
 pub mod Configs
-pub mod Kept
 pub mod Laws
 pub mod Links
 pub mod Points

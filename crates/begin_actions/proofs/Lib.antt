@@ -1,0 +1,7 @@
+mod Agreeing
+mod Answered
+mod Links
+mod New
+mod Sets
+mod Slot
+mod Table

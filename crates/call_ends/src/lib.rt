@@ -1,0 +1,6 @@
+// Calls of a channel end as those of a session do.
+#![tactic(auto)]
+
+mod laws;
+
+pub use laws::late_cancels_are_refused;
