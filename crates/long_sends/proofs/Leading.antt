@@ -29,7 +29,7 @@ use Rattle.grpc_base.specs.declared.event.Refusal.{Refusal}
 use Rattle.grpc_base.specs.declared.event.Reply.{Reply}
 use Rattle.grpc_base.specs.declared.event.Reply.TheVariants as reply
 use Rattle.long_sends.proofs.Found.{found}
-use Rattle.long_sends.specs.Laws.{LeadsToEnd, LongSendsLead}
+use Rattle.long_sends.specs.Laws.{IsToEnd, LeadsToEnd, LongSendsLead}
 use Rattle.session_actions.specs.Actions.{following}
 use Rattle.session_actions.specs.CallEnds.{call_ended, cancels, has_long_request, is_after_event, is_cancelled, next_deadline, sends_too_long}
 use Rattle.session_actions.specs.Calls.{is_open_call}
@@ -234,17 +234,9 @@ module _ (x : StateSeen) (o : OpenEntry) (s0 : Seen) (h : Agrees x (with_open o 
       ap (send_reply_of m) there ∙ ap (λ (z : Option Refusal). steps.send_reply_if z m slot.call) unrefused
       ∙ ap (λ (b : Bool). if b then reply.Done else steps.full_reply (steps.full_with (length m) slot.call)) long
 
-  pub leads : LeadsToEnd n ending.Request x (sent_to n m x).state reply.Done o u
-  leads = record {
-    entry = q;
-    seen = w;
-    does = (event_next o u at timely (action.EventAnswered reply.Done) gives, refl);
-    same = record { moment = refl; word = refl; event = refl; entries = refl; setup = refl };
+  led : IsToEnd n ending.Request x q w
+  led = record {
     current = refl;
-    stage_is = refl;
-    reply = refl;
-    fresh = fresh;
-    frameless = λ z. ap (λ (e : Event). frame_of_event e q z) is;
     agrees = reopened x o q s0 refl refl refl h;
     call = c;
     there = own;
@@ -253,6 +245,20 @@ module _ (x : StateSeen) (o : OpenEntry) (s0 : Seen) (h : Agrees x (with_open o 
     uncut = before line.Cut refl;
     unfollowed = before line.Transparent refl;
     still = still_after;
+  }
+
+  pub leads : LeadsToEnd n ending.Request x (sent_to n m x).state reply.Done o u
+  leads = record {
+    entry = q;
+    seen = w;
+    only = refl;
+    does = (event_next o u at timely (action.EventAnswered reply.Done) gives, refl);
+    same = record { moment = refl; word = refl; event = refl; entries = refl; setup = refl };
+    stage_is = refl;
+    reply = refl;
+    fresh = fresh;
+    frameless = λ z. ap (λ (e : Event). frame_of_event e q z) is;
+    led = led;
     ends = ends;
   }
 

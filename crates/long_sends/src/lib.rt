@@ -3,4 +3,4 @@
 
 mod laws;
 
-pub use laws::long_sends_lead;
+pub use laws::{long_sends_are_answered, long_sends_lead};
