@@ -3,11 +3,11 @@ use Rattle.std.proofs.Common.{◌≡◌, ◌+◌, ◌*◌, ◌∷◌, ◌==◌, 
 use Rattle.h2_frame.specs.Frames.{FrameSeen}
 use Rattle.h2_frame.specs.Numbers.{headers_type}
 use Rattle.h2_frame.specs.Sent.{data_frame, headers_frame}
-use Rattle.h2_link.specs.Drains.{AFrame, Sent, head_block, is_below, next, next_control, next_data, next_head, opens, outgoing, sender, sent_control, sent_data, sent_head}
+use Rattle.h2_link.specs.Drains.{AFrame, Sent, head_block, is_below, next, next_control, next_data, next_head, opens, outgoing, sender, sent_control, sent_head}
 use Rattle.h2_link.specs.Feeds.{Line}
 use Rattle.h2_link.specs.Wire.{Wire}
 use Rattle.h2_link.specs.declared.control.Control.{Control}
-use Rattle.h2_link.specs.declared.send.Share.{Share}
+use Rattle.link_actions.proofs.DataSent.{IsShare, share_found}
 use Rattle.link_actions.proofs.Owed.{IsControlFrame, is_frame}
 
 pub record IsFreshHead (w : Wire) (f : FrameSeen) : Type 0 where
@@ -36,18 +36,18 @@ data_kind : (stream : ℕ) (content : List ℕ) (ends : Bool) (f : FrameSeen) �
 data_kind stream content ends f e =
     let one : data_frame stream content ends ≡ f = (cc) in ap (λ (k : FrameSeen). k.kind == headers_type) (sym one)
 
-data_of : (w : Wire) (g : ℕ → Line) (x : Sent) (f : FrameSeen) (o : Option Share) → next_data w g o ≡ Some x → x.frame ≡ AFrame f → (f.kind == headers_type) ≡ true → IsFreshHead w f
-data_of w g x f None found frame kind = absurd (cc)
-data_of w g x f (Some share) found frame kind =
-    let same : sent_data w g share ≡ x = (cc) in
-    let is : (sent_data w g share).frame ≡ AFrame f = ap (λ (y : Sent). y.frame) same ∙ frame in
-    absurd (never (f.kind == headers_type) kind (data_kind share.stream.number (take share.len (g share.stream.tag).left) share.ends f is))
+data_of : (w : Wire) (g : ℕ → Line) (x : Sent) (f : FrameSeen) → next_data w g (sender w.window w.initial g 0 w.live) ≡ Some x → x.frame ≡ AFrame f → (f.kind == headers_type) ≡ true
+    → IsFreshHead w f
+data_of w g x f found frame kind =
+    let is : IsShare w g 0 w.live x = share_found w g 0 w.live x found in
+    absurd (never (f.kind == headers_type) kind
+    (data_kind is.stream.number (take is.share.0 (g is.stream.tag).left) is.share.1 f (sym is.frame ∙ frame)))
 
 by_opens : (w : Wire) (g : ℕ → Line) (x : Sent) (f : FrameSeen) (o : Option ℕ) → opens w ≡ o → next_head w g o ≡ Some x → x.frame ≡ AFrame f → (f.kind == headers_type) ≡ true
     → IsFreshHead w f
 by_opens w g x f (Some tag) e found frame kind =
     let same : sent_head w g tag ≡ x = (cc) in head_of w g x f tag e same frame
-by_opens w g x f None e found frame kind = data_of w g x f (sender w.window w.initial g 0 w.live) found frame kind
+by_opens w g x f None e found frame kind = data_of w g x f found frame kind
 
 by_queue : (w : Wire) (g : ℕ → Line) (x : Sent) (f : FrameSeen) (o : Option Control) → next_control w g o ≡ Some x → x.frame ≡ AFrame f → (f.kind == headers_type) ≡ true
     → IsFreshHead w f
