@@ -55,7 +55,7 @@ none_filtered f before (y ∷ xs) e = absurd (cc)
 all_at : {X : Type 0} (test : X → Bool) (xs : List X) (i : ℕ) (x : X) → list_all test xs ≡ true → slice_get xs i ≡ Some x → test x ≡ true
 all_at test [] i x all got = absurd (cc)
 all_at test (y ∷ xs) zero x all got =
-    let one : y ≡ x = (cc) in sym (ap test (sym one)) ∙ (and_parts (test y) (list_all test xs) all).0
+    let one : y ≡ x = (cc) in ap test (sym one) ∙ (and_parts (test y) (list_all test xs) all).0
 all_at test (y ∷ xs) (suc i) x all got = all_at test xs i x (and_parts (test y) (list_all test xs) all).1 got
 
 all_numbered : {X : Type 0} (test : X → Bool) (xs : List X) (n : ℕ) (x : X) → list_all test xs ≡ true → numbered xs n ≡ Some x → test x ≡ true
