@@ -5,5 +5,5 @@ pub mod Readers
 pub mod Frame
 pub mod Tellings
 pub mod Changes
-pub mod Kinds
+pub mod Acts
 pub mod Untold

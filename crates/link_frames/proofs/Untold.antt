@@ -71,7 +71,7 @@ use Rattle.session_actions.specs.declared.link.Sent.TheVariants as sent
 use Rattle.session_actions.specs.declared.link.Traffic.TheVariants as traffic
 use Rattle.session_actions.specs.declared.seen.Seen.{Seen}
 use Rattle.session_actions.specs.declared.subchannel.Subchannel.{Subchannel}
-use Rattle.link_frames.proofs.Kinds.{apart_goes, attempts_of_config, begun, called, clothed, committed, config_got, configured, end_by, ended, gone_if, made, marked_so, message_mild, mild, opened_by, opened_if, opens, other_than, over_by, placed, read_by, reset_at, reset_by, row_changed, row_marked, then_same, timed_by, timed_out, turned_link, turned_so, up_so, withheld, written_by}
+use Rattle.link_frames.proofs.Acts.{apart_goes, attempts_of_config, begun, called, clothed, committed, config_got, configured, end_by, ended, gone_if, made, marked_so, message_mild, mild, opened_by, opened_if, opens, other_than, over_by, placed, read_by, reset_at, reset_by, row_changed, row_marked, then_same, timed_by, timed_out, turned_link, turned_so, up_so, withheld, written_by}
 
 -- the first that waits on a link is at its place, and on that link
 if_passes : {X : Type 0} (p : X → Bool) (x : X) (xs : List X) (b : Bool) (j : ℕ) (a : X) → p x ≡ b → slice_get (cond b (x ∷ filter p xs) (filter p xs)) j ≡ Some a
