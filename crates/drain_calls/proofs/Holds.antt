@@ -15,7 +15,6 @@ use Rattle.session_actions.specs.declared.call.Call.{Call}
 use Rattle.session_actions.specs.declared.entry.OpenEntry.{OpenEntry}
 use Rattle.session_actions.specs.declared.link.Link.{Link}
 use Rattle.session_actions.specs.declared.seen.Seen.{Seen}
-use Rattle.streams_opened.proofs.Lines.{IsOne, last_in}
 use Rattle.streams_opened.proofs.Rows.{commitment_is, h, some_same, t}
 use Rattle.take_actions.specs.Serves.{AreFed, Holds, IsAt, IsFed, drained_so_far, passed}
 
@@ -29,6 +28,21 @@ filter_map_so p q f same [] = refl
 filter_map_so p q f same (x ∷ xs) =
     ap (λ (b : Bool). cond b (f x ∷ filter p (map f xs)) (filter p (map f xs))) (same x)
     ∙ ap (λ (l : List Attempt). cond (q x) (f x ∷ l) l) (filter_map_so p q f same xs) ∙ map_cond f (q x) x (filter q xs)
+
+-- the last that passes a test is one of the list
+pub record IsOne (xs : List Attempt) (x : Attempt) : Type 0 where
+  pub index : ℕ
+  pub here : slice_get xs index ≡ Some x
+
+last_by : (y : Attempt) (xs : List Attempt) (x : Attempt) (b : Bool) (o : Option Attempt) → option_or o (if b then Some y else None) ≡ Some x
+    → (o ≡ Some x → IsOne xs x) → IsOne (y ∷ xs) x
+last_by y xs x true None e rest = record { index = zero; here = e }
+last_by y xs x false None e rest = absurd (cc)
+last_by y xs x b (Some z) e rest = let one : IsOne xs x = rest e in record { index = suc one.index; here = one.here }
+
+last_in : (test : Attempt → Bool) (xs : List Attempt) (x : Attempt) → find_last test xs ≡ Some x → IsOne xs x
+last_in test [] x e = absurd (cc)
+last_in test (y ∷ xs) x e = last_by y xs x (test y) (find_last test xs) e (λ f. last_in test xs x f)
 
 one_row : (m : Committed) (k : Attempt) → Some m.row ≡ Some k.place → m.row ≡ k.place
 one_row m k e = (cc)

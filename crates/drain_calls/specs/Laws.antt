@@ -3,7 +3,7 @@
 -- Example: call 1 has the message `hi`, of 7 bytes with its prefix, and DATA of 3 bytes is written for its attempt 1. The buffer of call 1 has 4 bytes left for
 -- attempt 1; so has the session.
 use Rattle.std.specs.Option.{option_map}
-use Rattle.std.specs.Prelude.{Bool, IfSome, List, Some, [], drop, false, if◌then◌else◌, length, slice_get, true, ℕ, ◌×◌, ◌∷◌, ◌≡◌, ◌≤◌}
+use Rattle.std.specs.Prelude.{Bool, IfSome, List, Some, [], drop, false, if◌then◌else◌, length, slice_get, true, ℕ, ◌∷◌, ◌≡◌, ◌≤◌}
 use Rattle.attempt_buffer.specs.Buffers.{Buffered, Committed, left_of, taken_by, text_of}
 use Rattle.call_actions.specs.Order.{AreNumbered}
 use Rattle.call_core.specs.Parts.{fed_buffer}
