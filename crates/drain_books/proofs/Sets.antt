@@ -6,9 +6,10 @@ use Rattle.a6_numbers.specs.Throttling.{Bucket}
 use Rattle.call_actions.proofs.Ranks.{numbered_map}
 use Rattle.call_actions.specs.Sees.{bucket_of}
 use Rattle.channel_actions.specs.Calls.{due_of}
-use Rattle.channel_actions.specs.Configs.{bucket_in, runs_in_turn}
+use Rattle.channel_actions.specs.Configs.{SeesBuckets, bucket_in, runs_in_turn}
 use Rattle.channel_actions.specs.Sets.{AreExactly, SeesSets, is_in_bare, is_in_deadlines, is_in_dues, is_in_impatient, is_in_outstanding, is_in_patient, is_in_queue, is_patient, is_waiting}
 use Rattle.channel_core.specs.States.{StateSeen}
+use Rattle.channel_core.specs.Tables.{BucketsSeen}
 use Rattle.drain_books.specs.Laws.{AreSameSets, BucketsStay, CallColumnsStay, SetsStay}
 use Rattle.drain_calls.proofs.Streamed.{streamed_is}
 use Rattle.session_actions.specs.Attempts.{is_of, is_outstanding, is_queued}
@@ -50,6 +51,9 @@ made_map f same (x ∷ xs) = ap (λ (n : ℕ). n ∷ map (λ (a : Attempt). a.ma
 fold_same : (f g : ℕ → ℕ → ℕ) → ((n p : ℕ) → f n p ≡ g n p) → (n : ℕ) (ps : List ℕ) → fold f n ps ≡ fold g n ps
 fold_same f g same n [] = refl
 fold_same f g same n (p ∷ ps) = ap (λ (m : ℕ). fold f m ps) (same n p) ∙ fold_same f g same (g n p) ps
+
+abbrev bucket_with : ThrottleRun → ℕ → Bucket
+bucket_with run n = record { start = run.throttle.start; ratio = run.throttle.ratio; count = n }
 
 module _ (s : Seen) (g : ℕ → Option ℕ) (ls : List Link) (current : Option OpenEntry) where
   abbrev f : Attempt → Attempt
@@ -114,7 +118,7 @@ module _ (s : Seen) (g : ℕ → Option ℕ) (ls : List Link) (current : Option 
 
   bucket_by : (o : Option ThrottleRun) → option_map (bucket_of u) o ≡ option_map (bucket_of s) o
   bucket_by None = refl
-  bucket_by (Some run) = bucket_some run
+  bucket_by (Some run) = ap (λ (n : ℕ). Some (bucket_with run n)) (tokens_same run)
 
   pub buckets_so : map (bucket_in u) (runs_in_turn s.configs) ≡ map (bucket_in s) (runs_in_turn s.configs)
   buckets_so = map_same (bucket_in u) (bucket_in s) (λ run. bucket_by (option_and_then (numbered s.runs) run)) (runs_in_turn s.configs)
