@@ -1,5 +1,6 @@
 -- The links after a drain: the one that was drained agrees, with its readers and the lines of the session; and the others cannot tell.
 use Rattle.std.proofs.Common.{◌≡◌, ◌-◌, ◌∷◌, ◌==◌, ◌||◌, ap, refl, subst, sym, ◌∙◌, Bool, true, false, List, [], Option, None, Some, ℕ, drop, is_some, length, map, min, slice_get}
+use Rattle.std.proofs.Math.Nat.{zero-min}
 use Rattle.std.specs.Option.{option_map_or}
 use Rattle.channel_actions.proofs.Lines.{all_at_places}
 use Rattle.channel_actions.specs.Links.{IsGoing, SeesLinkOf, lines_in}
@@ -51,7 +52,7 @@ control_fresh : (w : Wire) (g : ℕ → Line) (x : Sending) (o : Option Control)
 control_fresh w g x None e none = head_fresh w g x (opens w) e none
 control_fresh w g x (Some c) e none =
     let same : sent_control w g c ≡ x = (cc) in
-    ap (λ (y : Sending). y.wire.queue.fresh) (sym same) ∙ ap (λ (n : ℕ). min n (length w.queue.items - 1)) none
+    ap (λ (y : Sending). y.wire.queue.fresh) (sym same) ∙ (ap (λ (n : ℕ). min n (length w.queue.items - 1)) none ∙ zero-min (length w.queue.items - 1))
 
 pub sends_fresh : (w : Wire) (g : ℕ → Line) (fs : List Outgoing) (w2 : Wire) (g2 : ℕ → Line) → Sends w g fs w2 g2 → w.queue.fresh ≡ 0 → w2.queue.fresh ≡ 0
 sends_fresh w g [] w2 g2 h none = ap (λ (v : Wire). v.queue.fresh) h.0 ∙ none
