@@ -5,6 +5,7 @@ use Rattle.std.proofs.lemmas.Bool.{eqb-false, eqb-true, le-leb, leb-false, leb-t
 use Rattle.std.specs.List.{list_any}
 use Rattle.std.specs.Option.{option_map, option_map_or}
 use Rattle.call_actions.proofs.Lists.{changed_here}
+use Rattle.call_actions.specs.Order.{AreNumbered}
 use Rattle.channel_actions.proofs.Answering.{event_next, replied_entry, replied_is}
 use Rattle.channel_actions.proofs.Dialling.{applied_next, open_in, unshut_by}
 use Rattle.channel_actions.proofs.Refusing.{room_same}
@@ -14,22 +15,28 @@ use Rattle.channel_actions.specs.Agrees.{Agrees}
 use Rattle.channel_actions.specs.Calm as calm
 use Rattle.channel_actions.specs.Calm.{IsAt}
 use Rattle.channel_actions.specs.Clock.{SeesClock}
-use Rattle.channel_actions.specs.Configs.{SeesConfigs}
+use Rattle.channel_actions.specs.Columns.{SeesColumns}
+use Rattle.channel_actions.specs.Configs.{SeesBuckets, SeesConfigs}
 use Rattle.channel_actions.specs.Links.{HasLink, IsGoing, SeesLinks, lines_in}
+use Rattle.channel_actions.specs.Sets.{SeesSets}
 use Rattle.channel_actions.specs.Stages.{IsAnswered}
 use Rattle.channel_core.proofs.BookLaws.{number_changed, number_other}
 use Rattle.channel_core.proofs.Resting.{changed_length}
 use Rattle.channel_core.specs.Applying as channel
 use Rattle.channel_core.specs.Applying.{AnswersBy, or_room}
 use Rattle.channel_core.specs.Books.{lines_of}
-use Rattle.channel_core.specs.Draining.{DrainLeaves, drained_limit, octets_by, opened_by, with_streams}
+use Rattle.channel_core.specs.Draining.{DrainLeaves, drained_limit, octets_by, opened_by, with_streams, streams_given}
 use Rattle.channel_core.specs.Feeding.{all_fed, book_fed}
 use Rattle.channel_core.specs.States.{StateSeen}
-use Rattle.channel_core.specs.Tables.{DrainGives, DrainsOn, LinkDrains, drains_at}
+use Rattle.channel_core.specs.Tables.{BucketsSeen, DrainGives, DrainsOn, LinkDrains, drains_at}
 use Rattle.channel_core.specs.declared.state.book.Book.{Book}
 use Rattle.channel_core.specs.declared.state.links.LinkSlot.{LinkSlot}
+use Rattle.drain_books.proofs.Columns.{link_columns_stay}
+use Rattle.drain_books.proofs.Sets.{buckets_stay, call_columns_stay, sets_stay}
+use Rattle.drain_books.specs.Laws.{AreSameSets}
+use Rattle.drain_calls.specs.Laws.{IsOnlyStreamed}
 use Rattle.drain_events.proofs.Links.{all_kept, all_orderly, drained_slot, none_borne, read_so, sends_fresh}
-use Rattle.drain_events.specs.Laws.{DrainsAreAnswered, DrainsKeepBooks, HasRun, IsBookKept, IsDrain}
+use Rattle.drain_events.specs.Laws.{DrainsAreAnswered, DrainsKeepCalls, HasRun, IsDrain}
 use Rattle.drain_lends.proofs.Lends.{lines_are_lent}
 use Rattle.drain_lends.specs.Laws.{AreNear}
 use Rattle.drain_writes.proofs.Runs.{drains_are_actions}
@@ -64,98 +71,23 @@ use Rattle.session_actions.specs.Sessions.{Does}
 use Rattle.session_actions.specs.Words.{changed, changed_if, numbered}
 use Rattle.session_actions.specs.declared.action.Action.{Action}
 use Rattle.session_actions.specs.declared.action.Action.TheVariants as action
+use Rattle.session_actions.specs.declared.attempt.Attempt.{Attempt}
 use Rattle.session_actions.specs.declared.call.Call.{Call}
 use Rattle.session_actions.specs.declared.entry.OpenEntry.{OpenEntry}
 use Rattle.session_actions.specs.declared.entry.Stage.TheVariants as stage
 use Rattle.session_actions.specs.declared.link.Link.{Link}
 use Rattle.session_actions.specs.declared.link.LinkOver.{LinkOver}
 use Rattle.session_actions.specs.declared.link.Sent.{Sent}
+use Rattle.session_actions.specs.declared.policy.PolicyUse.{PolicyUse}
 use Rattle.session_actions.specs.declared.seen.Seen.{Seen}
 use Rattle.session_order.proofs.Calms.{calm_is_exact}
 use Rattle.session_order.specs.Calm as order
 use Rattle.session_order.specs.declared.line.Line.TheVariants as line
 use Rattle.stream_actions.specs.Sees.{SeesStreams}
+use Rattle.drain_events.proofs.Rows.{rows_given}
+use Rattle.drain_events.proofs.Rooms.{IsThere, and_no, fed_form, if_none, length_changed, may_drain, none_posted, one_some, there_by}
 
--- small things
-and_no : (b : Bool) → (b && false) ≡ false
-and_no true = refl
-and_no false = refl
-
-if_none : {X : Type 0} (b : Bool) (z : Option X) → z ≡ None → (if b then z else None) ≡ None
-if_none true z e = e
-if_none false z e = refl
-
-none_posted : (n : ℕ) (sent : List Sent) → posted_in (map (writing n) sent) ≡ []
-none_posted n [] = refl
-none_posted n (x ∷ sent) = none_posted n sent
-
-length_set : (xs : List Link) (i : ℕ) (x : Link) → length (slice_set xs i x) ≡ length xs
-length_set [] i x = refl
-length_set (y ∷ xs) zero x = refl
-length_set (y ∷ xs) (suc i) x = ap suc (length_set xs i x)
-
-length_if : (f : Link → Link) (i : ℕ) (xs : List Link) (o : Option Link) → length (changed_if f (suc i) xs o) ≡ length xs
-length_if f i xs None = refl
-length_if f i xs (Some x) = length_set xs i (f x)
-
-length_changed : (f : Link → Link) (n : ℕ) (xs : List Link) → length (changed f n xs) ≡ length xs
-length_changed f zero xs = refl
-length_changed f (suc i) xs = length_if f i xs (slice_get xs i)
-
-one_some : {X : Type 0} (a b : X) (o : Option X) → o ≡ Some a → o ≡ Some b → a ≡ b
-one_some a b o e f = let both : Some a ≡ Some b = sym e ∙ f in (cc)
-
--- the link, which is not gone, and the room
-pub record IsThere (s : Seen) (link room : ℕ) : Type 0 where
-  pub l : Link
-  pub here : numbered s.links link ≡ Some l
-  pub over : l.over ≡ None
-  pub enough : nat_lt room 16393 ≡ false
-
-no_over : (o : Option LinkOver) (b : Bool) → (is_some o || b) ≡ false → o ≡ None
-no_over None b e = refl
-no_over (Some z) b e = absurd (cc)
-
-there_if : (s : Seen) (link room : ℕ) (l : Link) → numbered s.links link ≡ Some l → (gone small : Bool) → is_gone l s ≡ gone → nat_lt room 16393 ≡ small
-    → (if gone then Some refusal.LinkGone else if small then Some refusal.RoomTooSmall else None) ≡ None → IsThere s link room
-there_if s link room l here true small e f none = absurd (cc)
-there_if s link room l here false true e f none = absurd (cc)
-there_if s link room l here false false e f none = record {
-  l = l;
-  here = here;
-  over = no_over l.over ((is_retiring l || is_shutdown_sub s l.sub) && not (list_any (is_outstanding_on l) s.attempts)) e;
-  enough = f;
-}
-
-there_by : (s : Seen) (link room : ℕ) (o : Option Link) → numbered s.links link ≡ o → link_refusal s o (refused_if (nat_lt room 16393) refusal.RoomTooSmall None) ≡ None → IsThere s link room
-there_by s link room None here none = absurd (cc)
-there_by s link room (Some l) here none = there_if s link room l here (is_gone l s) (nat_lt room 16393) refl refl none
-
-min_if : (a b n : ℕ) (c : Bool) → nat_le a b ≡ c → n ≤ a → n ≤ b → n ≤ min a b
-min_if a b n true e low high = subst (λ (m : ℕ). n ≤ m) (sym (min-eq_left (leb-true a b e))) low
-min_if a b n false e low high =
-    let less : b < a = leb-false a b e in
-    let under : b ≤ a = omega (arith, less) in subst (λ (m : ℕ). n ≤ m) (sym (min-eq_right under)) high
-
-min_by : (a b n : ℕ) → n ≤ a → n ≤ b → n ≤ min a b
-min_by a b n low high = min_if a b n (nat_le a b) refl low high
-
-at_least : (room : ℕ) → 16393 ≤ room → 16393 ≤ min room drained_limit
-at_least room low = min_by room drained_limit 16393 low (let most : 16393 ≤ drained_limit = omega arith in most)
-
--- a drain that may be, does drain
-may_drain : (room : ℕ) (slot : LinkSlot) → nat_lt room 16393 ≡ false → slot.link.link.wire.broken ≡ None → drains_at (min room drained_limit) (Some slot) ≡ true
-may_drain room slot enough whole =
-    let low : 16393 ≤ room = ltb-false room 16393 enough in
-    let least : 16393 ≤ min room drained_limit = at_least room low in
-    ap (λ (o : Option ℕ). not (is_some o) && nat_le 16393 (min room drained_limit)) whole ∙ le-leb 16393 (min room drained_limit) least
-
--- what links take of a book leaves all of it but the calls
-fed_form : (feeds : List (ℕ × ℕ)) (b : Book) → all_fed feeds b ≡ record b { calls = (all_fed feeds b).calls }
-fed_form [] b = refl
-fed_form (f ∷ feeds) b = fed_form feeds (book_fed f.0 f.1 b)
-
-module _ (keeps : DrainsKeepBooks) (x y : StateSeen) (r : Reply) (o : OpenEntry) (s : Seen) (h : Agrees x s) (at : IsAt stage.Event o s) (fresh : o.turn ≡ None)
+module _ (keeps : DrainsKeepCalls) (x y : StateSeen) (r : Reply) (o : OpenEntry) (s : Seen) (h : Agrees x s) (at : IsAt stage.Event o s) (fresh : o.turn ≡ None)
     (timely : next_deadline s ≡ None) (link room : ℕ) (is : o.event ≡ event.Drain link room) (kept : channel.refusal_of o.event x ≡ None) (near : AreNear s)
     (leaves : DrainLeaves link (min room drained_limit) x r y)
     (few : (slot : LinkSlot) → numbered y.links link ≡ Some slot → slot.link.link.wire.opened < 2 ^ 30) where
@@ -255,14 +187,14 @@ module _ (keeps : DrainsKeepBooks) (x y : StateSeen) (r : Reply) (o : OpenEntry)
         ap (λ (ls : List LinkSlot). numbered ls link) g.is ∙ number_changed (λ (z : LinkSlot). slot) x.links link
         ∙ ap (option_map (λ (z : LinkSlot). slot)) has.there
 
-    run0 : IsDrainRun l s1 p drained.octets slot.link.link.wire (lines_of leaves.fed) (opened_all (opened_between slot0.link.link.wire slot.link.link.wire) slot0.link.readers)
+    run0 : IsDrainRun l s1 p drained.octets slot0.link.link.wire slot.link.link.wire (lines_of leaves.fed) (opened_all (opened_between slot0.link.link.wire slot.link.link.wire) slot0.link.readers)
     run0 =
         drains_are_actions l s1 p slot0.link.link.wire slot.link.link.wire (lines_of x.book) (lines_of leaves.fed) slot0.link.readers room drained.octets lent
         (read_so l s1 slot0.link.readers going.readers) (few slot there_now) on.sends draining
 
-    run : IsDrainRun l s1 p drained.octets slot.link.link.wire (lines_of leaves.fed) slot.link.readers
+    run : IsDrainRun l s1 p drained.octets slot0.link.link.wire slot.link.link.wire (lines_of leaves.fed) slot.link.readers
     run =
-        subst (IsDrainRun l s1 p drained.octets slot.link.link.wire (lines_of leaves.fed))
+        subst (IsDrainRun l s1 p drained.octets slot0.link.link.wire slot.link.link.wire (lines_of leaves.fed))
         (ap (λ (ns : List (ℕ × ℕ)). opened_all ns slot0.link.readers) (sym on.opened) ∙ sym on.readers) run0
 
     abbrev t : Seen
@@ -330,14 +262,12 @@ module _ (keeps : DrainsKeepBooks) (x y : StateSeen) (r : Reply) (o : OpenEntry)
       entry = p;
       current = refl;
       octets = drained.octets;
+      wire = slot0.link.link.wire;
       slot = slot;
       there = there_now;
       run = run;
       seen = refl;
     }
-
-    books : IsBookKept y t
-    books = keeps x y s1 t link (min room drained_limit) r h1 leaves has_run
 
     abbrev y1 : StateSeen
     y1 = record x { links = y.links; book = with_streams (opened_by leaves.drained) leaves.fed }
@@ -381,17 +311,74 @@ module _ (keeps : DrainsKeepBooks) (x y : StateSeen) (r : Reply) (o : OpenEntry)
     orderly_t : IsOfCalls y.net
     orderly_t = subst (λ (z : StateSeen). IsOfCalls z.net) (sym y_is) h1.orderly
 
+    -- what it leaves of the books
+    places : AreNumbered 1 s1.attempts
+    places = h1.kept.book.places
+
+    current_t : t.current ≡ Some run.entry
+    current_t = ap (λ (z : Seen). z.current) run.is
+
+    only : IsOnlyStreamed s1 t
+    only = record {
+      is = run.is ∙ ap (λ (ls : List Link). record s1 { attempts = t.attempts; links = ls; current = Some run.entry }) (sym links_t)
+          ∙ ap (λ (c : Option OpenEntry). record s1 { attempts = t.attempts; links = t.links; current = c }) (sym current_t);
+      rows = run.rows;
+    }
+
+    same_sets : AreSameSets x y
+    same_sets = record {
+      queue = ap (λ (z : StateSeen). z.queue) y_is;
+      patient = ap (λ (z : StateSeen). z.patient) y_is;
+      dues = ap (λ (z : StateSeen). z.dues) y_is;
+      deadlines = ap (λ (z : StateSeen). z.deadlines) y_is;
+      bare = ap (λ (z : StateSeen). z.bare) y_is;
+      impatient = ap (λ (z : StateSeen). z.impatient) y_is;
+      outstanding = ap (λ (z : StateSeen). z.outstanding) y_is;
+      resets = ap (λ (z : StateSeen). z.resets) y_is;
+    }
+
+    sets_t : SeesSets y t
+    sets_t = sets_stay x y s1 t places only same_sets h1.sets
+
+    buckets_same : y.book.buckets ≡ x.book.buckets
+    buckets_same = ap (λ (z : StateSeen). z.book.buckets) y_is ∙ ap (λ (b : Book). b.buckets) fed_is
+
+    buckets_t : SeesBuckets y.book.buckets t
+    buckets_t = subst (λ (b : BucketsSeen). SeesBuckets b t) (sym buckets_same) (buckets_stay x.book.buckets s1 t places only h1.buckets)
+
+    opened_is : opened_between slot0.link.link.wire slot.link.link.wire ≡ opened_by leaves.drained
+    opened_is = sym on.opened ∙ sym (ap opened_by d_is)
+
+    rows_t : map (λ (a : Attempt). a.row) t.attempts ≡ y.book.ledger.rows
+    rows_t =
+        ap (map (λ (a : Attempt). a.row)) run.given
+        ∙ rows_given (opened_between slot0.link.link.wire slot.link.link.wire) s1.attempts run.fresh
+        ∙ ap (λ (ns : List (ℕ × ℕ)). streams_given ns (map (λ (a : Attempt). a.row) s1.attempts)) opened_is
+        ∙ ap (streams_given (opened_by leaves.drained)) (h1.columns.rows ∙ sym (ap (λ (b : Book). b.ledger.rows) fed_is))
+        ∙ sym (ap (λ (z : StateSeen). z.book.ledger.rows) y_is)
+
+    columns_t : SeesColumns y.book.ledger t
+    columns_t = record {
+      rows = rows_t;
+      calls = call_columns_stay s1 t places only ∙ h1.columns.calls ∙ sym (ap (λ (z : StateSeen). z.book.ledger.calls) y_is ∙ ap (λ (b : Book). b.ledger.calls) fed_is);
+      asks = ap (λ (z : Seen). z.asks) run.is ∙ h1.columns.asks ∙ sym (ap (λ (z : StateSeen). z.book.ledger.asks) y_is ∙ ap (λ (b : Book). b.ledger.asks) fed_is);
+      generations = ap (λ (z : Seen). map (λ (g : PolicyUse). g.generation) z.policies) run.is ∙ h1.columns.generations
+          ∙ sym (ap (λ (z : StateSeen). z.book.ledger.generations) y_is ∙ ap (λ (b : Book). b.ledger.generations) fed_is);
+      links = link_columns_stay s1 t run.sent l.number places only links_t (ap (λ (c : Option OpenEntry). is_some c) current_t) ∙ h1.columns.links
+          ∙ sym (ap (λ (z : StateSeen). z.book.ledger.links) y_is ∙ ap (λ (b : Book). b.ledger.links) fed_is);
+    }
+
     agrees_t : Agrees y t
     agrees_t = record {
       clock = clock_t;
-      columns = books.columns;
+      columns = columns_t;
       configs = configs_t;
-      buckets = books.buckets;
-      calls = books.calls;
+      buckets = buckets_t;
+      calls = keeps x y s1 t link (min room drained_limit) r h1 leaves has_run columns_t;
       links = links_now;
       net = net_t;
       orderly = orderly_t;
-      sets = books.sets;
+      sets = sets_t;
       kept = kept_t;
     }
 

@@ -5,8 +5,6 @@ use Rattle.std.specs.Prelude.{List, None, Some, ℕ, ◌<◌, ◌^◌, ◌≡◌
 use Rattle.channel_actions.specs.Agrees.{Agrees}
 use Rattle.channel_actions.specs.Calls.{SeesCalls}
 use Rattle.channel_actions.specs.Columns.{SeesColumns}
-use Rattle.channel_actions.specs.Configs.{SeesBuckets}
-use Rattle.channel_actions.specs.Sets.{SeesSets}
 use Rattle.channel_actions.specs.Stages.{EventsAnswered}
 use Rattle.channel_core.specs.Books.{lines_of}
 use Rattle.channel_core.specs.Applying as channel
@@ -21,6 +19,7 @@ use Rattle.drain_writes.specs.Laws.{IsDrainRun}
 use Rattle.grpc_base.specs.declared.event.Event.{Event}
 use Rattle.grpc_base.specs.declared.event.Event.TheVariants as event
 use Rattle.grpc_base.specs.declared.event.Reply.{Reply}
+use Rattle.h2_link.specs.Wire.{Wire}
 use Rattle.session_actions.specs.declared.entry.OpenEntry.{OpenEntry}
 use Rattle.session_actions.specs.declared.link.Link.{Link}
 use Rattle.session_actions.specs.declared.seen.Seen.{Seen}
@@ -35,14 +34,6 @@ pub record IsDrain (e : Event) (x : StateSeen) (s : Seen) : Type 0 where
   pub near : AreNear s
   pub few : (y : StateSeen) (r : Reply) (slot : LinkSlot) → Applies e x y r → numbered y.links link ≡ Some slot → slot.link.link.wire.opened < 2 ^ 30
 
--- what is left of the channel's side: that its ledger, its buckets, its calls and its sets are those of the session once a drain has run. (Of the buffers of
--- calls it is proved, in `drain_calls`.)
-pub record IsBookKept (y : StateSeen) (t : Seen) : Type 0 where
-  pub columns : SeesColumns y.book.ledger t
-  pub buckets : SeesBuckets y.book.buckets t
-  pub calls : SeesCalls y t
-  pub sets : SeesSets y t
-
 -- the session has written what the channel did, and the link agrees after it, with the lines that the book lends then
 pub record HasRun (s t : Seen) (y : StateSeen) (link : ℕ) (fed : Book) : Type 0 where
   pub before : Link
@@ -50,14 +41,18 @@ pub record HasRun (s t : Seen) (y : StateSeen) (link : ℕ) (fed : Book) : Type 
   pub entry : OpenEntry
   pub current : s.current ≡ Some entry
   pub octets : List ℕ
+  pub wire : Wire
   pub slot : LinkSlot
   pub there : numbered y.links link ≡ Some slot
-  pub run : IsDrainRun before s entry octets slot.link.link.wire (lines_of fed) slot.link.readers
+  pub run : IsDrainRun before s entry octets wire slot.link.link.wire (lines_of fed) slot.link.readers
   pub seen : t ≡ run.seen
 
-abbrev pub DrainsKeepBooks : Type 0
-DrainsKeepBooks =
-    (x y : StateSeen) (s t : Seen) (link room : ℕ) (r : Reply) → Agrees x s → (leaves : DrainLeaves link room x r y) → HasRun s t y link leaves.fed → IsBookKept y t
+-- what is left of the channel's side: that its calls are those of the session once a drain has run, its ledger being that of the session. (Of the buffers of
+-- calls it is proved, in `drain_calls`.)
+abbrev pub DrainsKeepCalls : Type 0
+DrainsKeepCalls =
+    (x y : StateSeen) (s t : Seen) (link room : ℕ) (r : Reply) → Agrees x s → (leaves : DrainLeaves link room x r y) → HasRun s t y link leaves.fed → SeesColumns y.book.ledger t
+    → SeesCalls y t
 
 abbrev pub DrainsAreAnswered : Type 0
-DrainsAreAnswered = DrainsKeepBooks → EventsAnswered IsDrain
+DrainsAreAnswered = DrainsKeepCalls → EventsAnswered IsDrain

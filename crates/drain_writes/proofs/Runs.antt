@@ -7,6 +7,7 @@ use Rattle.call_actions.specs.Order.{AreNumbered}
 use Rattle.drain_writes.proofs.Counts.{sends_opened}
 use Rattle.drain_writes.proofs.Forms.{IsForm, rows_join, rows_self, sent_on, written_form}
 use Rattle.drain_writes.proofs.Fresh.{IsFreshHead, fresh_head}
+use Rattle.drain_writes.proofs.Given.{AreGiven, frame_given, given_between, given_on, none_given}
 use Rattle.drain_writes.specs.Laws.{AreRows, DrainsAreActions, IsDrainRun, IsDraining, with_all_sent, writing}
 use Rattle.grpc_base.specs.declared.event.Event.{Event}
 use Rattle.grpc_base.specs.declared.event.Event.TheVariants as event
@@ -34,7 +35,7 @@ use Rattle.session_actions.specs.Links.{is_retiring}
 use Rattle.session_actions.specs.Responses.{limit_of_attempt, response_in}
 use Rattle.session_actions.specs.Sessions.{Does}
 use Rattle.session_actions.specs.Words.{changed, changed_if, holds, numbered}
-use Rattle.session_actions.specs.Writing.{bytes_given, bytes_of, fits_drain, frame_to_write, frame_written, next_written, sendable, waiting_on, with_written_bytes}
+use Rattle.session_actions.specs.Writing.{bytes_given, bytes_of, fits_drain, frame_to_write, frame_written, frame_written_on, next_written, sendable, stream_opened_by, waiting_on, with_written_bytes}
 use Rattle.session_actions.specs.declared.action.Action.{Action}
 use Rattle.session_actions.specs.declared.action.Action.TheVariants as action
 use Rattle.session_actions.specs.declared.attempt.Attempt.{Attempt}
@@ -137,7 +138,7 @@ draining_on o s l most given x is can form =
     }
 
 -- from any point of it
-pub record IsRest (l : Link) (s : Seen) (o : OpenEntry) (given octets : List ℕ) (w2 : Wire) (g2 : ℕ → Line) (readers : List TagReader) (most : ℕ) : Type 0 where
+pub record IsRest (l : Link) (s : Seen) (o : OpenEntry) (given octets : List ℕ) (w w2 : Wire) (g2 : ℕ → Line) (readers : List TagReader) (most : ℕ) : Type 0 where
   pub sent : List Sent
   pub seen : Seen
   pub does : Does (map (writing l.number) sent) s seen
@@ -145,6 +146,7 @@ pub record IsRest (l : Link) (s : Seen) (o : OpenEntry) (given octets : List ℕ
   pub entry_is : entry ≡ record o { reply = Some (reply.Octets (given ++ octets)) }
   pub is : seen ≡ record s { attempts = seen.attempts; links = changed (with_all_sent sent) l.number s.links; current = Some entry }
   pub rows : AreRows s.attempts seen.attempts
+  pub gives : AreGiven w w2 s.attempts seen.attempts
   pub streams : SeesStreams (with_all_sent sent l) seen w2 g2
   pub readers_are : SeesReaders (with_all_sent sent l) seen readers
   pub draining : IsDraining entry seen l.number most (given ++ octets)
@@ -171,7 +173,7 @@ none_opened : (w : Wire) (readers : List TagReader) → opened_all (opened_betwe
 none_opened w readers = ap (λ (xs : List LiveStream). opened_all (map named xs) readers) (drop_all w.live)
 
 rest_none : (l : Link) (s : Seen) (o : OpenEntry) (given : List ℕ) (w : Wire) (g : ℕ → Line) (readers : List TagReader) (most : ℕ) → SeesStreams l s w g → SeesReaders l s readers
-    → IsDraining o s l.number most given → IsRest l s o given [] w g (opened_all (opened_between w w) readers) most
+    → IsDraining o s l.number most given → IsRest l s o given [] w w g (opened_all (opened_between w w) readers) most
 rest_none l s o given w g readers most is reads draining = record {
   sent = [];
   seen = s;
@@ -181,6 +183,7 @@ rest_none l s o given w g readers most is reads draining = record {
   is = ap (λ (c : Option OpenEntry). record s { current = c }) draining.current
       ∙ ap (λ (ls : List Link). record s { links = ls; current = Some o }) (sym (none_changed l.number s.links));
   rows = rows_self s.attempts;
+  gives = none_given w s.attempts;
   streams = is;
   readers_are = subst (SeesReaders l s) (sym (none_opened w readers)) reads;
   draining = subst (IsDraining o s l.number most) (sym (append-nil given)) draining;
@@ -224,11 +227,14 @@ module _ (l : Link) (s : Seen) (o : OpenEntry) (given : List ℕ) (w : Wire) (g 
       let front : length (given ++ bytes_of x) ≡ length given + length (bytes_of x) = length-append given (bytes_of x) in
       omega (arith, fits, whole, own, front)
 
+  opened_now : s1.attempts ≡ (stream_opened_by x l s).attempts
+  opened_now = ap (λ (q : Option Link). (option_map_or (frame_written_on x s) q s).attempts) is.sees.at
+
   bytes_join : (given ++ bytes_of x) ++ more ≡ given ++ (octets_of f ++ more)
   bytes_join = append_assoc given (bytes_of x) more ∙ ap (λ (bs : List ℕ). given ++ (bs ++ more)) bytes_are
 
-  pub joined : (w2 : Wire) (g2 : ℕ → Line) (after_ : List TagReader) → IsRest (with_written x l) s1 o1 (given ++ bytes_of x) more w2 g2 after_ most
-      → IsRest l s o given (octets_of f ++ more) w2 g2 after_ most
+  pub joined : (w2 : Wire) (g2 : ℕ → Line) (after_ : List TagReader) → IsRest (with_written x l) s1 o1 (given ++ bytes_of x) more y.wire w2 g2 after_ most
+      → IsRest l s o given (octets_of f ++ more) w w2 g2 after_ most
   joined w2 g2 after_ rest = record {
     sent = x ∷ rest.sent;
     seen = rest.seen;
@@ -242,6 +248,8 @@ module _ (l : Link) (s : Seen) (o : OpenEntry) (given : List ℕ) (w : Wire) (g 
         ∙ ap (λ (z : Seen). record z { attempts = rest.seen.attempts; links = changed (with_all_sent rest.sent) l.number z.links; current = Some rest.entry }) form.is
         ∙ ap (λ (ls : List Link). record s { attempts = rest.seen.attempts; links = ls; current = Some rest.entry }) (changed_twice (sent_on x) (with_all_sent rest.sent) l.number s.links);
     rows = rows_join s.attempts s1.attempts rest.seen.attempts form.rows rest.rows;
+    gives = given_on l s x w y.wire w2 rest.seen.attempts (frame_given l s w g y x (numbers_of 1 s.attempts is.sees.places) is.sees.waits found one.same)
+        (subst (λ (as_ : List Attempt). AreGiven y.wire w2 as_ rest.seen.attempts) opened_now rest.gives);
     streams = rest.streams;
     readers_are = rest.readers_are;
     draining = subst (IsDraining rest.entry rest.seen l.number most) bytes_join rest.draining;
@@ -249,22 +257,22 @@ module _ (l : Link) (s : Seen) (o : OpenEntry) (given : List ℕ) (w : Wire) (g 
 
 rest_of : (l : Link) (s : Seen) (o : OpenEntry) (given : List ℕ) (w : Wire) (g : ℕ → Line) (fs : List Outgoing) (w2 : Wire) (g2 : ℕ → Line) (readers : List TagReader) (most : ℕ)
     → SeesStreams l s w g → SeesReaders l s readers → IsDraining o s l.number most given → w2.opened < 2 ^ 30 → Sends w g fs w2 g2
-    → length given + length (flat_map octets_of fs) ≤ room most → IsRest l s o given (flat_map octets_of fs) w2 g2 (opened_all (opened_between w w2) readers) most
+    → length given + length (flat_map octets_of fs) ≤ room most → IsRest l s o given (flat_map octets_of fs) w w2 g2 (opened_all (opened_between w w2) readers) most
 rest_of l s o given w g [] w2 g2 readers most is reads draining few h fits =
-    subst (λ (v : Wire). IsRest l s o given [] v g2 (opened_all (opened_between w v) readers) most) (sym h.0)
-    (subst (λ (k : ℕ → Line). IsRest l s o given [] w k (opened_all (opened_between w w) readers) most) (sym h.1) (rest_none l s o given w g readers most is reads draining))
+    subst (λ (v : Wire). IsRest l s o given [] w v g2 (opened_all (opened_between w v) readers) most) (sym h.0)
+    (subst (λ (k : ℕ → Line). IsRest l s o given [] w w k (opened_all (opened_between w w) readers) most) (sym h.1) (rest_none l s o given w g readers most is reads draining))
 rest_of l s o given w g (f ∷ fs) w2 g2 readers most is reads draining few h fits =
     let y : Sending = h.0 in
     let now : w.opened < 2 ^ 30 = (let grows : w.opened ≤ w2.opened = sends_opened w g (f ∷ fs) w2 g2 h in omega (arith, grows, few)) in
     let one : IsWrittenOn l s y = writes_keep_streams l s w g y is now h.1 in
     let x : Sent = one.sent in
     let after_ : List TagReader = opened_all (opened_between y.wire w2) (opened_all (opened_between w y.wire) readers) in
-    let rest : IsRest (with_written x l) (frame_written l.number x s) (with_written_bytes x o) (given ++ bytes_of x) (flat_map octets_of fs) w2 g2 after_ most
+    let rest : IsRest (with_written x l) (frame_written l.number x s) (with_written_bytes x o) (given ++ bytes_of x) (flat_map octets_of fs) y.wire w2 g2 after_ most
     = rest_of (with_written x l) (frame_written l.number x s) (with_written_bytes x o) (given ++ bytes_of x) y.wire y.lines fs w2 g2 (opened_all (opened_between w y.wire) readers) most
     one.sees (writes_keep_readers l s w g y readers is reads h.1 one)
     (then_draining l s o given w g f (flat_map octets_of fs) y readers most is reads draining h.1 h.2 fits one) few h.3
     (fits_rest l s o given w g f (flat_map octets_of fs) y readers most is reads draining h.1 h.2 fits one) in
-    subst (λ (rs : List TagReader). IsRest l s o given (octets_of f ++ flat_map octets_of fs) w2 g2 rs most) (sym (openings_add_up w w2 g g2 y fs readers h.1 h.3))
+    subst (λ (rs : List TagReader). IsRest l s o given (octets_of f ++ flat_map octets_of fs) w w2 g2 rs most) (sym (openings_add_up w w2 g g2 y fs readers h.1 h.3))
     (joined l s o given w g f (flat_map octets_of fs) y readers most is reads draining h.1 h.2 fits one w2 g2 after_ rest)
 
 -- and where it stops
@@ -284,9 +292,10 @@ pub drains_are_actions : DrainsAreActions
 drains_are_actions l s o w w2 g g2 readers most octets is reads few drains draining =
     let here_ : length (flat_map octets_of drains.frames) ≤ room most = subst (λ (bs : List ℕ). length bs ≤ room most) drains.whole drains.fits in
     let fits : 0 + length (flat_map octets_of drains.frames) ≤ room most = omega (arith, here_) in
-    let rest : IsRest l s o [] (flat_map octets_of drains.frames) w2 g2 (opened_all (opened_between w w2) readers) most
+    let rest : IsRest l s o [] (flat_map octets_of drains.frames) w w2 g2 (opened_all (opened_between w w2) readers) most
     = rest_of l s o [] w g drains.frames w2 g2 readers most is reads draining few drains.sends fits in
     let m : Link = with_all_sent rest.sent l in
+    let streams = given_between w w2 s.attempts rest.seen.attempts rest.gives in
     let here : IsDraining rest.entry rest.seen m.number most octets
     = subst (λ (n : ℕ). IsDraining rest.entry rest.seen n most octets) (sym (number_all rest.sent l))
     (subst (IsDraining rest.entry rest.seen l.number most) (sym drains.whole) rest.draining) in
@@ -298,6 +307,8 @@ drains_are_actions l s o w w2 g g2 readers most octets is reads few drains drain
       entry_is = rest.entry_is ∙ ap (λ (bs : List ℕ). record o { reply = Some (reply.Octets bs) }) (sym drains.whole);
       is = rest.is;
       rows = rest.rows;
+      given = streams.0;
+      fresh = streams.1;
       streams = rest.streams;
       readers_are = rest.readers_are;
       calm = rest.draining.calm;

@@ -13,7 +13,8 @@ use Rattle.h2_link.specs.Wire.{Wire}
 use Rattle.response_actions.specs.Readers.{SeesReaders}
 use Rattle.session_actions.specs.Events.{frame_action}
 use Rattle.session_actions.specs.Sessions.{Does}
-use Rattle.session_actions.specs.Words.{changed}
+use Rattle.session_actions.specs.Words.{changed, numbered}
+use Rattle.session_actions.specs.Writing.{with_stream}
 use Rattle.session_actions.specs.declared.action.Action.{Action}
 use Rattle.session_actions.specs.declared.action.Action.TheVariants as action
 use Rattle.session_actions.specs.declared.attempt.Attempt.{Attempt}
@@ -48,11 +49,20 @@ pub record IsDraining (o : OpenEntry) (s : Seen) (link most : ℕ) (given : List
   pub reply_is : o.reply ≡ Some (reply.Octets given)
   pub calm : IsCalm o s
 
+-- attempts of these places get these streams, one after the other; and none of them had one
+abbrev pub given_in : List (ℕ × ℕ) → List Attempt → List Attempt
+given_in [] as_ = as_
+given_in (o ∷ opened) as_ = given_in opened (changed (with_stream o.1) o.0 as_)
+
+abbrev pub AreWaiting : List (ℕ × ℕ) → List Attempt → Type 0
+AreWaiting [] as_ = Unit {0}
+AreWaiting (o ∷ opened) as_ = ((b : Attempt) → numbered as_ o.0 ≡ Some b → b.row.stream ≡ None) × AreWaiting opened (changed (with_stream o.1) o.0 as_)
+
 abbrev pub writing : ℕ → Sent → Action
 writing link x = action.FrameWritten link x
 
 -- the drain, as a list of actions: nothing changes but what passed on the link, the streams of attempts, and the answer of the entry
-pub record IsDrainRun (l : Link) (s : Seen) (o : OpenEntry) (octets : List ℕ) (w2 : Wire) (g2 : ℕ → Line) (readers : List TagReader) : Type 0 where
+pub record IsDrainRun (l : Link) (s : Seen) (o : OpenEntry) (octets : List ℕ) (w w2 : Wire) (g2 : ℕ → Line) (readers : List TagReader) : Type 0 where
   pub sent : List Sent
   pub seen : Seen
   pub does : Does (map (writing l.number) sent) s seen
@@ -60,6 +70,8 @@ pub record IsDrainRun (l : Link) (s : Seen) (o : OpenEntry) (octets : List ℕ) 
   pub entry_is : entry ≡ record o { reply = Some (reply.Octets octets) }
   pub is : seen ≡ record s { attempts = seen.attempts; links = changed (with_all_sent sent) l.number s.links; current = Some entry }
   pub rows : AreRows s.attempts seen.attempts
+  pub given : seen.attempts ≡ given_in (opened_between w w2) s.attempts
+  pub fresh : AreWaiting (opened_between w w2) s.attempts
   pub streams : SeesStreams (with_all_sent sent l) seen w2 g2
   pub readers_are : SeesReaders (with_all_sent sent l) seen readers
   pub calm : IsCalm entry seen
@@ -70,4 +82,4 @@ abbrev pub DrainsAreActions : Type 0
 DrainsAreActions =
     (l : Link) (s : Seen) (o : OpenEntry) (w w2 : Wire) (g g2 : ℕ → Line) (readers : List TagReader) (most : ℕ) (octets : List ℕ) → SeesStreams l s w g → SeesReaders l s readers
     → w2.opened < 2 ^ 30 → Drains (min most 1048576) w g octets w2 g2 → IsDraining o s l.number most []
-    → IsDrainRun l s o octets w2 g2 (opened_all (opened_between w w2) readers)
+    → IsDrainRun l s o octets w w2 g2 (opened_all (opened_between w w2) readers)
