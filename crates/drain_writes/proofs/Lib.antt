@@ -1,0 +1,5 @@
+pub mod Fresh
+pub mod Forms
+pub mod Counts
+pub mod Given
+pub mod Runs
