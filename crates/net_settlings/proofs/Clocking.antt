@@ -6,7 +6,7 @@ use Rattle.std.specs.Prelude.{option_and_then}
 use Rattle.attempt_ledger.specs.declared.ledger.LinkSeen.{LinkSeen}
 use Rattle.attempt_ledger.specs.declared.row.Placed.{Placed}
 use Rattle.channel_actions.proofs.Settles.{follows_by}
-use Rattle.channel_actions.proofs.Does.{does_on}
+use Rattle.channel_actions.proofs.Does.{does_on, none_on}
 use Rattle.channel_actions.specs.Agrees.{Agrees}
 use Rattle.channel_actions.specs.Calm.{IsAt, IsCalm}
 use Rattle.channel_actions.specs.Columns.{links_noted}
@@ -126,12 +126,12 @@ late_by true rested k sub e = (refl, (cc))
 late_by false true k sub e = absurd (cc)
 late_by false false k sub e = absurd (cc)
 
-first_true : (a b : Bool) → (a && b) ≡ true → a ≡ true
+pub first_true : (a b : Bool) → (a && b) ≡ true → a ≡ true
 first_true true b e = refl
 first_true false b e = absurd (cc)
 
 -- where the links of subchannels and attempts come from
-joined_after : (t u : Seen) → AreJoined t
+pub joined_after : (t u : Seen) → AreJoined t
     → ((n k : ℕ) (c : Subchannel) → numbered u.subs n ≡ Some c → c.link ≡ Some k → (b : Subchannel) × ((numbered t.subs n ≡ Some b) × (b.link ≡ Some k)))
     → ((m : ℕ) (q : Link) → numbered u.links m ≡ Some q → (l : Link) × ((numbered t.links m ≡ Some l) × ((q.sub ≡ l.sub) × (has_settings q ≡ has_settings l))))
     → u.attempts ≡ t.attempts → AreJoined u
@@ -160,11 +160,11 @@ module _ (f : Subchannel → Subchannel) (narrow : (b : Subchannel) (k : ℕ) �
       (r.0, (ap (numbered t.subs) same ∙ r.1.0, r.1.1))
   sub_if j k c b false is there here has = (c, (sym (changed_away f n j t.subs (eqb-false j n is)) ∙ here, has))
 
-  subs_after : (b : Subchannel) → numbered t.subs n ≡ Some b → (j k : ℕ) (c : Subchannel) → numbered (changed f n t.subs) j ≡ Some c → c.link ≡ Some k
+  pub subs_after : (b : Subchannel) → numbered t.subs n ≡ Some b → (j k : ℕ) (c : Subchannel) → numbered (changed f n t.subs) j ≡ Some c → c.link ≡ Some k
       → (d : Subchannel) × ((numbered t.subs j ≡ Some d) × (d.link ≡ Some k))
   subs_after b there j k c here has = sub_if j k c b (j == n) refl there here has
 
-same_links : (t : Seen) (m : ℕ) (q : Link) → numbered t.links m ≡ Some q → (l : Link) × ((numbered t.links m ≡ Some l) × ((q.sub ≡ l.sub) × (has_settings q ≡ has_settings l)))
+pub same_links : (t : Seen) (m : ℕ) (q : Link) → numbered t.links m ≡ Some q → (l : Link) × ((numbered t.links m ≡ Some l) × ((q.sub ≡ l.sub) × (has_settings q ≡ has_settings l)))
 same_links t m q there = (q, (there, (refl, refl)))
 
 given_up : (o : Option Link) (q : Link) → option_map gives_up o ≡ Some q → (l : Link) × ((o ≡ Some l) × ((q.sub ≡ l.sub) × (has_settings q ≡ has_settings l)))
@@ -186,7 +186,7 @@ shaped_failure conn.Connecting until linked h e = absurd (cc)
 shaped_failure conn.Ready until linked h e = absurd (cc)
 shaped_failure conn.Shutdown until linked h e = absurd (cc)
 
-no_link : (o : Option ℕ) (b : Bool) → is_some o ≡ b → b ≡ false → o ≡ None
+pub no_link : (o : Option ℕ) (b : Bool) → is_some o ≡ b → b ≡ false → o ≡ None
 no_link None b e f = refl
 no_link (Some k) b e f = absurd (cc)
 
@@ -205,7 +205,7 @@ long_if : (f : Link → Link) (n : ℕ) (xs : List Link) (o : Option Link) → l
 long_if f n xs None = refl
 long_if f n xs (Some x) = length-set xs (pred n) (f x)
 
-board_on : (these those : List Action) → AreOfBoard these → AreOfBoard those → AreOfBoard (these ++ those)
+pub board_on : (these those : List Action) → AreOfBoard these → AreOfBoard those → AreOfBoard (these ++ those)
 board_on [] those h k = k
 board_on (a ∷ these) those h k = (h.0, board_on these those h.1 k)
 
