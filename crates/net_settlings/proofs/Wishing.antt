@@ -38,10 +38,11 @@ use Rattle.net_steps.specs.Boards.{AreOfBoard, IsBoarded}
 use Rattle.policy_rack.specs.Steps as rack
 use Rattle.policy_rack.specs.Steps.{RackSeen, may_follow, may_take_over, state_in}
 use Rattle.policy_rack.specs.declared.live.Live.{Live}
-use Rattle.session_actions.specs.Actions.{after, after_if, first_action, following, following_in, of_calls, of_links, of_policies, of_settling, of_stage}
+use Rattle.session_actions.specs.Actions.{after, after_if, config_action, first_action, following, following_in, of_calls, of_links, of_policies, of_settling, of_stage}
 use Rattle.session_actions.specs.Entries.{now}
 use Rattle.session_actions.specs.Laws.{posted_in}
-use Rattle.session_actions.specs.Policies.{current_policy, is_failure, is_live_sub, live_sub, next_take_over, pending_policy, policy_of, is_shutdown, view_of}
+use Rattle.session_actions.specs.Making.{next_due_attempt}
+use Rattle.session_actions.specs.Policies.{current_policy, is_failure, is_live_sub, live_sub, next_of_pass, next_of_queue, next_take_over, pending_policy, policy_of, is_shutdown, view_of}
 use Rattle.session_actions.specs.Refusals.{is_shutdown_sub}
 use Rattle.session_actions.specs.Sessions.{Does}
 use Rattle.session_actions.specs.Subchannels.{clock_action, in_state, is_connecting, is_idle, is_wished, next_connected, next_of_clock, with_sub}
@@ -224,7 +225,7 @@ if_none_over false o e = refl
 
 module _ (exact : CalmIsExact) (stir : BoardsStir) (overs : TakeOversAreSame) (wishes : WishesConnect) (kept_along : KeptAlong) (links_stay : LinksStay)
     (x : StateSeen) (o : OpenEntry) (s : Seen) (h : Agrees x s) (at : IsAt stage.Settling o s) (ages : List Generation) (stamps : List LinkSeen) where
-  none_over : (n : NetSeen) (t : Seen) → Sees t n → may_take_over n.asker.rack ≡ false → next_take_over t ≡ None
+  pub none_over : (n : NetSeen) (t : Seen) → Sees t n → may_take_over n.asker.rack ≡ false → next_take_over t ≡ None
   none_over n t sees may =
       overs t n sees ∙ if_none_over (may_take_over n.asker.rack) (option_map (λ (l : Live). action.PolicyTakesOver l.generation) n.asker.rack.pending) may
 
@@ -270,8 +271,10 @@ module _ (exact : CalmIsExact) (stir : BoardsStir) (overs : TakeOversAreSame) (w
 
     gives : of_stage o t o.stage ≡ Some a
     gives =
-        ap (of_stage o t) at.stage_is ∙ ap (λ (d : Option Action). option_or d _) m.clock ∙ ap (λ (d : Option Action). option_or d _) (none_over n t m.sees may)
-        ∙ ap (λ (d : Option Action). option_or d _) connects.0
+        ap (of_stage o t) at.stage_is
+        ∙ ap (λ (d : Option Action). first_action (d ∷ next_take_over t ∷ next_connected t ∷ first_of (config_action t) t.calls ∷ next_of_pass o t ∷ next_due_attempt t ∷ next_of_queue t ∷ Some action.EntryCloses ∷ [])) m.clock
+        ∙ ap (λ (d : Option Action). first_action (d ∷ next_connected t ∷ first_of (config_action t) t.calls ∷ next_of_pass o t ∷ next_due_attempt t ∷ next_of_queue t ∷ Some action.EntryCloses ∷ [])) (none_over n t m.sees may)
+        ∙ ap (λ (d : Option Action). first_action (d ∷ first_of (config_action t) t.calls ∷ next_of_pass o t ∷ next_due_attempt t ∷ next_of_queue t ∷ Some action.EntryCloses ∷ [])) connects.0
 
     next : following t ≡ Some a
     next =

@@ -57,7 +57,7 @@ module _ (calls_stay : AllCallsStay) (sets_stay : SetsStay) (kept_along : KeptAl
     later : IsKept t
     later = kept_along step.actions s t h.kept step.does
 
-    z : StateSeen
+    abbrev z : StateSeen
     z = netted y.net y.drawn y.resolver y.links y.book.ledger.generations y.book.ledger.links x
 
     columns_for : map (λ (g : PolicyUse). g.generation) (boarded s t).policies ≡ z.book.ledger.generations → links_noted (boarded s t) ≡ z.book.ledger.links

@@ -26,7 +26,7 @@ use Rattle.grpc_base.specs.declared.kind.Kind.TheVariants as kind
 use Rattle.lb_policy.specs.Table.{PolicySeen}
 use Rattle.net_actions.specs.Sees.{AreKinds}
 use Rattle.net_steps.proofs.Calm.{of_order, to_order}
-use Rattle.policy_rack.specs.Kinds.{kinds_of}
+use Rattle.policy_rack.specs.Kinds.{has_policy, kinds_of}
 use Rattle.result_events.specs.Laws.{FirstBadConfigsAreAnswered}
 use Rattle.service_config.specs.declared.config.Config.{Config}
 use Rattle.session_actions.specs.Actions.{after, after_if, following}
@@ -63,8 +63,8 @@ kind_more kind.Priority a b c = refl
 kinds_same : (kinds : List PolicyKind) (policies : List PolicySeen) → AreKinds kinds policies → kinds_in kinds ≡ kinds_of policies
 kinds_same [] [] h = refl
 kinds_same (k ∷ kinds) (p ∷ policies) h =
-    ap (λ (ks : KindsSeen). with_kind ks k.kind) (kinds_same kinds policies h.2) ∙ kind_more k.kind _ _ _
-    ∙ ap (λ (j : Kind). ((kind_number j == 0) || _) ∷ ((kind_number j == 1) || _) ∷ ((kind_number j == 2) || _) ∷ []) h.0
+    ap (λ (ks : KindsSeen). with_kind ks k.kind) (kinds_same kinds policies h.2) ∙ kind_more k.kind (has_policy kind.PickFirst policies) (has_policy kind.RoundRobin policies) (has_policy kind.Priority policies)
+    ∙ ap (λ (j : Kind). ((kind_number j == 0) || has_policy kind.PickFirst policies) ∷ ((kind_number j == 1) || has_policy kind.RoundRobin policies) ∷ ((kind_number j == 2) || has_policy kind.Priority policies) ∷ []) h.0
 kinds_same [] (p ∷ policies) h = absurd h
 kinds_same (k ∷ kinds) [] h = absurd h
 
