@@ -6,7 +6,7 @@ use Rattle.channel_actions.specs.Agrees.{Agrees}
 use Rattle.channel_core.specs.States.{StateSeen}
 use Rattle.channel_core.specs.Steps.{closed}
 use Rattle.grpc_base.specs.declared.event.EndCause.{EndCause}
-use Rattle.link_ends.specs.Cuts.{AreUnreset}
+use Rattle.ends_follow.specs.Cuts.{AreUnreset}
 use Rattle.session_actions.specs.Actions.{following}
 use Rattle.session_actions.specs.CallEnds.{call_ended}
 use Rattle.session_actions.specs.Laws.{posted_in}

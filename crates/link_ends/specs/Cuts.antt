@@ -1,46 +1,14 @@
--- Attempts that are cut off one after the other, and the resets of their streams that follow, in a session and in the links of a channel. A channel cuts off at
--- once all attempts that one action cuts off, and closes what it queued for them on each link.
+-- What the links of a channel do where attempts are cut off: the channel cuts off at once all attempts that one action cuts off, and closes what it queued for
+-- them on each link. (How the session does it is in `ends_follow`.)
 -- Example: call 1 has attempt 1 on stream 3 of link 1, attempt 2 on stream 1 of link 2, and attempt 3, which waits for a stream on link 1, and it is cancelled.
--- In the session the attempts 1, 2 and 3 end, and then stream 3 of link 1 and stream 1 of link 2 are reset. The channel gives the three up on their links.
-use Rattle.std.specs.List.{list_all}
-use Rattle.std.specs.Prelude.{Bool, List, None, Some, [], is_some, not, true, ◌||◌, ◌∷◌, ◌≡◌}
+-- The channel gives the three up on their links, and closes what it queued on the links 1, 2 and 1.
+use Rattle.std.specs.Prelude.{List, [], ◌∷◌}
 use Rattle.channel_core.specs.Tables.{reset_in, sealed_in}
 use Rattle.channel_core.specs.declared.state.links.LinkSlot.{LinkSlot}
-use Rattle.session_actions.specs.Actions.{after}
-use Rattle.session_actions.specs.AttemptEnds.{attempt_ended, cut_end, end_of, next_reset}
-use Rattle.session_actions.specs.Attempts.{is_outstanding}
 use Rattle.session_actions.specs.Links.{link_number}
-use Rattle.session_actions.specs.Words.{numbered}
-use Rattle.session_actions.specs.declared.action.Action.{Action}
 use Rattle.session_actions.specs.declared.attempt.Attempt.{Attempt}
-use Rattle.session_actions.specs.declared.seen.Seen.{Seen}
 
--- an attempt is outstanding, and is cut off
-pub record IsOut (s : Seen) (a : Attempt) : Type 0 where
-  pub there : numbered s.attempts a.place ≡ Some a
-  pub outstanding : is_outstanding a ≡ true
-
-abbrev pub cut_off : Attempt → Seen → Seen
-cut_off a s = attempt_ended a.place (end_of a cut_end s) s
-
--- no stream was reset of an attempt that goes on
-abbrev pub is_unreset : Attempt → Bool
-is_unreset a = is_some a.row.ended || not a.reset
-
-abbrev pub AreUnreset : Seen → Type 0
-AreUnreset s = list_all is_unreset s.attempts ≡ true
-
--- these are cut off, one after the other
-abbrev pub AreCutOff : List Attempt → Seen → Seen → Type 0
-AreCutOff [] s t = t ≡ s
-AreCutOff (a ∷ cuts) s t = IsOut s a × AreCutOff cuts (cut_off a s) t
-
--- streams are reset, each the next one, until none is left
-abbrev pub AreReset : List Action → Seen → Seen → Type 0
-AreReset [] s t = (next_reset s ≡ None) × (t ≡ s)
-AreReset (a ∷ actions) s t = (next_reset s ≡ Some a) × AreReset actions (after a s) t
-
--- the links of the channel: each attempt is given up on its link, and then what was queued on these links is closed
+-- each attempt is given up on its link, and then what was queued on these links is closed
 abbrev pub links_cut : List Attempt → List LinkSlot → List LinkSlot
 links_cut [] links = links
 links_cut (a ∷ cuts) links = links_cut cuts (reset_in (link_number a) a.place links)

@@ -9,7 +9,8 @@ use Rattle.channel_actions.specs.Links.{SeesLinks}
 use Rattle.channel_core.specs.States.{StateSeen}
 use Rattle.grpc_base.specs.declared.event.EndCause.{EndCause}
 use Rattle.kept_sessions.specs.Kept.{IsKept}
-use Rattle.link_ends.specs.Cuts.{AreCutOff, AreReset, AreUnreset, links_closed, links_cut}
+use Rattle.ends_follow.specs.Cuts.{AreCutOff, AreReset, AreUnreset}
+use Rattle.link_ends.specs.Cuts.{links_closed, links_cut}
 use Rattle.session_actions.specs.AttemptEnds.{reset_code_of}
 use Rattle.session_actions.specs.CallEnds.{call_ended}
 use Rattle.session_actions.specs.declared.action.Action.{Action}

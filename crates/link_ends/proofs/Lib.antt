@@ -1,0 +1,5 @@
+pub mod Codes
+pub mod Cutting
+pub mod Behind
+pub mod Resets
+pub mod Ends
