@@ -1,11 +1,11 @@
 -- The application sends a message that commits no call and ends none: it is accepted, or the call is full, or it is refused.
-use Rattle.attempt_buffer.specs.Buffers.{Buffered}
+use Rattle.attempt_buffer.specs.Buffers.{Buffered, held}
 use Rattle.attempt_buffer.specs.declared.buffer.PushFault.{PushFault}
 use Rattle.attempt_buffer.specs.declared.buffer.Pushed.{Pushed}
 use Rattle.attempt_buffer.specs.declared.buffer.Pushed.TheVariants as pushed
 use Rattle.attempt_buffer.specs.declared.buffer.PushFault.TheVariants as fault
 use Rattle.call_core.specs.Parts as parts
-use Rattle.call_core.specs.Parts.{has_room, held, push_answer, pushed_over}
+use Rattle.call_core.specs.Parts.{has_room, pushed_over}
 use Rattle.call_core.specs.Steps as steps
 use Rattle.call_core.specs.Steps.{Stepped, accepted_if, committed_over, full_reply, full_with, lent, with_message}
 use Rattle.call_core.specs.declared.state.CallState.{CallState}
@@ -195,6 +195,9 @@ module _ (along : KeptAlong) (x : StateSeen) (o : OpenEntry) (s0 : Seen) (h : Ag
       abbrev q : OpenEntry
       q = replied_entry full o
 
+      abbrev w : Seen
+      w = with_open q s0
+
       abbrev v : Seen
       v = t s0 o full c (λ (d : Call). d.messages) (λ (d : Call). d.finished) (λ (d : Call). d.taken) (λ (d : Call). d.end_taken)
 
@@ -218,23 +221,23 @@ module _ (along : KeptAlong) (x : StateSeen) (o : OpenEntry) (s0 : Seen) (h : Ag
           short_now d (ap (numbered u.calls) (eqb-true c.number d.number k) ∙ there_too)
       long_by d false k there_too = refl
 
-      request_one : (d : Call) → numbered u.calls d.number ≡ Some d → has_long_request o u d ≡ false → has_long_request q u d ≡ false
+      request_one : (d : Call) → numbered u.calls d.number ≡ Some d → has_long_request o u d ≡ false → has_long_request q w d ≡ false
       request_one d there_too none =
-          ap (λ (z : Event). is_open_call d && (list_any (λ (k : List ℕ). is_too_long k d u) d.messages || sends_too_long z d u)) is
-          ∙ ap (λ (b : Bool). is_open_call d && (list_any (λ (k : List ℕ). is_too_long k d u) d.messages || b)) (long_by d (c.number == d.number) refl there_too)
+          ap (λ (z : Event). is_open_call d && (list_any (λ (k : List ℕ). is_too_long k d w) d.messages || sends_too_long z d w)) is
+          ∙ ap (λ (b : Bool). is_open_call d && (list_any (λ (k : List ℕ). is_too_long k d w) d.messages || b)) (long_by d (c.number == d.number) refl there_too)
           ∙ request_narrow (is_open_call d) (list_any (λ (k : List ℕ). is_too_long k d u) d.messages) (is_after_event o && sends_too_long o.event d u) none
 
-      request_still : order.IsStill line.Request o u → order.IsStill line.Request q u
+      request_still : order.IsStill line.Request o u → order.IsStill line.Request q w
       request_still none =
-          none_from (has_long_request q u) s0.calls
+          none_from (has_long_request q w) s0.calls
           (λ k d e2. request_one d (ap (numbered s0.calls) (numbers k d e2) ∙ e2) (passes_not (has_long_request o u) s0.calls k d none e2))
 
-      cancelled_still : order.IsStill line.Cancelled q u
+      cancelled_still : order.IsStill line.Cancelled q w
       cancelled_still =
           none_from (is_cancelled q) s0.calls
           (λ k d e2. ap (λ (z : Event). (is_open_call d && true) && cancels z d.number) is ∙ and_none (is_open_call d && true))
 
-      still : (l : Line) → order.IsStill l q (record s0 { current = Some q })
+      still : (l : Line) → order.IsStill l q w
       still line.Cancelled = cancelled_still
       still line.Request = request_still (to_order o u at.calm line.Request)
       still l = answered_leaves full o u refl no_result l q refl refl (to_order o u at.calm l)

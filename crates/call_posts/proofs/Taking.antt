@@ -1,5 +1,6 @@
 -- The application takes: the next item, nothing yet, or a refusal once the end was taken.
 use Rattle.attempt_ledger.specs.declared.ledger.Ledger.{Ledger}
+use Rattle.attempt_ledger.specs.declared.ledger.LinkSeen.{LinkSeen}
 use Rattle.attempt_ledger.specs.declared.row.Row.{Row}
 use Rattle.attempt_ledger.specs.declared.row.RowEnd.{RowEnd}
 use Rattle.call_actions.proofs.Lists.{changed_here}
@@ -38,6 +39,7 @@ use Rattle.session_actions.specs.CallEnds.{next_deadline}
 use Rattle.session_actions.specs.Deliveries.{is_end, item_taken, next_item, take_action}
 use Rattle.session_actions.specs.Events.{event_action, event_action_by}
 use Rattle.session_actions.specs.Refusals.{refused_if, take_refusal}
+use Rattle.session_actions.specs.Sessions.{link_seen}
 use Rattle.session_actions.specs.Words.{numbered}
 use Rattle.session_actions.specs.declared.action.Action.{Action}
 use Rattle.session_actions.specs.declared.action.Action.TheVariants as action
@@ -46,7 +48,7 @@ use Rattle.session_actions.specs.declared.entry.OpenEntry.{OpenEntry}
 use Rattle.session_actions.specs.declared.entry.Stage.TheVariants as stage
 use Rattle.session_actions.specs.declared.seen.Seen.{Seen}
 use Rattle.session_order.proofs.Posts.{taken_leaves}
-use Rattle.std.proofs.Common.{Bool, List, None, Option, Some, [], ap, arith, false, if◌then◌else◌, option_map, refl, subst, sym, true, ℕ, ◌+◌, ◌==◌, ◌∙◌, ◌∷◌, ◌≡◌}
+use Rattle.std.proofs.Common.{Bool, List, None, Option, Some, [], ap, arith, false, if◌then◌else◌, map, option_map, refl, subst, sym, true, ℕ, ◌+◌, ◌==◌, ◌∙◌, ◌∷◌, ◌≡◌}
 use Rattle.std.proofs.lemmas.Bool.{eq-eqb}
 use Rattle.take_actions.proofs.Takes.{takes_are_items}
 use Rattle.take_actions.specs.Laws as take_actions
@@ -90,6 +92,23 @@ nothing_by ledger call false e says =
 nothing_taken : (ledger : Ledger) (call : CallState) → steps.take_reply ledger call ≡ reply.NotYet → steps.taken call ≡ call
 nothing_taken ledger call says = nothing_by ledger call call.inbox.is_end_taken refl says
 
+-- what is taken hangs on no link of the ledger
+module _ (l : Ledger) (links : List LinkSeen) (call : CallState) where
+  ended_same : (o : Option EndCause) → ended_reply o (record l { links = links }) call ≡ ended_reply o l call
+  ended_same None = refl
+  ended_same (Some why) = refl
+
+  message_same : (o : Option (List ℕ)) → message_reply o (record l { links = links }) call ≡ message_reply o l call
+  message_same None = ended_same call.ended
+  message_same (Some m) = refl
+
+  item_same : (o : Option (List Field)) → item_reply o (record l { links = links }) call ≡ item_reply o l call
+  item_same None = message_same (first_of call.inbox.messages)
+  item_same (Some meta) = refl
+
+  reply_same : steps.take_reply (record l { links = links }) call ≡ steps.take_reply l call
+  reply_same = ap (λ (r : Reply). if call.inbox.is_end_taken then reply.Refused refusal.CallEnded else r) (item_same call.inbox.head)
+
 same_reply : (a b : Reply) → Some a ≡ Some b → a ≡ b
 same_reply a b e = (cc)
 
@@ -122,7 +141,8 @@ module _ (along : KeptAlong) (x : StateSeen) (o : OpenEntry) (s0 : Seen) (h : Ag
   says = steps.take_reply st.ledger slot.call
 
   reply_is : (r : Reply) → IsWithin r → says ≡ r → r0 ≡ r
-  reply_is r within e = ap (λ (z : Option CallSlot). within_limit (take_reply_of x.book.ledger z)) there ∙ ap within_limit e ∙ within
+  reply_is r within e =
+      ap (λ (z : Option CallSlot). within_limit (take_reply_of x.book.ledger z)) there ∙ ap within_limit (sym (reply_same x.book.ledger (map link_seen s0.links) slot.call) ∙ e) ∙ within
 
   unchanged : steps.taken slot.call ≡ slot.call → y0 ≡ x
   unchanged same =

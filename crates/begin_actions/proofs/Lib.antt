@@ -1,0 +1,6 @@
+mod Agreeing
+mod Answered
+mod New
+mod Sets
+mod Slot
+mod Table

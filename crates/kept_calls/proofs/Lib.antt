@@ -1,0 +1,5 @@
+pub mod Along
+mod Fits
+mod Lines
+mod Parts
+mod Steps
