@@ -42,7 +42,7 @@ module _ (touched : Numbers) where
   -- links and attempts are the same, and so is what is said of calls
   same_links : (s t : Seen) → t.links ≡ s.links → (link : ℕ) (m : Link) → touched link ≡ false → numbered t.links link ≡ Some m
       → (l : Link) × (numbered s.links link ≡ Some l) × IsLinkStill l m
-  same_links s t e link m apart got = (m, (ap (λ (ls : List Link). numbered ls link) (sym e) ∙ got, link_self m))
+  same_links s t e link m apart got = (m, ap (λ (ls : List Link). numbered ls link) (sym e) ∙ got, link_self m)
 
   pub same_but_calls : (s t : Seen) → t.links ≡ s.links → t.attempts ≡ s.attempts → AllByRecursion (Goes touched s t) s.attempts → CannotTell touched s t
   same_but_calls s t links attempts goes = record {
@@ -55,7 +55,7 @@ module _ (touched : Numbers) where
     call = c;
     is = ap (λ (l : List Call). numbered l a.row.call) calls ∙ e;
     limit = limit_same s t c c refl refl configs;
-    more = le_refl;
+    more = le_refl (accepted_bytes c);
   }
 
   pub all_same : (s t : Seen) → IsSameSo s t → CannotTell touched s t
@@ -79,7 +79,7 @@ module _ (touched : Numbers) where
     call = c;
     is = changed_away f n a.row.call s.calls (eqb-false a.row.call n other) ∙ e;
     limit = refl;
-    more = le_refl;
+    more = le_refl (accepted_bytes c);
   }
 
   pub call_changed : (f : Call → Call) (n : ℕ) (s : Seen) → IsMild f → CannotTell touched s (with_call f n s)
@@ -92,7 +92,7 @@ module _ (touched : Numbers) where
   call_joins d s =
       let t : Seen = record s { calls = s.calls ++ d ∷ [] } in
       same_but_calls s t refl refl
-      (all_go touched s t (λ a link apart on c e. record { call = c; is = numbered_more s.calls d c a.row.call e; limit = refl; more = le_refl }) s.attempts)
+      (all_go touched s t (λ a link apart on c e. record { call = c; is = numbered_more s.calls d c a.row.call e; limit = refl; more = le_refl (accepted_bytes c) }) s.attempts)
 
   -- an attempt changes
   set_alike : (s t : Seen) (f : Attempt → Attempt) (xs : List Attempt) (i : ℕ) (x : Attempt) → AllByRecursion (Goes touched s t) xs → slice_get xs i ≡ Some x
@@ -124,7 +124,7 @@ module _ (touched : Numbers) where
     on = is.on;
     still = λ link apart on. record {
       stream = is.stream link apart on;
-      calls = λ c e. record { call = c; is = ap (numbered s.calls) is.call ∙ e; limit = refl; more = le_refl };
+      calls = λ c e. record { call = c; is = ap (numbered s.calls) is.call ∙ e; limit = refl; more = le_refl (accepted_bytes c) };
     };
   }
 
@@ -152,13 +152,13 @@ module _ (touched : Numbers) where
 
   pub link_changed : (f : Link → Link) (n : ℕ) (s : Seen) → ((link : ℕ) → touched link ≡ false → link ≡ n → ⊥) → CannotTell touched s (record s { links = changed f n s.links })
   link_changed f n s off = record {
-    links = λ link m apart got. (m, (sym (changed_away f n link s.links (off link apart)) ∙ got, link_self m));
+    links = λ link m apart got. (m, sym (changed_away f n link s.links (off link apart)) ∙ got, link_self m);
     attempts = attempts_stay s (changed f n s.links);
   }
 
   mapped_by : (f : Link → Link) → ((l : Link) → IsLinkStill l (f l)) → (m : Link) (o : Option Link) → option_map f o ≡ Some m → (l : Link) × (o ≡ Some l) × IsLinkStill l m
   mapped_by f still m None e = absurd (cc)
-  mapped_by f still m (Some l) e = let one : f l ≡ m = (cc) in (l, (refl, subst (IsLinkStill l) one (still l)))
+  mapped_by f still m (Some l) e = let one : f l ≡ m = (cc) in (l, refl, subst (IsLinkStill l) one (still l))
 
   pub links_mapped : (f : Link → Link) (s : Seen) → ((l : Link) → IsLinkStill l (f l)) → CannotTell touched s (record s { links = map f s.links })
   links_mapped f s still = record {
@@ -175,6 +175,6 @@ module _ (touched : Numbers) where
 
   pub link_joins : (l : Link) (s : Seen) → ((link : ℕ) → touched link ≡ false → link ≡ length s.links + 1 → ⊥) → CannotTell touched s (record s { links = s.links ++ l ∷ [] })
   link_joins l s off = record {
-    links = λ link m apart got. (m, (sym (beyond s.links l link (off link apart)) ∙ got, link_self m));
+    links = λ link m apart got. (m, sym (beyond s.links l link (off link apart)) ∙ got, link_self m);
     attempts = attempts_stay s (s.links ++ l ∷ []);
   }

@@ -6,6 +6,7 @@ use Rattle.link_frames.specs.Alike.{AreAlike, CannotTell, IsAlike, IsAttemptStil
 use Rattle.link_frames.specs.Laws.{FewerTell, TellingsJoin}
 use Rattle.session_actions.specs.Attempts.{call_of}
 use Rattle.session_actions.specs.Words.{numbered}
+use Rattle.session_actions.specs.Writing.{accepted_bytes}
 use Rattle.session_actions.specs.declared.attempt.Attempt.{Attempt}
 use Rattle.session_actions.specs.declared.call.Call.{Call}
 use Rattle.session_actions.specs.declared.link.Link.{Link}
@@ -66,7 +67,7 @@ module _ (touched : Numbers) where
     links = λ link m apart got.
         let two = g.links link m apart got in
         let one = f.links link two.0 apart two.1 in
-        (one.0, (one.1, link_join one.0 two.0 m one.2 two.2));
+        (one.0, one.1, link_join one.0 two.0 m one.2 two.2);
     attempts = alike_join s t u s.attempts t.attempts u.attempts f.attempts g.attempts;
   }
 
@@ -75,11 +76,11 @@ module _ (touched : Numbers) where
   all_go s t goes (a ∷ xs) = (goes a, all_go s t goes xs)
 
   goes_self : (s : Seen) (a : Attempt) → Goes s s a
-  goes_self s a link apart on c e = record { call = c; is = e; limit = refl; more = le_refl }
+  goes_self s a link apart on c e = record { call = c; is = e; limit = refl; more = le_refl (accepted_bytes c) }
 
   pub untold : (s : Seen) → CannotTell touched s s
   untold s = record {
-    links = λ link m apart got. (m, (got, link_self m));
+    links = λ link m apart got. (m, got, link_self m);
     attempts = selves_alike s s s.attempts (all_go s s (goes_self s) s.attempts);
   }
 

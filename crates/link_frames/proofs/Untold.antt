@@ -1,5 +1,5 @@
 -- An action cannot be told by the links on which it does not bear.
-use Rattle.std.proofs.Common.{◌≡◌, ◌+◌, ◌++◌, ◌∷◌, ◌&&◌, ◌==◌, ◌||◌, ◌≤◌, ap, arith, length-append, refl, subst, sym, ◌∙◌, Bool, true, false, List, [], Option, None, Some, ℕ, zero, suc, cond, filter, if◌then◌else◌, is_none, is_some, length, map, option_and_then, slice_get}
+use Rattle.std.proofs.Common.{◌≡◌, ◌+◌, ◌++◌, ◌∷◌, ◌&&◌, ◌==◌, ◌||◌, ◌≤◌, ap, arith, length-append, refl, subst, sym, ◌∙◌, Bool, true, false, List, [], Option, None, Some, ℕ, zero, suc, cond, filter, if◌then◌else◌, is_none, is_some, length, map, not, option_and_then, slice_get}
 use Rattle.std.proofs.Math.Nat.{le_refl}
 use Rattle.std.proofs.lemmas.Bool.{eqb-false, eqb-true, or_parts}
 use Rattle.std.proofs.lemmas.List.Concat.{flat_map-append}
@@ -75,7 +75,7 @@ use Rattle.session_actions.specs.declared.subchannel.Subchannel.{Subchannel}
 -- calls that change mildly
 mild : (touched : Numbers) (f : Call → Call) → ((c : Call) → (f c).config ≡ c.config) → ((c : Call) → (f c).request ≡ c.request) → ((c : Call) → (f c).messages ≡ c.messages) → IsMild touched f
 mild touched f config request messages =
-    record { config = config; request = request; more = λ c. subst (λ (ms : List (List ℕ)). accepted_bytes c ≤ length (framed_all ms)) (sym (messages c)) le_refl }
+    record { config = config; request = request; more = λ c. subst (λ (ms : List (List ℕ)). accepted_bytes c ≤ length (framed_all ms)) (sym (messages c)) (le_refl (accepted_bytes c)) }
 
 longer : (c : Call) (m : List ℕ) → accepted_bytes c ≤ length (framed_all (c.messages ++ m ∷ []))
 longer c m =
@@ -85,7 +85,7 @@ longer c m =
 
 message_mild : (touched : Numbers) (e : Event) → IsMild touched (with_message e)
 message_mild touched (event.Send call message) = record { config = λ c. refl; request = λ c. refl; more = λ c. longer c message }
-message_mild touched _ = record { config = λ c. refl; request = λ c. refl; more = λ c. le_refl }
+message_mild touched _ = record { config = λ c. refl; request = λ c. refl; more = λ c. le_refl (accepted_bytes c) }
 
 marks_mild : (touched : Numbers) (what : MarkKind) (moment : ℕ) → IsMild touched (λ (c : Call). record c { marks = c.marks ++ record { what = what; moment = moment } ∷ [] })
 marks_mild touched what moment = mild touched (λ (c : Call). record c { marks = c.marks ++ record { what = what; moment = moment } ∷ [] }) (λ c. refl) (λ c. refl) (λ c. refl)
@@ -353,7 +353,7 @@ module _ (touched : Numbers) (s : Seen) where
           call = c;
           is = off a.row.call (eqb-false a.row.call n (not_both (is_outstanding a) (a.row.call == n) (first_true (is_outstanding a) (is_placed_on link a) on) two.0)) ∙ e;
           limit = limit_same s u c c refl refl configs;
-          more = le_refl;
+          more = le_refl (accepted_bytes c);
         },
         clothed n xs u off configs two.1,
       )
@@ -376,7 +376,7 @@ module _ (touched : Numbers) (s : Seen) where
         call = c;
         is = ap (numbered u.calls) (sym own) ∙ k.call ∙ ap (numbered s.calls) own ∙ e;
         limit = ap (λ (o : Option HeldConfig). (option_map_or (λ (h : HeldConfig). chosen_for h.config c.request.path) o no_choice).response) k.config;
-        more = le_refl;
+        more = le_refl (accepted_bytes c);
       }
 
   config_got : (u : Seen) → u.attempts ≡ s.attempts → u.links ≡ s.links → ((c : Call) → numbered s.calls c.number ≡ Some c → IsApart s u c)

@@ -1,0 +1,2 @@
+pub mod Refed
+pub mod Lends

@@ -1,0 +1,4 @@
+pub mod Fresh
+pub mod Forms
+pub mod Counts
+pub mod Runs
