@@ -7,6 +7,7 @@ use Rattle.channel_core.specs.States.{StateSeen}
 use Rattle.channel_core.specs.Steps.{closed}
 use Rattle.grpc_base.specs.declared.event.EndCause.{EndCause}
 use Rattle.ends_follow.specs.Cuts.{AreUnreset}
+use Rattle.ends_follow.specs.Laws.{is_late}
 use Rattle.session_actions.specs.Actions.{following}
 use Rattle.session_actions.specs.CallEnds.{call_ended}
 use Rattle.session_actions.specs.Laws.{posted_in}
@@ -18,14 +19,9 @@ use Rattle.session_actions.specs.declared.call.Call.{Call}
 use Rattle.session_actions.specs.declared.entry.OpenEntry.{OpenEntry}
 use Rattle.session_actions.specs.declared.seen.Seen.{Seen}
 use Rattle.session_order.specs.Calm.{IsStill}
-use Rattle.session_order.specs.Lines.{is_line, is_of_policies}
+use Rattle.session_order.specs.Lines.{is_line}
 use Rattle.session_order.specs.declared.line.Line.{Line}
 use Rattle.session_order.specs.declared.line.Line.TheVariants as line
-
--- the lines that come after the resets: of a channel that is shut down, and of policies. Some of them may still give something
-abbrev pub is_late : Line → Bool
-is_late line.Shut = true
-is_late l = is_of_policies l
 
 -- the end of the call of a number is next; and once it has ended, nothing follows at once but that its attempts are cut off, and what these lines give
 pub record EndsNext (waits : Line → Bool) (number : ℕ) (why : EndCause) (x : StateSeen) (o : OpenEntry) (s : Seen) : Type 0 where
@@ -38,6 +34,7 @@ pub record EndsNext (waits : Line → Bool) (number : ℕ) (why : EndCause) (x :
   pub going : call.end ≡ None
   pub next : following s ≡ Some (action.CallEnds number why)
   pub uncut : IsStill line.Cut o s
+  pub unfollowed : IsStill line.Transparent o s
   pub still : (l : Line) → is_line l line.Cut ≡ false → waits l ≡ false → IsStill l o (call_ended number why s)
 
 -- the session after it: in the same entry, at the same stage, with nothing that follows at once but what these lines give
