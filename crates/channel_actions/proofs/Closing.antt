@@ -14,6 +14,7 @@ use Rattle.channel_actions.proofs.Stamps.{all_mapped, counted_at, map_same, map_
 use Rattle.channel_actions.specs.Agrees.{Agrees}
 use Rattle.channel_actions.specs.Calm.{AreCalm, IsAt}
 use Rattle.channel_actions.specs.Columns.{links_noted}
+use Rattle.kept_sessions.proofs.Beside.{kept_moved}
 use Rattle.kept_sessions.specs.Kept.{AreCounted}
 use Rattle.channel_actions.specs.Links.{HasLink, lines_in}
 use Rattle.channel_actions.specs.Points.{Rests}
@@ -30,6 +31,7 @@ use Rattle.session_actions.specs.Refusals.{is_gone}
 use Rattle.session_actions.specs.Responses.{is_read_by}
 use Rattle.session_actions.specs.Sessions.{link_seen}
 use Rattle.session_actions.specs.Words.{last_of, numbered}
+use Rattle.session_actions.specs.Writing.{is_control}
 use Rattle.session_actions.specs.declared.attempt.Attempt.{Attempt}
 use Rattle.session_actions.specs.declared.entry.OpenEntry.{OpenEntry}
 use Rattle.session_actions.specs.declared.entry.Stage.TheVariants as stage
@@ -113,6 +115,11 @@ module _ (x : StateSeen) (s : Seen) (h : Agrees x s) where
       all_mapped (λ (l : Link). is_some (numbered s.subs l.sub)) (noted_gone s)
       (stamp_keeps gone_now blind (λ (l : Link). is_some (numbered s.subs l.sub)) (λ l z. refl) (entry s)) s.links
 
+  queued_noted : list_all (λ (l : Link). list_all is_control l.owed) ls ≡ list_all (λ (l : Link). list_all is_control l.owed) s.links
+  queued_noted =
+      all_mapped (λ (l : Link). list_all is_control l.owed) (noted_gone s)
+      (stamp_keeps gone_now blind (λ (l : Link). list_all is_control l.owed) (λ l z. refl) (entry s)) s.links
+
   as_seen : map link_seen ls ≡ links_noted s
   as_seen = map-map link_seen (noted_gone s) s.links
 
@@ -120,7 +127,7 @@ module _ (x : StateSeen) (s : Seen) (h : Agrees x s) where
   agrees_noted =
       agrees_relinked s ls g w is x x.links h reads_kept
       (record { count = length-map s.links (noted_gone s) ∙ h.links.count; each = λ n l e. link_by n l (numbered s.links n) refl (sym (is n) ∙ e) })
-      (noted_is t (twice (entry s)) ∙ as_seen ∙ h.columns.links) (subst (AreCounted 1) (sym numbers_noted) h.kept.links) (dialled_noted ∙ h.kept.dialled)
+      (noted_is t (twice (entry s)) ∙ as_seen ∙ h.columns.links) (subst (AreCounted 1) (sym numbers_noted) h.kept.links) (dialled_noted ∙ h.kept.dialled) (queued_noted ∙ h.kept.queued)
 
 -- and the entry is made
 module _ (x : StateSeen) (o : OpenEntry) (s : Seen) (h : Agrees x s) (at : IsAt stage.Settling o s) where
@@ -149,8 +156,7 @@ module _ (x : StateSeen) (o : OpenEntry) (s : Seen) (h : Agrees x s) (at : IsAt 
         (entry_same ∙ h.clock.entry_is)
         (record { entry_is = entry_same ∙ h.clock.entry_is; moment = moment_same ∙ h.clock.moment; draws = tt }) h.configs.unconfigured
         (noted_is (entry_made o s) (twice x s h (length made + 0)) ∙ as_seen x s h ∙ h.columns.links)
-        (subst (λ (n : ℕ). list_all (λ (a : Attempt). option_map_or (λ (z : RowEnd). nat_le z.entry n) a.row.ended true) s.attempts ≡ true) (sym entry_same) h.kept.ends)
-        (subst (λ (n : ℕ). list_all (λ (k : Ask). nat_le k.entry n) s.asks ≡ true) (sym entry_same) h.kept.asks);
+        (kept_moved (t x s h) made None s.answered s.wants entry_same (agrees_noted x s h).kept);
     noted = twice x s h (length made + 0);
     calm = calm;
   }

@@ -22,6 +22,7 @@ use Rattle.grpc_base.specs.declared.event.Refusal.{Refusal}
 use Rattle.grpc_base.specs.declared.event.Refusal.TheVariants as refusal
 use Rattle.grpc_base.specs.declared.event.Reply.{Reply}
 use Rattle.grpc_base.specs.declared.event.Reply.TheVariants as reply
+use Rattle.kept_sessions.proofs.Beside.{kept_moved}
 use Rattle.net_actions.proofs.Dialling.{dialling_same}
 use Rattle.net_actions.specs.Laws.{NoneToDial}
 use Rattle.net_actions.specs.Sees.{AreSubs}
@@ -171,7 +172,7 @@ module _ (x y : StateSeen) (r : Reply) (o : OpenEntry) (s : Seen) (h : Agrees x 
   agrees_now =
       agrees_moved (with_open o s) s.entries (Some p) true false x agrees_open x.book.ledger.entry x.book.moment x.word x.drawn false (x.unconfigured || is_none x.held)
       agrees_open.clock.entry_is (record { entry_is = agrees_open.clock.entry_is; moment = agrees_open.clock.moment; draws = agrees_open.clock.draws })
-      (or_none x.held x.unconfigured) agrees_open.columns.links agrees_open.kept.ends agrees_open.kept.asks
+      (or_none x.held x.unconfigured) agrees_open.columns.links (kept_moved (with_open o s) s.entries (Some p) true false refl agrees_open.kept)
 
   failed : IsAnswered (unresolved x) reply.Done o s
   failed = record {

@@ -10,6 +10,7 @@ use Rattle.channel_actions.specs.Points.{Rests}
 use Rattle.channel_actions.specs.Sets.{is_patient}
 use Rattle.channel_core.specs.Applying.{new_state}
 use Rattle.channel_core.specs.States.{StateSeen}
+use Rattle.kept_sessions.proofs.Along.{kept_begins}
 use Rattle.lb_policy.specs.Table.{PolicySeen}
 use Rattle.net_actions.specs.Laws.{NewOnesAgree}
 use Rattle.net_actions.specs.Sees.{AreKinds}
@@ -80,7 +81,7 @@ module _ (setup : Setup) (policies : List PolicySeen) (alloc : Global) where
       outstanding = record { rising = tt; exact = λ a b. nothing_by (holds (λ (q : Attempt). is_outstanding q && (link_number q == a))) refl b };
       resets = refl;
     };
-    kept = record { calls = tt; attempts = tt; links = tt; owned = refl; dialled = refl; ends = refl; asks = refl };
+    kept = kept_begins setup;
   }
 
   pub new_rests : NewOnesAgree → AreKinds setup.policies policies → are_ready policies ≡ true → Rests x s

@@ -18,6 +18,7 @@ use Rattle.channel_core.specs.States.{StateSeen}
 use Rattle.grpc_base.specs.declared.event.Entry.{Entry}
 use Rattle.grpc_link.specs.Links.{reader_in}
 use Rattle.grpc_link.specs.Readers.{ReaderSeen}
+use Rattle.kept_sessions.specs.Kept.{IsKept}
 use Rattle.session_actions.specs.Entries.{entry}
 use Rattle.session_actions.specs.declared.attempt.Attempt.{Attempt}
 use Rattle.session_actions.specs.declared.call.Call.{Call}
@@ -143,9 +144,8 @@ module _ (s : Seen) (entries : List Entry) (current : Option OpenEntry) (answere
     }
 
     pub agrees_moved : SeesClock y t → (x.held ≡ None → answered ≡ unconfigured) → links_noted t ≡ x.book.ledger.links
-        → list_all (λ (a : Attempt). option_map_or (λ z. nat_le z.entry (entry t)) a.row.ended true) s.attempts ≡ true
-        → list_all (λ k. nat_le k.entry (entry t)) s.asks ≡ true → Agrees y t
-    agrees_moved clock config noted ends asks = record {
+        → IsKept t → Agrees y t
+    agrees_moved clock config noted kept = record {
       clock = clock;
       columns = record { rows = h.columns.rows; calls = h.columns.calls; asks = h.columns.asks; generations = h.columns.generations; links = noted };
       configs = record { authority = h.configs.authority; shut = h.configs.shut; held = h.configs.held; unconfigured = config; policy = h.configs.policy };
@@ -164,5 +164,5 @@ module _ (s : Seen) (entries : List Entry) (current : Option OpenEntry) (answere
         outstanding = h.sets.outstanding;
         resets = h.sets.resets;
       };
-      kept = record { calls = h.kept.calls; attempts = h.kept.attempts; links = h.kept.links; owned = h.kept.owned; dialled = h.kept.dialled; ends = ends; asks = asks };
+      kept = kept;
     }

@@ -1,13 +1,8 @@
 -- An entry opens: channel and session agree on it, at the later of its moment and that of the entry before.
-use Rattle.std.proofs.Common.{◌≡◌, ◌≤◌, ◌+◌, ◌&&◌, ◌∷◌, ap, arith, refl, sym, ◌∙◌, Bool, true, false, List, [], Option, None, Some, ℕ, if◌then◌else◌, is_none, is_some}
+use Rattle.std.proofs.Common.{◌≡◌, ◌+◌, ◌&&◌, ◌∷◌, ap, refl, sym, ◌∙◌, Bool, true, false, List, [], Option, None, Some, ℕ, if◌then◌else◌, is_none, is_some}
 use Rattle.std.proofs.lemmas.Bool.{and_parts}
-use Rattle.std.proofs.lemmas.Bool.Decides.{nat_tests}
 use Rattle.std.proofs.lemmas.Simd.{map-map}
-use Rattle.std.specs.List.{list_all}
-use Rattle.std.specs.Option.{option_map_or}
-use Rattle.std.specs.Prelude.{length, map, max, nat_le}
-use Rattle.attempt_ledger.specs.declared.ledger.Ask.{Ask}
-use Rattle.attempt_ledger.specs.declared.row.RowEnd.{RowEnd}
+use Rattle.std.specs.Prelude.{length, map, max}
 use Rattle.channel_actions.proofs.Moved.{agrees_moved}
 use Rattle.channel_actions.specs.Agrees.{Agrees}
 use Rattle.channel_actions.specs.Columns.{links_noted}
@@ -16,11 +11,11 @@ use Rattle.channel_actions.specs.Stages.{Openings}
 use Rattle.channel_core.specs.Applying.{begun_at}
 use Rattle.channel_core.specs.States.{StateSeen}
 use Rattle.grpc_base.specs.declared.event.Event.{Event}
+use Rattle.kept_sessions.proofs.Beside.{kept_opened}
 use Rattle.session_actions.specs.Closing.{noted_gone}
 use Rattle.session_actions.specs.Entries.{entry, last_moment, opened, opened_entry}
 use Rattle.session_actions.specs.Refusals.{is_gone}
 use Rattle.session_actions.specs.Sessions.{link_seen}
-use Rattle.session_actions.specs.declared.attempt.Attempt.{Attempt}
 use Rattle.session_actions.specs.declared.entry.OpenEntry.{OpenEntry}
 use Rattle.session_actions.specs.declared.link.Link.{Link}
 use Rattle.session_actions.specs.declared.seen.Seen.{Seen}
@@ -53,27 +48,7 @@ unstamped test n m (l ∷ ls) e =
 pub noted_is : (s : Seen) → map (noted_gone s) s.links ≡ s.links → links_noted s ≡ map link_seen s.links
 noted_is s e = sym (map-map link_seen (noted_gone s) s.links) ∙ ap (map link_seen) e
 
--- a weaker test
-pub all_weaker : {X : Type 0} (p q : X → Bool) (xs : List X) → ((x : X) → p x ≡ true → q x ≡ true) → list_all p xs ≡ true → list_all q xs ≡ true
-all_weaker p q [] weaker h = refl
-all_weaker p q (x ∷ xs) weaker h =
-    let both = and_parts (p x) (list_all p xs) h in
-    ap (λ (b : Bool). b && list_all q xs) (weaker x both.0) ∙ all_weaker p q xs weaker both.1
-
-pub le_more : (a n m : ℕ) → n ≤ m → nat_le a n ≡ true → nat_le a m ≡ true
-le_more a n m below h = grind (arith, nat_tests)
-
-ended_more : (n m : ℕ) → n ≤ m → (o : Option RowEnd) → option_map_or (λ (z : RowEnd). nat_le z.entry n) o true ≡ true → option_map_or (λ (z : RowEnd). nat_le z.entry m) o true ≡ true
-ended_more n m below None h = refl
-ended_more n m below (Some z) h = le_more z.entry n m below h
-
 module _ (x : StateSeen) (s : Seen) (posted word : ℕ) (e : Event) (h : Rests x s) where
-  entry_was : entry s ≡ length s.entries + 0
-  entry_was = ap (λ (o : Option OpenEntry). length s.entries + (if is_some o then 1 else 0)) h.between
-
-  below : entry s ≤ length s.entries + 1
-  below = let was : entry s ≡ length s.entries + 0 = entry_was in omega arith
-
   pub opens : Agrees (begun_at (length s.entries + 1) (max (last_moment s) posted) word x) (opened posted word e s)
   opens =
       agrees_moved s s.entries (Some (opened_entry posted word e s)) s.answered s.wants x h.agrees (length s.entries + 1) (max (last_moment s) posted) word 0
@@ -81,11 +56,7 @@ module _ (x : StateSeen) (s : Seen) (posted word : ℕ) (e : Event) (h : Rests x
       (record { entry_is = refl; moment = refl; draws = (refl, refl) }) h.agrees.configs.unconfigured
       (noted_is (opened posted word e s) (unstamped (λ l. is_gone l s) (entry s) (length s.entries + 1) s.links h.noted)
       ∙ sym (noted_is s h.noted) ∙ h.agrees.columns.links)
-      (all_weaker (λ (a : Attempt). option_map_or (λ (z : RowEnd). nat_le z.entry (entry s)) a.row.ended true)
-      (λ (a : Attempt). option_map_or (λ (z : RowEnd). nat_le z.entry (length s.entries + 1)) a.row.ended true) s.attempts
-      (λ a. ended_more (entry s) (length s.entries + 1) below a.row.ended) h.agrees.kept.ends)
-      (all_weaker (λ (k : Ask). nat_le k.entry (entry s)) (λ (k : Ask). nat_le k.entry (length s.entries + 1)) s.asks
-      (λ k. le_more k.entry (entry s) (length s.entries + 1) below) h.agrees.kept.asks)
+      (kept_opened posted word e s h.between h.agrees.kept)
 
 pub openings : Openings
 openings x s posted word e h = opens x s posted word e h

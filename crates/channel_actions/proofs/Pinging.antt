@@ -16,6 +16,7 @@ use Rattle.channel_actions.specs.Agrees.{Agrees}
 use Rattle.channel_actions.specs.Calm.{IsAt}
 use Rattle.channel_actions.specs.Cases.{IsPing, PingsStayCalm}
 use Rattle.channel_actions.specs.Columns.{links_noted}
+use Rattle.kept_sessions.proofs.Lists as lists
 use Rattle.kept_sessions.specs.Kept.{AreCounted}
 use Rattle.channel_actions.specs.Links.{HasLink, IsGoing, lines_in}
 use Rattle.channel_actions.specs.Readers.{attempt_on}
@@ -47,7 +48,7 @@ use Rattle.session_actions.specs.CallEnds.{next_deadline}
 use Rattle.session_actions.specs.Closing.{noted_gone}
 use Rattle.session_actions.specs.Entries.{entry, replied}
 use Rattle.session_actions.specs.Events.{event_action, frame_of_event}
-use Rattle.session_actions.specs.Writing.{ping_of}
+use Rattle.session_actions.specs.Writing.{is_control, ping_of}
 use Rattle.session_actions.specs.Links.{is_retiring, owed, read_bytes}
 use Rattle.session_actions.specs.Refusals.{is_gone, link_refusal, refusal_of}
 use Rattle.session_actions.specs.Responses.{is_read_by}
@@ -219,6 +220,7 @@ module _ (pings : PingsKeep) (x : StateSeen) (s : Seen) (h : Agrees x s) (link w
       })
       noted (subst (AreCounted 1) (sym (map_changed (λ (l : Link). l.number) f (λ l. refl) link s.links)) h.kept.links)
       (all_changed (λ (l : Link). is_some (numbered s.subs l.sub)) f (λ l. refl) link s.links ∙ h.kept.dialled)
+      (lists.all_changed (λ (l : Link). list_all is_control l.owed) f link s.links h.kept.queued (λ l got ok. lists.all_more is_control l.owed frames ok refl))
 
 module _ (pings : PingsKeep) (calm : PingsStayCalm) (x : StateSeen) (r : Reply) (o : OpenEntry) (s : Seen) (h : Agrees x s) (at : IsAt stage.Event o s) (fresh : o.turn ≡ None)
     (timely : next_deadline s ≡ None) (link word : ℕ) (is : o.event ≡ event.Ping link word) (kept : channel.refusal_of o.event x ≡ None) where

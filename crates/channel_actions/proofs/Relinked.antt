@@ -14,6 +14,7 @@ use Rattle.channel_actions.specs.Agrees.{Agrees}
 use Rattle.channel_actions.specs.Calls.{HasSlot, lent_to}
 use Rattle.channel_actions.specs.Clock.{DrawsAlike}
 use Rattle.channel_actions.specs.Columns.{links_noted}
+use Rattle.kept_sessions.proofs.Beside.{kept_linked}
 use Rattle.kept_sessions.specs.Kept.{AreCounted}
 use Rattle.channel_actions.specs.Links.{SeesLinks}
 use Rattle.channel_core.specs.States.{StateSeen}
@@ -35,7 +36,7 @@ use Rattle.session_actions.specs.Responses.{is_read_by, no_response, response, r
 use Rattle.session_actions.specs.Sessions.{link_seen}
 use Rattle.session_actions.specs.Words.{numbered}
 use Rattle.session_actions.specs.Reading.{used}
-use Rattle.session_actions.specs.Writing.{drained, streaming_on, waiting_on}
+use Rattle.session_actions.specs.Writing.{drained, is_control, streaming_on, waiting_on}
 use Rattle.session_actions.specs.declared.attempt.Attempt.{Attempt}
 use Rattle.session_actions.specs.declared.call.Call.{Call}
 use Rattle.session_actions.specs.declared.due.DueState.{DueState}
@@ -43,6 +44,7 @@ use Rattle.session_actions.specs.declared.entry.OpenEntry.{OpenEntry}
 use Rattle.session_actions.specs.declared.link.Link.{Link}
 use Rattle.session_actions.specs.declared.response.Response.{Response}
 use Rattle.session_actions.specs.declared.seen.Seen.{Seen}
+use Rattle.session_order.proofs.Lists.{some_map}
 use Rattle.stream_actions.specs.Sees.{AreHeard, SeesStreams}
 use Rattle.take_actions.specs.Serves as serves
 use Rattle.take_actions.specs.Serves.{Holds, IsAt, IsLeft, Serves, came, drained_so_far, passed}
@@ -269,8 +271,8 @@ module _ (s : Seen) (ls : List Link) (g : ℕ → Link → Option ℕ) (w : ℕ 
       draws_with (Some o) d = (d.0, d.1)
 
       pub agrees_relinked : SeesLinks y t → links_noted t ≡ x.book.ledger.links → AreCounted 1 (map (λ (l : Link). l.number) ls)
-          → list_all (λ (l : Link). is_some (numbered s.subs l.sub)) ls ≡ true → Agrees y t
-      agrees_relinked links noted counted dialled = record {
+          → list_all (λ (l : Link). is_some (numbered s.subs l.sub)) ls ≡ true → list_all (λ (l : Link). list_all is_control l.owed) ls ≡ true → Agrees y t
+      agrees_relinked links noted counted dialled queued = record {
         clock = record { entry_is = agrees.clock.entry_is; moment = agrees.clock.moment; draws = draws_with s.current agrees.clock.draws };
         columns = record {
           rows = agrees.columns.rows;
@@ -301,13 +303,5 @@ module _ (s : Seen) (ls : List Link) (g : ℕ → Link → Option ℕ) (w : ℕ 
           outstanding = agrees.sets.outstanding;
           resets = agrees.sets.resets;
         };
-        kept = record {
-          calls = agrees.kept.calls;
-          attempts = agrees.kept.attempts;
-          links = counted;
-          owned = agrees.kept.owned;
-          dialled = dialled;
-          ends = agrees.kept.ends;
-          asks = agrees.kept.asks;
-        };
+        kept = kept_linked s ls (λ k there. ap is_some (is k) ∙ some_map (h k) (numbered s.links k) ∙ there) counted dialled (reads agrees.kept.reads) queued agrees.kept;
       }

@@ -31,10 +31,10 @@ le_of : (a n m : ℕ) → n ≡ m → nat_le a n ≡ true → a ≤ m
 le_of a n m same h = grind (arith, nat_tests)
 
 -- in either words
-to_order : CalmIsExact → (o : OpenEntry) (s : Seen) → IsCalm o s → order.IsCalm o s
+pub to_order : CalmIsExact → (o : OpenEntry) (s : Seen) → IsCalm o s → order.IsCalm o s
 to_order exact o s c = (exact o s).0 (c.calls, c.links, c.policies)
 
-of_order : CalmIsExact → (o : OpenEntry) (s : Seen) → order.IsCalm o s → IsCalm o s
+pub of_order : CalmIsExact → (o : OpenEntry) (s : Seen) → order.IsCalm o s → IsCalm o s
 of_order exact o s c = let back = (exact o s).1 c in record { calls = back.0; links = back.1; policies = back.2 }
 
 module _ (o : OpenEntry) (s : Seen) (at : IsAt stage.Settling o s) (kept : IsKept s) (made : ℕ) (same : entry s ≡ made) where

@@ -16,6 +16,7 @@ use Rattle.grpc_base.specs.declared.event.Event.{Event}
 use Rattle.grpc_base.specs.declared.event.Event.TheVariants as event
 use Rattle.grpc_base.specs.declared.event.Reply.{Reply}
 use Rattle.grpc_base.specs.declared.kind.Kind.{Kind}
+use Rattle.kept_sessions.proofs.Beside.{kept_moved}
 use Rattle.session_actions.specs.Actions.{after, after_if, first_action, following, following_in, of_calls, of_links, of_policies, of_stage}
 use Rattle.session_actions.specs.CallEnds.{cancels, has_long_request, has_long_response, is_after_event, is_cancelled, is_over_by_row, is_shut_down, next_ended, sends_too_long}
 use Rattle.session_actions.specs.Calls.{is_open_call}
@@ -186,7 +187,7 @@ reopened x o p s moment word drawn h =
     agrees_moved (with_open o s) s.entries (Some p) s.answered s.wants x h x.book.ledger.entry x.book.moment x.word x.drawn x.resolver x.unconfigured
     h.clock.entry_is
     (record { entry_is = h.clock.entry_is; moment = moment ∙ h.clock.moment; draws = (word ∙ h.clock.draws.0, h.clock.draws.1 ∙ ap (λ (d : ℕ). d % 2 ^ 64) (sym drawn)) })
-    h.configs.unconfigured h.columns.links h.kept.ends h.kept.asks
+    h.configs.unconfigured h.columns.links (kept_moved (with_open o s) s.entries (Some p) s.answered s.wants refl h.kept)
 
 -- so SettlingBegins follows, and leads to a point of the settling
 pub record Settles (x : StateSeen) (o : OpenEntry) (s : Seen) : Type 0 where

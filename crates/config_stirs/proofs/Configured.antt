@@ -1,16 +1,15 @@
 -- A call without an attempt gets its config: the other calls and all attempts are as before.
 use Rattle.std.proofs.Common.{◌≡◌, ◌∷◌, ◌++◌, ◌||◌, ◌&&◌, ◌==◌, not, ap, refl, subst, sym, ◌∙◌, Bool, true, false, List, [], Option, None, Some, ℕ, zero, suc, if◌then◌else◌, is_none, is_some, slice_get}
-use Rattle.std.proofs.lemmas.Bool.{eqb-false, eqb-true}
+use Rattle.std.proofs.lemmas.Bool.{eqb-false}
 use Rattle.std.specs.List.{list_any}
-use Rattle.std.specs.Option.{option_and_then, option_map, option_map_or, option_or}
+use Rattle.std.specs.Option.{option_map_or, option_or}
 use Rattle.attempt_ledger.specs.Ends.{is_cut}
 use Rattle.attempt_ledger.specs.declared.row.RowEnd.{RowEnd}
 use Rattle.config_stirs.specs.Laws.{ConfigsStir}
 use Rattle.grpc_base.specs.Limits.{message_limit}
-use Rattle.session_actions.specs.Actions.{after_in}
 use Rattle.session_actions.specs.AttemptEnds.{code_at_end, code_for_stream, code_to_reset, lost_end, outcome_of, outcome_on, reset_code_of}
 use Rattle.session_actions.specs.Attempts.{commitment, counts_by, is_commitment, is_counted, is_followed, is_of, is_outstanding, is_over, is_over_in, is_queued, is_to_follow, wants_follower, wants_follower_by}
-use Rattle.session_actions.specs.CallEnds.{has_long_request, has_long_response, is_cancelled, is_over_by_row, is_shut_down}
+use Rattle.session_actions.specs.CallEnds.{has_long_response, is_cancelled, is_over_by_row, is_shut_down}
 use Rattle.session_actions.specs.Calls.{is_open_call}
 use Rattle.session_actions.specs.Commitments.{has_head_in, is_final_end, is_final_in, is_free_call, is_headed, is_inherited, is_inherited_in}
 use Rattle.session_actions.specs.Configs.{call_configured, chosen_of}
@@ -29,7 +28,7 @@ use Rattle.session_actions.specs.declared.response.Outcome.{Outcome}
 use Rattle.session_actions.specs.declared.response.Response.{Response}
 use Rattle.session_actions.specs.declared.seen.Seen.{Seen}
 use Rattle.session_order.proofs.Boards.{goes_on}
-use Rattle.session_order.proofs.Changed.{changed_away, changed_map, changed_twice, none_each_changed, none_from, passes_not}
+use Rattle.session_order.proofs.Changed.{changed_away, changed_twice, none_each_changed, passes_not}
 use Rattle.session_order.proofs.Finals.{final_same}
 use Rattle.session_order.proofs.Limits.{code_with, then_same}
 use Rattle.session_order.proofs.Lists.{holds_same}
@@ -76,6 +75,14 @@ last_by test y xs x None false e f more is = absurd (cc)
 last_is_one : {X : Type 0} (test : X → Bool) (xs : List X) (x : X) → find_last test xs ≡ Some x → IsOne test xs x
 last_is_one test [] x e = absurd (cc)
 last_is_one test (y ∷ xs) x e = last_by test y xs x (find_last test xs) (test y) refl refl (λ z f. last_is_one test xs z f) e
+
+first_of_two : (a b : Bool) → (a && b) ≡ true → a ≡ true
+first_of_two true b e = refl
+first_of_two false b e = absurd (cc)
+
+and_off : (b : Bool) → (b && false) ≡ false
+and_off true = refl
+and_off false = refl
 
 module _ (s : Seen) (n : ℕ) (config at : ℕ) (numbers : AreNumbered s) (none : list_any (λ (a : Attempt). a.row.call == n) s.attempts ≡ false) where
   abbrev now_one : Call → Call
@@ -142,20 +149,16 @@ module _ (s : Seen) (n : ℕ) (config at : ℕ) (numbers : AreNumbered s) (none 
       (then_same (code_to_reset a e stream t) (code_to_reset a e stream s) (code_same a (response_same i a there) e stream) (link_of a s))) a.row.stream) a.row.ended
 
   -- the attempt to which a call is committed
+  own_not : (c : Call) (k : Attempt) (i : ℕ) → numbered s.attempts i ≡ Some k → c.number ≡ n → is_commitment c k ≡ true → ⊥
+  own_not c k i there own is =
+      let mine : (k.row.call == n) ≡ true = ap (λ (m : ℕ). k.row.call == m) (sym own) ∙ first_of_two (is_of c k) (is_some k.row.committed) is in
+      absurd (let bad : false ≡ true = sym (other i k there) ∙ mine in (cc))
+
   own_by : (c : Call) (o : Option Attempt) → commitment c s ≡ o → c.number ≡ n → o ≡ None
   own_by c None e own = refl
   own_by c (Some k) e own =
       let one = last_is_one (is_commitment c) s.attempts k e in
       absurd (own_not c k one.number one.there own one.passes)
-    where
-      own_not : (c : Call) (k : Attempt) (i : ℕ) → numbered s.attempts i ≡ Some k → c.number ≡ n → is_commitment c k ≡ true → ⊥
-      own_not c k i there own is =
-          let mine : (k.row.call == n) ≡ true = ap (λ (m : ℕ). k.row.call == m) (sym own) ∙ first_of_two (is_of c k) (is_some k.row.committed) is in
-          absurd (let bad : false ≡ true = sym (other i k there) ∙ mine in (cc))
-
-      first_of_two : (a b : Bool) → (a && b) ≡ true → a ≡ true
-      first_of_two true b e = refl
-      first_of_two false b e = absurd (cc)
 
   in_commitment : (p q : Attempt → Bool) → ((i : ℕ) (a : Attempt) → numbered s.attempts i ≡ Some a → p a ≡ q a) → (c : Call) (o : Option Attempt) → commitment c s ≡ o
       → holds p o ≡ holds q o
@@ -189,18 +192,10 @@ module _ (s : Seen) (n : ℕ) (config at : ℕ) (numbers : AreNumbered s) (none 
 
   row_here : (c : Call) → numbered s.calls n ≡ Some c → is_over_by_row t (now_one c) ≡ false
   row_here c there = ap (λ (o : Option Attempt). is_open_call c && holds (λ (k : Attempt). is_counted k t) o) (none_committed c there) ∙ and_off (is_open_call c)
-    where
-      and_off : (b : Bool) → (b && false) ≡ false
-      and_off true = refl
-      and_off false = refl
 
   response_here : (c : Call) → numbered s.calls n ≡ Some c → has_long_response t (now_one c) ≡ false
   response_here c there =
       ap (λ (o : Option Attempt). is_open_call c && holds (λ (k : Attempt). is_outstanding k && (response k t).large) o) (none_committed c there) ∙ and_off (is_open_call c)
-    where
-      and_off : (b : Bool) → (b && false) ≡ false
-      and_off true = refl
-      and_off false = refl
 
   pub configured_still : (l : Line) (o : OpenEntry) → stirs (action.CallConfigured n config) l ≡ false → IsStill l o s → IsStill l o t
   configured_still line.Cut o e h = still_by (is_to_cut t) (is_to_cut s) (λ i a there. ap (λ (x : Bool). is_outstanding a && x) (over_same i a there)) h

@@ -39,14 +39,14 @@ abbrev pub is_sound_sub : Seen → Subchannel → Bool
 is_sound_sub s b = option_map_or (came_up s) b.link (not (is_ready b.state))
 
 -- an answer names a subchannel that has a link, if it names one
-abbrev pub has_link_for : Seen → Pick → Bool
-has_link_for s (pick.Place sub) = holds (λ b. is_some b.link) (numbered s.subs sub)
-has_link_for s _ = true
+abbrev pub has_link_for : List Subchannel → Pick → Bool
+has_link_for subs (pick.Place sub) = holds (λ b. is_some b.link) (numbered subs sub)
+has_link_for subs _ = true
 
 -- a pick request is of an attempt that is there; where its answer is still to be acted on, in the entry in which it was made, that can be
 abbrev pub is_sound_ask : Seen → Ask → Bool
 is_sound_ask s ask =
-    holds (λ a. not (is_unfollowed a && (ask.entry == entry s)) || has_link_for s ask.answer) (numbered s.attempts ask.row)
+    holds (λ a. not (is_unfollowed a && (ask.entry == entry s)) || has_link_for s.subs ask.answer) (numbered s.attempts ask.row)
 
 pub record IsKept (s : Seen) : Type 0 where
   pub calls : AreCounted 1 (map (λ c. c.number) s.calls)

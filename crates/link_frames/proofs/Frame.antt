@@ -3,10 +3,10 @@ use Rattle.std.proofs.Common.{◌≡◌, ◌+◌, ◌∷◌, ap, arith, refl, su
 use Rattle.std.specs.List.{list_any}
 use Rattle.channel_actions.proofs.Lines.{all_at_places}
 use Rattle.channel_actions.proofs.Stamps.{counted_at}
-use Rattle.channel_actions.specs.Kept.{AreCounted, IsKept}
 use Rattle.channel_actions.specs.Links.{HasLink, IsGoing, SeesLinkOf}
 use Rattle.channel_core.specs.States.{StateSeen}
 use Rattle.channel_core.specs.declared.state.links.LinkSlot.{LinkSlot}
+use Rattle.kept_sessions.specs.Kept.{AreCounted, IsKept}
 use Rattle.link_actions.specs.Sees.{ArePlaced}
 use Rattle.link_frames.proofs.Readers.{readers_still}
 use Rattle.link_frames.proofs.Streams.{streams_still}

@@ -5,17 +5,16 @@
 -- The laws, in the order of this file:
 -- 1. Links that are not touched agree as before.
 -- 2. What cannot be told joins; and an action cannot be told by the links on which it does not bear; nor can a list of actions.
-use Rattle.std.specs.Prelude.{List, None, Some, false, length, true, ℕ, ◌||◌, ◌≡◌, ◌≤◌}
-use Rattle.channel_actions.specs.Kept.{IsKept}
+use Rattle.std.specs.Prelude.{List, Some, [], false, length, true, ℕ, ◌∷◌, ◌≡◌}
 use Rattle.channel_actions.specs.Links.{HasLink, SeesLinks}
 use Rattle.channel_core.specs.States.{StateSeen}
+use Rattle.kept_sessions.specs.Kept.{IsKept}
 use Rattle.link_frames.specs.Alike.{CannotTell, Numbers}
-use Rattle.link_frames.specs.Bears.{bear_on, bears_on}
+use Rattle.link_frames.specs.Bears.{AreOrderly, IsOrderly, bear_on, bears_on}
 use Rattle.session_actions.specs.Actions.{after}
 use Rattle.session_actions.specs.Sessions.{Does}
 use Rattle.session_actions.specs.Words.{numbered}
 use Rattle.session_actions.specs.declared.action.Action.{Action}
-use Rattle.session_actions.specs.declared.call.Call.{Call}
 use Rattle.session_actions.specs.declared.link.Link.{Link}
 use Rattle.session_actions.specs.declared.seen.Seen.{Seen}
 
@@ -46,6 +45,15 @@ TellingsJoin = (touched : Numbers) (s t u : Seen) → CannotTell touched s t →
 abbrev pub FewerTell : Type 0
 FewerTell = (touched more : Numbers) (s t : Seen) → ((link : ℕ) → more link ≡ false → touched link ≡ false) → CannotTell touched s t → CannotTell more s t
 
--- what an action asks: calls are numbered by their places, and a config is given to a call of which no attempt is on a link
-abbrev pub ActionsAreUntold : (Action → Seen → Type 0) → Type 0
-ActionsAreUntold Fair = (a : Action) (s : Seen) → IsKept s → Fair a s → CannotTell (bears_on a s) s (after a s)
+-- an action cannot be told by the links on which it does not bear
+abbrev pub ActionsAreUntold : Type 0
+ActionsAreUntold = (a : Action) (s : Seen) → IsKept s → IsOrderly a s → CannotTell (bears_on a s) s (after a s)
+
+-- nor can a list of actions, through which the session is kept in order
+abbrev pub AreKept : List Action → Seen → Type 0
+AreKept [] s = IsKept s
+AreKept (a ∷ actions) s = IsKept s × AreKept actions (after a s)
+
+abbrev pub ListsAreUntold : Type 0
+ListsAreUntold =
+    (actions : List Action) (s t : Seen) → AreKept actions s → AreOrderly actions s → Does actions s t → CannotTell (bear_on actions s) s t

@@ -3,4 +3,4 @@
 
 mod laws;
 
-pub use laws::links_stay;
+pub use laws::{actions_are_untold, links_stay};

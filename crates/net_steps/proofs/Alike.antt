@@ -36,7 +36,7 @@ links_cannot_tell touched s t e each =
     } in
     subst (CannotTell touched s) (sym e) there
 
-still : (l : Link) → IsLinkStill l l
+pub still : (l : Link) → IsLinkStill l l
 still l = record { same = record { number = refl; traffic_ = refl; owed = refl }; over = refl; received = refl }
 
 pub untold_links_agree : UntoldLinksAgree

@@ -34,7 +34,7 @@ off_by s at true e up =
     let bad : true ≡ false = sym up ∙ ap (λ (n : ℕ). is_some (numbered s.links n)) (eqb-true at.link (length s.links + 1) e) ∙ ap (λ (o : Option Link). is_some o) (none_next s.links) in
     absurd (cc)
 
-off_placed : (s : Seen) (o : Option Placed) → option_map_or (λ (at : Placed). came_up s at.link) o true ≡ true
+pub off_placed : (s : Seen) (o : Option Placed) → option_map_or (λ (at : Placed). came_up s at.link) o true ≡ true
     → holds (λ (at : Placed). at.link == length s.links + 1) o ≡ false
 off_placed s None up = refl
 off_placed s (Some at) up = off_by s at (at.link == length s.links + 1) refl up

@@ -4,7 +4,8 @@ use Rattle.calls_apart.proofs.Fair.{books_along, others_along}
 use Rattle.calls_apart.specs.Apart.{IsApart, IsBook, acts_on}
 use Rattle.calls_apart.specs.Laws.{AreOfOthers}
 use Rattle.other_calls.proofs.Grows.{GrowsBut, but_begun, but_grown, but_on, grows_by, grows_same}
-use Rattle.other_calls.specs.Others.{AreOfCall, GoesApart}
+use Rattle.kept_sessions.specs.Kept.{IsKept}
+use Rattle.other_calls.specs.Others.{AreOfCall, GoesApart, IsBooked}
 use Rattle.session_actions.specs.Actions.{after}
 use Rattle.session_actions.specs.Attempts.{is_of}
 use Rattle.session_actions.specs.Sessions.{Does}
@@ -70,3 +71,7 @@ grows_along number (a ∷ actions) s t does h =
 
 pub goes_on : (number : ℕ) (s t : Seen) → GoesApart number s t → GrowsBut number s t
 goes_on number s t g = grows_along number g.actions s t g.does g.apart
+
+-- what a session keeps has it all
+pub booked : (s : Seen) → IsKept s → IsBooked s
+booked s k = record { book = k.book; owned = k.owned; reads = k.reads }
