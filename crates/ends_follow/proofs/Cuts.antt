@@ -157,6 +157,9 @@ place_of n i [] a p e = absurd (cc)
 place_of n zero (x ∷ xs) a p e = let same : a ≡ x = (cc) in ap (λ (y : Attempt). y.place) same ∙ p.0 ∙ (let up : n ≡ n + 0 = omega arith in up)
 place_of n (suc i) (x ∷ xs) a p e = place_of (suc n) i xs a p.1 e ∙ (let up : suc n + i ≡ n + suc i = omega arith in up)
 
+pub place_suc : (i : ℕ) (xs : List Attempt) (a : Attempt) → AreNumbered 1 xs → slice_get xs i ≡ Some a → a.place ≡ suc i
+place_suc i xs a p e = place_of 1 i xs a p e ∙ (let up : 1 + i ≡ suc i = omega arith in up)
+
 undrawn_is : (o : OpenEntry) → undrawn o ≡ o
 undrawn_is o = ap (λ (k : ℕ). record o { drawn = k }) (let e : o.drawn + 0 ≡ o.drawn = omega arith in e)
 
@@ -165,7 +168,7 @@ pub one_cut : (number : ℕ) (v : Seen) (act : Action) (o : OpenEntry) → IsDon
 one_cut number v act o done places current next =
     let f : IsFirst number v v.attempts act = is_first number v done v.attempts act next in
     let a : Attempt = f.attempt in
-    let place : a.place ≡ suc f.index = place_of 1 f.index v.attempts a places f.there in
+    let place : a.place ≡ suc f.index = place_suc f.index v.attempts a places f.there in
     let there : numbered v.attempts a.place ≡ Some a = ap (numbered v.attempts) place ∙ f.there in
     let call : call_of a v ≡ Some done.call = ap (numbered v.calls) (eqb-true a.row.call number f.own) ∙ done.there in
     let tokens : Option ℕ = option_map (λ (run : ThrottleRun). tokens_in run v) (run_of done.call v) in

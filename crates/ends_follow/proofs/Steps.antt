@@ -12,7 +12,7 @@ use Rattle.calls_apart.specs.Apart.{AreCalls, IsApart, IsBook}
 use Rattle.calls_in_turn.proofs.Rows.{ending_keeps}
 use Rattle.calls_in_turn.specs.Turns.{StaysSteady, waits as waits_for}
 use Rattle.ends_follow.proofs.Codes.{ended_code, reset_code}
-use Rattle.ends_follow.proofs.Cuts.{IsDone, IsOneCut, place_of}
+use Rattle.ends_follow.proofs.Cuts.{IsDone, IsOneCut, place_suc}
 use Rattle.ends_follow.proofs.Stays.{IsBase, IsLeft, final_still, row_still, unfollowed}
 use Rattle.ends_follow.proofs.Streams.{IsForemost, by_stream_order, is_foremost}
 use Rattle.ends_follow.specs.Cuts.{cut_off}
@@ -242,7 +242,7 @@ reset_by waits n o b v mid act (Some a) e is =
     let f : IsForemost is_stream_before (λ (y : Attempt). is_some (reset_code_of v y)) v.attempts a
     = is_foremost is_stream_before by_stream_order (λ (y : Attempt). is_some (reset_code_of v y)) v.attempts a e in
     let code = code_by v a act (reset_code_of v a) refl is in
-    let place : a.place ≡ suc f.index = place_of 1 f.index v.attempts a mid.book.places f.there in
+    let place : a.place ≡ suc f.index = place_suc f.index v.attempts a mid.book.places f.there in
     record {
       attempt = a;
       number = code.0;

@@ -1,7 +1,7 @@
 -- A call that ended, and whose attempts were cut off, is in order.
 use Rattle.std.proofs.Common.{◌≡◌, ◌∷◌, ◌++◌, ◌||◌, ◌&&◌, ◌==◌, nat_lt, append-nil, ap, refl, subst, sym, ◌∙◌, Bool, true, false, List, [], Option, None, Some, ℕ, zero, suc, cond, filter, if◌then◌else◌, is_none, is_some, map, slice_get}
 use Rattle.std.proofs.lemmas.Bool.{and_parts, both_ways}
-use Rattle.std.proofs.lemmas.List.{list_all-append}
+use Rattle.std.proofs.lemmas.List.Folds.{list_all-append}
 use Rattle.std.specs.List.{list_all, list_any}
 use Rattle.std.specs.Option.{option_map}
 use Rattle.attempt_ledger.specs.declared.row.RowEnd.{RowEnd}
@@ -23,7 +23,7 @@ use Rattle.session_actions.specs.declared.call.MarkKind.TheVariants as mark
 use Rattle.session_actions.specs.declared.due.DueState.{DueState}
 use Rattle.session_actions.specs.declared.entry.OpenEntry.{OpenEntry}
 use Rattle.session_actions.specs.declared.seen.Seen.{Seen}
-use Rattle.take_actions.proofs.CutAttempts.{ended_mark, is_cut_off, made_still}
+use Rattle.take_actions.proofs.CutAttempts.{end_by_cut, ended_mark, is_cut_off, made_still}
 use Rattle.take_actions.proofs.CutWalk.{Walked}
 use Rattle.take_actions.proofs.EndSees.{all_gone, due_now, end_call, end_seen, final_at, first, own_stamp, serves_ended, tokens_now}
 use Rattle.take_actions.proofs.Ends.{end_walked, point, put}
@@ -117,7 +117,7 @@ module _ (s : Seen) (c : Call) (x : Stepped) (why : EndCause) (h : Serves s c x)
   cut_ended : (a : Attempt) → is_off a ≡ true → is_over_own (f a) ≡ true
   cut_ended a e =
       let parts : (is_of c a ≡ true) × ((is_outstanding a && true) ≡ true) = and_parts (is_of c a) (is_outstanding a && true) e in
-      both_of (is_of c a) (is_some (f a).row.ended) parts.0 (ap (λ (b : Bool). is_some (if b then Some _ else a.row.ended)) e)
+      both_of (is_of c a) (is_some (f a).row.ended) parts.0 (ap (λ (b : Bool). is_some (if b then Some (end_by_cut (entry s) (now s) (tokens_now s c x why h open_now current still) s a) else a.row.ended)) e)
 
   new_mark : (i : ℕ) (a : Attempt) → slice_get (filter is_off s.attempts) i ≡ Some a → is_own_mark z d (mark.Ended a.place) ≡ true
   new_mark i a at =

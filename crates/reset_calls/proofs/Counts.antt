@@ -135,12 +135,23 @@ module _ (s : Seen) (n : ℕ) where
       ap (λ (x : Bool). if (not w.stopped && x) && has_code (codes_of (plan_of c s)) e.code then due_by_plan (plan_of c s) c a t w e else w) (counts_same a e)
       ∙ ap (λ (y : DueState). if (not w.stopped && counts_by a s e) && has_code (codes_of (plan_of c s)) e.code then y else w) (plan_same c a w e (plan_of c s))
 
+  -- it is not seen in an end
+  plan_put : (c : Call) (a : Attempt) (w : DueState) (e : RowEnd) (p : CallPlan) → due_by_plan p c (put a) t w e ≡ due_by_plan p c a t w e
+  plan_put c a w e plan.None = refl
+  plan_put c a w e (plan.Retry p) = refl
+  plan_put c a w e (plan.Hedge p) = refl
+
+  end_put : (c : Call) (w : DueState) (a : Attempt) (e : RowEnd) → due_after_end c t w (put a) e ≡ due_after_end c t w a e
+  end_put c w a e =
+      ap (λ (y : DueState). if (not w.stopped && counts_by a t e) && has_code (codes_of (plan_of c t)) e.code then y else w) (plan_put c a w e (plan_of c t))
+
   mark_same : (c : Call) (m : MarkKind) (moment : ℕ) (w : DueState) → due_after_mark c t m moment w ≡ due_after_mark c s m moment w
   mark_same c mark.Configured moment w = refl
   mark_same c (mark.Made row) moment w = lookup (λ (o : Option Attempt). option_map_or (due_after_making w) o w) put (λ a. refl) n s.attempts row
   mark_same c (mark.Placed row) moment w = refl
   mark_same c (mark.Ended row) moment w =
-      lookup (λ (o : Option Attempt). option_map_or (λ (a : Attempt). option_map_or (due_after_end c t w a) a.row.ended w) o w) put (λ a. refl) n s.attempts row
+      lookup (λ (o : Option Attempt). option_map_or (λ (a : Attempt). option_map_or (due_after_end c t w a) a.row.ended w) o w) put
+      (λ a. or_same (due_after_end c t w (put a)) (due_after_end c t w a) w (end_put c w a) a.row.ended) n s.attempts row
       ∙ or_same (λ (a : Attempt). option_map_or (due_after_end c t w a) a.row.ended w) (λ (a : Attempt). option_map_or (due_after_end c s w a) a.row.ended w) w
       (λ a. or_same (due_after_end c t w a) (due_after_end c s w a) w (end_same c w a) a.row.ended) (numbered s.attempts row)
   mark_same c mark.Withheld moment w = refl
