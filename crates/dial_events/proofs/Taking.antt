@@ -145,7 +145,7 @@ few_of [] place b few e = absurd (cc)
 few_of (c ∷ subs) zero b few e = let one : c ≡ b = (cc) in subst (λ (x : Subchannel). x.dials < 4294967295) one few.0
 few_of (c ∷ subs) (suc place) b few e = few_of subs place b few.1 e
 
-until_in : Action → ℕ
+abbrev until_in : Action → ℕ
 until_in (action.DialTaken sub again until) = until
 until_in _ = 0
 

@@ -184,7 +184,7 @@ module _ (exact : CalmIsExact) (x : StateSeen) (o : OpenEntry) (s : Seen) (h : A
   agrees =
       agrees_moved (with_open o s) s.entries (Some p) true false x open_agrees x.book.ledger.entry x.book.moment x.word x.drawn false (is_none x.held)
       open_agrees.clock.entry_is (record { entry_is = open_agrees.clock.entry_is; moment = open_agrees.clock.moment; draws = open_agrees.clock.draws })
-      (λ e. sym (ap (λ (c : Option Config). is_none c) e)) open_agrees.columns.links open_agrees.kept.ends open_agrees.kept.asks
+      (λ e. sym (ap (λ (c : Option Config). is_none c) e)) open_agrees.columns.links (kept_moved (with_open o s) s.entries (Some p) true false refl open_agrees.kept)
 
   pub state_is : (resolved addresses config x).state ≡ y
   state_is =
