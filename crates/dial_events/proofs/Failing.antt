@@ -3,7 +3,7 @@ use Rattle.std.proofs.Common.{◌≡◌, ◌&&◌, ◌∷◌, ap, refl, subst, s
 use Rattle.std.specs.Option.{option_map}
 use Rattle.channel_actions.proofs.Answering.{event_next}
 use Rattle.channel_actions.proofs.Dialling.{applied_next, dial_same, open_in, unshut_by}
-use Rattle.net_steps.proofs.Calm.{to_order}
+use Rattle.board_actions.proofs.Calm.{to_order}
 use Rattle.channel_actions.specs.Agrees.{Agrees}
 use Rattle.channel_actions.specs.Calm.{IsAt}
 use Rattle.channel_actions.specs.Clock.{DrawsAlike}
@@ -30,11 +30,11 @@ use Rattle.kept_sessions.specs.Laws.{KeptAlong}
 use Rattle.link_frames.specs.Laws.{LinksStay}
 use Rattle.net_actions.specs.Laws.{DialsFail}
 use Rattle.net_steps.proofs.Alike.{untold_links_agree}
-use Rattle.net_steps.proofs.Boards.{one_boarded}
+use Rattle.board_actions.proofs.Boards.{one_boarded}
 use Rattle.net_steps.proofs.Clocks.{clock_goes_on, entry_goes_on}
 use Rattle.net_steps.proofs.Stepped.{net_steps_keep}
 use Rattle.net_steps.proofs.Subbed.{current_stays, noted_same, subbed_generations, subbed_links, subbed_shut}
-use Rattle.net_steps.specs.Boards.{IsBoarded}
+use Rattle.board_actions.specs.Boards.{IsBoarded}
 use Rattle.other_calls.specs.Laws.{AllCallsStay, SetsStay}
 use Rattle.session_actions.specs.Actions.{after, after_if}
 use Rattle.session_actions.specs.CallEnds.{next_deadline}

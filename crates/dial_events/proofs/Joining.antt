@@ -46,13 +46,13 @@ use Rattle.link_frames.specs.Alike.{CannotTell}
 use Rattle.link_frames.specs.Laws.{LinksStay}
 use Rattle.net_actions.specs.Laws.{DialsAreLinks}
 use Rattle.net_steps.proofs.Alike.{links_cannot_tell, still}
-use Rattle.net_steps.proofs.Boards.{one_boarded}
-use Rattle.net_steps.proofs.Calm.{to_order}
+use Rattle.board_actions.proofs.Boards.{one_boarded}
+use Rattle.board_actions.proofs.Calm.{to_order}
 use Rattle.net_steps.proofs.Clocks.{clock_goes_on, entry_goes_on}
 use Rattle.net_steps.proofs.Passing.{off_placed}
 use Rattle.net_steps.proofs.Stepped.{net_steps_keep}
 use Rattle.net_steps.proofs.Subbed.{current_stays, noted_gone_same, subbed_generations, subbed_links, subbed_shut}
-use Rattle.net_steps.specs.Boards.{IsBoarded}
+use Rattle.board_actions.specs.Boards.{IsBoarded}
 use Rattle.other_calls.specs.Laws.{AllCallsStay, SetsStay}
 use Rattle.session_actions.specs.Actions.{after, after_if, following}
 use Rattle.session_actions.specs.Attempts.{is_outstanding}

@@ -42,12 +42,12 @@ use Rattle.net_actions.proofs.Views.{Found, found_in}
 use Rattle.net_actions.specs.Laws.{AreFewDials, DialsAreTaken, IsTaken}
 use Rattle.net_actions.specs.Sees.{IsSub, Sees}
 use Rattle.net_steps.proofs.Alike.{untold_links_agree}
-use Rattle.net_steps.proofs.Boards.{one_boarded}
-use Rattle.net_steps.proofs.Calm.{to_order}
+use Rattle.board_actions.proofs.Boards.{one_boarded}
+use Rattle.board_actions.proofs.Calm.{to_order}
 use Rattle.net_steps.proofs.Clocks.{clock_goes_on, entry_goes_on}
 use Rattle.net_steps.proofs.Stepped.{net_steps_keep}
 use Rattle.net_steps.proofs.Subbed.{current_stays, noted_same, subbed_generations, subbed_links, subbed_shut}
-use Rattle.net_steps.specs.Boards.{IsBoarded}
+use Rattle.board_actions.specs.Boards.{IsBoarded}
 use Rattle.other_calls.specs.Laws.{AllCallsStay, SetsStay}
 use Rattle.session_actions.specs.Actions.{after, after_if, following}
 use Rattle.session_actions.specs.CallEnds.{next_deadline}
@@ -286,6 +286,6 @@ taken_dials_are_answered exact stir take calls_stay sets_stay kept_along links_s
     = subst (λ (e : Event). AnswersBy None e x y r) case.event_is (subst (λ (z : Option Refusal). AnswersBy z o.event x y r) case.kept answers) in
     subst (λ (z : StateSeen). IsAnswered z r o s)
     (sym (given.0 ∙ state_is exact stir take calls_stay sets_stay kept_along links_stay x o s h at fresh timely f.place case.event_is case.kept first case.few f.first))
-    (subst (λ (z : Reply). IsAnswered _ z o s)
+    (subst (λ (z : Reply). IsAnswered (steps.drawn_if (nat_lt 0 f.first.r.dials) (steps.dialed x)) z o s)
     (sym (given.1 ∙ reply_is exact stir take calls_stay sets_stay kept_along links_stay x o s h at fresh timely f.place case.event_is case.kept first case.few f.first))
     (taken_answered exact stir take calls_stay sets_stay kept_along links_stay x o s h at fresh timely f.place case.event_is case.kept first case.few f.first))

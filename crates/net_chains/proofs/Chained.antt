@@ -14,8 +14,8 @@ use Rattle.grpc_base.specs.declared.kind.Kind.{Kind}
 use Rattle.net_actions.specs.Runs.{DoesAll}
 use Rattle.net_chains.specs.Chains.{IsApartCalm, IsChained, IsPickThere}
 use Rattle.net_chains.specs.Laws.{ChainsAreNext}
-use Rattle.net_steps.proofs.Boards.{one_boarded}
-use Rattle.net_steps.specs.Boards.{IsBoarded, is_of_board}
+use Rattle.board_actions.proofs.Boards.{one_boarded}
+use Rattle.board_actions.specs.Boards.{IsBoarded, is_of_board}
 use Rattle.session_actions.specs.Actions.{after, after_if, after_in, first_action, following, following_in, of_calls, of_links, of_policies, of_stage}
 use Rattle.session_actions.specs.AttemptEnds.{next_cut, next_reset, next_wire_end}
 use Rattle.session_actions.specs.CallEnds.{has_long_request, has_long_response, is_cancelled, is_over_by_row, is_shut_down, next_ended}

@@ -3,7 +3,7 @@
 use Rattle.std.specs.Prelude.{List, Some, [], false, length, ℕ, ◌≡◌, ◌≤◌}
 use Rattle.attempt_ledger.specs.declared.ledger.Ask.{Ask}
 use Rattle.grpc_base.specs.declared.kind.Pick.TheVariants as pick
-use Rattle.net_steps.specs.Boards.{AreOfBoard}
+use Rattle.board_actions.specs.Boards.{AreOfBoard}
 use Rattle.session_actions.specs.Laws.{posted_in}
 use Rattle.session_actions.specs.Sessions.{Does}
 use Rattle.session_actions.specs.Words.{last_of}

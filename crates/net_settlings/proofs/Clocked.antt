@@ -13,12 +13,12 @@ use Rattle.net_actions.specs.Laws.{ClockChanges, ClockRests}
 use Rattle.net_settlings.proofs.Clocking.{IsAmid, rounds_on}
 use Rattle.net_settlings.proofs.Limits.{limits_form, slots_after, stamps_after, wanting}
 use Rattle.net_settlings.specs.Laws.{ClocksAreParts}
-use Rattle.net_steps.proofs.Boards.{boards_leave_rest}
-use Rattle.net_steps.proofs.Calm.{of_order, to_order}
+use Rattle.board_actions.proofs.Boards.{boards_leave_rest}
+use Rattle.board_actions.proofs.Calm.{of_order, to_order}
 use Rattle.net_steps.proofs.Clocks.{clock_goes_on, now_goes_on}
 use Rattle.net_steps.proofs.Stepped.{net_steps_keep}
 use Rattle.net_steps.proofs.Subbed.{current_stays}
-use Rattle.net_steps.specs.Boards.{IsBoarded}
+use Rattle.board_actions.specs.Boards.{IsBoarded}
 use Rattle.net_steps.specs.Steps.{netted}
 use Rattle.session_actions.specs.Entries.{now}
 use Rattle.session_actions.specs.declared.entry.OpenEntry.{OpenEntry}

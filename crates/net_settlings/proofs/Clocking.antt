@@ -36,11 +36,11 @@ use Rattle.net_settlings.proofs.Overdue.{fails, gives_up, none_still, some_still
 use Rattle.net_settlings.proofs.Stamped.{map_stamped, stamp_over}
 use Rattle.net_settlings.specs.Joined.{AreJoined}
 use Rattle.net_steps.proofs.Alike.{links_cannot_tell, still, untold_links_agree}
-use Rattle.net_steps.proofs.Boards.{boards_join, boards_leave_rest, one_boarded, subbed}
-use Rattle.net_steps.proofs.Calm.{of_order}
+use Rattle.board_actions.proofs.Boards.{boards_join, boards_leave_rest, one_boarded, subbed}
+use Rattle.board_actions.proofs.Calm.{of_order}
 use Rattle.net_steps.proofs.Clocks.{entry_goes_on, now_goes_on}
 use Rattle.net_steps.proofs.Subbed.{noted_gone_same, noted_same, subbed_generations, subbed_links, subbed_shut, subbed_subs}
-use Rattle.net_steps.specs.Boards.{AreOfBoard, IsBoarded, is_of_board}
+use Rattle.board_actions.specs.Boards.{AreOfBoard, IsBoarded, is_of_board}
 use Rattle.net_steps.specs.Steps.{netted}
 use Rattle.session_actions.specs.Actions.{after, after_if, config_action, first_action, following, following_in, of_calls, of_links, of_policies, of_settling, of_stage}
 use Rattle.session_actions.specs.Closing.{noted_gone}

@@ -7,7 +7,7 @@ use Rattle.std.specs.Prelude.{option_and_then}
 use Rattle.attempt_ledger.specs.declared.row.Placed.{Placed}
 use Rattle.grpc_base.specs.declared.event.Conn.TheVariants as conn
 use Rattle.net_settlings.specs.Joined.{AreJoined}
-use Rattle.net_steps.proofs.Boards.{subbed}
+use Rattle.board_actions.proofs.Boards.{subbed}
 use Rattle.net_steps.proofs.Subbed.{subbed_links, subbed_subs}
 use Rattle.session_actions.specs.AttemptEnds.{lost_end, outcome_of, outcome_on}
 use Rattle.session_actions.specs.Attempts.{is_outstanding, is_over}

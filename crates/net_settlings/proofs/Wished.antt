@@ -17,12 +17,12 @@ use Rattle.net_actions.specs.Laws.{NoneConnects, TakeOversAreSame, WishesConnect
 use Rattle.net_actions.specs.Sees.{Sees}
 use Rattle.net_settlings.proofs.Wishing.{IsDone, IsOn, connect_on, none_over}
 use Rattle.net_settlings.specs.Laws.{WishesAreParts}
-use Rattle.net_steps.proofs.Boards.{boards_leave_rest}
-use Rattle.net_steps.proofs.Calm.{of_order, to_order}
+use Rattle.board_actions.proofs.Boards.{boards_leave_rest}
+use Rattle.board_actions.proofs.Calm.{of_order, to_order}
 use Rattle.net_steps.proofs.Clocks.{clock_goes_on}
 use Rattle.net_steps.proofs.Stepped.{net_steps_keep}
 use Rattle.net_steps.proofs.Subbed.{current_stays}
-use Rattle.net_steps.specs.Boards.{IsBoarded}
+use Rattle.board_actions.specs.Boards.{IsBoarded}
 use Rattle.net_steps.specs.Steps.{netted}
 use Rattle.policy_rack.specs.Steps.{live_of, may_follow, may_take_over, state_in}
 use Rattle.policy_rack.specs.declared.live.Live.{Live}

@@ -30,11 +30,11 @@ use Rattle.net_settlings.proofs.Clocking.{board_on, first_true, joined_after, no
 use Rattle.net_settlings.proofs.Starting.{AreIdleIn, IsIdleIn, starting_state}
 use Rattle.net_settlings.specs.Joined.{AreJoined}
 use Rattle.net_steps.proofs.Alike.{untold_links_agree}
-use Rattle.net_steps.proofs.Boards.{boards_leave_rest, one_boarded, subbed}
-use Rattle.net_steps.proofs.Calm.{of_order}
+use Rattle.board_actions.proofs.Boards.{boards_leave_rest, one_boarded, subbed}
+use Rattle.board_actions.proofs.Calm.{of_order}
 use Rattle.net_steps.proofs.Clocks.{entry_goes_on, now_goes_on}
 use Rattle.net_steps.proofs.Subbed.{noted_same, subbed_generations, subbed_links, subbed_shut, subbed_subs}
-use Rattle.net_steps.specs.Boards.{AreOfBoard, IsBoarded}
+use Rattle.board_actions.specs.Boards.{AreOfBoard, IsBoarded}
 use Rattle.policy_rack.specs.Steps as rack
 use Rattle.policy_rack.specs.Steps.{RackSeen, may_follow, may_take_over, state_in}
 use Rattle.policy_rack.specs.declared.live.Live.{Live}

@@ -7,7 +7,7 @@ use Rattle.grpc_frame.specs.Messages.{framed_all}
 use Rattle.kept_sessions.specs.Kept.{IsKept}
 use Rattle.link_frames.specs.Alike.{AreAlike, CannotTell, IsLinkStill, Numbers}
 use Rattle.link_frames.specs.Laws.{LinksStay}
-use Rattle.net_steps.specs.Boards.{IsBoarded, boarded}
+use Rattle.board_actions.specs.Boards.{IsBoarded, boarded}
 use Rattle.net_steps.specs.Laws.{LinksCannotTell, UntoldLinksAgree}
 use Rattle.session_actions.specs.Words.{numbered}
 use Rattle.session_actions.specs.declared.attempt.Attempt.{Attempt}

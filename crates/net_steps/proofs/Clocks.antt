@@ -3,7 +3,7 @@ use Rattle.std.proofs.Common.{◌≡◌, ◌+◌, ◌%◌, ◌^◌, ap, refl, su
 use Rattle.std.specs.Option.{option_map_or}
 use Rattle.channel_actions.specs.Clock.{DrawsAlike, SeesClock}
 use Rattle.channel_core.specs.States.{StateSeen}
-use Rattle.net_steps.specs.Boards.{IsBoarded, boarded}
+use Rattle.board_actions.specs.Boards.{IsBoarded, boarded}
 use Rattle.session_actions.specs.Entries.{entry, last_moment, now}
 use Rattle.session_actions.specs.declared.entry.OpenEntry.{OpenEntry}
 use Rattle.session_actions.specs.declared.seen.Seen.{Seen}

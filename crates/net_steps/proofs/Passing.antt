@@ -4,7 +4,7 @@ use Rattle.std.specs.List.{list_all, list_any}
 use Rattle.std.specs.Option.{option_map_or}
 use Rattle.attempt_ledger.specs.declared.row.Placed.{Placed}
 use Rattle.kept_sessions.specs.Kept.{IsKept, came_up, is_on_link}
-use Rattle.net_steps.specs.Boards.{is_of_board}
+use Rattle.board_actions.specs.Boards.{is_of_board}
 use Rattle.session_actions.specs.Attempts.{is_of}
 use Rattle.session_actions.specs.Words.{holds, numbered}
 use Rattle.session_actions.specs.declared.action.Action.{Action}

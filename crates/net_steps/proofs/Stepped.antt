@@ -17,9 +17,9 @@ use Rattle.channel_core.specs.Books.{slot_at}
 use Rattle.channel_core.specs.States.{StateSeen}
 use Rattle.kept_sessions.specs.Kept.{IsKept}
 use Rattle.kept_sessions.specs.Laws.{KeptAlong}
-use Rattle.net_steps.proofs.Boards.{boards_leave_rest, of_none}
+use Rattle.board_actions.proofs.Boards.{boards_leave_rest, of_none}
 use Rattle.net_steps.proofs.Passing.{passes_none}
-use Rattle.net_steps.specs.Boards.{AreOfBoard, IsBoarded, boarded, is_of_board}
+use Rattle.board_actions.specs.Boards.{AreOfBoard, IsBoarded, boarded, is_of_board}
 use Rattle.net_steps.specs.Laws.{NetStepsKeep}
 use Rattle.net_steps.specs.Steps.{IsNetStep, netted}
 use Rattle.other_calls.specs.Laws.{AllCallsStay, SetsApart, SetsStay}

@@ -9,7 +9,7 @@ use Rattle.attempt_ledger.specs.declared.ledger.Generation.{Generation}
 use Rattle.attempt_ledger.specs.declared.ledger.LinkSeen.{LinkSeen}
 use Rattle.channel_actions.proofs.Stamps.{map_same}
 use Rattle.channel_actions.specs.Columns.{links_noted}
-use Rattle.net_steps.specs.Boards.{IsBoarded, boarded}
+use Rattle.board_actions.specs.Boards.{IsBoarded, boarded}
 use Rattle.session_actions.specs.Closing.{noted_gone}
 use Rattle.session_actions.specs.Entries.{entry}
 use Rattle.session_actions.specs.Policies.{current_policy, is_current, is_live_policy, is_shutdown}

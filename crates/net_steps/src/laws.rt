@@ -1,10 +1,9 @@
 // What a step of the net leaves; nothing runs.
-ghost use Rattle.net_steps.specs.Laws.{BoardsLeaveRest, LinksCannotTell, NetStepsKeep, UntoldLinksAgree};
+ghost use Rattle.net_steps.specs.Laws.{LinksCannotTell, NetStepsKeep, UntoldLinksAgree};
 
-/// Actions of subchannels and policies leave calls, attempts, configs and pick requests as they are ("gRPC Connectivity Semantics and API"; "Load Balancing in
-/// gRPC"), and all links but those that come up or are over.
-pub fn boards_leave_rest()
-    ensures rest { BoardsLeaveRest }
+/// Of actions of subchannels and policies no link tells, but the one that comes up, or whose SETTINGS did not come in time ("gRPC Connectivity Semantics and
+/// API"; "Load Balancing in gRPC").
+pub fn links_cannot_tell()
     ensures links { LinksCannotTell }
     ensures untold { UntoldLinksAgree }
 {}

@@ -23,9 +23,10 @@ use Rattle.grpc_base.specs.declared.event.Reply.{Reply}
 use Rattle.grpc_base.specs.declared.event.Reply.TheVariants as reply
 use Rattle.grpc_base.specs.declared.kind.Kind.{Kind}
 use Rattle.grpc_base.specs.declared.kind.Kind.TheVariants as kind
+use Rattle.kept_sessions.proofs.Beside.{kept_moved}
 use Rattle.lb_policy.specs.Table.{PolicySeen}
 use Rattle.net_actions.specs.Sees.{AreKinds}
-use Rattle.net_steps.proofs.Calm.{of_order, to_order}
+use Rattle.board_actions.proofs.Calm.{of_order, to_order}
 use Rattle.policy_rack.specs.Kinds.{has_policy, kinds_of}
 use Rattle.result_events.specs.Laws.{FirstBadConfigsAreAnswered}
 use Rattle.service_config.specs.declared.config.Config.{Config}

@@ -1,9 +1,5 @@
 use Rattle.net_steps.proofs.Alike.{links_cannot_tell, untold_links_agree}
-use Rattle.net_steps.proofs.Boards.{boards_leave_rest}
-use Rattle.net_steps.proofs.laws.boards_leave_rest.Goals as goal
-
-pub returns-clause-rest : goal.returns-clause-rest
-returns-clause-rest c = boards_leave_rest
+use Rattle.net_steps.proofs.laws.links_cannot_tell.Goals as goal
 
 pub returns-clause-links : goal.returns-clause-links
 returns-clause-links c = links_cannot_tell
