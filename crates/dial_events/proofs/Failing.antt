@@ -148,7 +148,7 @@ module _ (exact : CalmIsExact) (stir : BoardsStir) (fail : DialsFail) (calls_sta
       (record { cancels_none = λ n. refl; sends_none = λ c z. refl; no_result = refl; no_frame = λ q z. refl }) brings next (λ e. e) refl does boarded on
       (λ l. stir.failed sub o s at.current (brings, way.one, way.there, way.dials) l p on refl (to_order exact o s at.calm l)) agrees
 
-pub failed_dials_are_answered : CalmIsExact → BoardsStir → DialsFail → FailedDialsAreAnswered
+pub failed_dials_are_answered : CalmIsExact → BoardsStir → DialsFail → AllCallsStay → SetsStay → KeptAlong → LinksStay → FailedDialsAreAnswered
 failed_dials_are_answered exact stir fail calls_stay sets_stay kept_along links_stay x y r o s h at fresh timely case answers =
     let given : AnswersBy None (event.DialFailed case.sub) x y r
     = subst (λ (e : Event). AnswersBy None e x y r) case.event_is (subst (λ (z : Option Refusal). AnswersBy z o.event x y r) case.kept answers) in

@@ -310,7 +310,7 @@ module _ (exact : CalmIsExact) (stir : BoardsStir) (links_are : DialsAreLinks) (
       (record { cancels_none = λ n. refl; sends_none = λ c z. refl; no_result = refl; no_frame = λ q z. refl }) brings next (λ v. v) refl does boarded on
       (λ line. stir.up sub o s at.current (brings, have_links s h.kept) line p on refl (to_order exact o s at.calm line)) agrees
 
-pub links_up_are_answered : CalmIsExact → BoardsStir → DialsAreLinks → NewLinksAgree → LinksUpAreAnswered
+pub links_up_are_answered : CalmIsExact → BoardsStir → DialsAreLinks → NewLinksAgree → AllCallsStay → SetsStay → KeptAlong → LinksStay → LinksUpAreAnswered
 links_up_are_answered exact stir links_are new_ones calls_stay sets_stay kept_along links_stay x y r o s h at fresh timely case answers =
     let given : AnswersBy None (event.LinkUp case.sub) x y r
     = subst (λ (e : Event). AnswersBy None e x y r) case.event_is (subst (λ (z : Option Refusal). AnswersBy z o.event x y r) case.kept answers) in

@@ -278,7 +278,7 @@ module _ (exact : CalmIsExact) (stir : BoardsStir) (take : DialsAreTaken) (calls
       answered_by_one exact y e o s at fresh timely a t drew event.TakeDial
       (record { cancels_none = λ n. refl; sends_none = λ c z. refl; no_result = refl; no_frame = λ q z. refl }) brings next (λ v. v) refl does boarded on still agrees
 
-pub taken_dials_are_answered : CalmIsExact → BoardsStir → DialsAreTaken → TakenDialsAreAnswered
+pub taken_dials_are_answered : CalmIsExact → BoardsStir → DialsAreTaken → AllCallsStay → SetsStay → KeptAlong → LinksStay → TakenDialsAreAnswered
 taken_dials_are_answered exact stir take calls_stay sets_stay kept_along links_stay x y r o s h at fresh timely case answers =
     let f = first_dial s x.net case.sub h.net case.first in
     let first : first_number is_dialable x.net.board ≡ Some (suc f.place) = case.first ∙ ap (λ (n : ℕ). Some n) f.number_is in

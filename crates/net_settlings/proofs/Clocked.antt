@@ -9,6 +9,8 @@ use Rattle.channel_net.proofs.RoundLaws.{clock-ends}
 use Rattle.channel_net.specs.Runs.{Clock}
 use Rattle.channel_net.specs.Steps.{NetLeft, clocks_left, left_of, net_clocked}
 use Rattle.dial_events.proofs.Nets.{one_call_more}
+use Rattle.kept_sessions.specs.Laws.{KeptAlong}
+use Rattle.link_frames.specs.Laws.{LinksStay}
 use Rattle.net_actions.specs.Laws.{ClockChanges, ClockRests}
 use Rattle.net_settlings.proofs.Clocking.{IsAmid, rounds_on}
 use Rattle.net_settlings.proofs.Limits.{limits_form, slots_after, stamps_after, wanting}
@@ -20,6 +22,7 @@ use Rattle.net_steps.proofs.Stepped.{net_steps_keep}
 use Rattle.net_steps.proofs.Subbed.{current_stays}
 use Rattle.board_actions.specs.Boards.{IsBoarded}
 use Rattle.net_steps.specs.Steps.{netted}
+use Rattle.other_calls.specs.Laws.{AllCallsStay, SetsStay}
 use Rattle.session_actions.specs.Entries.{now}
 use Rattle.session_actions.specs.declared.entry.OpenEntry.{OpenEntry}
 use Rattle.session_actions.specs.declared.seen.Seen.{Seen}
@@ -35,7 +38,7 @@ clocked_is x =
     let l : NetLeft = net_clocked x.book.moment x.net in
     limits_form x l.net x.drawn x.book.ledger.generations l.gone x.resolver x.links x.book.ledger.links
 
-pub clocks_are_parts : CalmIsExact → BoardsStir → ClockChanges → ClockRests → ClocksAreParts
+pub clocks_are_parts : CalmIsExact → BoardsStir → ClockChanges → ClockRests → AllCallsStay → SetsStay → KeptAlong → LinksStay → ClocksAreParts
 clocks_are_parts exact stir clocks rests calls_stay sets_stay kept_along links_stay x o s h joined at begun =
     let l : NetLeft = net_clocked x.book.moment x.net in
     let y : StateSeen

@@ -13,6 +13,8 @@ use Rattle.channel_net.specs.Stamps.{activated_live, retired_live}
 use Rattle.channel_net.specs.Steps as net
 use Rattle.channel_net.specs.Steps.{NetLeft, NetSeen, connect_rounds, idle_count, left, left_of, settle_round, taken_over_stamps}
 use Rattle.dial_events.proofs.Nets.{of_calls_is, one_call_more}
+use Rattle.kept_sessions.specs.Laws.{KeptAlong}
+use Rattle.link_frames.specs.Laws.{LinksStay}
 use Rattle.net_actions.specs.Laws.{NoneConnects, TakeOversAreSame, WishesConnect}
 use Rattle.net_actions.specs.Sees.{Sees}
 use Rattle.net_settlings.proofs.Wishing.{IsDone, IsOn, connect_on, none_over}
@@ -24,6 +26,7 @@ use Rattle.net_steps.proofs.Stepped.{net_steps_keep}
 use Rattle.net_steps.proofs.Subbed.{current_stays}
 use Rattle.board_actions.specs.Boards.{IsBoarded}
 use Rattle.net_steps.specs.Steps.{netted}
+use Rattle.other_calls.specs.Laws.{AllCallsStay, SetsStay}
 use Rattle.policy_rack.specs.Steps.{live_of, may_follow, may_take_over, state_in}
 use Rattle.policy_rack.specs.declared.live.Live.{Live}
 use Rattle.session_actions.specs.Policies.{next_take_over}
@@ -77,7 +80,7 @@ net_settled_is x m e f =
     ap (λ (l : NetLeft). links_left l (with_generations (net.settled_stamps x.book.ledger.entry x.net x.book.ledger.generations) x)) e
     ∙ ap (λ (g : List Generation). links_left (left m []) (with_generations g x)) f
 
-pub wishes_are_parts : CalmIsExact → BoardsStir → TakeOversAreSame → WishesConnect → NoneConnects → WishesAreParts
+pub wishes_are_parts : CalmIsExact → BoardsStir → TakeOversAreSame → WishesConnect → NoneConnects → AllCallsStay → SetsStay → KeptAlong → LinksStay → WishesAreParts
 wishes_are_parts exact stir overs wishes none_connects calls_stay sets_stay kept_along links_stay x o s h joined at begun =
     let may : may_take_over x.net.asker.rack ≡ false = may_not overs s x.net h.net begun.take_over in
     let base : IsOn x o s x.book.ledger.generations x.book.ledger.links x.net s = record {

@@ -1,5 +1,5 @@
--- What is due of subchannels and policies in a settling is done alike by channel and session: two steps of it (`settling_actions`). What that asks of
--- other calls, of links and of what sessions keep are premises, by their names; `AreJoined` is asked of the session.
+-- What is due of subchannels and policies in a settling is done alike by channel and session: two steps of it (`settling_actions`). `AreJoined` is
+-- asked of the session.
 -- Example: it is 20 s. The dial of subchannel 1, taken at 0 s, is up as link 1, without SETTINGS: ConnectTimesOut 1, and link 1 is over. The backoff of
 -- subchannel 2 is over: BackoffEnds 2; and as its policy wishes it, SubchannelConnects 2.
 use Rattle.std.specs.Prelude.{None, ◌≡◌}
@@ -7,10 +7,7 @@ use Rattle.channel_actions.specs.Agrees.{Agrees}
 use Rattle.channel_actions.specs.Calm.{IsAt}
 use Rattle.channel_core.specs.States.{StateSeen}
 use Rattle.channel_core.specs.Steps.{clocked, net_settled}
-use Rattle.kept_sessions.specs.Laws.{KeptAlong}
-use Rattle.link_frames.specs.Laws.{LinksStay}
 use Rattle.net_settlings.specs.Joined.{AreJoined}
-use Rattle.other_calls.specs.Laws.{AllCallsStay, SetsStay}
 use Rattle.session_actions.specs.Policies.{next_take_over}
 use Rattle.session_actions.specs.Subchannels.{next_of_clock}
 use Rattle.session_actions.specs.declared.entry.OpenEntry.{OpenEntry}
@@ -21,8 +18,7 @@ use Rattle.settling_actions.specs.Steps.{IsBegun, IsClocked, IsJoined, Leads}
 -- a step of a settling, of sessions in which links are to subchannels and attempts what they are
 abbrev pub IsNetPart : (OpenEntry → Seen → Type 0) → (StateSeen → StateSeen) → (OpenEntry → Seen → Type 0) → Type 0
 IsNetPart Before step After =
-    AllCallsStay → SetsStay → KeptAlong → LinksStay
-    → (x : StateSeen) (o : OpenEntry) (s : Seen) → Agrees x s → AreJoined s → IsAt stage.Settling o s → Before o s → Leads (step x) o s After
+    (x : StateSeen) (o : OpenEntry) (s : Seen) → Agrees x s → AreJoined s → IsAt stage.Settling o s → Before o s → Leads (step x) o s After
 
 -- dials that took too long, and backoffs that are over
 abbrev pub ClocksAreParts : Type 0

@@ -39,7 +39,7 @@ links_cannot_tell touched s t e each =
 pub still : (l : Link) → IsLinkStill l l
 still l = record { same = record { number = refl; traffic_ = refl; owed = refl }; over = refl; received = refl }
 
-pub untold_links_agree : UntoldLinksAgree
+pub untold_links_agree : LinksStay → UntoldLinksAgree
 untold_links_agree links_stay x y s t kept later e same slots h =
     links_stay (λ link. false) x y s t h kept later (λ link off. ap (λ (l : List LinkSlot). numbered l link) slots)
     (links_cannot_tell (λ link. false) s t e (λ link m off at. (m, ap (λ (l : List Link). numbered l link) (sym same) ∙ at, still m)))

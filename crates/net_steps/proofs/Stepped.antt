@@ -150,5 +150,5 @@ module _ (calls_stay : AllCallsStay) (sets_stay : SetsStay) (kept_along : KeptAl
     pub agrees_after : Agrees y t
     agrees_after = subst (λ (v : StateSeen). Agrees v t) (sym step.channel) agrees_now
 
-pub net_steps_keep : NetStepsKeep
+pub net_steps_keep : AllCallsStay → SetsStay → KeptAlong → NetStepsKeep
 net_steps_keep calls_stay sets_stay kept_along x y s t h step = agrees_after calls_stay sets_stay kept_along x s t h y step

@@ -5,4 +5,4 @@ pub returns-clause-links : goal.returns-clause-links
 returns-clause-links c = links_cannot_tell
 
 pub returns-clause-untold : goal.returns-clause-untold
-returns-clause-untold c = untold_links_agree
+returns-clause-untold c = untold_links_agree c.links_stay.ensures.all
