@@ -1,19 +1,16 @@
--- What is due of subchannels and policies in a settling is done alike by channel and session: two steps of it (`settling_actions`). `AreJoined` is
+-- What is due of subchannels and policies in a settling is done alike by channel and session: two steps of it. `AreJoined` is
 -- asked of the session.
 -- Example: it is 20 s. The dial of subchannel 1, taken at 0 s, is up as link 1, without SETTINGS: ConnectTimesOut 1, and link 1 is over. The backoff of
 -- subchannel 2 is over: BackoffEnds 2; and as its policy wishes it, SubchannelConnects 2.
-use Rattle.std.specs.Prelude.{None, ◌≡◌}
 use Rattle.channel_actions.specs.Agrees.{Agrees}
 use Rattle.channel_actions.specs.Calm.{IsAt}
 use Rattle.channel_core.specs.States.{StateSeen}
 use Rattle.channel_core.specs.Steps.{clocked, net_settled}
 use Rattle.net_settlings.specs.Joined.{AreJoined}
-use Rattle.session_actions.specs.Policies.{next_take_over}
-use Rattle.session_actions.specs.Subchannels.{next_of_clock}
+use Rattle.net_settlings.specs.Points.{IsBegun, IsClocked, IsJoined, IsUncontested, Leads}
 use Rattle.session_actions.specs.declared.entry.OpenEntry.{OpenEntry}
 use Rattle.session_actions.specs.declared.entry.Stage.TheVariants as stage
 use Rattle.session_actions.specs.declared.seen.Seen.{Seen}
-use Rattle.settling_actions.specs.Steps.{IsBegun, IsClocked, IsJoined, Leads}
 
 -- a step of a settling, of sessions in which links are to subchannels and attempts what they are
 abbrev pub IsNetPart : (OpenEntry → Seen → Type 0) → (StateSeen → StateSeen) → (OpenEntry → Seen → Type 0) → Type 0
@@ -25,10 +22,5 @@ abbrev pub ClocksAreParts : Type 0
 ClocksAreParts = IsNetPart IsBegun clocked IsClocked
 
 -- wished subchannels connect, where no policy may take over. (Whether one may stays as it is while they do.)
-pub record IsUncontested (o : OpenEntry) (s : Seen) : Type 0 where
-  pub turn : o.turn ≡ None
-  pub clock : next_of_clock s ≡ None
-  pub take_over : next_take_over s ≡ None
-
 abbrev pub WishesAreParts : Type 0
 WishesAreParts = IsNetPart IsUncontested net_settled IsJoined
