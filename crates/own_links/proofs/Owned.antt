@@ -310,7 +310,7 @@ added s a = record {
   links = λ k q there. (q, (there, refl));
 }
 
-is_up : Action → Bool
+abbrev is_up : Action → Bool
 is_up (action.LinkUp sub) = true
 is_up _ = false
 
