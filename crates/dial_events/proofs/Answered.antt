@@ -1,5 +1,5 @@
 -- An event that one action of a subchannel answers.
-use Rattle.std.proofs.Common.{◌≡◌, ◌∷◌, ap, refl, subst, sym, ◌∙◌, true, [], None, Option, Some, ℕ}
+use Rattle.std.proofs.Common.{◌≡◌, ◌∷◌, ap, refl, sym, ◌∙◌, [], None, Some, ℕ}
 use Rattle.channel_actions.proofs.Answering.{IsPlain, event_next, plain_frame}
 use Rattle.board_actions.proofs.Calm.{of_order}
 use Rattle.channel_actions.specs.Agrees.{Agrees}
@@ -8,8 +8,7 @@ use Rattle.channel_actions.specs.Stages.{IsAnswered}
 use Rattle.channel_core.specs.States.{StateSeen}
 use Rattle.grpc_base.specs.declared.event.Event.{Event}
 use Rattle.grpc_base.specs.declared.event.Reply.{Reply}
-use Rattle.board_actions.proofs.Boards.{one_boarded}
-use Rattle.board_actions.specs.Boards.{IsBoarded, is_of_board}
+use Rattle.board_actions.specs.Boards.{IsBoarded}
 use Rattle.session_actions.specs.Actions.{after, following}
 use Rattle.session_actions.specs.CallEnds.{next_deadline}
 use Rattle.session_actions.specs.Events.{event_action}

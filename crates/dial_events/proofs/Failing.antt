@@ -8,7 +8,7 @@ use Rattle.channel_actions.specs.Agrees.{Agrees}
 use Rattle.channel_actions.specs.Calm.{IsAt}
 use Rattle.channel_actions.specs.Clock.{DrawsAlike}
 use Rattle.channel_actions.specs.Columns.{links_noted}
-use Rattle.channel_actions.specs.Stages.{EventsAnswered, IsAnswered}
+use Rattle.channel_actions.specs.Stages.{IsAnswered}
 use Rattle.channel_core.specs.Applying as channel
 use Rattle.channel_core.specs.Applying.{AnswersBy}
 use Rattle.channel_core.specs.Arrivals.{dial_failed_for, undialed}
@@ -17,7 +17,6 @@ use Rattle.channel_net.specs.Runs.{DialFailed}
 use Rattle.channel_net.specs.Steps as net
 use Rattle.dial_events.proofs.Answered.{answered_at, answered_by_one}
 use Rattle.dial_events.proofs.Nets.{of_calls_is, one_call_more, unrefused}
-use Rattle.dial_events.specs.Cases.{IsFailedDial}
 use Rattle.dial_events.specs.Laws.{FailedDialsAreAnswered}
 use Rattle.grpc_base.specs.declared.event.Conn.TheVariants as conn
 use Rattle.grpc_base.specs.declared.event.Event.{Event}
@@ -40,9 +39,9 @@ use Rattle.session_actions.specs.Actions.{after, after_if}
 use Rattle.session_actions.specs.CallEnds.{next_deadline}
 use Rattle.session_actions.specs.Events.{event_action}
 use Rattle.session_actions.specs.Links.{wants_resolution}
-use Rattle.session_actions.specs.Policies.{current_policy, is_shutdown}
-use Rattle.session_actions.specs.Refusals.{dial_refusal, refusal_of, refused_if}
-use Rattle.session_actions.specs.Subchannels.{dial_failed, is_connecting, is_dialling, with_sub, without_link}
+use Rattle.session_actions.specs.Policies.{is_shutdown}
+use Rattle.session_actions.specs.Refusals.{dial_refusal, refused_if}
+use Rattle.session_actions.specs.Subchannels.{dial_failed, is_connecting, is_dialling, without_link}
 use Rattle.session_actions.specs.Words.{numbered}
 use Rattle.session_actions.specs.declared.action.Action.TheVariants as action
 use Rattle.session_actions.specs.declared.entry.OpenEntry.{OpenEntry}

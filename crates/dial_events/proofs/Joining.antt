@@ -1,5 +1,5 @@
 -- A dial that is under way is up: a new link, with the next number.
-use Rattle.std.proofs.Common.{◌≡◌, ◌≤◌, ◌<◌, ◌&&◌, ◌++◌, ◌+◌, ◌==◌, ◌||◌, ◌∷◌, ap, arith, refl, subst, sym, ◌∙◌, Bool, true, false, List, [], None, Option, Some, ℕ, cond, filter, if◌then◌else◌, is_none, is_some, length, map, min, not, option_and_then, slice_get, suc, zero}
+use Rattle.std.proofs.Common.{◌≡◌, ◌≤◌, ◌<◌, ◌&&◌, ◌++◌, ◌+◌, ◌==◌, ◌||◌, ◌∷◌, ap, arith, refl, subst, sym, ◌∙◌, Bool, true, false, List, [], None, Option, Some, ℕ, cond, filter, if◌then◌else◌, is_some, length, map, min, not, option_and_then, suc, zero}
 use Rattle.std.proofs.lemmas.Bool.{eqb-false, eqb-true}
 use Rattle.std.proofs.lemmas.List.{length-append}
 use Rattle.std.proofs.lemmas.List.{map-append}
@@ -17,14 +17,13 @@ use Rattle.channel_actions.specs.Calm.{IsAt}
 use Rattle.channel_actions.specs.Clock.{DrawsAlike}
 use Rattle.channel_actions.specs.Columns.{links_noted}
 use Rattle.channel_actions.specs.Links.{HasLink, IsGoing, SeesLinks, lines_in}
-use Rattle.channel_actions.specs.Readers.{IsReaderOf, SeesReaders, attempt_on}
+use Rattle.channel_actions.specs.Readers.{IsReaderOf, attempt_on}
 use Rattle.channel_actions.specs.Stages.{IsAnswered}
 use Rattle.channel_core.specs.Applying as channel
 use Rattle.channel_core.specs.Applying.{AnswersBy}
 use Rattle.channel_core.specs.Arrivals.{linked_as, linked_for, next_link}
 use Rattle.channel_core.specs.States.{StateSeen}
 use Rattle.channel_core.specs.Tables.{fresh_link, new_slot}
-use Rattle.channel_core.specs.declared.state.links.LinkSlot.{LinkSlot}
 use Rattle.channel_net.specs.Runs.{Up}
 use Rattle.channel_net.specs.Steps as net
 use Rattle.dial_events.proofs.Answered.{answered_at, answered_by_one}
@@ -36,7 +35,6 @@ use Rattle.grpc_base.specs.declared.event.Event.TheVariants as event
 use Rattle.grpc_base.specs.declared.event.Refusal.{Refusal}
 use Rattle.grpc_base.specs.declared.event.Reply.{Reply}
 use Rattle.grpc_base.specs.declared.event.Reply.TheVariants as reply
-use Rattle.h2_link.specs.Wire.{fresh_wire}
 use Rattle.kept_sessions.specs.Kept.{AreCounted, IsKept, came_up, is_on_link, is_sound_sub}
 use Rattle.kept_sessions.specs.Laws.{KeptAlong}
 use Rattle.lb_policy.specs.Table.{is_ready}

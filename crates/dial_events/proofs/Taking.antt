@@ -1,5 +1,5 @@
 -- A dial is taken: of the first subchannel that is to be dialled, in both.
-use Rattle.std.proofs.Common.{◌≡◌, ◌%◌, ◌&&◌, ◌+◌, ◌<◌, ◌==◌, ◌^◌, ◌∷◌, ap, arith, refl, subst, sym, ◌∙◌, Bool, true, false, List, [], None, Option, Some, ℕ, find, if◌then◌else◌, is_none, is_some, map, max, min, nat_lt, not, slice_get, suc, zero}
+use Rattle.std.proofs.Common.{◌≡◌, ◌%◌, ◌&&◌, ◌+◌, ◌<◌, ◌==◌, ◌^◌, ◌∷◌, ap, arith, refl, subst, sym, ◌∙◌, Bool, true, false, List, [], None, Option, Some, ℕ, find, if◌then◌else◌, is_none, map, max, min, nat_lt, not, slice_get, suc, zero}
 use Rattle.std.proofs.lemmas.Bool.{eqb-true}
 use Rattle.std.proofs.lemmas.Option.{same_Some}
 use Rattle.std.specs.Option.{option_map, option_map_or}
@@ -12,7 +12,7 @@ use Rattle.channel_actions.specs.Columns.{links_noted}
 use Rattle.channel_actions.specs.Stages.{IsAnswered}
 use Rattle.channel_core.specs.Applying as channel
 use Rattle.channel_core.specs.Applying.{AnswersBy}
-use Rattle.channel_core.specs.Arrivals.{dial_asked, dial_reply}
+use Rattle.channel_core.specs.Arrivals.{dial_reply}
 use Rattle.channel_core.specs.States.{StateSeen}
 use Rattle.channel_core.specs.Steps as steps
 use Rattle.channel_net.specs.Lists.{link_of}
@@ -51,10 +51,10 @@ use Rattle.board_actions.specs.Boards.{IsBoarded}
 use Rattle.other_calls.specs.Laws.{AllCallsStay, SetsStay}
 use Rattle.session_actions.specs.Actions.{after, after_if, following}
 use Rattle.session_actions.specs.CallEnds.{next_deadline}
-use Rattle.session_actions.specs.Entries.{drawn_if, next_word, now}
+use Rattle.session_actions.specs.Entries.{next_word, now}
 use Rattle.session_actions.specs.Events.{event_action}
 use Rattle.session_actions.specs.Subchannels as sub
-use Rattle.session_actions.specs.Subchannels.{dial_action, dial_taken, dial_taken_of, take_dial, with_dial, with_sub}
+use Rattle.session_actions.specs.Subchannels.{dial_action, dial_taken, dial_taken_of, take_dial, with_dial}
 use Rattle.session_actions.specs.Words.{numbered}
 use Rattle.session_actions.specs.declared.action.Action.{Action}
 use Rattle.session_actions.specs.declared.action.Action.TheVariants as action
@@ -66,7 +66,6 @@ use Rattle.session_actions.specs.declared.subchannel.Subchannel.{Subchannel}
 use Rattle.session_order.proofs.Boards.{with_sub_current}
 use Rattle.session_order.specs.Calm as order
 use Rattle.session_order.specs.Laws.{BoardsStir, CalmIsExact}
-use Rattle.subchannel.specs.Boards as boards
 use Rattle.subchannel.specs.Boards.{first_number}
 use Rattle.subchannel.specs.Records.{SubRecord, is_connecting, is_dialable, next_dials, until_after}
 

@@ -1,10 +1,10 @@
 -- The random words of an entry: the channel counts draws in 64 bits, and the session without end.
-use Rattle.std.proofs.Common.{◌≡◌, ◌%◌, ◌*◌, ◌+◌, ◌^◌, ◌==◌, ap, arith, refl, sym, ◌∙◌, Bool, true, false, None, Option, Some, ℕ, if◌then◌else◌, nat_lt, not, suc, zero}
+use Rattle.std.proofs.Common.{◌≡◌, ◌%◌, ◌*◌, ◌+◌, ◌^◌, ◌==◌, ap, arith, refl, sym, ◌∙◌, Bool, true, false, Option, Some, ℕ, if◌then◌else◌, nat_lt, not}
 use Rattle.std.proofs.Math.Nat.{add-mod-mod, mod-add-mod}
 use Rattle.std.proofs.lemmas.Bool.Decides.{nat_tests}
 use Rattle.std.proofs.lemmas.Nat.{mul-mod_first}
 use Rattle.std.specs.Option.{option_map_or}
-use Rattle.channel_actions.specs.Clock.{DrawsAlike, SeesClock}
+use Rattle.channel_actions.specs.Clock.{DrawsAlike}
 use Rattle.channel_core.specs.States.{StateSeen}
 use Rattle.channel_core.specs.Steps as channel
 use Rattle.grpc_base.specs.Backoff.{nth_word}

@@ -1,17 +1,15 @@
 -- Action by action: a chain of policies and subchannels is what comes next, and leaves the lines of calls and links still.
-use Rattle.std.proofs.Common.{◌≡◌, ◌≤◌, ◌&&◌, ◌++◌, ◌+◌, ◌==◌, ◌||◌, ◌∷◌, ap, arith, refl, subst, sym, ◌∙◌, Bool, true, false, List, [], None, Option, Some, ℕ, cond, find, if◌then◌else◌, is_none, length, option_map, pred, slice_get, suc, zero}
+use Rattle.std.proofs.Common.{◌≡◌, ◌≤◌, ◌&&◌, ◌++◌, ◌+◌, ◌==◌, ◌||◌, ◌∷◌, ap, arith, refl, subst, sym, ◌∙◌, Bool, true, false, List, [], None, Option, Some, ℕ, cond, find, if◌then◌else◌, is_none, length, option_map, pred}
 use Rattle.std.proofs.lemmas.Bool.{eq-eqb}
 use Rattle.std.proofs.lemmas.List.{length-append, length-set}
 use Rattle.std.specs.List.{list_any}
 use Rattle.std.specs.Option.{option_map_or, option_or}
 use Rattle.std.specs.Prelude.{option_and_then}
-use Rattle.attempt_ledger.specs.declared.ledger.Ask.{Ask}
 use Rattle.channel_actions.proofs.Does.{none_on}
 use Rattle.grpc_base.specs.declared.address.Address.{Address}
 use Rattle.grpc_base.specs.declared.event.Conn.TheVariants as conn
 use Rattle.grpc_base.specs.declared.event.EndCause.TheVariants as ending
 use Rattle.grpc_base.specs.declared.kind.Kind.{Kind}
-use Rattle.net_actions.specs.Runs.{DoesAll}
 use Rattle.net_chains.specs.Chains.{IsApartCalm, IsChained, IsPickThere}
 use Rattle.net_chains.specs.Laws.{ChainsAreNext}
 use Rattle.board_actions.proofs.Boards.{one_boarded}
@@ -37,7 +35,6 @@ use Rattle.session_order.proofs.Boards.{with_sub_current}
 use Rattle.session_order.specs.Calm.{IsCalm, IsStill}
 use Rattle.session_order.specs.Laws.{BoardsStir, LeavesApart, LinesAreStill, PoliciesStirApart}
 use Rattle.session_order.specs.Lines.{gives, is_of_policies}
-use Rattle.session_order.specs.Stirs.{IsAddable}
 use Rattle.session_order.specs.declared.line.Line.{Line}
 use Rattle.session_order.specs.declared.line.Line.TheVariants as line
 

@@ -1,10 +1,9 @@
 -- The clock of a settling: round by round until nothing of it is due.
-use Rattle.std.proofs.Common.{◌≡◌, ap, refl, subst, sym, ◌∙◌, List, [], None, Option, Some, ℕ}
+use Rattle.std.proofs.Common.{◌≡◌, ap, refl, subst, sym, ◌∙◌, [], Option, ℕ}
 use Rattle.channel_actions.specs.Agrees.{Agrees}
-use Rattle.channel_actions.specs.Calm.{IsAt}
 use Rattle.channel_actions.specs.Clock.{DrawsAlike}
 use Rattle.channel_core.specs.States.{StateSeen}
-use Rattle.channel_core.specs.Steps.{clocked, clocked_to}
+use Rattle.channel_core.specs.Steps.{clocked}
 use Rattle.channel_net.proofs.RoundLaws.{clock-ends}
 use Rattle.channel_net.specs.Runs.{Clock}
 use Rattle.channel_net.specs.Steps.{NetLeft, clocks_left, left_of, net_clocked}

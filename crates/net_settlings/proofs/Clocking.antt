@@ -5,7 +5,6 @@ use Rattle.std.proofs.lemmas.List.{length-set}
 use Rattle.std.specs.Option.{option_map, option_map_or, option_or}
 use Rattle.std.specs.Prelude.{option_and_then}
 use Rattle.attempt_ledger.specs.declared.ledger.LinkSeen.{LinkSeen}
-use Rattle.attempt_ledger.specs.declared.row.Placed.{Placed}
 use Rattle.channel_actions.proofs.Settles.{follows_by}
 use Rattle.channel_actions.proofs.Does.{does_on, none_on}
 use Rattle.channel_actions.proofs.Gone.{all_numbered}
@@ -16,7 +15,7 @@ use Rattle.channel_actions.specs.Links.{HasLink, SeesLinks}
 use Rattle.channel_core.proofs.BookLaws.{number_changed, number_other}
 use Rattle.channel_core.proofs.Resting.{changed_length}
 use Rattle.channel_core.specs.States.{StateSeen}
-use Rattle.channel_core.specs.Tables.{buried, buried_in}
+use Rattle.channel_core.specs.Tables.{buried}
 use Rattle.channel_core.specs.declared.state.links.LinkSlot.{LinkSlot}
 use Rattle.channel_net.specs.Lists.{link_of}
 use Rattle.channel_net.specs.Steps.{NetLeft, NetSeen, clock_round, clock_rounds, clocked_at, left}
@@ -26,17 +25,17 @@ use Rattle.kept_sessions.specs.Kept.{IsKept, came_up, is_sound_sub}
 use Rattle.kept_sessions.specs.Laws.{KeptAlong}
 use Rattle.lb_policy.specs.Table.{is_ready}
 use Rattle.ledger_stamps.specs.Steps.{changed_at, gone_link}
-use Rattle.link_frames.specs.Alike.{CannotTell, IsLinkStill}
+use Rattle.link_frames.specs.Alike.{CannotTell}
 use Rattle.link_frames.specs.Laws.{LinksStay}
 use Rattle.net_actions.proofs.Subs.{Both, both_at}
 use Rattle.net_actions.specs.Laws.{ClockChanges, EndsBackoff, TimesOut}
-use Rattle.net_actions.specs.Sees.{IsShaped, IsSub, Sees}
+use Rattle.net_actions.specs.Sees.{IsShaped, Sees}
 use Rattle.net_settlings.proofs.Limits.{slots_after, slots_more, stamps_after, stamps_more, wanting}
 use Rattle.net_settlings.proofs.Overdue.{fails, gives_up, none_still, some_still, timed_none, timed_some}
 use Rattle.net_settlings.proofs.Stamped.{map_stamped, stamp_over}
 use Rattle.net_settlings.specs.Joined.{AreJoined}
 use Rattle.net_steps.proofs.Alike.{links_cannot_tell, still, untold_links_agree}
-use Rattle.board_actions.proofs.Boards.{boards_join, boards_leave_rest, one_boarded, subbed}
+use Rattle.board_actions.proofs.Boards.{boards_leave_rest, one_boarded, subbed}
 use Rattle.board_actions.proofs.Calm.{of_order}
 use Rattle.net_steps.proofs.Clocks.{entry_goes_on, now_goes_on}
 use Rattle.net_steps.proofs.Subbed.{noted_gone_same, noted_same, subbed_generations, subbed_links, subbed_shut, subbed_subs}

@@ -1,8 +1,7 @@
 -- Where no policy may take over, a net settles by its wishes alone.
-use Rattle.std.proofs.Common.{◌≡◌, ap, refl, subst, sym, ◌∙◌, Bool, true, false, List, [], None, Option, Some, ℕ, if◌then◌else◌, map, option_map}
+use Rattle.std.proofs.Common.{◌≡◌, ap, refl, subst, sym, ◌∙◌, Bool, true, false, List, [], None, Option, Some, ℕ, if◌then◌else◌, option_map}
 use Rattle.attempt_ledger.specs.declared.ledger.Generation.{Generation}
 use Rattle.channel_actions.specs.Agrees.{Agrees}
-use Rattle.channel_actions.specs.Calm.{IsAt}
 use Rattle.channel_actions.specs.Clock.{DrawsAlike}
 use Rattle.channel_core.specs.States.{StateSeen}
 use Rattle.channel_core.specs.Steps as channel
@@ -25,12 +24,10 @@ use Rattle.net_steps.proofs.Clocks.{clock_goes_on}
 use Rattle.net_steps.proofs.Stepped.{net_steps_keep}
 use Rattle.net_steps.proofs.Subbed.{current_stays}
 use Rattle.board_actions.specs.Boards.{IsBoarded}
-use Rattle.net_steps.specs.Steps.{netted}
 use Rattle.other_calls.specs.Laws.{AllCallsStay, SetsStay}
 use Rattle.policy_rack.specs.Steps.{live_of, may_follow, may_take_over, state_in}
 use Rattle.policy_rack.specs.declared.live.Live.{Live}
 use Rattle.session_actions.specs.Policies.{next_take_over}
-use Rattle.session_actions.specs.declared.action.Action.{Action}
 use Rattle.session_actions.specs.declared.action.Action.TheVariants as action
 use Rattle.session_actions.specs.declared.entry.OpenEntry.{OpenEntry}
 use Rattle.session_actions.specs.declared.seen.Seen.{Seen}

@@ -1,7 +1,7 @@
 -- Round by round: the subchannel that the net's policies wish is the session's next to connect, until none is wished. Whether a policy may take over stays as it is.
-use Rattle.std.proofs.Common.{◌≡◌, ◌&&◌, ◌++◌, ◌+◌, ◌==◌, ◌||◌, ◌∷◌, ap, arith, refl, subst, sym, ◌∙◌, Bool, true, false, List, [], None, Option, Some, ℕ, cond, find, filter_map, if◌then◌else◌, is_some, map, nat_le, not, option_map, option_to_list, slice_get, suc, zero}
-use Rattle.std.proofs.lemmas.Bool.{eqb-false, eqb-true}
-use Rattle.std.specs.Option.{option_map_or, option_or}
+use Rattle.std.proofs.Common.{◌≡◌, ◌&&◌, ◌++◌, ◌+◌, ◌==◌, ◌||◌, ◌∷◌, ap, arith, refl, subst, sym, ◌∙◌, Bool, true, false, List, [], None, Option, Some, ℕ, cond, find, filter_map, if◌then◌else◌, map, nat_le, option_map, option_to_list, slice_get, suc, zero}
+use Rattle.std.proofs.lemmas.Bool.{eqb-true}
+use Rattle.std.specs.Option.{option_or}
 use Rattle.std.specs.Prelude.{option_and_then, slice_set}
 use Rattle.attempt_ledger.specs.declared.ledger.Generation.{Generation}
 use Rattle.attempt_ledger.specs.declared.ledger.LinkSeen.{LinkSeen}
@@ -12,7 +12,6 @@ use Rattle.channel_actions.specs.Calm.{IsAt, IsCalm}
 use Rattle.channel_actions.specs.Columns.{links_noted}
 use Rattle.channel_actions.specs.Links.{SeesLinks}
 use Rattle.channel_core.specs.States.{StateSeen}
-use Rattle.channel_net.specs.Askers.{told}
 use Rattle.channel_net.specs.Steps.{NetSeen, connect_round, connect_rounds, connected_at, first_wished}
 use Rattle.grpc_base.specs.declared.address.Address.{Address}
 use Rattle.grpc_base.specs.declared.event.Conn.{Conn}
@@ -21,7 +20,6 @@ use Rattle.kept_sessions.specs.Kept.{IsKept}
 use Rattle.kept_sessions.specs.Laws.{KeptAlong}
 use Rattle.lb_policy.specs.Steps.{noted}
 use Rattle.lb_policy.specs.Table.{PolicySeen, state_of}
-use Rattle.lb_policy.specs.declared.seen.SubSeen.{SubSeen}
 use Rattle.link_frames.specs.Laws.{LinksStay}
 use Rattle.net_actions.proofs.Subs.{Both, both_at}
 use Rattle.net_actions.specs.Laws.{TakeOversAreSame, WishesConnect}
@@ -30,15 +28,15 @@ use Rattle.net_settlings.proofs.Clocking.{board_on, first_true, joined_after, no
 use Rattle.net_settlings.proofs.Starting.{AreIdleIn, IsIdleIn, starting_state}
 use Rattle.net_settlings.specs.Joined.{AreJoined}
 use Rattle.net_steps.proofs.Alike.{untold_links_agree}
-use Rattle.board_actions.proofs.Boards.{boards_leave_rest, one_boarded, subbed}
+use Rattle.board_actions.proofs.Boards.{one_boarded, subbed}
 use Rattle.board_actions.proofs.Calm.{of_order}
 use Rattle.net_steps.proofs.Clocks.{entry_goes_on, now_goes_on}
 use Rattle.net_steps.proofs.Subbed.{noted_same, subbed_generations, subbed_links, subbed_shut, subbed_subs}
 use Rattle.board_actions.specs.Boards.{AreOfBoard, IsBoarded}
 use Rattle.policy_rack.specs.Steps as rack
-use Rattle.policy_rack.specs.Steps.{RackSeen, may_follow, may_take_over, state_in}
+use Rattle.policy_rack.specs.Steps.{may_follow, may_take_over}
 use Rattle.policy_rack.specs.declared.live.Live.{Live}
-use Rattle.session_actions.specs.Actions.{after, after_if, config_action, first_action, following, following_in, of_calls, of_links, of_policies, of_settling, of_stage}
+use Rattle.session_actions.specs.Actions.{after, after_if, config_action, first_action, following, following_in, of_calls, of_links, of_policies, of_stage}
 use Rattle.session_actions.specs.Entries.{now}
 use Rattle.session_actions.specs.Laws.{posted_in}
 use Rattle.session_actions.specs.Making.{next_due_attempt}

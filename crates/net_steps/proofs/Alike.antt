@@ -1,13 +1,10 @@
 -- No link can tell of actions of subchannels and policies, where it is itself as it was: its attempts and their calls are the same.
-use Rattle.std.proofs.Common.{◌≡◌, ◌≤◌, ◌∷◌, ap, arith, refl, subst, sym, ◌∙◌, false, List, [], Option, Some, ℕ, length}
-use Rattle.channel_actions.specs.Links.{SeesLinks}
-use Rattle.channel_core.specs.States.{StateSeen}
+use Rattle.std.proofs.Common.{◌≡◌, ◌≤◌, ◌∷◌, ap, arith, refl, subst, sym, ◌∙◌, false, List, [], ℕ, length}
 use Rattle.channel_core.specs.declared.state.links.LinkSlot.{LinkSlot}
 use Rattle.grpc_frame.specs.Messages.{framed_all}
-use Rattle.kept_sessions.specs.Kept.{IsKept}
 use Rattle.link_frames.specs.Alike.{AreAlike, CannotTell, IsLinkStill, Numbers}
 use Rattle.link_frames.specs.Laws.{LinksStay}
-use Rattle.board_actions.specs.Boards.{IsBoarded, boarded}
+use Rattle.board_actions.specs.Boards.{boarded}
 use Rattle.net_steps.specs.Laws.{LinksCannotTell, UntoldLinksAgree}
 use Rattle.session_actions.specs.Words.{numbered}
 use Rattle.session_actions.specs.declared.attempt.Attempt.{Attempt}

@@ -1,5 +1,5 @@
 -- Nothing passes on a stream of a call by actions of subchannels and policies: no attempt is on a link that comes up only now.
-use Rattle.std.proofs.Common.{◌≡◌, ◌&&◌, ◌+◌, ◌==◌, ◌||◌, ◌∷◌, ap, arith, eqb-true, refl, subst, sym, ◌∙◌, Bool, true, false, List, [], Option, None, Some, ℕ, zero, suc, is_some, length, slice_get}
+use Rattle.std.proofs.Common.{◌≡◌, ◌&&◌, ◌+◌, ◌==◌, ◌||◌, ◌∷◌, ap, arith, eqb-true, refl, sym, ◌∙◌, Bool, true, false, List, [], Option, None, Some, ℕ, suc, is_some, length, slice_get}
 use Rattle.std.specs.List.{list_all, list_any}
 use Rattle.std.specs.Option.{option_map_or}
 use Rattle.attempt_ledger.specs.declared.row.Placed.{Placed}

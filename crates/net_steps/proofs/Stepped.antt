@@ -1,19 +1,14 @@
 -- A step of the net: all else agrees as before, since nothing else changed.
-use Rattle.std.proofs.Common.{◌≡◌, ◌==◌, ◌||◌, ◌∷◌, ap, arith, refl, subst, sym, ◌∙◌, Bool, true, false, List, [], Option, None, Some, ℕ, zero, suc, is_some, length}
+use Rattle.std.proofs.Common.{◌≡◌, ◌==◌, ◌||◌, ◌∷◌, ap, arith, refl, subst, sym, ◌∙◌, true, false, List, [], Option, None, Some, ℕ, zero, suc, is_some, length}
 use Rattle.std.proofs.lemmas.Bool.Decides.{nat_tests}
-use Rattle.std.specs.List.{list_any}
 use Rattle.std.specs.Option.{option_map_or}
 use Rattle.std.specs.Prelude.{map}
-use Rattle.attempt_ledger.specs.declared.ledger.Generation.{Generation}
-use Rattle.attempt_ledger.specs.declared.ledger.Ledger.{Ledger}
-use Rattle.calls_apart.specs.Apart.{acts_on}
 use Rattle.channel_actions.specs.Agrees.{Agrees}
 use Rattle.channel_actions.specs.Calls.{SeesCalls}
 use Rattle.channel_actions.specs.Clock.{DrawsAlike}
 use Rattle.channel_actions.specs.Columns.{SeesColumns, links_noted}
 use Rattle.channel_actions.specs.Configs.{SeesBuckets, SeesConfigs}
 use Rattle.channel_actions.specs.Sets.{SeesSets, is_in_dues}
-use Rattle.channel_core.specs.Books.{slot_at}
 use Rattle.channel_core.specs.States.{StateSeen}
 use Rattle.kept_sessions.specs.Kept.{IsKept}
 use Rattle.kept_sessions.specs.Laws.{KeptAlong}
@@ -27,7 +22,6 @@ use Rattle.other_calls.specs.Others.{AreOfCall, BooksApart, GoesApart, IsBooked,
 use Rattle.session_actions.specs.Actions.{after}
 use Rattle.session_actions.specs.Policies.{current_policy}
 use Rattle.session_actions.specs.Sessions.{Does}
-use Rattle.session_actions.specs.Words.{numbered}
 use Rattle.session_actions.specs.declared.action.Action.{Action}
 use Rattle.session_actions.specs.declared.call.Call.{Call}
 use Rattle.session_actions.specs.declared.policy.PolicyUse.{PolicyUse}

@@ -2,7 +2,6 @@
 use Rattle.std.proofs.Common.{◌≡◌, ◌&&◌, ◌++◌, ◌+◌, ◌==◌, ◌∷◌, ap, arith, refl, subst, sym, ◌∙◌, Bool, true, false, Err, List, [], None, Ok, Option, Result, Some, ℕ, if◌then◌else◌, is_none, is_some, length, map, not, option_and_then, option_map, slice_get, suc, zero}
 use Rattle.std.proofs.lemmas.Bool.{eqb-false, eqb-true}
 use Rattle.std.proofs.lemmas.Option.{slice_get-map}
-use Rattle.std.specs.List.{list_all}
 use Rattle.std.specs.Option.{option_map_or}
 use Rattle.attempt_ledger.specs.Ends.{is_cut}
 use Rattle.attempt_ledger.specs.Numbering.{is_transparent}
@@ -38,9 +37,8 @@ use Rattle.session_actions.specs.Links.{link_number, link_over, owed, wants_reso
 use Rattle.session_actions.specs.Making.{attempt_made, new_row, with_row, without_turn_unless}
 use Rattle.session_actions.specs.Policies.{addresses_given, addresses_in, current_policy, given_addresses, policy_retired, policy_took_over, with_placing, with_policy}
 use Rattle.session_actions.specs.Refusals.{is_gone}
-use Rattle.session_actions.specs.Sessions.{Does}
 use Rattle.session_actions.specs.Subchannels.{connect_timed_out, dial_failed, dial_taken_of, gone_down, in_state, link_timed_out, link_up, new_link, new_sub, noted_by_policies, sub_added, with_dial, with_sub, without_link}
-use Rattle.session_actions.specs.Words.{changed, changed_if, numbered}
+use Rattle.session_actions.specs.Words.{changed, numbered}
 use Rattle.session_actions.specs.Writing.{frame_read_on, frame_written_on, link_broken, link_lost, owed_for, ping_of, stream_opened, stream_opened_by, waiting_on, with_frame_read, with_piece, with_stream}
 use Rattle.session_actions.specs.declared.action.Action.{Action}
 use Rattle.session_actions.specs.declared.action.Action.TheVariants as action
@@ -52,7 +50,6 @@ use Rattle.session_actions.specs.declared.config.ThrottleRun.{ThrottleRun}
 use Rattle.session_actions.specs.declared.entry.OpenEntry.{OpenEntry}
 use Rattle.session_actions.specs.declared.link.Link.{Link}
 use Rattle.session_actions.specs.declared.link.LinkOver.TheVariants as over
-use Rattle.session_actions.specs.declared.link.ReadFrame.{ReadFrame}
 use Rattle.session_actions.specs.declared.link.Sent.{Sent}
 use Rattle.session_actions.specs.declared.link.Sent.TheVariants as sent
 use Rattle.session_actions.specs.declared.link.Traffic.TheVariants as traffic

@@ -1,5 +1,5 @@
 -- An invalid config, where none was ever held: the resolver has answered, and that is all.
-use Rattle.std.proofs.Common.{◌≡◌, ◌&&◌, ◌==◌, ◌||◌, ◌∷◌, ap, refl, subst, sym, ◌∙◌, Bool, true, false, Err, List, [], None, Ok, Option, Result, Some, ℕ, if◌then◌else◌, is_none, is_some, map, not, suc}
+use Rattle.std.proofs.Common.{◌≡◌, ◌&&◌, ◌==◌, ◌||◌, ◌∷◌, ap, refl, subst, sym, ◌∙◌, Bool, true, false, Err, List, [], None, Option, Result, Some, ℕ, if◌then◌else◌, is_none, is_some}
 use Rattle.std.specs.List.{list_any}
 use Rattle.std.specs.Option.{option_map}
 use Rattle.std.specs.Prelude.{slice_set}
@@ -30,7 +30,7 @@ use Rattle.board_actions.proofs.Calm.{of_order, to_order}
 use Rattle.policy_rack.specs.Kinds.{has_policy, kinds_of}
 use Rattle.result_events.specs.Laws.{FirstBadConfigsAreAnswered}
 use Rattle.service_config.specs.declared.config.Config.{Config}
-use Rattle.session_actions.specs.Actions.{after, after_if, following}
+use Rattle.session_actions.specs.Actions.{after, after_if}
 use Rattle.session_actions.specs.CallEnds.{cancels, is_after_event, next_deadline, sends_too_long}
 use Rattle.session_actions.specs.Configs.{held_config, kinds_in, read_config, resolver_answered}
 use Rattle.session_actions.specs.Events.{event_action, frame_of_event}
@@ -42,7 +42,6 @@ use Rattle.session_actions.specs.declared.call.Call.{Call}
 use Rattle.session_actions.specs.declared.config.HeldConfig.{HeldConfig}
 use Rattle.session_actions.specs.declared.entry.OpenEntry.{OpenEntry}
 use Rattle.session_actions.specs.declared.entry.Stage.TheVariants as stage
-use Rattle.session_actions.specs.declared.policy.PolicyUse.{PolicyUse}
 use Rattle.session_actions.specs.declared.seen.PolicyKind.{PolicyKind}
 use Rattle.session_actions.specs.declared.seen.Seen.{Seen}
 use Rattle.session_order.proofs.Entered.{IsQuietFor, moved_on}

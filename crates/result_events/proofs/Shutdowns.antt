@@ -1,9 +1,8 @@
 -- A channel that was shut down is shut down.
-use Rattle.std.proofs.Common.{◌≡◌, ◌∷◌, ap, refl, subst, sym, ◌∙◌, Bool, true, [], None, Option, Some, ℕ, if◌then◌else◌}
+use Rattle.std.proofs.Common.{◌≡◌, ◌∷◌, ap, refl, subst, sym, ◌∙◌, Bool, [], None, Option, ℕ, if◌then◌else◌}
 use Rattle.channel_actions.proofs.Answering.{IsPlain, answered_plainly, plain_frame, plain_quiet, replied_entry}
 use Rattle.channel_actions.proofs.Settles.{with_open}
 use Rattle.channel_actions.specs.Stages.{IsAnswered}
-use Rattle.channel_core.specs.Applying as channel
 use Rattle.channel_core.specs.Applying.{AnswersBy, refusal_of, shut_off}
 use Rattle.channel_core.specs.States.{StateSeen}
 use Rattle.grpc_base.specs.declared.event.Event.{Event}
@@ -16,7 +15,6 @@ use Rattle.session_actions.specs.Entries.{replied}
 use Rattle.session_actions.specs.Events.{event_action}
 use Rattle.session_actions.specs.declared.action.Action.TheVariants as action
 use Rattle.session_actions.specs.declared.entry.OpenEntry.{OpenEntry}
-use Rattle.session_actions.specs.declared.seen.Seen.{Seen}
 
 is_plain : IsPlain event.Shutdown
 is_plain = record { cancels_none = λ n. refl; sends_none = λ c z. refl; no_result = refl; no_frame = λ o s. refl }

@@ -1,7 +1,7 @@
 -- Events that leave policies and subchannels as they are, though others of their kind change them: a Shutdown of a channel that was shut down, and a result of
 -- the resolver with an invalid config, where none was ever held.
 -- Example: a new channel is given a result with the config `[]`. It is answered with BadConfig; no policy begins, and calls that do not wait for ready end.
-use Rattle.std.specs.Prelude.{Err, List, None, Option, Some, true, ℕ, ◌≡◌}
+use Rattle.std.specs.Prelude.{Err, List, None, Option, true, ℕ, ◌≡◌}
 use Rattle.channel_core.specs.Applying as channel
 use Rattle.channel_core.specs.Applying.{config_read}
 use Rattle.channel_core.specs.States.{StateSeen}
