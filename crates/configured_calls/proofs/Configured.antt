@@ -143,13 +143,13 @@ module _ (frames : Frames) (tokens_stay : TokensStay) (fair : LinesAreFair) (sta
   bucket_last : slot2.bucket ≡ last_run x.book.buckets
   bucket_last = ap (λ (q : Option Chosen). if is_some q then slot.bucket else last_run x.book.buckets) had_it.chosen
 
-  one_less : (n : ℕ) → (n + 1) - 1 ≡ n
-  one_less n = omega arith
+  one_less : (l : List (Option Bucket)) → length {A = Option Bucket} (None ∷ l) - 1 ≡ length l
+  one_less l = omega arith
 
   last_is : last_run x.book.buckets ≡ length (runs_in_turn s.configs)
   last_is =
       ap (λ (l : List (Option Bucket)). length l - 1) (sym h.buckets.runs)
-      ∙ one_less (length (map (bucket_in s) (runs_in_turn s.configs))) ∙ map_length (bucket_in s) (runs_in_turn s.configs)
+      ∙ one_less (map (bucket_in s) (runs_in_turn s.configs)) ∙ map_length (bucket_in s) (runs_in_turn s.configs)
 
   tokens_are : tokens_of_config s g ≡ tokens_in x.book.buckets slot2.bucket
   tokens_are =

@@ -1,15 +1,14 @@
 -- An event that one action of a subchannel answers.
-use Rattle.std.proofs.Common.{◌≡◌, ◌∷◌, ap, refl, subst, sym, ◌∙◌, true, [], None, Option, Some, ℕ}
+use Rattle.std.proofs.Common.{◌≡◌, ◌∷◌, ap, refl, sym, ◌∙◌, [], None, Some, ℕ}
 use Rattle.channel_actions.proofs.Answering.{IsPlain, event_next, plain_frame}
-use Rattle.net_steps.proofs.Calm.{of_order}
+use Rattle.board_actions.proofs.Calm.{of_order}
 use Rattle.channel_actions.specs.Agrees.{Agrees}
 use Rattle.channel_actions.specs.Calm.{IsAt}
 use Rattle.channel_actions.specs.Stages.{IsAnswered}
 use Rattle.channel_core.specs.States.{StateSeen}
 use Rattle.grpc_base.specs.declared.event.Event.{Event}
 use Rattle.grpc_base.specs.declared.event.Reply.{Reply}
-use Rattle.net_steps.proofs.Boards.{one_boarded}
-use Rattle.net_steps.specs.Boards.{IsBoarded, is_of_board}
+use Rattle.board_actions.specs.Boards.{IsBoarded}
 use Rattle.session_actions.specs.Actions.{after, following}
 use Rattle.session_actions.specs.CallEnds.{next_deadline}
 use Rattle.session_actions.specs.Events.{event_action}

@@ -1,12 +1,14 @@
 -- A dial that is under way fails.
-use Rattle.std.proofs.Common.{◌≡◌, ◌&&◌, ◌∷◌, ap, refl, subst, sym, ◌∙◌, Bool, true, false, [], None, Option, Some, ℕ, if◌then◌else◌, is_none, is_some, not}
+use Rattle.std.proofs.Common.{◌≡◌, ◌&&◌, ◌∷◌, ap, refl, subst, sym, ◌∙◌, Bool, true, false, [], None, Option, Some, ℕ, if◌then◌else◌, is_none, is_some, map, not}
 use Rattle.std.specs.Option.{option_map}
-use Rattle.channel_actions.proofs.Answering.{IsPlain}
+use Rattle.channel_actions.proofs.Answering.{event_next}
 use Rattle.channel_actions.proofs.Dialling.{applied_next, dial_same, open_in, unshut_by}
-use Rattle.net_steps.proofs.Calm.{to_order}
+use Rattle.board_actions.proofs.Calm.{to_order}
 use Rattle.channel_actions.specs.Agrees.{Agrees}
 use Rattle.channel_actions.specs.Calm.{IsAt}
-use Rattle.channel_actions.specs.Stages.{EventsAnswered, IsAnswered}
+use Rattle.channel_actions.specs.Clock.{DrawsAlike}
+use Rattle.channel_actions.specs.Columns.{links_noted}
+use Rattle.channel_actions.specs.Stages.{IsAnswered}
 use Rattle.channel_core.specs.Applying as channel
 use Rattle.channel_core.specs.Applying.{AnswersBy}
 use Rattle.channel_core.specs.Arrivals.{dial_failed_for, undialed}
@@ -15,7 +17,6 @@ use Rattle.channel_net.specs.Runs.{DialFailed}
 use Rattle.channel_net.specs.Steps as net
 use Rattle.dial_events.proofs.Answered.{answered_at, answered_by_one}
 use Rattle.dial_events.proofs.Nets.{of_calls_is, one_call_more, unrefused}
-use Rattle.dial_events.specs.Cases.{IsFailedDial}
 use Rattle.dial_events.specs.Laws.{FailedDialsAreAnswered}
 use Rattle.grpc_base.specs.declared.event.Conn.TheVariants as conn
 use Rattle.grpc_base.specs.declared.event.Event.{Event}
@@ -28,23 +29,24 @@ use Rattle.kept_sessions.specs.Laws.{KeptAlong}
 use Rattle.link_frames.specs.Laws.{LinksStay}
 use Rattle.net_actions.specs.Laws.{DialsFail}
 use Rattle.net_steps.proofs.Alike.{untold_links_agree}
-use Rattle.net_steps.proofs.Boards.{one_boarded}
+use Rattle.board_actions.proofs.Boards.{one_boarded}
 use Rattle.net_steps.proofs.Clocks.{clock_goes_on, entry_goes_on}
 use Rattle.net_steps.proofs.Stepped.{net_steps_keep}
 use Rattle.net_steps.proofs.Subbed.{current_stays, noted_same, subbed_generations, subbed_links, subbed_shut}
-use Rattle.net_steps.specs.Boards.{IsBoarded}
+use Rattle.board_actions.specs.Boards.{IsBoarded}
 use Rattle.other_calls.specs.Laws.{AllCallsStay, SetsStay}
 use Rattle.session_actions.specs.Actions.{after, after_if}
 use Rattle.session_actions.specs.CallEnds.{next_deadline}
 use Rattle.session_actions.specs.Events.{event_action}
 use Rattle.session_actions.specs.Links.{wants_resolution}
-use Rattle.session_actions.specs.Policies.{current_policy, is_shutdown}
-use Rattle.session_actions.specs.Refusals.{dial_refusal, refusal_of, refused_if}
-use Rattle.session_actions.specs.Subchannels.{dial_failed, is_connecting, is_dialling, with_sub, without_link}
+use Rattle.session_actions.specs.Policies.{is_shutdown}
+use Rattle.session_actions.specs.Refusals.{dial_refusal, refused_if}
+use Rattle.session_actions.specs.Subchannels.{dial_failed, is_connecting, is_dialling, without_link}
 use Rattle.session_actions.specs.Words.{numbered}
 use Rattle.session_actions.specs.declared.action.Action.TheVariants as action
 use Rattle.session_actions.specs.declared.entry.OpenEntry.{OpenEntry}
 use Rattle.session_actions.specs.declared.entry.Stage.TheVariants as stage
+use Rattle.session_actions.specs.declared.policy.PolicyUse.{PolicyUse}
 use Rattle.session_actions.specs.declared.seen.Seen.{Seen}
 use Rattle.session_actions.specs.declared.subchannel.Subchannel.{Subchannel}
 use Rattle.session_order.proofs.Boards.{connecting_live, with_sub_current}
@@ -145,7 +147,7 @@ module _ (exact : CalmIsExact) (stir : BoardsStir) (fail : DialsFail) (calls_sta
       (record { cancels_none = λ n. refl; sends_none = λ c z. refl; no_result = refl; no_frame = λ q z. refl }) brings next (λ e. e) refl does boarded on
       (λ l. stir.failed sub o s at.current (brings, way.one, way.there, way.dials) l p on refl (to_order exact o s at.calm l)) agrees
 
-pub failed_dials_are_answered : CalmIsExact → BoardsStir → DialsFail → FailedDialsAreAnswered
+pub failed_dials_are_answered : CalmIsExact → BoardsStir → DialsFail → AllCallsStay → SetsStay → KeptAlong → LinksStay → FailedDialsAreAnswered
 failed_dials_are_answered exact stir fail calls_stay sets_stay kept_along links_stay x y r o s h at fresh timely case answers =
     let given : AnswersBy None (event.DialFailed case.sub) x y r
     = subst (λ (e : Event). AnswersBy None e x y r) case.event_is (subst (λ (z : Option Refusal). AnswersBy z o.event x y r) case.kept answers) in

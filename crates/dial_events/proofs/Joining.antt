@@ -1,9 +1,9 @@
 -- A dial that is under way is up: a new link, with the next number.
-use Rattle.std.proofs.Common.{◌≡◌, ◌≤◌, ◌<◌, ◌&&◌, ◌++◌, ◌+◌, ◌==◌, ◌||◌, ◌∷◌, ap, arith, refl, subst, sym, ◌∙◌, Bool, true, false, List, [], None, Option, Some, ℕ, cond, filter, if◌then◌else◌, is_none, is_some, length, map, min, not, option_and_then, slice_get, suc, zero}
+use Rattle.std.proofs.Common.{◌≡◌, ◌≤◌, ◌<◌, ◌&&◌, ◌++◌, ◌+◌, ◌==◌, ◌||◌, ◌∷◌, ap, arith, refl, subst, sym, ◌∙◌, Bool, true, false, List, [], None, Option, Some, ℕ, cond, filter, if◌then◌else◌, is_some, length, map, min, not, option_and_then, suc, zero}
 use Rattle.std.proofs.lemmas.Bool.{eqb-false, eqb-true}
 use Rattle.std.proofs.lemmas.List.{length-append}
-use Rattle.std.proofs.lemmas.List.Elements.{map-append}
-use Rattle.std.specs.List.{list_all}
+use Rattle.std.proofs.lemmas.List.{map-append}
+use Rattle.std.specs.List.{list_all, list_any}
 use Rattle.std.specs.Option.{option_map, option_map_or}
 use Rattle.attempt_ledger.specs.declared.ledger.LinkSeen.{LinkSeen}
 use Rattle.attempt_ledger.specs.declared.row.Placed.{Placed}
@@ -17,14 +17,13 @@ use Rattle.channel_actions.specs.Calm.{IsAt}
 use Rattle.channel_actions.specs.Clock.{DrawsAlike}
 use Rattle.channel_actions.specs.Columns.{links_noted}
 use Rattle.channel_actions.specs.Links.{HasLink, IsGoing, SeesLinks, lines_in}
-use Rattle.channel_actions.specs.Readers.{IsReaderOf, SeesReaders, attempt_on}
+use Rattle.channel_actions.specs.Readers.{IsReaderOf, attempt_on}
 use Rattle.channel_actions.specs.Stages.{IsAnswered}
 use Rattle.channel_core.specs.Applying as channel
 use Rattle.channel_core.specs.Applying.{AnswersBy}
 use Rattle.channel_core.specs.Arrivals.{linked_as, linked_for, next_link}
 use Rattle.channel_core.specs.States.{StateSeen}
 use Rattle.channel_core.specs.Tables.{fresh_link, new_slot}
-use Rattle.channel_core.specs.declared.state.links.LinkSlot.{LinkSlot}
 use Rattle.channel_net.specs.Runs.{Up}
 use Rattle.channel_net.specs.Steps as net
 use Rattle.dial_events.proofs.Answered.{answered_at, answered_by_one}
@@ -36,22 +35,22 @@ use Rattle.grpc_base.specs.declared.event.Event.TheVariants as event
 use Rattle.grpc_base.specs.declared.event.Refusal.{Refusal}
 use Rattle.grpc_base.specs.declared.event.Reply.{Reply}
 use Rattle.grpc_base.specs.declared.event.Reply.TheVariants as reply
-use Rattle.h2_link.specs.Wire.{fresh_wire}
 use Rattle.kept_sessions.specs.Kept.{AreCounted, IsKept, came_up, is_on_link, is_sound_sub}
 use Rattle.kept_sessions.specs.Laws.{KeptAlong}
+use Rattle.lb_policy.specs.Table.{is_ready}
 use Rattle.ledger_stamps.specs.Steps as stamps
 use Rattle.link_actions.specs.Sees.{ArePlaced}
 use Rattle.link_frames.specs.Alike.{CannotTell}
 use Rattle.link_frames.specs.Laws.{LinksStay}
 use Rattle.net_actions.specs.Laws.{DialsAreLinks}
 use Rattle.net_steps.proofs.Alike.{links_cannot_tell, still}
-use Rattle.net_steps.proofs.Boards.{one_boarded}
-use Rattle.net_steps.proofs.Calm.{to_order}
+use Rattle.board_actions.proofs.Boards.{one_boarded}
+use Rattle.board_actions.proofs.Calm.{to_order}
 use Rattle.net_steps.proofs.Clocks.{clock_goes_on, entry_goes_on}
 use Rattle.net_steps.proofs.Passing.{off_placed}
 use Rattle.net_steps.proofs.Stepped.{net_steps_keep}
 use Rattle.net_steps.proofs.Subbed.{current_stays, noted_gone_same, subbed_generations, subbed_links, subbed_shut}
-use Rattle.net_steps.specs.Boards.{IsBoarded}
+use Rattle.board_actions.specs.Boards.{IsBoarded}
 use Rattle.other_calls.specs.Laws.{AllCallsStay, SetsStay}
 use Rattle.session_actions.specs.Actions.{after, after_if, following}
 use Rattle.session_actions.specs.Attempts.{is_outstanding}
@@ -309,7 +308,7 @@ module _ (exact : CalmIsExact) (stir : BoardsStir) (links_are : DialsAreLinks) (
       (record { cancels_none = λ n. refl; sends_none = λ c z. refl; no_result = refl; no_frame = λ q z. refl }) brings next (λ v. v) refl does boarded on
       (λ line. stir.up sub o s at.current (brings, have_links s h.kept) line p on refl (to_order exact o s at.calm line)) agrees
 
-pub links_up_are_answered : CalmIsExact → BoardsStir → DialsAreLinks → NewLinksAgree → LinksUpAreAnswered
+pub links_up_are_answered : CalmIsExact → BoardsStir → DialsAreLinks → NewLinksAgree → AllCallsStay → SetsStay → KeptAlong → LinksStay → LinksUpAreAnswered
 links_up_are_answered exact stir links_are new_ones calls_stay sets_stay kept_along links_stay x y r o s h at fresh timely case answers =
     let given : AnswersBy None (event.LinkUp case.sub) x y r
     = subst (λ (e : Event). AnswersBy None e x y r) case.event_is (subst (λ (z : Option Refusal). AnswersBy z o.event x y r) case.kept answers) in

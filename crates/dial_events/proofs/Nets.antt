@@ -1,10 +1,9 @@
 -- A net that came of calls, after one call more.
-use Rattle.std.proofs.Common.{◌≡◌, ◌++◌, ◌∷◌, ap, refl, sym, ◌∙◌, Bool, false, List, [], None, Option, ℕ, if◌then◌else◌, is_some}
-use Rattle.channel_net.specs.Runs.{NetCall, after_call, after_calls, net_of}
+use Rattle.std.proofs.Common.{◌≡◌, ◌++◌, ◌∷◌, ap, refl, sym, ◌∙◌, List, [], None, Option, ℕ, if◌then◌else◌, is_some}
+use Rattle.channel_net.specs.Runs.{NetCall, after_call, after_calls}
 use Rattle.channel_net.specs.Steps as net
 use Rattle.channel_net.specs.Steps.{NetSeen, new_net}
 use Rattle.grpc_base.specs.declared.event.Refusal.{Refusal}
-use Rattle.lb_policy.specs.Table.{PolicySeen}
 use Rattle.net_actions.specs.Runs.{IsOfCalls}
 use Rattle.subchannel.specs.Boards as boards
 

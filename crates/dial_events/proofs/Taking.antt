@@ -1,5 +1,5 @@
 -- A dial is taken: of the first subchannel that is to be dialled, in both.
-use Rattle.std.proofs.Common.{◌≡◌, ◌%◌, ◌&&◌, ◌+◌, ◌<◌, ◌==◌, ◌^◌, ◌∷◌, ap, arith, refl, subst, sym, ◌∙◌, Bool, true, false, [], None, Option, Some, ℕ, find, if◌then◌else◌, is_none, is_some, map, max, min, nat_lt, not, slice_get, suc}
+use Rattle.std.proofs.Common.{◌≡◌, ◌%◌, ◌&&◌, ◌+◌, ◌<◌, ◌==◌, ◌^◌, ◌∷◌, ap, arith, refl, subst, sym, ◌∙◌, Bool, true, false, List, [], None, Option, Some, ℕ, find, if◌then◌else◌, is_none, map, max, min, nat_lt, not, slice_get, suc, zero}
 use Rattle.std.proofs.lemmas.Bool.{eqb-true}
 use Rattle.std.proofs.lemmas.Option.{same_Some}
 use Rattle.std.specs.Option.{option_map, option_map_or}
@@ -12,7 +12,7 @@ use Rattle.channel_actions.specs.Columns.{links_noted}
 use Rattle.channel_actions.specs.Stages.{IsAnswered}
 use Rattle.channel_core.specs.Applying as channel
 use Rattle.channel_core.specs.Applying.{AnswersBy}
-use Rattle.channel_core.specs.Arrivals.{dial_asked, dial_reply}
+use Rattle.channel_core.specs.Arrivals.{dial_reply}
 use Rattle.channel_core.specs.States.{StateSeen}
 use Rattle.channel_core.specs.Steps as steps
 use Rattle.channel_net.specs.Lists.{link_of}
@@ -42,19 +42,19 @@ use Rattle.net_actions.proofs.Views.{Found, found_in}
 use Rattle.net_actions.specs.Laws.{AreFewDials, DialsAreTaken, IsTaken}
 use Rattle.net_actions.specs.Sees.{IsSub, Sees}
 use Rattle.net_steps.proofs.Alike.{untold_links_agree}
-use Rattle.net_steps.proofs.Boards.{one_boarded}
-use Rattle.net_steps.proofs.Calm.{to_order}
+use Rattle.board_actions.proofs.Boards.{one_boarded}
+use Rattle.board_actions.proofs.Calm.{to_order}
 use Rattle.net_steps.proofs.Clocks.{clock_goes_on, entry_goes_on}
 use Rattle.net_steps.proofs.Stepped.{net_steps_keep}
 use Rattle.net_steps.proofs.Subbed.{current_stays, noted_same, subbed_generations, subbed_links, subbed_shut}
-use Rattle.net_steps.specs.Boards.{IsBoarded}
+use Rattle.board_actions.specs.Boards.{IsBoarded}
 use Rattle.other_calls.specs.Laws.{AllCallsStay, SetsStay}
 use Rattle.session_actions.specs.Actions.{after, after_if, following}
 use Rattle.session_actions.specs.CallEnds.{next_deadline}
-use Rattle.session_actions.specs.Entries.{drawn_if, next_word, now}
+use Rattle.session_actions.specs.Entries.{next_word, now}
 use Rattle.session_actions.specs.Events.{event_action}
 use Rattle.session_actions.specs.Subchannels as sub
-use Rattle.session_actions.specs.Subchannels.{dial_action, dial_taken, dial_taken_of, take_dial, with_dial, with_sub}
+use Rattle.session_actions.specs.Subchannels.{dial_action, dial_taken, dial_taken_of, take_dial, with_dial}
 use Rattle.session_actions.specs.Words.{numbered}
 use Rattle.session_actions.specs.declared.action.Action.{Action}
 use Rattle.session_actions.specs.declared.action.Action.TheVariants as action
@@ -66,7 +66,6 @@ use Rattle.session_actions.specs.declared.subchannel.Subchannel.{Subchannel}
 use Rattle.session_order.proofs.Boards.{with_sub_current}
 use Rattle.session_order.specs.Calm as order
 use Rattle.session_order.specs.Laws.{BoardsStir, CalmIsExact}
-use Rattle.subchannel.specs.Boards as boards
 use Rattle.subchannel.specs.Boards.{first_number}
 use Rattle.subchannel.specs.Records.{SubRecord, is_connecting, is_dialable, next_dials, until_after}
 
@@ -145,7 +144,7 @@ few_of [] place b few e = absurd (cc)
 few_of (c ∷ subs) zero b few e = let one : c ≡ b = (cc) in subst (λ (x : Subchannel). x.dials < 4294967295) one few.0
 few_of (c ∷ subs) (suc place) b few e = few_of subs place b few.1 e
 
-until_in : Action → ℕ
+abbrev until_in : Action → ℕ
 until_in (action.DialTaken sub again until) = until
 until_in _ = 0
 
@@ -163,7 +162,7 @@ module _ (exact : CalmIsExact) (stir : BoardsStir) (take : DialsAreTaken) (calls
   abbrev w : ℕ
   w = steps.next_word x
 
-  taken : IsTaken (suc place) s x.net
+  pub taken : IsTaken (suc place) s x.net
   taken = take (suc place) s x.net h.net few first
 
   abbrev a : Action
@@ -278,7 +277,7 @@ module _ (exact : CalmIsExact) (stir : BoardsStir) (take : DialsAreTaken) (calls
       answered_by_one exact y e o s at fresh timely a t drew event.TakeDial
       (record { cancels_none = λ n. refl; sends_none = λ c z. refl; no_result = refl; no_frame = λ q z. refl }) brings next (λ v. v) refl does boarded on still agrees
 
-pub taken_dials_are_answered : CalmIsExact → BoardsStir → DialsAreTaken → TakenDialsAreAnswered
+pub taken_dials_are_answered : CalmIsExact → BoardsStir → DialsAreTaken → AllCallsStay → SetsStay → KeptAlong → LinksStay → TakenDialsAreAnswered
 taken_dials_are_answered exact stir take calls_stay sets_stay kept_along links_stay x y r o s h at fresh timely case answers =
     let f = first_dial s x.net case.sub h.net case.first in
     let first : first_number is_dialable x.net.board ≡ Some (suc f.place) = case.first ∙ ap (λ (n : ℕ). Some n) f.number_is in
@@ -286,6 +285,6 @@ taken_dials_are_answered exact stir take calls_stay sets_stay kept_along links_s
     = subst (λ (e : Event). AnswersBy None e x y r) case.event_is (subst (λ (z : Option Refusal). AnswersBy z o.event x y r) case.kept answers) in
     subst (λ (z : StateSeen). IsAnswered z r o s)
     (sym (given.0 ∙ state_is exact stir take calls_stay sets_stay kept_along links_stay x o s h at fresh timely f.place case.event_is case.kept first case.few f.first))
-    (subst (λ (z : Reply). IsAnswered _ z o s)
+    (subst (λ (z : Reply). IsAnswered (steps.drawn_if (nat_lt 0 f.first.r.dials) (steps.dialed x)) z o s)
     (sym (given.1 ∙ reply_is exact stir take calls_stay sets_stay kept_along links_stay x o s h at fresh timely f.place case.event_is case.kept first case.few f.first))
     (taken_answered exact stir take calls_stay sets_stay kept_along links_stay x o s h at fresh timely f.place case.event_is case.kept first case.few f.first))

@@ -1,7 +1,10 @@
 // What the environment tells of dials; nothing runs.
 ghost use Rattle.dial_events.specs.Laws.{FailedDialsAreAnswered, LinksUpAreAnswered, TakenDialsAreAnswered};
 
+use kept_sessions::sessions_are_kept;
+use link_frames::links_stay;
 use net_actions::subchannel_steps_are_actions;
+use other_calls::{calls_stay, sets_stay};
 use session_order::{boards_stir, calm_is_exact};
 use stream_actions::streams_are_kept;
 
@@ -15,4 +18,8 @@ pub fn dials_are_answered()
     boards_stir();
     subchannel_steps_are_actions();
     streams_are_kept();
+    calls_stay();
+    sets_stay();
+    sessions_are_kept();
+    links_stay();
 }

@@ -1,5 +1,5 @@
 -- Kind by kind: an action that is not of the net changes neither subchannels nor policies nor pick requests.
-use Rattle.std.proofs.Common.{◌≡◌, ◌&&◌, ◌==◌, ◌||◌, ◌+◌, ◌++◌, ◌∷◌, ap, refl, subst, sym, ◌∙◌, Bool, true, false, Err, List, [], None, Ok, Option, Result, Some, ℕ, if◌then◌else◌, is_some, length, not}
+use Rattle.std.proofs.Common.{◌≡◌, ◌&&◌, ◌==◌, ◌||◌, ◌+◌, ◌++◌, ◌∷◌, refl, subst, sym, ◌∙◌, Bool, true, false, Err, List, [], None, Ok, Option, Result, Some, ℕ, if◌then◌else◌, length, not}
 use Rattle.std.specs.List.{list_any}
 use Rattle.std.specs.Option.{option_map_or}
 use Rattle.std.specs.Prelude.{option_and_then, slice_get}
@@ -8,7 +8,6 @@ use Rattle.attempt_ledger.specs.Numbering.{is_transparent}
 use Rattle.attempt_ledger.specs.declared.ledger.Ask.{Ask}
 use Rattle.attempt_ledger.specs.declared.row.RowEnd.{RowEnd}
 use Rattle.attempt_ledger.specs.declared.row.RowKind.{RowKind}
-use Rattle.channel_net.specs.Steps.{NetSeen}
 use Rattle.grpc_base.specs.declared.event.ConfigFault.{ConfigFault}
 use Rattle.grpc_base.specs.declared.event.Event.{Event}
 use Rattle.grpc_base.specs.declared.event.Event.TheVariants as event
@@ -21,7 +20,7 @@ use Rattle.net_frames.specs.Frames.{IsSameNet, is_of_net}
 use Rattle.net_frames.specs.Laws.{NetIsLeft, NetStays, NetStaysAlong, SameNetsAgree}
 use Rattle.service_config.specs.declared.config.Config.{Config}
 use Rattle.session_actions.specs.Actions.{after, after_if, after_in}
-use Rattle.session_actions.specs.AttemptEnds.{attempt_ended_as, stream_reset_of, with_end, with_end_in_run}
+use Rattle.session_actions.specs.AttemptEnds.{attempt_ended_as, stream_reset_of, with_end_in_run}
 use Rattle.session_actions.specs.Attempts.{call_of, is_to_follow, marked_row, with_attempt}
 use Rattle.session_actions.specs.Calls.{marked}
 use Rattle.session_actions.specs.Commitments.{with_commitment}
@@ -30,7 +29,6 @@ use Rattle.session_actions.specs.Deliveries.{call_begun_by}
 use Rattle.session_actions.specs.Entries.{entry, replied}
 use Rattle.session_actions.specs.Making.{attempt_made, new_row, with_row, without_turn_unless}
 use Rattle.session_actions.specs.Policies.{with_placing}
-use Rattle.session_actions.specs.Sessions.{Does}
 use Rattle.session_actions.specs.Words.{changed, numbered}
 use Rattle.session_actions.specs.Writing.{frame_read_on, frame_written_on, stream_opened, stream_opened_by, waiting_on, with_stream}
 use Rattle.session_actions.specs.declared.action.Action.{Action}

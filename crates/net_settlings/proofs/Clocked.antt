@@ -1,25 +1,27 @@
 -- The clock of a settling: round by round until nothing of it is due.
-use Rattle.std.proofs.Common.{◌≡◌, ap, refl, subst, sym, ◌∙◌, List, [], None, Option, Some, ℕ}
+use Rattle.std.proofs.Common.{◌≡◌, ap, refl, subst, sym, ◌∙◌, [], Option, ℕ}
 use Rattle.channel_actions.specs.Agrees.{Agrees}
-use Rattle.channel_actions.specs.Calm.{IsAt}
 use Rattle.channel_actions.specs.Clock.{DrawsAlike}
 use Rattle.channel_core.specs.States.{StateSeen}
-use Rattle.channel_core.specs.Steps.{clocked, clocked_to}
+use Rattle.channel_core.specs.Steps.{clocked}
 use Rattle.channel_net.proofs.RoundLaws.{clock-ends}
 use Rattle.channel_net.specs.Runs.{Clock}
 use Rattle.channel_net.specs.Steps.{NetLeft, clocks_left, left_of, net_clocked}
 use Rattle.dial_events.proofs.Nets.{one_call_more}
+use Rattle.kept_sessions.specs.Laws.{KeptAlong}
+use Rattle.link_frames.specs.Laws.{LinksStay}
 use Rattle.net_actions.specs.Laws.{ClockChanges, ClockRests}
 use Rattle.net_settlings.proofs.Clocking.{IsAmid, rounds_on}
 use Rattle.net_settlings.proofs.Limits.{limits_form, slots_after, stamps_after, wanting}
 use Rattle.net_settlings.specs.Laws.{ClocksAreParts}
-use Rattle.net_steps.proofs.Boards.{boards_leave_rest}
-use Rattle.net_steps.proofs.Calm.{of_order, to_order}
+use Rattle.board_actions.proofs.Boards.{boards_leave_rest}
+use Rattle.board_actions.proofs.Calm.{of_order, to_order}
 use Rattle.net_steps.proofs.Clocks.{clock_goes_on, now_goes_on}
 use Rattle.net_steps.proofs.Stepped.{net_steps_keep}
 use Rattle.net_steps.proofs.Subbed.{current_stays}
-use Rattle.net_steps.specs.Boards.{IsBoarded}
+use Rattle.board_actions.specs.Boards.{IsBoarded}
 use Rattle.net_steps.specs.Steps.{netted}
+use Rattle.other_calls.specs.Laws.{AllCallsStay, SetsStay}
 use Rattle.session_actions.specs.Entries.{now}
 use Rattle.session_actions.specs.declared.entry.OpenEntry.{OpenEntry}
 use Rattle.session_actions.specs.declared.seen.Seen.{Seen}
@@ -35,7 +37,7 @@ clocked_is x =
     let l : NetLeft = net_clocked x.book.moment x.net in
     limits_form x l.net x.drawn x.book.ledger.generations l.gone x.resolver x.links x.book.ledger.links
 
-pub clocks_are_parts : CalmIsExact → BoardsStir → ClockChanges → ClockRests → ClocksAreParts
+pub clocks_are_parts : CalmIsExact → BoardsStir → ClockChanges → ClockRests → AllCallsStay → SetsStay → KeptAlong → LinksStay → ClocksAreParts
 clocks_are_parts exact stir clocks rests calls_stay sets_stay kept_along links_stay x o s h joined at begun =
     let l : NetLeft = net_clocked x.book.moment x.net in
     let y : StateSeen

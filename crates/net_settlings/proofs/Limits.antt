@@ -1,11 +1,10 @@
 -- Links that are given up: what the channel does of them, whatever its net is.
-use Rattle.std.proofs.Common.{◌≡◌, ◌++◌, ◌∷◌, ◌&&◌, ◌||◌, ap, refl, sym, ◌∙◌, Bool, true, List, [], None, Option, Some, ℕ, if◌then◌else◌, not}
+use Rattle.std.proofs.Common.{◌≡◌, ◌++◌, ◌∷◌, ◌&&◌, ◌||◌, ap, refl, ◌∙◌, Bool, true, List, [], None, Option, Some, ℕ, if◌then◌else◌, not}
 use Rattle.std.specs.Option.{option_map}
 use Rattle.attempt_ledger.specs.declared.ledger.Generation.{Generation}
 use Rattle.attempt_ledger.specs.declared.ledger.LinkSeen.{LinkSeen}
 use Rattle.channel_core.proofs.BookLaws.{number_changed}
 use Rattle.channel_core.specs.States.{StateSeen}
-use Rattle.channel_core.specs.Steps as steps
 use Rattle.channel_core.specs.Steps.{has_outstanding, is_gone, is_of_shut_sub, limit_passed, limits_passed, with_ledger_links}
 use Rattle.channel_core.specs.Tables.{buried, buried_in, is_dead, is_dead_at, is_retiring}
 use Rattle.channel_core.specs.declared.state.links.LinkSlot.{LinkSlot}

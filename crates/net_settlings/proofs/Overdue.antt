@@ -1,20 +1,19 @@
 -- A connection that took too long stirs no line: its subchannel has no link then, and no attempt is on the link that is given up.
-use Rattle.std.proofs.Common.{◌≡◌, ◌&&◌, ◌==◌, ◌||◌, ap, refl, subst, sym, ◌∙◌, Bool, true, false, List, [], None, Option, Some, ℕ, if◌then◌else◌, is_none, is_some, not}
+use Rattle.std.proofs.Common.{◌≡◌, ◌&&◌, ◌==◌, ◌||◌, ap, refl, subst, sym, ◌∙◌, Bool, true, false, List, [], None, Option, Some, ℕ, if◌then◌else◌, is_some, not}
 use Rattle.std.proofs.lemmas.Bool.{eqb-false, eqb-true}
-use Rattle.std.specs.List.{list_any}
 use Rattle.std.specs.Option.{option_map, option_map_or, option_or}
 use Rattle.std.specs.Prelude.{option_and_then}
 use Rattle.attempt_ledger.specs.declared.row.Placed.{Placed}
 use Rattle.grpc_base.specs.declared.event.Conn.TheVariants as conn
 use Rattle.net_settlings.specs.Joined.{AreJoined}
-use Rattle.net_steps.proofs.Boards.{subbed}
+use Rattle.board_actions.proofs.Boards.{subbed}
 use Rattle.net_steps.proofs.Subbed.{subbed_links, subbed_subs}
-use Rattle.session_actions.specs.AttemptEnds.{lost_end, outcome_of, outcome_on}
+use Rattle.session_actions.specs.AttemptEnds.{lost_end, outcome_on}
 use Rattle.session_actions.specs.Attempts.{is_outstanding, is_over}
 use Rattle.session_actions.specs.Links.{has_settings, link_of, link_over, wants_resolution}
 use Rattle.session_actions.specs.Policies.{is_shutdown}
 use Rattle.session_actions.specs.Responses.{no_response, response, response_by, response_on}
-use Rattle.session_actions.specs.Subchannels.{connect_timed_out, is_connecting, is_going_down, is_to_be_ready, is_to_go_down, link_of_sub, link_timed_out, noted_by_policies, with_sub, without_link}
+use Rattle.session_actions.specs.Subchannels.{connect_timed_out, is_connecting, is_going_down, link_timed_out, noted_by_policies, with_sub, without_link}
 use Rattle.session_actions.specs.Words.{changed, changed_if, holds, numbered}
 use Rattle.session_actions.specs.declared.attempt.Attempt.{Attempt}
 use Rattle.session_actions.specs.declared.entry.OpenEntry.{OpenEntry}

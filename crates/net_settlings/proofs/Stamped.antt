@@ -7,7 +7,7 @@ use Rattle.channel_actions.proofs.Stamps.{map_same}
 use Rattle.ledger_stamps.specs.Steps as stamps
 use Rattle.ledger_stamps.specs.Steps.{changed_at, gone_link}
 use Rattle.session_actions.specs.Sessions.{link_seen}
-use Rattle.session_actions.specs.Words.{changed, changed_if, numbered}
+use Rattle.session_actions.specs.Words.{changed, changed_if}
 use Rattle.session_actions.specs.declared.link.Link.{Link}
 use Rattle.session_actions.specs.declared.link.LinkOver.TheVariants as over
 

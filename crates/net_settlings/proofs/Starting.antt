@@ -1,7 +1,6 @@
 -- A policy is in the same state whether a subchannel of its view is IDLE or CONNECTING.
-use Rattle.std.proofs.Common.{◌≡◌, ◌&&◌, ◌*◌, ◌+◌, ◌==◌, ◌||◌, ◌∷◌, ap, refl, subst, sym, ◌∙◌, Bool, true, false, List, [], None, Option, Some, ℕ, drop, cond, is_some, length, map, not, suc, take, zero, if◌then◌else◌}
+use Rattle.std.proofs.Common.{◌≡◌, ◌&&◌, ◌*◌, ◌+◌, ◌==◌, ◌||◌, ◌∷◌, ap, refl, sym, ◌∙◌, Bool, true, false, List, [], Option, Some, ℕ, drop, cond, is_some, length, map, not, suc, take, zero, if◌then◌else◌}
 use Rattle.std.specs.List.{list_all, list_any, position_from, range_with_len}
-use Rattle.grpc_base.specs.declared.event.Conn.{Conn}
 use Rattle.grpc_base.specs.declared.event.Conn.TheVariants as conn
 use Rattle.grpc_base.specs.declared.kind.Kind.{Kind}
 use Rattle.grpc_base.specs.declared.kind.Kind.TheVariants as kind

@@ -1,13 +1,10 @@
 -- No link can tell of actions of subchannels and policies, where it is itself as it was: its attempts and their calls are the same.
-use Rattle.std.proofs.Common.{◌≡◌, ◌≤◌, ◌∷◌, ap, arith, refl, subst, sym, ◌∙◌, false, List, [], Option, Some, ℕ, length}
-use Rattle.channel_actions.specs.Links.{SeesLinks}
-use Rattle.channel_core.specs.States.{StateSeen}
+use Rattle.std.proofs.Common.{◌≡◌, ◌≤◌, ◌∷◌, ap, arith, refl, subst, sym, ◌∙◌, false, List, [], ℕ, length}
 use Rattle.channel_core.specs.declared.state.links.LinkSlot.{LinkSlot}
 use Rattle.grpc_frame.specs.Messages.{framed_all}
-use Rattle.kept_sessions.specs.Kept.{IsKept}
 use Rattle.link_frames.specs.Alike.{AreAlike, CannotTell, IsLinkStill, Numbers}
 use Rattle.link_frames.specs.Laws.{LinksStay}
-use Rattle.net_steps.specs.Boards.{IsBoarded, boarded}
+use Rattle.board_actions.specs.Boards.{boarded}
 use Rattle.net_steps.specs.Laws.{LinksCannotTell, UntoldLinksAgree}
 use Rattle.session_actions.specs.Words.{numbered}
 use Rattle.session_actions.specs.declared.attempt.Attempt.{Attempt}
@@ -39,7 +36,7 @@ links_cannot_tell touched s t e each =
 pub still : (l : Link) → IsLinkStill l l
 still l = record { same = record { number = refl; traffic_ = refl; owed = refl }; over = refl; received = refl }
 
-pub untold_links_agree : UntoldLinksAgree
+pub untold_links_agree : LinksStay → UntoldLinksAgree
 untold_links_agree links_stay x y s t kept later e same slots h =
     links_stay (λ link. false) x y s t h kept later (λ link off. ap (λ (l : List LinkSlot). numbered l link) slots)
     (links_cannot_tell (λ link. false) s t e (λ link m off at. (m, ap (λ (l : List Link). numbered l link) (sym same) ∙ at, still m)))

@@ -1,9 +1,9 @@
 -- The clock of an entry that goes on.
-use Rattle.std.proofs.Common.{◌≡◌, ◌+◌, ◌%◌, ◌^◌, ap, refl, subst, sym, ◌∙◌, List, Option, None, Some, ℕ, if◌then◌else◌, is_some, length}
+use Rattle.std.proofs.Common.{◌≡◌, ◌+◌, ◌%◌, ◌^◌, ap, subst, sym, ◌∙◌, Option, Some, ℕ, if◌then◌else◌, is_some, length}
 use Rattle.std.specs.Option.{option_map_or}
 use Rattle.channel_actions.specs.Clock.{DrawsAlike, SeesClock}
 use Rattle.channel_core.specs.States.{StateSeen}
-use Rattle.net_steps.specs.Boards.{IsBoarded, boarded}
+use Rattle.board_actions.specs.Boards.{IsBoarded}
 use Rattle.session_actions.specs.Entries.{entry, last_moment, now}
 use Rattle.session_actions.specs.declared.entry.OpenEntry.{OpenEntry}
 use Rattle.session_actions.specs.declared.seen.Seen.{Seen}

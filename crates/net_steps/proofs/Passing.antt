@@ -1,10 +1,10 @@
 -- Nothing passes on a stream of a call by actions of subchannels and policies: no attempt is on a link that comes up only now.
-use Rattle.std.proofs.Common.{◌≡◌, ◌&&◌, ◌+◌, ◌==◌, ◌||◌, ◌∷◌, ap, arith, eqb-true, refl, subst, sym, ◌∙◌, Bool, true, false, List, [], Option, None, Some, ℕ, zero, suc, is_some, length, slice_get}
+use Rattle.std.proofs.Common.{◌≡◌, ◌&&◌, ◌+◌, ◌==◌, ◌||◌, ◌∷◌, ap, arith, eqb-true, refl, sym, ◌∙◌, Bool, true, false, List, [], Option, None, Some, ℕ, suc, is_some, length, slice_get}
 use Rattle.std.specs.List.{list_all, list_any}
 use Rattle.std.specs.Option.{option_map_or}
 use Rattle.attempt_ledger.specs.declared.row.Placed.{Placed}
 use Rattle.kept_sessions.specs.Kept.{IsKept, came_up, is_on_link}
-use Rattle.net_steps.specs.Boards.{is_of_board}
+use Rattle.board_actions.specs.Boards.{is_of_board}
 use Rattle.session_actions.specs.Attempts.{is_of}
 use Rattle.session_actions.specs.Words.{holds, numbered}
 use Rattle.session_actions.specs.declared.action.Action.{Action}
@@ -15,14 +15,14 @@ use Rattle.session_actions.specs.declared.link.Link.{Link}
 use Rattle.session_actions.specs.declared.seen.Seen.{Seen}
 use Rattle.takes_apart.specs.Heard.{is_on, passes_on}
 
-beyond : {X : Type 0} (xs : List X) (n : ℕ) → slice_get xs (length xs + n) ≡ None
-beyond [] n = refl
-beyond (x ∷ xs) n = beyond xs n
+beyond : {X : Type 0} (xs : List X) → slice_get xs (length xs) ≡ None
+beyond [] = refl
+beyond (x ∷ xs) = beyond xs
 
 pub none_next : {X : Type 0} (xs : List X) → numbered xs (length xs + 1) ≡ None
 none_next xs =
-    let n : length xs + 1 ≡ suc (length xs + 0) = omega arith in
-    ap (numbered xs) n ∙ beyond xs 0
+    let n : length xs + 1 ≡ suc (length xs) = omega arith in
+    ap (numbered xs) n ∙ beyond xs
 
 both : (a b : Bool) → (a && b) ≡ true → (a ≡ true) × (b ≡ true)
 both true b e = (refl, e)

@@ -1,24 +1,20 @@
 -- A step of the net: all else agrees as before, since nothing else changed.
-use Rattle.std.proofs.Common.{◌≡◌, ◌==◌, ◌||◌, ◌∷◌, ap, refl, subst, sym, ◌∙◌, Bool, true, false, List, [], Option, None, Some, ℕ, zero, suc, is_some, length}
-use Rattle.std.specs.List.{list_any}
+use Rattle.std.proofs.Common.{◌≡◌, ◌==◌, ◌||◌, ◌∷◌, ap, arith, refl, subst, sym, ◌∙◌, true, false, List, [], Option, None, Some, ℕ, zero, suc, is_some, length}
+use Rattle.std.proofs.lemmas.Bool.Decides.{nat_tests}
 use Rattle.std.specs.Option.{option_map_or}
 use Rattle.std.specs.Prelude.{map}
-use Rattle.attempt_ledger.specs.declared.ledger.Generation.{Generation}
-use Rattle.attempt_ledger.specs.declared.ledger.Ledger.{Ledger}
-use Rattle.calls_apart.specs.Apart.{acts_on}
 use Rattle.channel_actions.specs.Agrees.{Agrees}
 use Rattle.channel_actions.specs.Calls.{SeesCalls}
 use Rattle.channel_actions.specs.Clock.{DrawsAlike}
 use Rattle.channel_actions.specs.Columns.{SeesColumns, links_noted}
 use Rattle.channel_actions.specs.Configs.{SeesBuckets, SeesConfigs}
 use Rattle.channel_actions.specs.Sets.{SeesSets, is_in_dues}
-use Rattle.channel_core.specs.Books.{slot_at}
 use Rattle.channel_core.specs.States.{StateSeen}
 use Rattle.kept_sessions.specs.Kept.{IsKept}
 use Rattle.kept_sessions.specs.Laws.{KeptAlong}
-use Rattle.net_steps.proofs.Boards.{boards_leave_rest, of_none}
+use Rattle.board_actions.proofs.Boards.{boards_leave_rest, of_none}
 use Rattle.net_steps.proofs.Passing.{passes_none}
-use Rattle.net_steps.specs.Boards.{AreOfBoard, IsBoarded, boarded, is_of_board}
+use Rattle.board_actions.specs.Boards.{AreOfBoard, IsBoarded, boarded, is_of_board}
 use Rattle.net_steps.specs.Laws.{NetStepsKeep}
 use Rattle.net_steps.specs.Steps.{IsNetStep, netted}
 use Rattle.other_calls.specs.Laws.{AllCallsStay, SetsApart, SetsStay}
@@ -26,11 +22,13 @@ use Rattle.other_calls.specs.Others.{AreOfCall, BooksApart, GoesApart, IsBooked,
 use Rattle.session_actions.specs.Actions.{after}
 use Rattle.session_actions.specs.Policies.{current_policy}
 use Rattle.session_actions.specs.Sessions.{Does}
-use Rattle.session_actions.specs.Words.{numbered}
 use Rattle.session_actions.specs.declared.action.Action.{Action}
 use Rattle.session_actions.specs.declared.call.Call.{Call}
 use Rattle.session_actions.specs.declared.policy.PolicyUse.{PolicyUse}
 use Rattle.session_actions.specs.declared.seen.Seen.{Seen}
+
+no_zero : (n : ℕ) → (suc n == 0) ≡ false
+no_zero n = grind (arith, nat_tests)
 
 booked : (s : Seen) → IsKept s → IsBooked s
 booked s k = record { book = k.book; owned = k.owned; reads = k.reads }
@@ -57,7 +55,7 @@ module _ (calls_stay : AllCallsStay) (sets_stay : SetsStay) (kept_along : KeptAl
     later : IsKept t
     later = kept_along step.actions s t h.kept step.does
 
-    z : StateSeen
+    abbrev z : StateSeen
     z = netted y.net y.drawn y.resolver y.links y.book.ledger.generations y.book.ledger.links x
 
     columns_for : map (λ (g : PolicyUse). g.generation) (boarded s t).policies ≡ z.book.ledger.generations → links_noted (boarded s t) ≡ z.book.ledger.links
@@ -100,7 +98,7 @@ module _ (calls_stay : AllCallsStay) (sets_stay : SetsStay) (kept_along : KeptAl
 
     dues_same : (m n : ℕ) → is_in_dues (boarded s t) m n ≡ is_in_dues s m n
     dues_same m zero = refl
-    dues_same m (suc n) = sets.dues m (suc n) refl
+    dues_same m (suc n) = sets.dues m (suc n) (no_zero n)
 
     sets_for : SeesSets z (boarded s t)
     sets_for = record {
@@ -146,5 +144,5 @@ module _ (calls_stay : AllCallsStay) (sets_stay : SetsStay) (kept_along : KeptAl
     pub agrees_after : Agrees y t
     agrees_after = subst (λ (v : StateSeen). Agrees v t) (sym step.channel) agrees_now
 
-pub net_steps_keep : NetStepsKeep
+pub net_steps_keep : AllCallsStay → SetsStay → KeptAlong → NetStepsKeep
 net_steps_keep calls_stay sets_stay kept_along x y s t h step = agrees_after calls_stay sets_stay kept_along x s t h y step

@@ -1,15 +1,14 @@
 -- One subchannel is changed: links, stamps of policies and the open entry are as they were, and which subchannels are shut down.
-use Rattle.std.proofs.Common.{◌≡◌, ◌&&◌, ◌+◌, ◌==◌, ◌||◌, ◌∷◌, ap, refl, subst, sym, ◌∙◌, Bool, true, false, List, [], Option, None, Some, ℕ, cond, find, if◌then◌else◌, is_none, is_some, length, not}
+use Rattle.std.proofs.Common.{◌≡◌, ◌&&◌, ◌+◌, ◌==◌, ◌||◌, ◌∷◌, ap, refl, sym, ◌∙◌, Bool, true, false, List, [], Option, None, Some, ℕ, cond, find, if◌then◌else◌, is_none, is_some, not}
 use Rattle.std.proofs.lemmas.Bool.{eqb-false, eqb-true}
 use Rattle.std.proofs.lemmas.Simd.{map-map}
 use Rattle.std.specs.List.{list_any}
 use Rattle.std.specs.Option.{option_map, option_map_or}
 use Rattle.std.specs.Prelude.{map}
 use Rattle.attempt_ledger.specs.declared.ledger.Generation.{Generation}
-use Rattle.attempt_ledger.specs.declared.ledger.LinkSeen.{LinkSeen}
 use Rattle.channel_actions.proofs.Stamps.{map_same}
 use Rattle.channel_actions.specs.Columns.{links_noted}
-use Rattle.net_steps.specs.Boards.{IsBoarded, boarded}
+use Rattle.board_actions.specs.Boards.{IsBoarded}
 use Rattle.session_actions.specs.Closing.{noted_gone}
 use Rattle.session_actions.specs.Entries.{entry}
 use Rattle.session_actions.specs.Policies.{current_policy, is_current, is_live_policy, is_shutdown}
@@ -19,7 +18,6 @@ use Rattle.session_actions.specs.Links.{is_retiring}
 use Rattle.session_actions.specs.Sessions.{link_seen}
 use Rattle.session_actions.specs.Subchannels.{noted_by_policies, noted_state, with_sub}
 use Rattle.session_actions.specs.Words.{changed, holds, numbered}
-use Rattle.session_actions.specs.declared.attempt.Attempt.{Attempt}
 use Rattle.session_actions.specs.declared.link.Link.{Link}
 use Rattle.session_actions.specs.declared.policy.PolicyUse.{PolicyUse}
 use Rattle.session_actions.specs.declared.seen.Seen.{Seen}

@@ -1,26 +1,16 @@
--- A step of the net keeps channel and session in agreement. What that asks of the other parts of the channel (`other_calls`, `link_frames`, `kept_sessions`)
--- are premises here, by their names.
+-- A step of the net keeps channel and session in agreement, since no other part of the channel is touched (`other_calls`, `link_frames`, `kept_sessions`).
 -- Example: subchannel 1 becomes CONNECTING, as its policy wishes. Calls, attempts, sets and links are as before, so all that agreed still does.
-use Rattle.std.specs.Prelude.{List, Some, false, ℕ, ◌≡◌}
+use Rattle.std.specs.Prelude.{Some, false, ℕ, ◌≡◌}
 use Rattle.channel_actions.specs.Agrees.{Agrees}
 use Rattle.channel_actions.specs.Links.{SeesLinks}
 use Rattle.channel_core.specs.States.{StateSeen}
 use Rattle.kept_sessions.specs.Kept.{IsKept}
-use Rattle.kept_sessions.specs.Laws.{KeptAlong}
 use Rattle.link_frames.specs.Alike.{CannotTell, IsLinkStill, Numbers}
-use Rattle.link_frames.specs.Laws.{LinksStay}
-use Rattle.net_steps.specs.Boards.{AreOfBoard, IsBoarded}
+use Rattle.board_actions.specs.Boards.{IsBoarded}
 use Rattle.net_steps.specs.Steps.{IsNetStep}
-use Rattle.other_calls.specs.Laws.{AllCallsStay, SetsStay}
-use Rattle.session_actions.specs.Sessions.{Does}
 use Rattle.session_actions.specs.Words.{numbered}
-use Rattle.session_actions.specs.declared.action.Action.{Action}
 use Rattle.session_actions.specs.declared.link.Link.{Link}
 use Rattle.session_actions.specs.declared.seen.Seen.{Seen}
-
--- actions of subchannels and policies change nothing else
-abbrev pub BoardsLeaveRest : Type 0
-BoardsLeaveRest = (actions : List Action) (s t : Seen) → AreOfBoard actions → Does actions s t → IsBoarded s t
 
 -- a link that is as it was cannot tell
 abbrev pub LinksCannotTell : Type 0
@@ -32,8 +22,8 @@ LinksCannotTell =
 -- so where no link changed, all agree as before
 abbrev pub UntoldLinksAgree : Type 0
 UntoldLinksAgree =
-    LinksStay → (x y : StateSeen) (s t : Seen) → IsKept s → IsKept t → IsBoarded s t → t.links ≡ s.links → y.links ≡ x.links → SeesLinks x s → SeesLinks y t
+    (x y : StateSeen) (s t : Seen) → IsKept s → IsKept t → IsBoarded s t → t.links ≡ s.links → y.links ≡ x.links → SeesLinks x s → SeesLinks y t
 
 -- and channel and session agree after a step of the net
 abbrev pub NetStepsKeep : Type 0
-NetStepsKeep = AllCallsStay → SetsStay → KeptAlong → (x y : StateSeen) (s t : Seen) → Agrees x s → IsNetStep x y s t → Agrees y t
+NetStepsKeep = (x y : StateSeen) (s t : Seen) → Agrees x s → IsNetStep x y s t → Agrees y t

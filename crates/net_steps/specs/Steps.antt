@@ -12,7 +12,7 @@ use Rattle.channel_core.specs.declared.state.links.LinkSlot.{LinkSlot}
 use Rattle.channel_net.specs.Steps.{NetSeen}
 use Rattle.net_actions.specs.Runs.{IsOfCalls}
 use Rattle.net_actions.specs.Sees.{Sees}
-use Rattle.net_steps.specs.Boards.{AreOfBoard}
+use Rattle.board_actions.specs.Boards.{AreOfBoard}
 use Rattle.session_actions.specs.Policies.{current_policy}
 use Rattle.session_actions.specs.Sessions.{Does}
 use Rattle.session_actions.specs.declared.action.Action.{Action}

@@ -3,4 +3,4 @@
 
 mod laws;
 
-pub use laws::{boards_leave_rest, net_steps_keep};
+pub use laws::{links_cannot_tell, net_steps_keep};

@@ -1,5 +1,5 @@
 -- A settling is its steps: one after the other, then rounds until one does nothing.
-use Rattle.std.proofs.Common.{◌≡◌, ◌++◌, ◌∷◌, ap, refl, subst, sym, ◌∙◌, Bool, true, false, List, [], Option, None, Some, ℕ, zero, suc, if◌then◌else◌}
+use Rattle.std.proofs.Common.{◌≡◌, ◌||◌, ◌++◌, ◌∷◌, ap, refl, subst, sym, ◌∙◌, Bool, true, false, List, [], Option, None, Some, ℕ, zero, suc, if◌then◌else◌}
 use Rattle.std.specs.Prelude.{option_and_then}
 use Rattle.channel_actions.proofs.Does.{does_on, none_on}
 use Rattle.channel_actions.proofs.Settles.{follows_by}
@@ -70,7 +70,7 @@ stays_at y o s Point h at point = record {
 }
 
 -- a round: what is due is made, and the queue is served
-neither : (a b : Bool) → (if a then true else b) ≡ false → (a ≡ false) × (b ≡ false)
+neither : (a b : Bool) → (a || b) ≡ false → (a ≡ false) × (b ≡ false)
 neither true b e = absurd (cc)
 neither false b e = (refl, e)
 
@@ -120,9 +120,7 @@ module _ (steps : RoundSteps) where
 
   pub all_rounds : (left : ℕ) (x : StateSeen) (o : OpenEntry) (s : Seen) → Agrees x s → IsSound x s → IsAt stage.Settling o s → IsTended o s
       → are_over left x ≡ true → Leads (rounds left x) o s IsDone
-  unfolding rounds
-
-  unfolding are_over
+  unfolding rounds are_over
   all_rounds zero x o s h sound at tended over = absurd (cc)
   all_rounds (suc left) x o s h sound at tended over =
       rounds_by left x o s (round x).moved refl (λ y p t. all_rounds left y p t) over (steps x o s h sound at tended)

@@ -11,7 +11,6 @@ use Rattle.channel_actions.specs.Agrees.{Agrees}
 use Rattle.channel_core.specs.Books.{slot_at}
 use Rattle.channel_core.specs.States.{StateSeen}
 use Rattle.channel_core.specs.declared.state.slots.CallSlot.{CallSlot}
-use Rattle.link_ends.specs.Cuts.{AreUnreset}
 use Rattle.session_actions.specs.Attempts.{is_of}
 use Rattle.session_actions.specs.Sessions.{Does}
 use Rattle.session_actions.specs.declared.action.Action.{Action}
@@ -41,7 +40,7 @@ pub record IsSound (x : StateSeen) (s : Seen) : Type 0 where
   -- (numbers of calls do not end, which no session reaches)
   pub few : length s.calls ≤ 4294967295
   -- no stream was reset of an attempt that goes on
-  pub unreset : AreUnreset s
+  pub unreset : list_all (λ a. is_some a.row.ended || not a.reset) s.attempts ≡ true
   pub calls : list_all (is_sound_call s) s.calls ≡ true
   pub slots : (number : ℕ) (slot : CallSlot) → slot_at x.book number ≡ Some slot → IsSoundSlot (length x.book.ledger.rows) slot
 

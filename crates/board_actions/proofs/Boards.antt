@@ -5,8 +5,8 @@ use Rattle.calls_apart.specs.Apart.{acts_on}
 use Rattle.grpc_base.specs.declared.address.Address.{Address}
 use Rattle.grpc_base.specs.declared.event.Conn.TheVariants as conn
 use Rattle.grpc_base.specs.declared.event.Event.{Event}
-use Rattle.net_steps.specs.Boards.{AreOfBoard, IsBoarded, boarded, is_of_board}
-use Rattle.net_steps.specs.Laws.{BoardsLeaveRest}
+use Rattle.board_actions.specs.Boards.{AreOfBoard, IsBoarded, boarded, is_of_board}
+use Rattle.board_actions.specs.Laws.{BoardsLeaveRest}
 use Rattle.session_actions.specs.Actions.{after, after_if, after_in}
 use Rattle.session_actions.specs.Links.{link_over, wants_resolution}
 use Rattle.session_actions.specs.Policies.{addresses_given, addresses_in, current_policy, given_addresses, policy_retired, policy_took_over, with_policy}
