@@ -2,7 +2,6 @@
 use Rattle.std.proofs.Common.{◌≡◌, ◌≤◌, ◌<◌, ◌&&◌, ◌||◌, ◌==◌, ◌∷◌, ap, arith, refl, subst, sym, ◌∙◌, Bool, true, false, List, [], Option, None, Some, ℕ, zero, suc, if◌then◌else◌, is_none, is_some, length, min, not, slice_get}
 use Rattle.std.proofs.lemmas.Bool.{and_parts}
 use Rattle.std.proofs.lemmas.Bool.Decides.{nat_tests}
-use Rattle.std.specs.List.{list_any}
 use Rattle.std.specs.Option.{option_map, option_map_or}
 use Rattle.std.specs.Prelude.{option_and_then}
 use Rattle.attempt_ledger.specs.declared.ledger.CallEnd.{CallEnd}
@@ -27,12 +26,12 @@ use Rattle.channel_core.specs.declared.state.slots.CallSlot.{CallSlot}
 use Rattle.config_actions.proofs.Closed.{closed_away, closed_bare, closed_first, closed_held, closed_last, closed_moment, closed_net, closed_resets}
 use Rattle.config_actions.proofs.NetLines.{clock_stays, over_stays, wish_stays}
 use Rattle.grpc_base.specs.declared.event.EndCause.TheVariants as ending
-use Rattle.link_ends.specs.Cuts.{AreUnreset}
+use Rattle.ends_follow.specs.Cuts.{AreUnreset}
+use Rattle.kept_calls.specs.Laws.{CallsAreBare}
 use Rattle.net_actions.specs.Laws.{ClockChanges, ClockRests, NoneConnects, TakeOversAreSame, WishesConnect}
 use Rattle.picker_gate.specs.Pairs.{has, is_same}
 use Rattle.service_config.specs.declared.config.Config.{Config}
 use Rattle.session_actions.specs.Actions.{config_action, first_action, following, following_in, of_calls, of_links, of_policies, of_stage}
-use Rattle.session_actions.specs.Attempts.{is_of}
 use Rattle.session_actions.specs.CallEnds.{lacks_config}
 use Rattle.session_actions.specs.Calls.{is_open_call}
 use Rattle.session_actions.specs.Configs.{held_config, is_to_configure, is_unconfigured, waits_for_ready}
@@ -57,7 +56,7 @@ use Rattle.set_frames.proofs.Firsts.{first_numbered, none_numbered}
 use Rattle.set_frames.proofs.Keys.{are_plain, below_fails, head_passes, keys_next, none_later, plain_by}
 use Rattle.set_frames.proofs.Pairs.{none_behind, self_same}
 use Rattle.settling_actions.proofs.Composed.{leads_on, stays_at}
-use Rattle.settling_actions.specs.Sound.{IsSound, has_none, is_sound_call}
+use Rattle.settling_actions.specs.Sound.{IsSound}
 use Rattle.settling_actions.specs.Steps.{IsJoined, IsTended, Leads}
 
 -- the last of no things
@@ -83,14 +82,6 @@ is_zero n e = grind (arith, nat_tests)
 and_off : (a b : Bool) → (a && false && b) ≡ false
 and_off true b = refl
 and_off false b = refl
-
-untouched_by : (a b c d e : Bool) → a ≡ false → b ≡ false → (a || b || (c && d && not e)) ≡ true → e ≡ false
-untouched_by true b c d e f g all = absurd (cc)
-untouched_by false true c d e f g all = absurd (cc)
-untouched_by false false c d false f g all = refl
-untouched_by false false true true true f g all = absurd (cc)
-untouched_by false false true false true f g all = absurd (cc)
-untouched_by false false false d true f g all = absurd (cc)
 
 below_all : (n m : ℕ) → n ≤ m → m ≤ 4294967295 → n ≤ 4294967295
 below_all n m e f = omega (arith, e, f)
@@ -363,15 +354,9 @@ module _ (exact : CalmIsExact) (stir : CallsStir) (clocks : ClockChanges) (rests
       (leads_on (record (closed ending.NoConfig p.1 z) { impatient = rest }) (all_unconfigured (due_keys 0 rest) (closed ending.NoConfig p.1 z)) o s (λ q t. Unit {0}) IsTended one more)
 
   -- the whole step
-  module _ (x : StateSeen) (o : OpenEntry) (s : Seen) (h : Agrees x s) (sound : IsSound x s) (at : IsAt stage.Settling o s) (joined : IsJoined o s) (unheld : x.held ≡ None) where
+  module _ (bares : CallsAreBare) (x : StateSeen) (o : OpenEntry) (s : Seen) (h : Agrees x s) (sound : IsSound x s) (at : IsAt stage.Settling o s) (joined : IsJoined o s) (unheld : x.held ≡ None) where
     plain : are_plain x.impatient ≡ true
     plain = plain_by x.impatient (is_in_impatient s) h.sets.impatient (zero_first s)
-
-    -- the calls of the set have no attempt
-    rowless : (d : Call) → d.end ≡ None → is_none d.config ≡ true → is_sound_call s d ≡ true → list_any (is_of d) s.attempts ≡ false
-    rowless d going bare fine =
-        untouched_by (is_some d.end) (is_some d.config) (is_none d.configured) (has_none d.marks) (list_any (is_of d) s.attempts)
-        (ap (λ (e : Option CallEnd). is_some e) going) (ap (λ (c : Option ℕ). is_some c) (none_of d.config bare)) fine
 
     same_slot : (n : ℕ) (a b : CallSlot) → slot_at x.book n ≡ Some a → slot_at x.book n ≡ Some b → a ≡ b
     same_slot n a b e f = let both : Some a ≡ Some b = sym e ∙ f in (cc)
@@ -382,7 +367,7 @@ module _ (exact : CalmIsExact) (stir : CallsStir) (clocks : ClockChanges) (rests
       empty = none_later x.impatient plain;
       at = at;
       joined = joined;
-      unreset = sound.unreset;
+      unreset = sound.early.resets;
       held = unheld;
       bare = bare;
       few =
@@ -393,7 +378,7 @@ module _ (exact : CalmIsExact) (stir : CallsStir) (clocks : ClockChanges) (rests
           λ n slot e there. let in_set = sym (h.sets.impatient.exact 0 n) ∙ e in
           let d = call_by s n (numbered s.calls n) refl in_set in
           let own = h.calls.each n d.0 d.1 in
-          let none = rowless d.0 (goes_on x s h unheld n d.0 d.1 in_set) (calls_bare x s h unheld n d.0 d.1) (all_numbered (is_sound_call s) s.calls n d.0 d.1 sound.calls) in
+          let none = (bares s n d.0 h.kept sound.early d.1 (goes_on x s h unheld n d.0 d.1 in_set) (none_of d.0.config (calls_bare x s h unheld n d.0 d.1))).none in
           ap (λ (k : CallSlot). k.call.live) (same_slot n slot own.slot there own.there) ∙ sym own.sees.serves.sees.live ∙ none_live s d.0 none;
     }
 
