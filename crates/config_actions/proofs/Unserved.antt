@@ -68,7 +68,7 @@ none_last : {X : Type 0} (xs : List X) → last_of xs ≡ None → xs ≡ []
 none_last [] e = refl
 none_last (x ∷ xs) e = absurd (no_last x xs e)
 
-none_there : {X : Type 0} (n : ℕ) → numbered {X} [] n ≡ None
+none_there : {X : Type 0} (n : ℕ) → numbered {X = X} [] n ≡ None
 none_there zero = refl
 none_there (suc n) = refl
 
@@ -171,16 +171,16 @@ call_by s m None e in_set =
 call_by s m (Some d) e in_set = (d, e)
 
 -- where the loop stands: these are left
-record Waits (pairs : List (ℕ × ℕ)) (z : StateSeen) (o : OpenEntry) (s : Seen) : Type 0 where
-  agrees : Agrees (record z { impatient = pairs }) s
-  empty : z.impatient ≡ []
-  at : IsAt stage.Settling o s
-  joined : IsJoined o s
-  unreset : AreUnreset s
-  held : z.held ≡ None
-  bare : z.unconfigured ≡ true
-  few : (n : ℕ) → has pairs (0, n) ≡ true → n ≤ 4294967295
-  idle : (n : ℕ) (slot : CallSlot) → has pairs (0, n) ≡ true → slot_at z.book n ≡ Some slot → slot.call.live ≡ []
+pub record Waits (pairs : List (ℕ × ℕ)) (z : StateSeen) (o : OpenEntry) (s : Seen) : Type 0 where
+  pub agrees : Agrees (record z { impatient = pairs }) s
+  pub empty : z.impatient ≡ []
+  pub at : IsAt stage.Settling o s
+  pub joined : IsJoined o s
+  pub unreset : AreUnreset s
+  pub held : z.held ≡ None
+  pub bare : z.unconfigured ≡ true
+  pub few : (n : ℕ) → has pairs (0, n) ≡ true → n ≤ 4294967295
+  pub idle : (n : ℕ) (slot : CallSlot) → has pairs (0, n) ≡ true → slot_at z.book n ≡ Some slot → slot.call.live ≡ []
 
 no_pass : (o : OpenEntry) (s : Seen) → o.turn ≡ None → next_of_pass o s ≡ None
 no_pass o s fresh = ap (option_and_then (λ (t : Turn). next_asked (is_after t) s)) fresh
@@ -252,7 +252,7 @@ module _ (exact : CalmIsExact) (stir : CallsStir) (clocks : ClockChanges) (rests
           (λ k c there. counted_at (λ (c : Call). c.number) s.calls k c w.agrees.kept.calls there) l o w.at.current (ap (λ (b : Bool). b || false) uncut) (calm l);
     }
 
-    ended : HasEnded (λ l. false) n ending.NoConfig y o s
+    pub ended : HasEnded (λ l. false) n ending.NoConfig y o s
     ended = ends (λ l. false) n ending.NoConfig y o s ends_next
 
     -- its slot
@@ -271,7 +271,7 @@ module _ (exact : CalmIsExact) (stir : CallsStir) (clocks : ClockChanges) (rests
     quiet : z.resets ≡ []
     quiet = w.agrees.sets.resets
 
-    abbrev after : StateSeen
+    abbrev pub after : StateSeen
     after = closed ending.NoConfig n z
 
     same : closed ending.NoConfig n y ≡ record after { impatient = rest }
