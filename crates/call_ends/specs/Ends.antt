@@ -1,12 +1,20 @@
 -- A call ends, for whatever cause, in the channel and in the session, from the point at which its end is next to the one at which nothing follows from it any
 -- more. In the session: CallEnds, then AttemptEnds of each outstanding attempt of it, then StreamReset by link and stream. The channel does it at once.
 -- Example: call 1, with attempts on stream 3 and stream 1 of link 1, is cancelled. CallEnds 1; AttemptEnds of both; StreamReset of stream 1, and of stream 3.
-use Rattle.std.specs.Prelude.{Bool, List, None, Some, [], false, true, ◌∷◌, ◌≡◌, ℕ}
+use Rattle.std.specs.Prelude.{Bool, List, None, Some, [], false, filter, true, ◌∷◌, ◌≡◌, ℕ}
 use Rattle.channel_actions.specs.Agrees.{Agrees}
+use Rattle.channel_actions.specs.Clock.{SeesClock}
+use Rattle.channel_actions.specs.Configs.{SeesConfigs}
+use Rattle.channel_actions.specs.Links.{SeesLinks}
 use Rattle.channel_core.specs.States.{StateSeen}
 use Rattle.channel_core.specs.Steps.{closed}
 use Rattle.grpc_base.specs.declared.event.EndCause.{EndCause}
 use Rattle.ends_follow.specs.Cuts.{AreUnreset}
+use Rattle.ends_follow.specs.Laws.{IsSameRest, is_late, is_out_of}
+use Rattle.kept_sessions.specs.Kept.{IsKept}
+use Rattle.link_ends.specs.Laws.{with_cuts}
+use Rattle.net_actions.specs.Runs.{IsOfCalls}
+use Rattle.net_actions.specs.Sees.{Sees}
 use Rattle.session_actions.specs.Actions.{following}
 use Rattle.session_actions.specs.CallEnds.{call_ended}
 use Rattle.session_actions.specs.Laws.{posted_in}
@@ -14,18 +22,14 @@ use Rattle.session_actions.specs.Sessions.{Does}
 use Rattle.session_actions.specs.Words.{numbered}
 use Rattle.session_actions.specs.declared.action.Action.{Action}
 use Rattle.session_actions.specs.declared.action.Action.TheVariants as action
+use Rattle.session_actions.specs.declared.attempt.Attempt.{Attempt}
 use Rattle.session_actions.specs.declared.call.Call.{Call}
 use Rattle.session_actions.specs.declared.entry.OpenEntry.{OpenEntry}
 use Rattle.session_actions.specs.declared.seen.Seen.{Seen}
 use Rattle.session_order.specs.Calm.{IsStill}
-use Rattle.session_order.specs.Lines.{is_line, is_of_policies}
+use Rattle.session_order.specs.Lines.{is_line}
 use Rattle.session_order.specs.declared.line.Line.{Line}
 use Rattle.session_order.specs.declared.line.Line.TheVariants as line
-
--- the lines that come after the resets: of a channel that is shut down, and of policies. Some of them may still give something
-abbrev pub is_late : Line → Bool
-is_late line.Shut = true
-is_late l = is_of_policies l
 
 -- the end of the call of a number is next; and once it has ended, nothing follows at once but that its attempts are cut off, and what these lines give
 pub record EndsNext (waits : Line → Bool) (number : ℕ) (why : EndCause) (x : StateSeen) (o : OpenEntry) (s : Seen) : Type 0 where
@@ -38,7 +42,39 @@ pub record EndsNext (waits : Line → Bool) (number : ℕ) (why : EndCause) (x :
   pub going : call.end ≡ None
   pub next : following s ≡ Some (action.CallEnds number why)
   pub uncut : IsStill line.Cut o s
+  pub unfollowed : IsStill line.Transparent o s
   pub still : (l : Line) → is_line l line.Cut ≡ false → waits l ≡ false → IsStill l o (call_ended number why s)
+
+-- what is so of all but the books, once nothing follows from it any more: each of the actions was next; all attempts of the call that were outstanding were cut
+-- off; the links, as the channel then has them, agree; and so does the net
+pub record EndsOn (waits : Line → Bool) (number : ℕ) (why : EndCause) (x : StateSeen) (o : OpenEntry) (s : Seen) : Type 0 where
+  pub cuts : List Attempt
+  pub all : cuts ≡ filter (is_out_of number) s.attempts
+  pub actions : List Action
+  pub seen : Seen
+  pub does : Does (action.CallEnds number why ∷ actions) s seen
+  pub posts : posted_in actions ≡ []
+  pub current : seen.current ≡ Some o
+  pub still : (l : Line) → waits l ≡ false → IsStill l o seen
+  pub rest : IsSameRest s seen
+  pub kept : IsKept seen
+  pub unreset : AreUnreset seen
+  pub links : SeesLinks (with_cuts cuts x) seen
+  pub net : Sees seen x.net
+
+-- what agrees then: all but the columns of the ledger, the buckets, the calls and their sets
+pub record AgreesApart (y : StateSeen) (s : Seen) : Type 0 where
+  pub clock : SeesClock y s
+  pub configs : SeesConfigs y s
+  pub links : SeesLinks y s
+  pub net : Sees s y.net
+  pub orderly : IsOfCalls y.net
+  pub resets : y.resets ≡ []
+  pub kept : IsKept s
+
+pub record EndsApart (waits : Line → Bool) (number : ℕ) (why : EndCause) (x : StateSeen) (o : OpenEntry) (s : Seen) : Type 0 where
+  pub on : EndsOn waits number why x o s
+  pub agrees : AgreesApart (closed why number x) on.seen
 
 -- the session after it: in the same entry, at the same stage, with nothing that follows at once but what these lines give
 pub record HasEnded (waits : Line → Bool) (number : ℕ) (why : EndCause) (x : StateSeen) (o : OpenEntry) (s : Seen) : Type 0 where

@@ -3,4 +3,4 @@
 
 mod laws;
 
-pub use laws::late_cancels_are_refused;
+pub use laws::{ends_go_on, late_cancels_are_refused};

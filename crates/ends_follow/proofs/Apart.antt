@@ -34,7 +34,7 @@ pub last_passes : {X : Type 0} (test : X → Bool) (xs : List X) (y : X) → fin
 last_passes test [] y is = absurd (cc)
 last_passes test (x ∷ xs) y is = last_by test x y (find_last test xs) (test x) refl (last_passes test xs y) is
 
-holds_at : {X : Type 0} (p q : X → Bool) (o : Option X) → ((x : X) → o ≡ Some x → p x ≡ q x) → holds p o ≡ holds q o
+pub holds_at : {X : Type 0} (p q : X → Bool) (o : Option X) → ((x : X) → o ≡ Some x → p x ≡ q x) → holds p o ≡ holds q o
 holds_at p q None same = refl
 holds_at p q (Some x) same = same x refl
 

@@ -1,5 +1,5 @@
 -- The next cut of a call that has ended is the first of its attempts that is outstanding; and after it the others are left.
-use Rattle.std.proofs.Common.{◌≡◌, ◌||◌, ◌&&◌, ◌==◌, ◌∷◌, ap, arith, refl, subst, sym, ◌∙◌, Bool, true, false, List, [], Option, None, Some, ℕ, ◌+◌, zero, suc, cond, filter, if◌then◌else◌, is_none, is_some, map, slice_get, slice_set}
+use Rattle.std.proofs.Common.{◌≡◌, ◌||◌, ◌&&◌, ◌==◌, ◌∷◌, not, ap, arith, refl, subst, sym, ◌∙◌, Bool, true, false, List, [], Option, None, Some, ℕ, ◌+◌, zero, suc, cond, filter, if◌then◌else◌, is_none, is_some, map, slice_get, slice_set}
 use Rattle.std.proofs.lemmas.Bool.{and_parts, eqb-true}
 use Rattle.std.specs.Option.{option_map, option_map_or, option_or}
 use Rattle.attempt_ledger.specs.declared.ledger.CallEnd.{CallEnd}
@@ -9,7 +9,7 @@ use Rattle.ends_follow.specs.Cuts.{AreCutOff, IsOut, cut_off}
 use Rattle.ends_follow.specs.Laws.{is_out_of}
 use Rattle.session_actions.specs.Actions.{after, after_if}
 use Rattle.session_actions.specs.AttemptEnds.{attempt_ended, cut, cut_end, end_of, with_end}
-use Rattle.session_actions.specs.Attempts.{call_of, is_outstanding, is_over, is_over_in}
+use Rattle.session_actions.specs.Attempts.{call_of, commitment, is_outstanding, is_over, is_over_in}
 use Rattle.session_actions.specs.Entries.{entry, now}
 use Rattle.session_actions.specs.Tokens.{run_of, tokens_in}
 use Rattle.session_actions.specs.Words.{changed, changed_if, first_of, holds, numbered}
@@ -47,7 +47,8 @@ module _ (number : ℕ) (v : Seen) (done : IsDone number v) where
   pub is_gone : (a : Attempt) → is_own a ≡ true → is_over a v ≡ true
   is_gone a own =
       ap (λ (n : ℕ). holds (λ (c : Call). is_over_in c a v) (numbered v.calls n)) (eqb-true a.row.call number own)
-      ∙ ap (holds (λ (c : Call). is_over_in c a v)) done.there ∙ ap (λ (b : Bool). b || _) done.ended
+      ∙ ap (holds (λ (c : Call). is_over_in c a v)) done.there
+      ∙ ap (λ (b : Bool). b || holds (λ (k : Attempt). not (k.row.number == a.row.number)) (commitment done.call v)) done.ended
 
   cut_is : (a : Attempt) → is_own a ≡ true → cut v a ≡ (if is_outstanding a then Some (action.AttemptEnds a.place (end_of a cut_end v)) else None)
   cut_is a own = ap (λ (b : Bool). if is_outstanding a && b then Some (action.AttemptEnds a.place (end_of a cut_end v)) else None) (is_gone a own) ∙ and_true (is_outstanding a)
@@ -151,10 +152,13 @@ pub record IsOneCut (number : ℕ) (v : Seen) (act : Action) (o : OpenEntry) : T
   pub end_is : end ≡ end_of attempt cut_end v
   pub left : filter (is_out_of number) v.attempts ≡ attempt ∷ filter (is_out_of number) (cut_off attempt v).attempts
 
-place_of : (n i : ℕ) (xs : List Attempt) (a : Attempt) → AreNumbered n xs → slice_get xs i ≡ Some a → a.place ≡ n + i
+pub place_of : (n i : ℕ) (xs : List Attempt) (a : Attempt) → AreNumbered n xs → slice_get xs i ≡ Some a → a.place ≡ n + i
 place_of n i [] a p e = absurd (cc)
 place_of n zero (x ∷ xs) a p e = let same : a ≡ x = (cc) in ap (λ (y : Attempt). y.place) same ∙ p.0 ∙ (let up : n ≡ n + 0 = omega arith in up)
 place_of n (suc i) (x ∷ xs) a p e = place_of (suc n) i xs a p.1 e ∙ (let up : suc n + i ≡ n + suc i = omega arith in up)
+
+pub place_suc : (i : ℕ) (xs : List Attempt) (a : Attempt) → AreNumbered 1 xs → slice_get xs i ≡ Some a → a.place ≡ suc i
+place_suc i xs a p e = place_of 1 i xs a p e ∙ (let up : 1 + i ≡ suc i = omega arith in up)
 
 undrawn_is : (o : OpenEntry) → undrawn o ≡ o
 undrawn_is o = ap (λ (k : ℕ). record o { drawn = k }) (let e : o.drawn + 0 ≡ o.drawn = omega arith in e)
@@ -164,7 +168,7 @@ pub one_cut : (number : ℕ) (v : Seen) (act : Action) (o : OpenEntry) → IsDon
 one_cut number v act o done places current next =
     let f : IsFirst number v v.attempts act = is_first number v done v.attempts act next in
     let a : Attempt = f.attempt in
-    let place : a.place ≡ suc f.index = place_of 1 f.index v.attempts a places f.there in
+    let place : a.place ≡ suc f.index = place_suc f.index v.attempts a places f.there in
     let there : numbered v.attempts a.place ≡ Some a = ap (numbered v.attempts) place ∙ f.there in
     let call : call_of a v ≡ Some done.call = ap (numbered v.calls) (eqb-true a.row.call number f.own) ∙ done.there in
     let tokens : Option ℕ = option_map (λ (run : ThrottleRun). tokens_in run v) (run_of done.call v) in

@@ -12,7 +12,7 @@ use Rattle.ends_follow.proofs.Cuts.{IsOneCut, none_out, one_cut}
 use Rattle.ends_follow.proofs.Stays.{IsBase, IsLeft, uncut}
 use Rattle.ends_follow.proofs.Steps.{IsMid, IsOneReset, IsReset, after_is, call_number, mid_cut, one_reset, reset_mid}
 use Rattle.ends_follow.specs.Cuts.{AreCutOff, AreReset, cut_off}
-use Rattle.ends_follow.specs.Laws.{EndsFollow, FollowsOn, IsNextToEnd, is_late, is_out_of}
+use Rattle.ends_follow.specs.Laws.{AreAllOut, CutsAreOut, EndsFollow, FollowsOn, IsNextToEnd, IsSameRest, is_late, is_out_of}
 use Rattle.grpc_base.specs.declared.event.EndCause.{EndCause}
 use Rattle.session_actions.specs.Actions.{after, after_if, following}
 use Rattle.session_actions.specs.AttemptEnds.{cut, cut_end, end_of, next_cut, next_reset, reset_code_of}
@@ -40,6 +40,28 @@ use Rattle.take_actions.specs.Cuts.{AreCut, next_cut_of}
 does_on : (these those : List Action) (s t u : Seen) → Does these s t → Does those t u → Does (these ++ those) s u
 does_on [] those s t u d e = subst (λ (v : Seen). Does those v u) d e
 does_on (a ∷ these) those s t u d e = (d.0, does_on these those (after a s) t u d.1 e)
+
+-- what is left of the rest
+pub rest_self : (s : Seen) → IsSameRest s s
+rest_self s = record { entries = refl; setup = refl; asks = refl; policies = refl; subs = refl; configs = refl; runs = refl; answered = refl; shut = refl }
+
+pub rest_on : (s t u : Seen) → IsSameRest s t → IsSameRest t u → IsSameRest s u
+rest_on s t u one two = record {
+  entries = two.entries ∙ one.entries;
+  setup = two.setup ∙ one.setup;
+  asks = two.asks ∙ one.asks;
+  policies = two.policies ∙ one.policies;
+  subs = two.subs ∙ one.subs;
+  configs = two.configs ∙ one.configs;
+  runs = two.runs ∙ one.runs;
+  answered = two.answered ∙ one.answered;
+  shut = two.shut ∙ one.shut;
+}
+
+rest_cut : (n : ℕ) (v : Seen) (act : Action) (o : OpenEntry) (one : IsOneCut n v act o) → IsSameRest v (cut_off one.attempt v)
+rest_cut n v act o one =
+    subst (IsSameRest v) (sym one.after_is)
+    (record { entries = refl; setup = refl; asks = refl; policies = refl; subs = refl; configs = refl; runs = refl; answered = refl; shut = refl })
 
 -- nothing comes before cuts; and nothing late before resets
 before_cut : (loses : Bool) (m : Line) → nat_lt (rank loses m) (rank loses line.Cut) ≡ true → ⊥
@@ -125,6 +147,7 @@ module _ (waits : Line → Bool) (late : (l : Line) → waits l ≡ true → is_
     pub does : Does cuts v t
     pub reset : IsReset waits n o b t
     pub steady : StaysSteady t n
+    pub rest : IsSameRest v t
 
   still_after : (v : Seen) → IsMid waits n o b v → next_cut v ≡ None → (l : Line) → is_line l line.Reset ≡ false → waits l ≡ false → IsStill l o v
   still_after v mid none l e w = by_line (is_line l line.Cut) refl
@@ -164,6 +187,7 @@ module _ (waits : Line → Bool) (late : (l : Line) → waits l ≡ true → is_
         does = refl;
         reset = record { current = mid.current; book = mid.book; left = mid.left; still = still_after v mid (cut_line v mid ∙ are.0) };
         steady = mid.steady;
+        rest = rest_self v;
       })
   cut_walk (act ∷ cuts) v t mid are =
       let one : IsOneCut n v act o = one_cut n v act o mid.left.done mid.book.places mid.current are.0 in
@@ -179,6 +203,7 @@ module _ (waits : Line → Bool) (late : (l : Line) → waits l ≡ true → is_
         does = (next, subst (λ (z : Seen). Does cuts z t) (sym one.does) rest.does);
         reset = rest.reset;
         steady = rest.steady;
+        rest = rest_on v u t (rest_cut n v act o one) rest.rest;
       }
 
   -- the resets
@@ -191,10 +216,11 @@ module _ (waits : Line → Bool) (late : (l : Line) → waits l ≡ true → is_
     pub does : Does resets v u
     pub reset : IsReset waits n o b u
     pub none : next_reset u ≡ None
+    pub rest : IsSameRest v u
 
   pub reset_walk : (resets : List Action) (v u : Seen) → IsReset waits n o b v → AreReset resets v u → HasReset v u resets
   reset_walk [] v u mid are =
-      subst (λ (z : Seen). HasReset v z []) (sym are.1) (record { does = refl; reset = mid; none = are.0 })
+      subst (λ (z : Seen). HasReset v z []) (sym are.1) (record { does = refl; reset = mid; none = are.0; rest = rest_self v })
   reset_walk (act ∷ resets) v u mid are =
       let one : IsOneReset n v act = one_reset waits n o b v mid act are.0 in
       let after_one : IsReset waits n o b (after act v)
@@ -202,7 +228,10 @@ module _ (waits : Line → Bool) (late : (l : Line) → waits l ≡ true → is_
       let rest : HasReset (after act v) u resets = reset_walk resets (after act v) u after_one are.1 in
       let next : IsNext act v
       = subst (λ (x : Action). IsNext x v) (sym one.act_is) (reset_follows v act mid are.0 ∙ ap (λ (x : Action). Some x) one.act_is) in
-      record { does = (next, rest.does); reset = rest.reset; none = rest.none }
+      let left : IsSameRest v (after act v)
+      = subst (IsSameRest v) (sym (after_is waits n o b v base mid act one))
+      (record { entries = refl; setup = refl; asks = refl; policies = refl; subs = refl; configs = refl; runs = refl; answered = refl; shut = refl }) in
+      record { does = (next, rest.does); reset = rest.reset; none = rest.none; rest = rest_on v (after act v) u left rest.rest }
 
 -- where the call has just ended
 module _ (waits : Line → Bool) (n : ℕ) (why : EndCause) (o : OpenEntry) (s : Seen) (is : IsNextToEnd waits n why o s) where
@@ -240,7 +269,7 @@ module _ (waits : Line → Bool) (n : ℕ) (why : EndCause) (o : OpenEntry) (s :
   over_other : (x : Attempt) → (x.row.call == n) ≡ false → is_over x b ≡ is_over x s
   over_other x off = ap (holds (λ (d : Call). is_over_in d x s)) (same_call x.row.call off)
 
-  base : IsBase n b
+  pub base : IsBase n b
   base = record {
     numbers = λ k d at. call_number k b.calls d book_end.calls at;
     owned = λ p x at. some_call x.row.call ∙ all_at (λ (y : Attempt). is_some (call_of y s)) s.attempts p x is.owned at;
@@ -282,7 +311,7 @@ module _ (waits : Line → Bool) (n : ℕ) (why : EndCause) (o : OpenEntry) (s :
       (ends_keep s c why (subst (λ (k : ℕ). IsBook (call_ended k why s)) (sym own_number) book_end) there (is.orders c there)
       (record { turn = is.turn; calm = calm_by s.attempts is.unfollowed }))
 
-  mid : IsMid waits n o b b
+  pub mid : IsMid waits n o b b
   mid = record {
     current = is.current;
     book = book_end;
@@ -290,6 +319,14 @@ module _ (waits : Line → Bool) (n : ℕ) (why : EndCause) (o : OpenEntry) (s :
     steady = record { call = ordered.call; own = ordered.own; steady = ordered.steady };
     still = λ l e f w. is.still l e w;
   }
+
+  rest_end : IsSameRest s b
+  rest_end = record { entries = refl; setup = refl; asks = refl; policies = refl; subs = refl; configs = refl; runs = refl; answered = refl; shut = refl }
+
+  pub all_out : (t : Seen) (cuts : List Action) → AreCut n cuts b t → AreAllOut n why s t
+  all_out t cuts are =
+      let cut : HasCut waits is.late n o b base b t cuts = cut_walk waits is.late n o b base cuts b t mid are in
+      record { attempts = cut.attempts; all = cut.all; off = cut.off }
 
   module _ (t u : Seen) (cuts resets : List Action) (are : AreCut n cuts b t) (then_ : AreReset resets t u) where
     pub cut_all : HasCut waits is.late n o b base b t cuts
@@ -329,7 +366,11 @@ module _ (waits : Line → Bool) (n : ℕ) (why : EndCause) (o : OpenEntry) (s :
       does = (is.next, subst (λ (z : Seen). Does (cuts ++ resets) z u) (sym after_end) (does_on cuts resets b t u cut_all.does reset_all.does));
       current = reset_all.reset.current;
       still = λ l w. still_by l (is_line l line.Reset) refl w;
+      rest = rest_on s b u rest_end (rest_on b t u cut_all.rest reset_all.rest);
     }
+
+pub cuts_are_out : CutsAreOut
+cuts_are_out waits n why o s t cuts is are = all_out waits n why o s is t cuts are
 
 pub ends_follow : EndsFollow
 ends_follow waits n why o s t u cuts resets is are then_ = follows_on waits n why o s is t u cuts resets are then_

@@ -12,7 +12,7 @@ use Rattle.calls_apart.specs.Apart.{AreCalls, IsApart, IsBook}
 use Rattle.calls_in_turn.proofs.Rows.{ending_keeps}
 use Rattle.calls_in_turn.specs.Turns.{StaysSteady, waits as waits_for}
 use Rattle.ends_follow.proofs.Codes.{ended_code, reset_code}
-use Rattle.ends_follow.proofs.Cuts.{IsDone, IsOneCut, place_of}
+use Rattle.ends_follow.proofs.Cuts.{IsDone, IsOneCut, place_suc}
 use Rattle.ends_follow.proofs.Stays.{IsBase, IsLeft, final_still, row_still, unfollowed}
 use Rattle.ends_follow.proofs.Streams.{IsForemost, by_stream_order, is_foremost}
 use Rattle.ends_follow.specs.Cuts.{cut_off}
@@ -20,6 +20,7 @@ use Rattle.link_actions.specs.Sees.{ArePlaced}
 use Rattle.session_actions.specs.Actions.{after, after_if}
 use Rattle.session_actions.specs.AttemptEnds.{attempt_ended, cut_end, end_of, next_reset, reset_code_of, reset_of, stream_reset, stream_reset_of, with_end, with_reset_queued}
 use Rattle.session_actions.specs.Attempts.{is_of, is_outstanding, is_to_follow, wants_follower}
+use Rattle.session_actions.specs.Entries.{now}
 use Rattle.session_actions.specs.Links.{is_stream_before}
 use Rattle.session_actions.specs.Words.{changed, foremost, holds, is_number, numbered}
 use Rattle.session_actions.specs.declared.action.Action.{Action}
@@ -80,7 +81,7 @@ number_from k (suc i) (x ∷ xs) c p e = number_from (suc k) i xs c p.1 e ∙ (l
 
 pub call_number : (n : ℕ) (xs : List Call) (c : Call) → AreCalls 1 xs → numbered xs n ≡ Some c → c.number ≡ n
 call_number zero xs c p e = absurd (cc)
-call_number (suc i) xs c p e = number_from 1 i xs c p e
+call_number (suc i) xs c p e = number_from 1 i xs c p e ∙ (let up : 1 + i ≡ suc i = omega arith in up)
 
 -- one more is cut off
 module _ (waits : Line → Bool) (n : ℕ) (o : OpenEntry) (b v : Seen) (base : IsBase n b) (mid : IsMid waits n o b v) (act : Action) (one : IsOneCut n v act o) where
@@ -102,7 +103,7 @@ module _ (waits : Line → Bool) (n : ℕ) (o : OpenEntry) (b v : Seen) (base : 
   attempts_are : u.attempts ≡ changed (with_end one.end) a.place v.attempts
   attempts_are = ap (λ (z : Seen). z.attempts) one.after_is
 
-  calls_are : u.calls ≡ changed (marked_also (ended_mark _ a)) a.row.call v.calls
+  calls_are : u.calls ≡ changed (marked_also (ended_mark (now v) a)) a.row.call v.calls
   calls_are = ap (λ (z : Seen). z.calls) one.after_is
 
   book_cut : IsBook u
@@ -110,15 +111,15 @@ module _ (waits : Line → Bool) (n : ℕ) (o : OpenEntry) (b v : Seen) (base : 
       subst IsBook (ap (λ (z : Action). after z v) (sym one.act_is) ∙ one.does)
       (books_stay v (action.AttemptEnds a.place end) mid.book (λ x at. going x at))
     where
-      none_by : (x : Attempt) → x ≡ a → is_none x.row.ended ≡ true
-      none_by x same = ap (λ (y : Attempt). is_none y.row.ended) same ∙ (ends_not (is_some a.row.placed) (is_none a.row.ended) one.out.outstanding)
-
-      going : (x : Attempt) → numbered v.attempts a.place ≡ Some x → is_none x.row.ended ≡ true
-      going x at = let two : Some x ≡ Some a = sym at ∙ one.out.there in let same : x ≡ a = (cc) in none_by x same
-
       ends_not : (p q : Bool) → (p && q) ≡ true → q ≡ true
       ends_not true q e = e
       ends_not false q e = absurd (cc)
+
+      none_by : (x : Attempt) → x ≡ a → is_none x.row.ended ≡ true
+      none_by x same = ap (λ (y : Attempt). is_none y.row.ended) same ∙ ends_not (is_some a.row.placed) (is_none a.row.ended) one.out.outstanding
+
+      going : (x : Attempt) → numbered v.attempts a.place ≡ Some x → is_none x.row.ended ≡ true
+      going x at = let two : Some x ≡ Some a = sym at ∙ one.out.there in let same : x ≡ a = (cc) in none_by x same
 
   apart_one : (d : Call) → numbered b.calls d.number ≡ Some d → (d.number == n) ≡ false → IsApart v u d
   apart_one d own off =
@@ -140,14 +141,14 @@ module _ (waits : Line → Bool) (n : ℕ) (o : OpenEntry) (b v : Seen) (base : 
   pub left_cut : IsLeft n b u
   left_cut = record {
     done = record {
-      call = marked_also (ended_mark _ a) mid.left.done.call;
-      there = ap (λ (cs : List Call). numbered cs n) (calls_are ∙ ap (λ (k : ℕ). changed (marked_also (ended_mark _ a)) k v.calls) of_it)
-          ∙ changed_here (marked_also (ended_mark _ a)) n v.calls mid.left.done.call mid.left.done.there;
+      call = marked_also (ended_mark (now v) a) mid.left.done.call;
+      there = ap (λ (cs : List Call). numbered cs n) (calls_are ∙ ap (λ (k : ℕ). changed (marked_also (ended_mark (now v) a)) k v.calls) of_it)
+          ∙ changed_here (marked_also (ended_mark (now v) a)) n v.calls mid.left.done.call mid.left.done.there;
       ended = mid.left.done.ended;
     };
     apart = λ d own off. apart_joins b v u d (mid.left.apart d own off) (apart_one d own off);
     calls = λ k off. ap (λ (cs : List Call). numbered cs k) calls_are
-        ∙ changed_away (marked_also (ended_mark _ a)) a.row.call k v.calls (away_from k a.row.call n off of_it) ∙ mid.left.calls k off;
+        ∙ changed_away (marked_also (ended_mark (now v) a)) a.row.call k v.calls (away_from k a.row.call n off of_it) ∙ mid.left.calls k off;
     rows = λ p x at off. mid.left.rows p x (rows_by p x at off) off;
     codes = λ p x at off. ended_code v a.place a end places one.out.there x ∙ mid.left.codes p x (rows_by p x at off) off;
   }
@@ -241,7 +242,7 @@ reset_by waits n o b v mid act (Some a) e is =
     let f : IsForemost is_stream_before (λ (y : Attempt). is_some (reset_code_of v y)) v.attempts a
     = is_foremost is_stream_before by_stream_order (λ (y : Attempt). is_some (reset_code_of v y)) v.attempts a e in
     let code = code_by v a act (reset_code_of v a) refl is in
-    let place : a.place ≡ suc f.index = place_of 1 f.index v.attempts a mid.book.places f.there in
+    let place : a.place ≡ suc f.index = place_suc f.index v.attempts a mid.book.places f.there in
     record {
       attempt = a;
       number = code.0;
@@ -264,10 +265,10 @@ module _ (waits : Line → Bool) (n : ℕ) (o : OpenEntry) (b v : Seen) (base : 
   pub after_is : after act v ≡ z
   after_is =
       ap (λ (c : Option OpenEntry). after_if c act v) mid.current ∙ ap (λ (x : Action). after_if (Some o) x v) one.act_is
-      ∙ ap (λ (x : Option Attempt). option_map_or (stream_reset_of one.number v) v x) one.there
+      ∙ ap (λ (x : Option Attempt). option_map_or (stream_reset_of one.number v) x v) one.there
 
   reset_is : stream_reset r.place one.number v ≡ z
-  reset_is = ap (λ (x : Option Attempt). option_map_or (stream_reset_of one.number v) v x) one.there
+  reset_is = ap (λ (x : Option Attempt). option_map_or (stream_reset_of one.number v) x v) one.there
 
   book_reset : IsBook z
   book_reset =

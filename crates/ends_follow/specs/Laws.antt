@@ -48,17 +48,40 @@ pub record IsNextToEnd (waits : Line → Bool) (number : ℕ) (why : EndCause) (
   pub orders : (d : Call) → numbered s.calls d.number ≡ Some d → IsInOrder s d
   pub turn : IsInTurn s call
 
+-- the attempts that are cut off are those of the call that are outstanding, in their order
+abbrev pub is_out_of : ℕ → Attempt → Bool
+is_out_of number a = (a.row.call == number) && is_outstanding a
+
+pub record AreAllOut (number : ℕ) (why : EndCause) (s t : Seen) : Type 0 where
+  pub attempts : List Attempt
+  pub all : attempts ≡ filter (is_out_of number) s.attempts
+  pub off : AreCutOff attempts (call_ended number why s) t
+
+abbrev pub CutsAreOut : Type 0
+CutsAreOut =
+    (waits : Line → Bool) (number : ℕ) (why : EndCause) (o : OpenEntry) (s t : Seen) (cuts : List Action) → IsNextToEnd waits number why o s
+    → AreCut number cuts (call_ended number why s) t → AreAllOut number why s t
+
+-- what is left of all but calls, attempts and links
+pub record IsSameRest (s u : Seen) : Type 0 where
+  pub entries : u.entries ≡ s.entries
+  pub setup : u.setup ≡ s.setup
+  pub asks : u.asks ≡ s.asks
+  pub policies : u.policies ≡ s.policies
+  pub subs : u.subs ≡ s.subs
+  pub configs : u.configs ≡ s.configs
+  pub runs : u.runs ≡ s.runs
+  pub answered : u.answered ≡ s.answered
+  pub shut : u.shut ≡ s.shut
+
 -- so each of these actions is next, and nothing else follows from them
 pub record FollowsOn (waits : Line → Bool) (number : ℕ) (why : EndCause) (o : OpenEntry) (s : Seen) (actions : List Action) (u : Seen) : Type 0 where
   pub does : Does (action.CallEnds number why ∷ actions) s u
   pub current : u.current ≡ Some o
   pub still : (l : Line) → waits l ≡ false → IsStill l o u
+  pub rest : IsSameRest s u
 
 abbrev pub EndsFollow : Type 0
 EndsFollow =
     (waits : Line → Bool) (number : ℕ) (why : EndCause) (o : OpenEntry) (s t u : Seen) (cuts resets : List Action) → IsNextToEnd waits number why o s
     → AreCut number cuts (call_ended number why s) t → AreReset resets t u → FollowsOn waits number why o s (cuts ++ resets) u
-
--- the attempts that are cut off are those of the call that are outstanding, in their order
-abbrev pub is_out_of : ℕ → Attempt → Bool
-is_out_of number a = (a.row.call == number) && is_outstanding a

@@ -245,16 +245,23 @@ link_walk l g [] s t goes reads off is slot at = subst (λ (v : Seen). AtLink l 
 link_walk l g (a ∷ cuts) s t goes reads off is slot at =
     link_walk l g cuts (cut_off a s) t goes reads off.1 (cut_still s a off.0 is) (slot_cut l.number a slot) (link_step s a off.0 is l g goes reads slot at)
 
+some_map : {X Y : Type 0} (f : X → Y) (o : Option X) → is_some (option_map f o) ≡ is_some o
+some_map f None = refl
+some_map f (Some x) = refl
+
+links_one : (s : Seen) (a : Attempt) → IsOut s a → ArePlaced 1 s.attempts → ((cut_off a s).links ≡ s.links) × (is_some (cut_off a s).current ≡ is_some s.current)
+links_one s a out places =
+    ( ap (λ (v : Seen). v.links) (is_ended s a.place (end_of a cut_end s) a places out.there)
+    , ap (λ (v : Seen). is_some v.current) (is_ended s a.place (end_of a cut_end s) a places out.there)
+      ∙ some_map (λ (p : OpenEntry). record p { drawn = p.drawn + (if is_some (end_of a cut_end s).word then 1 else 0) }) s.current
+    )
+
 pub links_still : (cuts : List Attempt) (s t : Seen) → AreCutOff cuts s t → IsCutting s → (t.links ≡ s.links) × (is_some t.current ≡ is_some s.current)
 links_still [] s t off is = (ap (λ (v : Seen). v.links) off, ap (λ (v : Seen). is_some v.current) off)
 links_still (a ∷ cuts) s t off is =
-    let rest = links_still cuts (cut_off a s) t off.1 (cut_still s a off.0 is) in
-    let one : cut_off a s ≡ _ = is_ended s a.place (end_of a cut_end s) a is.places off.0.there in
-    (rest.0 ∙ ap (λ (v : Seen). v.links) one, rest.1 ∙ ap (λ (v : Seen). is_some v.current) one ∙ some_drawn s.current)
-  where
-    some_drawn : (o : Option OpenEntry) → is_some (option_map (λ (p : OpenEntry). record p { drawn = p.drawn + 0 }) o) ≡ is_some o
-    some_drawn None = refl
-    some_drawn (Some o) = refl
+    let rest : (t.links ≡ (cut_off a s).links) × (is_some t.current ≡ is_some (cut_off a s).current) = links_still cuts (cut_off a s) t off.1 (cut_still s a off.0 is) in
+    let one : ((cut_off a s).links ≡ s.links) × (is_some (cut_off a s).current ≡ is_some s.current) = links_one s a off.0 is.places in
+    (rest.0 ∙ one.0, rest.1 ∙ one.1)
 
 -- what was queued on links is closed: nothing that is queued from then on stands among it
 module _ (l : Link) (s : Seen) (g : ℕ → Line) where
@@ -289,17 +296,18 @@ fresh_stays link [] slot e = e
 fresh_stays link (a ∷ cuts) slot e = fresh_stays link cuts (slot_closed link a slot) (fresh_if (link_number a == link) slot e)
 
 -- one of them was on the link; or none was
+some_by : (link : ℕ) (a : Attempt) (cuts : List Attempt) (slot : LinkSlot) (b : Bool) → (link_number a == link) ≡ b
+    → (b || list_any (λ (x : Attempt). link_number x == link) cuts) ≡ true
+    → (list_any (λ (x : Attempt). link_number x == link) cuts ≡ true → (slots_closed link cuts (slot_closed link a slot)).link.link.wire.queue.fresh ≡ 0)
+    → (slots_closed link cuts (slot_closed link a slot)).link.link.wire.queue.fresh ≡ 0
+some_by link a cuts slot true h e next =
+    fresh_stays link cuts (slot_closed link a slot) (ap (λ (c : Bool). (if c then with_link sealed_link slot else slot).link.link.wire.queue.fresh) h)
+some_by link a cuts slot false h e next = next e
+
 some_closed : (link : ℕ) (cuts : List Attempt) (slot : LinkSlot) → list_any (λ (a : Attempt). link_number a == link) cuts ≡ true
     → (slots_closed link cuts slot).link.link.wire.queue.fresh ≡ 0
 some_closed link [] slot e = absurd (cc)
-some_closed link (a ∷ cuts) slot e = some_by (link_number a == link) refl
-  where
-    some_by : (b : Bool) → (link_number a == link) ≡ b → (slots_closed link cuts (slot_closed link a slot)).link.link.wire.queue.fresh ≡ 0
-    some_by true h =
-        fresh_stays link cuts (slot_closed link a slot)
-        (ap (λ (c : Bool). (if c then with_link sealed_link slot else slot).link.link.wire.queue.fresh) h)
-    some_by false h =
-        some_closed link cuts (slot_closed link a slot) (sym (ap (λ (c : Bool). c || list_any (λ (x : Attempt). link_number x == link) cuts) h) ∙ e)
+some_closed link (a ∷ cuts) slot e = some_by link a cuts slot (link_number a == link) refl e (some_closed link cuts (slot_closed link a slot))
 
 none_cut : (link : ℕ) (cuts : List Attempt) (slot : LinkSlot) → list_any (λ (a : Attempt). link_number a == link) cuts ≡ false → slots_cut link cuts slot ≡ slot
 none_cut link [] slot e = refl

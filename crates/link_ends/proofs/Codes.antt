@@ -14,7 +14,7 @@ use Rattle.link_actions.proofs.Ended.{ended_seen, is_ended}
 use Rattle.link_actions.specs.Sees.{ArePlaced}
 use Rattle.ends_follow.proofs.Codes.{code_for, code_in, entry_by}
 use Rattle.ends_follow.proofs.Streams.{put}
-use Rattle.response_actions.proofs.Ended.{limit_ended}
+use Rattle.response_actions.proofs.Counted.{codes_stay, cuts_are_cancelled}
 use Rattle.reset_actions.specs.Ahead.{put_reset}
 use Rattle.session_actions.specs.AttemptEnds.{attempt_ended, code_to_reset, cut_end, end_of, is_framing, is_reset, reset_code_of, stream_reset_of, with_end, with_end_in_run, with_reset_queued}
 use Rattle.session_actions.specs.Attempts.{call_of, is_outstanding}

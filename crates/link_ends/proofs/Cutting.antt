@@ -135,7 +135,7 @@ one_of_places (x ∷ xs) zero a e =
     ap (λ (c : Bool). c || is_one_of (map (λ (b : Attempt). b.place) xs) a.place) (same_place x.place a.place (ap (λ (b : Attempt). b.place) same))
 one_of_places (x ∷ xs) (suc i) a e = ap (λ (c : Bool). (x.place == a.place) || c) (one_of_places xs i a e) ∙ or_true (x.place == a.place)
 
-end_outstanding : {X Y : Type 0} (o : Option X) (p : Option Y) → (is_some o && is_none p) ≡ true → p ≡ None
+pub end_outstanding : {X Y : Type 0} (o : Option X) (p : Option Y) → (is_some o && is_none p) ≡ true → p ≡ None
 end_outstanding None p e = absurd (cc)
 end_outstanding (Some x) None e = refl
 end_outstanding (Some x) (Some y) e = absurd (cc)
