@@ -1,5 +1,5 @@
 -- A drain, frame after frame.
-use Rattle.std.proofs.Common.{◌≡◌, ◌+◌, ◌*◌, ◌++◌, ◌<◌, ◌≤◌, ◌^◌, ◌∷◌, ◌==◌, ap, append-nil, append_assoc, arith, length-append, refl, subst, sym, ◌∙◌, Bool, true, false, List, [], Option, None, Some, ℕ, zero, suc, drop, if◌then◌else◌, flat_map, length, map, min, nat_le, not, slice_get, slice_set}
+use Rattle.std.proofs.Common.{◌≡◌, ◌+◌, ◌*◌, ◌++◌, ◌<◌, ◌≤◌, ◌^◌, ◌∷◌, ◌&&◌, ◌==◌, ap, append-nil, append_assoc, arith, length-append, refl, subst, sym, ◌∙◌, Bool, true, false, List, [], Option, None, Some, ℕ, zero, suc, drop, if◌then◌else◌, flat_map, length, map, min, nat_le, not, slice_get, slice_set}
 use Rattle.std.proofs.lemmas.Bool.{le-leb, lt-leb}
 use Rattle.std.specs.Option.{option_and_then, option_map, option_map_or}
 use Rattle.call_actions.proofs.Lists.{changed_twice}
@@ -282,7 +282,8 @@ number_all (x ∷ sent) l = number_all sent (sent_on x l)
 
 pub drains_are_actions : DrainsAreActions
 drains_are_actions l s o w w2 g g2 readers most octets is reads few drains draining =
-    let fits : length {ℕ} [] + length (flat_map octets_of drains.frames) ≤ room most = subst (λ (bs : List ℕ). length bs ≤ room most) drains.whole drains.fits in
+    let here_ : length (flat_map octets_of drains.frames) ≤ room most = subst (λ (bs : List ℕ). length bs ≤ room most) drains.whole drains.fits in
+    let fits : 0 + length (flat_map octets_of drains.frames) ≤ room most = omega (arith, here_) in
     let rest : IsRest l s o [] (flat_map octets_of drains.frames) w2 g2 (opened_all (opened_between w w2) readers) most
     = rest_of l s o [] w g drains.frames w2 g2 readers most is reads draining few drains.sends fits in
     let m : Link = with_all_sent rest.sent l in

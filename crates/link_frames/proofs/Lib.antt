@@ -5,4 +5,5 @@ pub mod Readers
 pub mod Frame
 pub mod Tellings
 pub mod Changes
+pub mod Acts
 pub mod Untold
