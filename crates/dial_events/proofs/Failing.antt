@@ -1,11 +1,13 @@
 -- A dial that is under way fails.
-use Rattle.std.proofs.Common.{◌≡◌, ◌&&◌, ◌∷◌, ap, refl, subst, sym, ◌∙◌, Bool, true, false, [], None, Option, Some, ℕ, if◌then◌else◌, is_none, is_some, not}
+use Rattle.std.proofs.Common.{◌≡◌, ◌&&◌, ◌∷◌, ap, refl, subst, sym, ◌∙◌, Bool, true, false, [], None, Option, Some, ℕ, if◌then◌else◌, is_none, is_some, map, not}
 use Rattle.std.specs.Option.{option_map}
-use Rattle.channel_actions.proofs.Answering.{IsPlain}
+use Rattle.channel_actions.proofs.Answering.{event_next}
 use Rattle.channel_actions.proofs.Dialling.{applied_next, dial_same, open_in, unshut_by}
 use Rattle.net_steps.proofs.Calm.{to_order}
 use Rattle.channel_actions.specs.Agrees.{Agrees}
 use Rattle.channel_actions.specs.Calm.{IsAt}
+use Rattle.channel_actions.specs.Clock.{DrawsAlike}
+use Rattle.channel_actions.specs.Columns.{links_noted}
 use Rattle.channel_actions.specs.Stages.{EventsAnswered, IsAnswered}
 use Rattle.channel_core.specs.Applying as channel
 use Rattle.channel_core.specs.Applying.{AnswersBy}
@@ -45,6 +47,7 @@ use Rattle.session_actions.specs.Words.{numbered}
 use Rattle.session_actions.specs.declared.action.Action.TheVariants as action
 use Rattle.session_actions.specs.declared.entry.OpenEntry.{OpenEntry}
 use Rattle.session_actions.specs.declared.entry.Stage.TheVariants as stage
+use Rattle.session_actions.specs.declared.policy.PolicyUse.{PolicyUse}
 use Rattle.session_actions.specs.declared.seen.Seen.{Seen}
 use Rattle.session_actions.specs.declared.subchannel.Subchannel.{Subchannel}
 use Rattle.session_order.proofs.Boards.{connecting_live, with_sub_current}

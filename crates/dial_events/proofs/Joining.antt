@@ -2,8 +2,8 @@
 use Rattle.std.proofs.Common.{◌≡◌, ◌≤◌, ◌<◌, ◌&&◌, ◌++◌, ◌+◌, ◌==◌, ◌||◌, ◌∷◌, ap, arith, refl, subst, sym, ◌∙◌, Bool, true, false, List, [], None, Option, Some, ℕ, cond, filter, if◌then◌else◌, is_none, is_some, length, map, min, not, option_and_then, slice_get, suc, zero}
 use Rattle.std.proofs.lemmas.Bool.{eqb-false, eqb-true}
 use Rattle.std.proofs.lemmas.List.{length-append}
-use Rattle.std.proofs.lemmas.List.Elements.{map-append}
-use Rattle.std.specs.List.{list_all}
+use Rattle.std.proofs.lemmas.List.{map-append}
+use Rattle.std.specs.List.{list_all, list_any}
 use Rattle.std.specs.Option.{option_map, option_map_or}
 use Rattle.attempt_ledger.specs.declared.ledger.LinkSeen.{LinkSeen}
 use Rattle.attempt_ledger.specs.declared.row.Placed.{Placed}
@@ -39,6 +39,7 @@ use Rattle.grpc_base.specs.declared.event.Reply.TheVariants as reply
 use Rattle.h2_link.specs.Wire.{fresh_wire}
 use Rattle.kept_sessions.specs.Kept.{AreCounted, IsKept, came_up, is_on_link, is_sound_sub}
 use Rattle.kept_sessions.specs.Laws.{KeptAlong}
+use Rattle.lb_policy.specs.Table.{is_ready}
 use Rattle.ledger_stamps.specs.Steps as stamps
 use Rattle.link_actions.specs.Sees.{ArePlaced}
 use Rattle.link_frames.specs.Alike.{CannotTell}

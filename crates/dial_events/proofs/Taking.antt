@@ -1,5 +1,5 @@
 -- A dial is taken: of the first subchannel that is to be dialled, in both.
-use Rattle.std.proofs.Common.{◌≡◌, ◌%◌, ◌&&◌, ◌+◌, ◌<◌, ◌==◌, ◌^◌, ◌∷◌, ap, arith, refl, subst, sym, ◌∙◌, Bool, true, false, [], None, Option, Some, ℕ, find, if◌then◌else◌, is_none, is_some, map, max, min, nat_lt, not, slice_get, suc}
+use Rattle.std.proofs.Common.{◌≡◌, ◌%◌, ◌&&◌, ◌+◌, ◌<◌, ◌==◌, ◌^◌, ◌∷◌, ap, arith, refl, subst, sym, ◌∙◌, Bool, true, false, List, [], None, Option, Some, ℕ, find, if◌then◌else◌, is_none, is_some, map, max, min, nat_lt, not, slice_get, suc, zero}
 use Rattle.std.proofs.lemmas.Bool.{eqb-true}
 use Rattle.std.proofs.lemmas.Option.{same_Some}
 use Rattle.std.specs.Option.{option_map, option_map_or}
@@ -145,7 +145,7 @@ few_of [] place b few e = absurd (cc)
 few_of (c ∷ subs) zero b few e = let one : c ≡ b = (cc) in subst (λ (x : Subchannel). x.dials < 4294967295) one few.0
 few_of (c ∷ subs) (suc place) b few e = few_of subs place b few.1 e
 
-until_in : Action → ℕ
+abbrev until_in : Action → ℕ
 until_in (action.DialTaken sub again until) = until
 until_in _ = 0
 
@@ -163,7 +163,7 @@ module _ (exact : CalmIsExact) (stir : BoardsStir) (take : DialsAreTaken) (calls
   abbrev w : ℕ
   w = steps.next_word x
 
-  taken : IsTaken (suc place) s x.net
+  pub taken : IsTaken (suc place) s x.net
   taken = take (suc place) s x.net h.net few first
 
   abbrev a : Action

@@ -1,6 +1,7 @@
 -- The random words of an entry: the channel counts draws in 64 bits, and the session without end.
 use Rattle.std.proofs.Common.{◌≡◌, ◌%◌, ◌*◌, ◌+◌, ◌^◌, ◌==◌, ap, arith, refl, sym, ◌∙◌, Bool, true, false, None, Option, Some, ℕ, if◌then◌else◌, nat_lt, not, suc, zero}
 use Rattle.std.proofs.Math.Nat.{add-mod-mod, mod-add-mod}
+use Rattle.std.proofs.lemmas.Bool.Decides.{nat_tests}
 use Rattle.std.proofs.lemmas.Nat.{mul-mod_first}
 use Rattle.std.specs.Option.{option_map_or}
 use Rattle.channel_actions.specs.Clock.{DrawsAlike, SeesClock}
@@ -26,6 +27,9 @@ pub draw_by : (b : Bool) (d e : ℕ) → d ≡ e % 2 ^ 64 → (if b then (d + 1)
 draw_by true d e h = ap (λ (n : ℕ). (n + 1) % 2 ^ 64) h ∙ mod-add-mod e (2 ^ 64) 1
 draw_by false d e h = h ∙ ap (λ (n : ℕ). n % 2 ^ 64) (let none : e ≡ e + 0 = omega arith in none)
 
+drew_if : (n : ℕ) (b : Bool) → nat_lt 0 n ≡ b → not (n == 0) ≡ b
+drew_if n true e = grind (arith, nat_tests)
+drew_if n false e = grind (arith, nat_tests)
+
 pub drew_by : (n : ℕ) → not (n == 0) ≡ nat_lt 0 n
-drew_by zero = refl
-drew_by (suc n) = refl
+drew_by n = drew_if n (nat_lt 0 n) refl

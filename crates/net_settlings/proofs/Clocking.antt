@@ -1,12 +1,14 @@
 -- Round by round: what the clock changes of a net is the session's next action, until it changes nothing.
-use Rattle.std.proofs.Common.{◌≡◌, ◌⊎◌, ◌&&◌, ◌++◌, ◌+◌, ◌==◌, ◌||◌, ◌∷◌, inl, inr, ap, append-nil, arith, refl, subst, sym, ◌∙◌, Bool, true, false, List, [], None, Option, Some, ℕ, if◌then◌else◌, is_none, is_some, length, map, not, option_to_list, slice_get, suc, zero}
+use Rattle.std.proofs.Common.{◌≡◌, ◌⊎◌, ◌&&◌, ◌++◌, ◌+◌, ◌==◌, ◌||◌, ◌∷◌, inl, inr, ap, append-nil, arith, refl, subst, sym, ◌∙◌, Bool, true, false, List, [], None, Option, Some, ℕ, if◌then◌else◌, is_none, is_some, length, map, nat_le, not, option_to_list, pred, slice_get, suc, zero}
 use Rattle.std.proofs.lemmas.Bool.{eqb-false, eqb-true}
+use Rattle.std.proofs.lemmas.List.{length-set}
 use Rattle.std.specs.Option.{option_map, option_map_or, option_or}
 use Rattle.std.specs.Prelude.{option_and_then}
 use Rattle.attempt_ledger.specs.declared.ledger.LinkSeen.{LinkSeen}
 use Rattle.attempt_ledger.specs.declared.row.Placed.{Placed}
 use Rattle.channel_actions.proofs.Settles.{follows_by}
-use Rattle.channel_actions.proofs.Does.{does_on}
+use Rattle.channel_actions.proofs.Does.{does_on, none_on}
+use Rattle.channel_actions.proofs.Gone.{all_numbered}
 use Rattle.channel_actions.specs.Agrees.{Agrees}
 use Rattle.channel_actions.specs.Calm.{IsAt, IsCalm}
 use Rattle.channel_actions.specs.Columns.{links_noted}
@@ -17,11 +19,12 @@ use Rattle.channel_core.specs.States.{StateSeen}
 use Rattle.channel_core.specs.Tables.{buried, buried_in}
 use Rattle.channel_core.specs.declared.state.links.LinkSlot.{LinkSlot}
 use Rattle.channel_net.specs.Lists.{link_of}
-use Rattle.channel_net.specs.Steps.{NetLeft, NetSeen, clock_round, clocked_at, left}
+use Rattle.channel_net.specs.Steps.{NetLeft, NetSeen, clock_round, clock_rounds, clocked_at, left}
+use Rattle.grpc_base.specs.declared.event.Conn.{Conn}
 use Rattle.grpc_base.specs.declared.event.Conn.TheVariants as conn
 use Rattle.kept_sessions.specs.Kept.{IsKept, came_up, is_sound_sub}
 use Rattle.kept_sessions.specs.Laws.{KeptAlong}
-use Rattle.ledger_stamps.specs.Steps as stamps
+use Rattle.lb_policy.specs.Table.{is_ready}
 use Rattle.ledger_stamps.specs.Steps.{changed_at, gone_link}
 use Rattle.link_frames.specs.Alike.{CannotTell, IsLinkStill}
 use Rattle.link_frames.specs.Laws.{LinksStay}
@@ -30,6 +33,7 @@ use Rattle.net_actions.specs.Laws.{ClockChanges, EndsBackoff, TimesOut}
 use Rattle.net_actions.specs.Sees.{IsShaped, IsSub, Sees}
 use Rattle.net_settlings.proofs.Limits.{slots_after, slots_more, stamps_after, stamps_more, wanting}
 use Rattle.net_settlings.proofs.Overdue.{fails, gives_up, none_still, some_still, timed_none, timed_some}
+use Rattle.net_settlings.proofs.Stamped.{map_stamped, stamp_over}
 use Rattle.net_settlings.specs.Joined.{AreJoined}
 use Rattle.net_steps.proofs.Alike.{links_cannot_tell, still, untold_links_agree}
 use Rattle.net_steps.proofs.Boards.{boards_join, boards_leave_rest, one_boarded, subbed}
@@ -38,26 +42,28 @@ use Rattle.net_steps.proofs.Clocks.{entry_goes_on, now_goes_on}
 use Rattle.net_steps.proofs.Subbed.{noted_gone_same, noted_same, subbed_generations, subbed_links, subbed_shut, subbed_subs}
 use Rattle.net_steps.specs.Boards.{AreOfBoard, IsBoarded, is_of_board}
 use Rattle.net_steps.specs.Steps.{netted}
-use Rattle.session_actions.specs.Actions.{after, after_if, first_action, following, following_in, of_calls, of_links, of_policies, of_settling, of_stage}
+use Rattle.session_actions.specs.Actions.{after, after_if, config_action, first_action, following, following_in, of_calls, of_links, of_policies, of_settling, of_stage}
 use Rattle.session_actions.specs.Closing.{noted_gone}
 use Rattle.session_actions.specs.Entries.{entry, now}
 use Rattle.session_actions.specs.Laws.{posted_in}
-use Rattle.session_actions.specs.Links.{link_over, wants_resolution}
-use Rattle.session_actions.specs.Policies.{is_failure, is_shutdown}
+use Rattle.session_actions.specs.Links.{has_settings, link_over, wants_resolution}
+use Rattle.session_actions.specs.Making.{next_due_attempt}
+use Rattle.session_actions.specs.Policies.{is_failure, is_shutdown, next_of_pass, next_of_queue, next_take_over}
 use Rattle.session_actions.specs.Refusals.{is_gone, is_shutdown_sub}
 use Rattle.session_actions.specs.Sessions.{Does, IsNext, link_seen}
-use Rattle.session_actions.specs.Subchannels.{clock_action, connect_timed_out, in_state, is_connecting, is_rested, is_too_late, next_of_clock, with_sub}
-use Rattle.session_actions.specs.Words.{changed, first_of, holds, numbered}
+use Rattle.session_actions.specs.Subchannels.{clock_action, connect_timed_out, in_state, is_connecting, is_rested, is_too_late, next_connected, next_of_clock, with_sub}
+use Rattle.session_actions.specs.Words.{changed, changed_if, first_of, holds, numbered}
 use Rattle.session_actions.specs.declared.action.Action.{Action}
 use Rattle.session_actions.specs.declared.action.Action.TheVariants as action
 use Rattle.session_actions.specs.declared.attempt.Attempt.{Attempt}
 use Rattle.session_actions.specs.declared.entry.OpenEntry.{OpenEntry}
 use Rattle.session_actions.specs.declared.entry.Stage.TheVariants as stage
 use Rattle.session_actions.specs.declared.link.Link.{Link}
+use Rattle.session_actions.specs.declared.link.LinkOver.TheVariants as over
 use Rattle.session_actions.specs.declared.policy.PolicyUse.{PolicyUse}
 use Rattle.session_actions.specs.declared.seen.Seen.{Seen}
 use Rattle.session_actions.specs.declared.subchannel.Subchannel.{Subchannel}
-use Rattle.session_order.proofs.Boards.{connecting_live, failure_live, same_sub, with_sub_current}
+use Rattle.session_order.proofs.Boards.{connecting_live, same_sub, with_sub_current}
 use Rattle.session_order.proofs.Changed.{changed_away, changed_map}
 use Rattle.session_order.specs.Calm as order
 use Rattle.session_order.specs.Laws.{BoardsStir, CalmIsExact}
@@ -80,7 +86,8 @@ pub record IsAmid (x : StateSeen) (o : OpenEntry) (s : Seen) (l : NetLeft) (t : 
 
 -- the settling's first line
 settling_gives : (o : OpenEntry) (t : Seen) (a : Action) → next_of_clock t ≡ Some a → of_settling o t ≡ Some a
-settling_gives o t a e = ap (λ (d : Option Action). option_or d _) e
+settling_gives o t a e =
+    ap (λ (d : Option Action). first_action (d ∷ next_take_over t ∷ next_connected t ∷ first_of (config_action t) t.calls ∷ next_of_pass o t ∷ next_due_attempt t ∷ next_of_queue t ∷ Some action.EntryCloses ∷ [])) e
 
 pub clock_next : (exact : CalmIsExact) (o : OpenEntry) (t : Seen) (a : Action) → t.current ≡ Some o → o.stage ≡ stage.Settling → order.IsCalm o t
     → next_of_clock t ≡ Some a → following t ≡ Some a
@@ -126,12 +133,12 @@ late_by true rested k sub e = (refl, (cc))
 late_by false true k sub e = absurd (cc)
 late_by false false k sub e = absurd (cc)
 
-first_true : (a b : Bool) → (a && b) ≡ true → a ≡ true
+pub first_true : (a b : Bool) → (a && b) ≡ true → a ≡ true
 first_true true b e = refl
 first_true false b e = absurd (cc)
 
 -- where the links of subchannels and attempts come from
-joined_after : (t u : Seen) → AreJoined t
+pub joined_after : (t u : Seen) → AreJoined t
     → ((n k : ℕ) (c : Subchannel) → numbered u.subs n ≡ Some c → c.link ≡ Some k → (b : Subchannel) × ((numbered t.subs n ≡ Some b) × (b.link ≡ Some k)))
     → ((m : ℕ) (q : Link) → numbered u.links m ≡ Some q → (l : Link) × ((numbered t.links m ≡ Some l) × ((q.sub ≡ l.sub) × (has_settings q ≡ has_settings l))))
     → u.attempts ≡ t.attempts → AreJoined u
@@ -160,11 +167,11 @@ module _ (f : Subchannel → Subchannel) (narrow : (b : Subchannel) (k : ℕ) �
       (r.0, (ap (numbered t.subs) same ∙ r.1.0, r.1.1))
   sub_if j k c b false is there here has = (c, (sym (changed_away f n j t.subs (eqb-false j n is)) ∙ here, has))
 
-  subs_after : (b : Subchannel) → numbered t.subs n ≡ Some b → (j k : ℕ) (c : Subchannel) → numbered (changed f n t.subs) j ≡ Some c → c.link ≡ Some k
+  pub subs_after : (b : Subchannel) → numbered t.subs n ≡ Some b → (j k : ℕ) (c : Subchannel) → numbered (changed f n t.subs) j ≡ Some c → c.link ≡ Some k
       → (d : Subchannel) × ((numbered t.subs j ≡ Some d) × (d.link ≡ Some k))
   subs_after b there j k c here has = sub_if j k c b (j == n) refl there here has
 
-same_links : (t : Seen) (m : ℕ) (q : Link) → numbered t.links m ≡ Some q → (l : Link) × ((numbered t.links m ≡ Some l) × ((q.sub ≡ l.sub) × (has_settings q ≡ has_settings l)))
+pub same_links : (t : Seen) (m : ℕ) (q : Link) → numbered t.links m ≡ Some q → (l : Link) × ((numbered t.links m ≡ Some l) × ((q.sub ≡ l.sub) × (has_settings q ≡ has_settings l)))
 same_links t m q there = (q, (there, (refl, refl)))
 
 given_up : (o : Option Link) (q : Link) → option_map gives_up o ≡ Some q → (l : Link) × ((o ≡ Some l) × ((q.sub ≡ l.sub) × (has_settings q ≡ has_settings l)))
@@ -186,7 +193,14 @@ shaped_failure conn.Connecting until linked h e = absurd (cc)
 shaped_failure conn.Ready until linked h e = absurd (cc)
 shaped_failure conn.Shutdown until linked h e = absurd (cc)
 
-no_link : (o : Option ℕ) (b : Bool) → is_some o ≡ b → b ≡ false → o ≡ None
+pub failure_live : (c : Conn) → is_failure c ≡ true → is_shutdown c ≡ false
+failure_live conn.Failure e = refl
+failure_live conn.Idle e = refl
+failure_live conn.Connecting e = refl
+failure_live conn.Ready e = refl
+failure_live conn.Shutdown e = absurd (cc)
+
+pub no_link : (o : Option ℕ) (b : Bool) → is_some o ≡ b → b ≡ false → o ≡ None
 no_link None b e f = refl
 no_link (Some k) b e f = absurd (cc)
 
@@ -205,7 +219,7 @@ long_if : (f : Link → Link) (n : ℕ) (xs : List Link) (o : Option Link) → l
 long_if f n xs None = refl
 long_if f n xs (Some x) = length-set xs (pred n) (f x)
 
-board_on : (these those : List Action) → AreOfBoard these → AreOfBoard those → AreOfBoard (these ++ those)
+pub board_on : (these those : List Action) → AreOfBoard these → AreOfBoard those → AreOfBoard (these ++ those)
 board_on [] those h k = k
 board_on (a ∷ these) those h k = (h.0, board_on these those h.1 k)
 

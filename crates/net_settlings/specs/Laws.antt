@@ -2,6 +2,7 @@
 -- other calls, of links and of what sessions keep are premises, by their names; `AreJoined` is asked of the session.
 -- Example: it is 20 s. The dial of subchannel 1, taken at 0 s, is up as link 1, without SETTINGS: ConnectTimesOut 1, and link 1 is over. The backoff of
 -- subchannel 2 is over: BackoffEnds 2; and as its policy wishes it, SubchannelConnects 2.
+use Rattle.std.specs.Prelude.{None, ◌≡◌}
 use Rattle.channel_actions.specs.Agrees.{Agrees}
 use Rattle.channel_actions.specs.Calm.{IsAt}
 use Rattle.channel_core.specs.States.{StateSeen}
@@ -10,6 +11,8 @@ use Rattle.kept_sessions.specs.Laws.{KeptAlong}
 use Rattle.link_frames.specs.Laws.{LinksStay}
 use Rattle.net_settlings.specs.Joined.{AreJoined}
 use Rattle.other_calls.specs.Laws.{AllCallsStay, SetsStay}
+use Rattle.session_actions.specs.Policies.{next_take_over}
+use Rattle.session_actions.specs.Subchannels.{next_of_clock}
 use Rattle.session_actions.specs.declared.entry.OpenEntry.{OpenEntry}
 use Rattle.session_actions.specs.declared.entry.Stage.TheVariants as stage
 use Rattle.session_actions.specs.declared.seen.Seen.{Seen}
@@ -25,6 +28,11 @@ IsNetPart Before step After =
 abbrev pub ClocksAreParts : Type 0
 ClocksAreParts = IsNetPart IsBegun clocked IsClocked
 
--- a policy takes over, and wished subchannels connect
-abbrev pub NetsAreParts : Type 0
-NetsAreParts = IsNetPart IsClocked net_settled IsJoined
+-- wished subchannels connect, where no policy may take over. (Whether one may stays as it is while they do.)
+pub record IsUncontested (o : OpenEntry) (s : Seen) : Type 0 where
+  pub turn : o.turn ≡ None
+  pub clock : next_of_clock s ≡ None
+  pub take_over : next_take_over s ≡ None
+
+abbrev pub WishesAreParts : Type 0
+WishesAreParts = IsNetPart IsUncontested net_settled IsJoined

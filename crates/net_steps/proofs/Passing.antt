@@ -15,14 +15,14 @@ use Rattle.session_actions.specs.declared.link.Link.{Link}
 use Rattle.session_actions.specs.declared.seen.Seen.{Seen}
 use Rattle.takes_apart.specs.Heard.{is_on, passes_on}
 
-beyond : {X : Type 0} (xs : List X) (n : ℕ) → slice_get xs (length xs + n) ≡ None
-beyond [] n = refl
-beyond (x ∷ xs) n = beyond xs n
+beyond : {X : Type 0} (xs : List X) → slice_get xs (length xs) ≡ None
+beyond [] = refl
+beyond (x ∷ xs) = beyond xs
 
 pub none_next : {X : Type 0} (xs : List X) → numbered xs (length xs + 1) ≡ None
 none_next xs =
-    let n : length xs + 1 ≡ suc (length xs + 0) = omega arith in
-    ap (numbered xs) n ∙ beyond xs 0
+    let n : length xs + 1 ≡ suc (length xs) = omega arith in
+    ap (numbered xs) n ∙ beyond xs
 
 both : (a b : Bool) → (a && b) ≡ true → (a ≡ true) × (b ≡ true)
 both true b e = (refl, e)

@@ -1,5 +1,6 @@
 -- A step of the net: all else agrees as before, since nothing else changed.
-use Rattle.std.proofs.Common.{◌≡◌, ◌==◌, ◌||◌, ◌∷◌, ap, refl, subst, sym, ◌∙◌, Bool, true, false, List, [], Option, None, Some, ℕ, zero, suc, is_some, length}
+use Rattle.std.proofs.Common.{◌≡◌, ◌==◌, ◌||◌, ◌∷◌, ap, arith, refl, subst, sym, ◌∙◌, Bool, true, false, List, [], Option, None, Some, ℕ, zero, suc, is_some, length}
+use Rattle.std.proofs.lemmas.Bool.Decides.{nat_tests}
 use Rattle.std.specs.List.{list_any}
 use Rattle.std.specs.Option.{option_map_or}
 use Rattle.std.specs.Prelude.{map}
@@ -32,6 +33,9 @@ use Rattle.session_actions.specs.declared.call.Call.{Call}
 use Rattle.session_actions.specs.declared.policy.PolicyUse.{PolicyUse}
 use Rattle.session_actions.specs.declared.seen.Seen.{Seen}
 
+no_zero : (n : ℕ) → (suc n == 0) ≡ false
+no_zero n = grind (arith, nat_tests)
+
 booked : (s : Seen) → IsKept s → IsBooked s
 booked s k = record { book = k.book; owned = k.owned; reads = k.reads }
 
@@ -57,7 +61,7 @@ module _ (calls_stay : AllCallsStay) (sets_stay : SetsStay) (kept_along : KeptAl
     later : IsKept t
     later = kept_along step.actions s t h.kept step.does
 
-    z : StateSeen
+    abbrev z : StateSeen
     z = netted y.net y.drawn y.resolver y.links y.book.ledger.generations y.book.ledger.links x
 
     columns_for : map (λ (g : PolicyUse). g.generation) (boarded s t).policies ≡ z.book.ledger.generations → links_noted (boarded s t) ≡ z.book.ledger.links
@@ -100,7 +104,7 @@ module _ (calls_stay : AllCallsStay) (sets_stay : SetsStay) (kept_along : KeptAl
 
     dues_same : (m n : ℕ) → is_in_dues (boarded s t) m n ≡ is_in_dues s m n
     dues_same m zero = refl
-    dues_same m (suc n) = sets.dues m (suc n) refl
+    dues_same m (suc n) = sets.dues m (suc n) (no_zero n)
 
     sets_for : SeesSets z (boarded s t)
     sets_for = record {
