@@ -2,12 +2,11 @@
 use Rattle.call_actions.proofs.Lists.{changed_here}
 use Rattle.call_core.specs.declared.state.CallState.{CallState}
 use Rattle.call_posts.proofs.Fed.{link_told}
-use Rattle.call_posts.proofs.Told.{bare_told, buckets_told, calls_told, deadlines_told, due_told, f, map_changed, order_told, p, patient_told, s, t, turn_told, waiting_told}
+use Rattle.call_posts.proofs.Told.{bare_told, buckets_told, calls_told, deadlines_told, due_told, f, map_changed, order_told, patient_told, s, t, turn_told, waiting_told}
 use Rattle.channel_actions.specs.Agrees.{Agrees}
 use Rattle.channel_actions.specs.Calls.{HasSlot, SeesCall, SeesCalls, due_of, lent_to}
 use Rattle.channel_actions.specs.Columns.{SeesColumns}
-use Rattle.channel_actions.specs.Sets.{is_in_bare, is_in_deadlines, is_in_dues, is_in_impatient, is_in_patient, is_in_queue, is_patient, is_waiting}
-use Rattle.channel_core.specs.Books.{slot_at}
+use Rattle.channel_actions.specs.Sets.{is_in_bare, is_in_dues, is_in_impatient, is_in_patient, is_in_queue, is_patient, is_waiting}
 use Rattle.channel_core.specs.States.{StateSeen}
 use Rattle.channel_core.specs.Tables.{numbered as slot_numbered, with_call}
 use Rattle.channel_core.specs.declared.state.slots.CallSlot.{CallSlot}
@@ -20,15 +19,14 @@ use Rattle.other_calls.proofs.Slots.{all_calls_stay}
 use Rattle.other_calls.specs.Laws.{SetsApart}
 use Rattle.other_calls.specs.Others.{BooksApart, GoesApart, IsOfCall}
 use Rattle.session_actions.specs.Actions.{after}
-use Rattle.session_actions.specs.Sessions.{Does, IsNext}
-use Rattle.session_actions.specs.Words.{changed, holds, is_number, numbered}
+use Rattle.session_actions.specs.Sessions.{IsNext}
+use Rattle.session_actions.specs.Words.{holds, is_number, numbered}
 use Rattle.session_actions.specs.Writing.{accepted_bytes}
 use Rattle.session_actions.specs.declared.action.Action.{Action}
-use Rattle.session_actions.specs.declared.attempt.Attempt.{Attempt}
 use Rattle.session_actions.specs.declared.call.Call.{Call}
 use Rattle.session_actions.specs.declared.entry.OpenEntry.{OpenEntry}
 use Rattle.session_actions.specs.declared.seen.Seen.{Seen}
-use Rattle.std.proofs.Common.{Bool, List, None, Option, Some, [], ap, eqb-true, false, length, map, not, refl, subst, sym, true, ℕ, ◌&&◌, ◌==◌, ◌∙◌, ◌∷◌, ◌≡◌, ◌≤◌}
+use Rattle.std.proofs.Common.{Bool, List, Some, [], ap, eqb-true, false, length, not, refl, subst, sym, true, ℕ, ◌&&◌, ◌==◌, ◌∙◌, ◌∷◌, ◌≡◌, ◌≤◌}
 use Rattle.std.proofs.lemmas.List.{length-map}
 use Rattle.take_actions.specs.Serves.{Serves}
 

@@ -1,6 +1,6 @@
 -- An event by which a call is told something is answered so: one action, which leaves channel and session in agreement, and nothing follows at once.
 use Rattle.call_core.specs.declared.state.CallState.{CallState}
-use Rattle.call_posts.proofs.Agreeing.{IsPut, told_agrees, y}
+use Rattle.call_posts.proofs.Agreeing.{IsPut, told_agrees}
 use Rattle.call_posts.proofs.Told.{f, p, s, t}
 use Rattle.channel_actions.proofs.Answering.{event_next}
 use Rattle.channel_actions.specs.Agrees.{Agrees}
@@ -15,10 +15,9 @@ use Rattle.channel_core.specs.Books.{lacks_call, slot_at}
 use Rattle.channel_core.specs.States.{StateSeen}
 use Rattle.channel_core.specs.Tables.{changed_call, numbered as slot_numbered, with_call}
 use Rattle.channel_core.specs.declared.state.slots.CallSlot.{CallSlot}
-use Rattle.grpc_base.specs.declared.event.Refusal.{Refusal}
 use Rattle.grpc_base.specs.declared.event.Reply.{Reply}
 use Rattle.kept_sessions.specs.Laws.{KeptAlong}
-use Rattle.ledger_stamps.specs.Steps.{changed, changed_at, index_at}
+use Rattle.ledger_stamps.specs.Steps.{changed, changed_at}
 use Rattle.other_calls.specs.Others.{IsOfCall}
 use Rattle.session_actions.specs.Actions.{after, following}
 use Rattle.session_actions.specs.CallEnds.{next_deadline}
@@ -34,7 +33,7 @@ use Rattle.session_actions.specs.declared.entry.Stage.TheVariants as stage
 use Rattle.session_actions.specs.declared.seen.Seen.{Seen}
 use Rattle.session_order.proofs.Calms.{calm_is_exact}
 use Rattle.session_order.specs.Calm as order
-use Rattle.std.proofs.Common.{Bool, List, None, Option, Some, [], ap, false, if◌then◌else◌, length, nat_lt, option_map, refl, slice_get, suc, sym, true, zero, ℕ, ◌==◌, ◌∙◌, ◌∷◌, ◌≡◌, ◌≤◌}
+use Rattle.std.proofs.Common.{Bool, List, None, Option, Some, [], ap, false, if◌then◌else◌, length, nat_lt, option_map, refl, slice_get, suc, sym, true, zero, ℕ, ◌∙◌, ◌∷◌, ◌≡◌, ◌≤◌}
 use Rattle.std.proofs.lemmas.Bool.{eqb-false}
 use Rattle.std.specs.Option.{option_map_or}
 use Rattle.take_actions.specs.Serves.{Serves}

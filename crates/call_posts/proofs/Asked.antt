@@ -6,7 +6,7 @@ use Rattle.call_core.specs.Steps.{Stepped, lent}
 use Rattle.call_core.specs.declared.state.CallState.{CallState}
 use Rattle.call_posts.proofs.Agreeing.{IsPut}
 use Rattle.channel_actions.specs.Calls.{SeesCall, lent_to}
-use Rattle.channel_core.specs.Books.{BookActs, bucket_at, deadline_of, due_at, placed_in_book, slot_at, timers_set}
+use Rattle.channel_core.specs.Books.{bucket_at, deadline_of, due_at, placed_in_book, slot_at, timers_set}
 use Rattle.channel_core.specs.States.{StateSeen}
 use Rattle.channel_core.specs.Steps.{call_asked, links_sealed, sealed, timers_moved, timers_moved_to, with_book}
 use Rattle.channel_core.specs.Tables.{Acted, acted, acted_as, acted_at, acted_on, changed_slot_at, changed_slot_on, numbered, tokens_in, with_call, with_timers}
@@ -18,11 +18,9 @@ use Rattle.grpc_base.specs.declared.event.EndCause.{EndCause}
 use Rattle.session_actions.specs.declared.call.Call.{Call}
 use Rattle.session_actions.specs.declared.seen.Seen.{Seen}
 use Rattle.take_actions.proofs.Deadlines.{deadline_is}
-use Rattle.attempt_ledger.specs.declared.ledger.Ledger.{Ledger}
 use Rattle.ledger_stamps.specs.Steps.{index_at}
-use Rattle.std.proofs.Common.{Bool, List, None, Option, Some, [], ap, arith, false, if◌then◌else◌, is_none, length, nat_lt, option_map, refl, slice_get, slice_set, suc, sym, true, zero, ℕ, ◌+◌, ◌<◌, ◌==◌, ◌∙◌, ◌∷◌, ◌≡◌}
+use Rattle.std.proofs.Common.{Bool, List, None, Option, Some, [], ap, arith, false, if◌then◌else◌, is_none, length, option_map, refl, slice_get, slice_set, suc, sym, true, zero, ℕ, ◌<◌, ◌==◌, ◌∙◌, ◌∷◌, ◌≡◌}
 use Rattle.std.proofs.lemmas.Bool.{eqb-false, eq-eqb, lt-ltb}
-use Rattle.std.specs.Option.{option_map_or}
 use Rattle.take_actions.proofs.Retold.{set_same}
 
 -- a thing of a list is at an index
@@ -121,6 +119,23 @@ pub asked : (step : Stepped → Stepped) (x : StateSeen) (n : ℕ) (slot : CallS
     → due_at (Some (with_call k slot)) ≡ slot.due → deadline_of (Some (with_call k slot)) ≡ slot.deadline → IsAsked x n slot k (sealed (call_asked step n x))
 asked step x zero slot k unreset e gives due_is is_deadline = absurd (cc)
 asked step x (suc i) slot k unreset e gives due_is is_deadline = asked_at step x i slot k unreset e gives due_is is_deadline
+
+-- two steps that do the same to a call do the same to the channel
+acted_by : (step : Stepped → Stepped) (x : StateSeen) (i : ℕ) (slot : CallSlot) → slice_get x.book.calls i ≡ Some slot
+    → acted step x.book.calls (suc i) x.book.ledger (tokens_in x.book.buckets (bucket_at (slot_at x.book (suc i))))
+    ≡ acted_as x.book.calls i slot (step (lent slot.call x.book.ledger (tokens_in x.book.buckets slot.bucket) []))
+acted_by step x i slot e =
+    ap (λ (o : Option CallSlot). acted step x.book.calls (suc i) x.book.ledger (tokens_in x.book.buckets (bucket_at o))) e
+    ∙ ap (acted_on step x.book.calls x.book.ledger (tokens_in x.book.buckets slot.bucket)) (index_is x.book.calls i slot e)
+    ∙ ap (acted_at step x.book.calls i x.book.ledger (tokens_in x.book.buckets slot.bucket)) e
+
+pub asked_alike : (f g : Stepped → Stepped) (x : StateSeen) (n : ℕ) (slot : CallSlot) → slot_at x.book n ≡ Some slot
+    → f (lent slot.call x.book.ledger (tokens_in x.book.buckets slot.bucket) []) ≡ g (lent slot.call x.book.ledger (tokens_in x.book.buckets slot.bucket) [])
+    → call_asked f n x ≡ call_asked g n x
+asked_alike f g x zero slot e same = absurd (cc)
+asked_alike f g x (suc i) slot e same =
+    ap (λ (a : Acted). with_book (placed_in_book a x.book) (suc i) x)
+    (acted_by f x i slot e ∙ ap (acted_as x.book.calls i slot) same ∙ sym (acted_by g x i slot e))
 
 -- the timers of a call that agrees are right
 none_map : (o : Option CallEnd) → is_none (option_map (λ (e : CallEnd). e.cause) o) ≡ is_none o

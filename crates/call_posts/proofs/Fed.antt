@@ -1,10 +1,9 @@
 -- What links are fed with, once a call was told something: each attempt on a link has the line that its call has then; and the responses are the same.
-use Rattle.call_actions.proofs.Frames.{retold}
 use Rattle.call_actions.proofs.Lists.{changed_away, changed_map}
 use Rattle.call_posts.proofs.Told.{f, p, s, t}
 use Rattle.channel_actions.proofs.Lines.{AtPlace, all_at_places, all_filter, all_sorted}
 use Rattle.channel_actions.specs.Links.{HasLink, IsGoing, line_of, lines_in, no_line}
-use Rattle.channel_actions.specs.Readers.{IsReader, IsReaderOf, attempt_on}
+use Rattle.channel_actions.specs.Readers.{IsReaderOf, attempt_on}
 use Rattle.channel_core.specs.States.{StateSeen}
 use Rattle.grpc_base.specs.declared.event.Reply.{Reply}
 use Rattle.grpc_link.specs.Links.{reader_in}

@@ -25,7 +25,7 @@ use Rattle.grpc_base.specs.declared.event.Reply.{Reply}
 use Rattle.grpc_base.specs.declared.event.Reply.TheVariants as reply
 use Rattle.kept_sessions.specs.Laws.{KeptAlong}
 use Rattle.session_actions.specs.CallEnds.{next_deadline}
-use Rattle.session_actions.specs.Events.{event_action, event_action_by, frame_of_event}
+use Rattle.session_actions.specs.Events.{event_action, event_action_by}
 use Rattle.session_actions.specs.Deliveries.{request_finished}
 use Rattle.session_actions.specs.Words.{numbered}
 use Rattle.session_actions.specs.declared.action.Action.TheVariants as action
@@ -34,8 +34,7 @@ use Rattle.session_actions.specs.declared.entry.OpenEntry.{OpenEntry}
 use Rattle.session_actions.specs.declared.entry.Stage.TheVariants as stage
 use Rattle.session_actions.specs.declared.seen.Seen.{Seen}
 use Rattle.session_order.proofs.Posts.{finished_leaves}
-use Rattle.session_order.specs.Calm as order
-use Rattle.std.proofs.Common.{Bool, List, None, Option, Some, [], ap, arith, false, is_some, refl, subst, sym, true, ℕ, ◌==◌, ◌∙◌, ◌∷◌, ◌≡◌}
+use Rattle.std.proofs.Common.{List, None, Option, Some, ap, arith, false, is_some, refl, subst, sym, true, ℕ, ◌∙◌, ◌≡◌}
 use Rattle.std.proofs.lemmas.Bool.{eq-eqb}
 use Rattle.take_actions.proofs.Posted.{refusal_by, refused_by, serves_done, session_refusal}
 use Rattle.take_actions.specs.Laws.{IsPosted}

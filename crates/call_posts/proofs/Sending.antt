@@ -1,7 +1,6 @@
 -- The application sends a message that commits no call and ends none: it is accepted, or the call is full, or it is refused.
 use Rattle.attempt_buffer.specs.Buffers.{Buffered, held}
 use Rattle.attempt_buffer.specs.declared.buffer.PushFault.{PushFault}
-use Rattle.attempt_buffer.specs.declared.buffer.Pushed.{Pushed}
 use Rattle.attempt_buffer.specs.declared.buffer.Pushed.TheVariants as pushed
 use Rattle.attempt_buffer.specs.declared.buffer.PushFault.TheVariants as fault
 use Rattle.call_core.specs.Parts as parts
@@ -24,10 +23,9 @@ use Rattle.channel_actions.specs.Stages.{EventsAnswered, IsAnswered}
 use Rattle.channel_core.specs.Applying as channel
 use Rattle.channel_core.specs.Applying.{AnswersBy}
 use Rattle.channel_core.specs.Arrivals.{sent_to}
-use Rattle.channel_core.specs.Books.{deadline_of, due_at, lacks_call, slot_at}
+use Rattle.channel_core.specs.Books.{lacks_call, slot_at}
 use Rattle.channel_core.specs.States.{StateSeen}
-use Rattle.channel_core.specs.Steps.{call_asked, sealed}
-use Rattle.channel_core.specs.Tables.{send_reply_of, tokens_in, with_call}
+use Rattle.channel_core.specs.Tables.{send_reply_of, tokens_in}
 use Rattle.channel_core.specs.declared.state.slots.CallSlot.{CallSlot}
 use Rattle.grpc_base.specs.declared.event.EndCause.TheVariants as ending
 use Rattle.grpc_base.specs.declared.event.Event.{Event}
@@ -45,7 +43,7 @@ use Rattle.session_actions.specs.CallEnds.{cancels, has_long_request, is_after_e
 use Rattle.session_actions.specs.Calls.{is_open_call}
 use Rattle.session_actions.specs.Commitments.{is_free_call}
 use Rattle.session_actions.specs.Configs.{is_too_long}
-use Rattle.session_actions.specs.Deliveries.{held_bytes, is_accepted, message_accepted, with_message as told_message}
+use Rattle.session_actions.specs.Deliveries.{held_bytes, is_accepted, message_accepted}
 use Rattle.session_actions.specs.Entries.{now}
 use Rattle.session_actions.specs.Events.{event_action, event_action_by, frame_action, frame_of_event}
 use Rattle.session_actions.specs.Policies.{addresses_in}
@@ -65,7 +63,7 @@ use Rattle.session_order.specs.Calm.{has_outstanding, is_overflowing}
 use Rattle.session_order.specs.Stirs.{AreNumbered, stirs}
 use Rattle.session_order.specs.declared.line.Line.{Line}
 use Rattle.session_order.specs.declared.line.Line.TheVariants as line
-use Rattle.std.proofs.Common.{Bool, Err, List, None, Ok, Option, Result, Some, [], ap, arith, false, if◌then◌else◌, is_none, is_some, length, length-append, max, nat_le, nat_lt, not, option_map, refl, subst, sym, true, ℕ, ◌&&◌, ◌||◌, ◌++◌, ◌+◌, ◌-◌, ◌==◌, ◌∙◌, ◌∷◌, ◌≡◌, ◌≤◌}
+use Rattle.std.proofs.Common.{Bool, Err, List, None, Ok, Option, Some, [], ap, arith, false, if◌then◌else◌, is_none, is_some, length, length-append, max, nat_le, nat_lt, not, refl, subst, sym, true, ℕ, ◌&&◌, ◌||◌, ◌++◌, ◌+◌, ◌-◌, ◌==◌, ◌∙◌, ◌∷◌, ◌≡◌, ◌≤◌}
 use Rattle.std.proofs.lemmas.Bool.{eq-eqb, eqb-true}
 use Rattle.std.proofs.lemmas.Bool.Decides.{nat_tests}
 use Rattle.std.specs.List.{list_any}
@@ -75,7 +73,7 @@ use Rattle.take_actions.proofs.Room.{answer_is, answer_kept, committed_is, frame
 use Rattle.take_actions.proofs.Retold.{changed_self, serves_same}
 use Rattle.take_actions.proofs.Sends.{action_is, full_is, long_is, not_over, reply_free, serves_sent}
 use Rattle.take_actions.specs.Laws.{IsPosted}
-use Rattle.take_actions.specs.Serves.{Holds, Serves, drained_so_far}
+use Rattle.take_actions.specs.Serves.{Holds}
 
 -- a message that was kept fits
 fits_by : (k low fits any : Bool) (full : PushFault) → k ≡ false
@@ -110,8 +108,7 @@ request_narrow false l p e = refl
 
 module _ (along : KeptAlong) (x : StateSeen) (o : OpenEntry) (s0 : Seen) (h : Agrees x (with_open o s0)) (at : IsAt stage.Event o (with_open o s0)) (fresh : o.turn ≡ None)
     (timely : next_deadline (with_open o s0) ≡ None) (c : Call) (slot : CallSlot) (own : numbered s0.calls c.number ≡ Some c) (there : slot_at x.book c.number ≡ Some slot)
-    (sees : SeesCall x (with_open o s0) c slot) (m : List ℕ) (is : o.event ≡ event.Send c.number m) (unshut : s0.shut ≡ false)
-    (short : parts.is_too_long slot.call.chosen (length m) ≡ false) (room : pushed_over slot.call.buffer (framed m) (parts.furthest slot.call.buffer slot.call.live) ≡ false) where
+    (sees : SeesCall x (with_open o s0) c slot) (m : List ℕ) (is : o.event ≡ event.Send c.number m) (unshut : s0.shut ≡ false) where
   abbrev u : Seen
   u = with_open o s0
 
@@ -160,7 +157,8 @@ module _ (along : KeptAlong) (x : StateSeen) (o : OpenEntry) (s0 : Seen) (h : Ag
   no_frame r v = if_none (is_after_event (replied_entry r o)) (frame_of_event o.event (replied_entry r o) v) (ap (λ (e : Event). frame_of_event e (replied_entry r o) v) is)
 
   -- it is not refused: the call is open
-  module _ (free : refusal_by (is_some c.end) c.finished ≡ None) (is_open : c.end ≡ None) where
+  module _ (free : refusal_by (is_some c.end) c.finished ≡ None) (is_open : c.end ≡ None) (short : parts.is_too_long slot.call.chosen (length m) ≡ false)
+      (room : pushed_over slot.call.buffer (framed m) (parts.furthest slot.call.buffer slot.call.live) ≡ false) where
     told_none : steps.send_refusal slot.call ≡ None
     told_none = refused_by u c st sees.serves None free
 
@@ -357,14 +355,20 @@ module _ (along : KeptAlong) (x : StateSeen) (o : OpenEntry) (s0 : Seen) (h : Ag
     send_open true e = send_accepted e
     send_open false e = send_full e
 
-  send_by : (z : Option CallEnd) (b : Bool) → c.end ≡ z → c.finished ≡ b → Done
-  send_by (Some k) b ez eb = send_refused refusal.CallEnded (ap (λ (w : Option CallEnd). refusal_by (is_some w) c.finished) ez)
-  send_by None true ez eb = send_refused refusal.AfterFinish (ap (λ (w : Option CallEnd). refusal_by (is_some w) c.finished) ez ∙ ap (refusal_by false) eb)
-  send_by None false ez eb =
-      send_open (ap (λ (w : Option CallEnd). refusal_by (is_some w) c.finished) ez ∙ ap (refusal_by false) eb) ez (is_accepted c m u) refl
+  module _ (short : steps.send_refusal slot.call ≡ None → parts.is_too_long slot.call.chosen (length m) ≡ false)
+      (room : steps.send_refusal slot.call ≡ None → pushed_over slot.call.buffer (framed m) (parts.furthest slot.call.buffer slot.call.live) ≡ false) where
+    send_free : refusal_by (is_some c.end) c.finished ≡ None → c.end ≡ None → Done
+    send_free free is_open =
+        let unrefused : steps.send_refusal slot.call ≡ None = refused_by u c st sees.serves None free in
+        send_open free is_open (short unrefused) (room unrefused) (is_accepted c m u) refl
 
-  pub send_done : Done
-  send_done = send_by c.end c.finished refl refl
+    send_by : (z : Option CallEnd) (b : Bool) → c.end ≡ z → c.finished ≡ b → Done
+    send_by (Some k) b ez eb = send_refused refusal.CallEnded (ap (λ (w : Option CallEnd). refusal_by (is_some w) c.finished) ez)
+    send_by None true ez eb = send_refused refusal.AfterFinish (ap (λ (w : Option CallEnd). refusal_by (is_some w) c.finished) ez ∙ ap (refusal_by false) eb)
+    send_by None false ez eb = send_free (ap (λ (w : Option CallEnd). refusal_by (is_some w) c.finished) ez ∙ ap (refusal_by false) eb) ez
+
+    pub send_done : Done
+    send_done = send_by c.end c.finished refl refl
 
 same_slot : (a b : CallSlot) → Some a ≡ Some b → a ≡ b
 same_slot a b e = (cc)
@@ -384,8 +388,10 @@ sends along x y r o s h at fresh timely case answers =
     = send_done along x o s now (subst (IsAt stage.Event o) e at) fresh (subst (λ (z : Seen). next_deadline z ≡ None) e timely) k.call k.slot
     (ap (numbered s.calls) k.number_is ∙ k.at) (ap (slot_at x.book) k.number_is ∙ k.there) k.sees case.message
     (case.event_is ∙ ap (λ (n : ℕ). event.Send n case.message) same) (h.configs.shut ∙ kept.0)
-    (ap (λ (z : CallSlot). parts.is_too_long z.call.chosen (length case.message)) (sym slots) ∙ case.short)
-    (ap (λ (z : CallSlot). pushed_over z.call.buffer (framed case.message) (parts.furthest z.call.buffer z.call.live)) (sym slots) ∙ case.room) in
+    (λ free. ap (λ (z : CallSlot). parts.is_too_long z.call.chosen (length case.message)) (sym slots)
+    ∙ case.short (ap (λ (z : CallSlot). steps.send_refusal z.call) slots ∙ free))
+    (λ free. ap (λ (z : CallSlot). pushed_over z.call.buffer (framed case.message) (parts.furthest z.call.buffer z.call.live)) (sym slots)
+    ∙ case.room (ap (λ (z : CallSlot). steps.send_refusal z.call) slots ∙ free)) in
     let here : IsAnswered y r o (with_open o s)
     = subst (λ (z : StateSeen). IsAnswered z r o (with_open o s)) (sym (given.0 ∙ ap (λ (n : ℕ). (sent_to n case.message x).state) same))
     (subst (λ (z : Reply). IsAnswered (sent_to k.call.number case.message x).state z o (with_open o s)) (sym (given.1 ∙ ap (λ (n : ℕ). (sent_to n case.message x).reply) same)) done) in

@@ -7,7 +7,6 @@ use Rattle.call_actions.proofs.Lists.{changed_here}
 use Rattle.call_core.specs.Parts.{code_of, end_at, end_reply, first_of, is_by_row, rest_of, row_end_reply}
 use Rattle.call_core.specs.Steps as steps
 use Rattle.call_core.specs.Steps.{Stepped, ended_reply, item_reply, message_reply, taken_end, taken_item, taken_message, with_rest, without_head}
-use Rattle.call_core.specs.declared.inbox.Inbox.{Inbox}
 use Rattle.call_core.specs.declared.state.CallState.{CallState}
 use Rattle.call_posts.proofs.Answered.{Posted, posted, put_is, put_none, to_order, told_answered}
 use Rattle.call_posts.proofs.Within.{IsWithin, item_within}
@@ -48,11 +47,11 @@ use Rattle.session_actions.specs.declared.entry.OpenEntry.{OpenEntry}
 use Rattle.session_actions.specs.declared.entry.Stage.TheVariants as stage
 use Rattle.session_actions.specs.declared.seen.Seen.{Seen}
 use Rattle.session_order.proofs.Posts.{taken_leaves}
-use Rattle.std.proofs.Common.{Bool, List, None, Option, Some, [], ap, arith, false, if◌then◌else◌, map, option_map, refl, subst, sym, true, ℕ, ◌+◌, ◌==◌, ◌∙◌, ◌∷◌, ◌≡◌}
+use Rattle.std.proofs.Common.{Bool, List, None, Option, Some, [], ap, arith, false, if◌then◌else◌, map, option_map, refl, subst, sym, true, ℕ, ◌+◌, ◌∙◌, ◌∷◌, ◌≡◌}
 use Rattle.std.proofs.lemmas.Bool.{eq-eqb}
 use Rattle.take_actions.proofs.Takes.{takes_are_items}
 use Rattle.take_actions.specs.Laws as take_actions
-use Rattle.take_actions.specs.Laws.{IsDone, IsPosted, reply_of}
+use Rattle.take_actions.specs.Laws.{IsDone, reply_of}
 use Rattle.take_actions.specs.Serves.{Serves}
 
 -- a take that finds nothing changes nothing

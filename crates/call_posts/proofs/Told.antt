@@ -1,7 +1,6 @@
 -- A call is told something by its application, or something of it is taken, and the event of the entry is answered: what the session says of all calls, and
 -- of this one.
 use Rattle.a6_numbers.specs.Throttling.{Bucket}
-use Rattle.attempt_ledger.specs.declared.ledger.CallSeen.{CallSeen}
 use Rattle.call_actions.proofs.Frames.{bucket_told, due_same, retold}
 use Rattle.call_actions.proofs.Lists.{changed_away, changed_map}
 use Rattle.call_actions.specs.Order.{IsInOrder, IsInTurn}
@@ -13,20 +12,18 @@ use Rattle.channel_actions.specs.Configs.{SeesBuckets, bucket_in, runs_in_turn}
 use Rattle.channel_actions.specs.Sets.{is_in_bare, is_in_deadlines, is_patient, is_waiting}
 use Rattle.channel_core.specs.Tables.{BucketsSeen}
 use Rattle.grpc_base.specs.declared.event.Reply.{Reply}
-use Rattle.grpc_base.specs.declared.plan.CallPlan.{CallPlan}
 use Rattle.session_actions.specs.Attempts.{is_over, is_over_in, is_queued}
 use Rattle.session_actions.specs.Calls.{is_open_call}
 use Rattle.session_actions.specs.Configs.{plan_of, waits_for_ready}
 use Rattle.session_actions.specs.DueAttempts.{attempts_made, due_by, due_state, next_due, no_due}
 use Rattle.session_actions.specs.Sessions.{call_seen}
-use Rattle.session_actions.specs.Tokens.{run_of}
 use Rattle.session_actions.specs.Words.{changed, changed_if, holds, is_number, numbered}
 use Rattle.session_actions.specs.declared.attempt.Attempt.{Attempt}
 use Rattle.session_actions.specs.declared.call.Call.{Call}
 use Rattle.session_actions.specs.declared.due.DueState.{DueState}
 use Rattle.session_actions.specs.declared.entry.OpenEntry.{OpenEntry}
 use Rattle.session_actions.specs.declared.seen.Seen.{Seen}
-use Rattle.std.proofs.Common.{Bool, List, None, Option, Some, [], ap, eqb-true, false, if◌then◌else◌, is_none, length, map, not, option_and_then, option_map, refl, slice_get, slice_set, suc, sym, true, zero, ℕ, ◌&&◌, ◌==◌, ◌∙◌, ◌∷◌, ◌≡◌}
+use Rattle.std.proofs.Common.{Bool, List, None, Option, Some, [], ap, eqb-true, false, if◌then◌else◌, is_none, map, not, option_and_then, option_map, refl, slice_get, slice_set, suc, sym, true, zero, ℕ, ◌&&◌, ◌==◌, ◌∙◌, ◌∷◌, ◌≡◌}
 use Rattle.std.proofs.lemmas.Bool.{eqb-false}
 use Rattle.take_actions.proofs.Retold.{own_marks}
 

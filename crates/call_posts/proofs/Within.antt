@@ -14,7 +14,7 @@ use Rattle.grpc_frame.specs.declared.next.NextMessage.{NextMessage}
 use Rattle.grpc_frame.specs.declared.next.NextMessage.TheVariants as next
 use Rattle.h2_frame.specs.Frames.{FrameSeen, has_flag}
 use Rattle.h2_frame.specs.Numbers.{data_type, end_stream_flag, goaway_type, rst_stream_type, window_update_type}
-use Rattle.h2_frame.specs.Payloads.{content_of, increment, last_stream, reset_code}
+use Rattle.h2_frame.specs.Payloads.{content_of, increment, last_stream}
 use Rattle.service_config.specs.Choice.{chosen_for, entry_for, taken}
 use Rattle.service_config.specs.declared.config.Method.{Method}
 use Rattle.grpc_base.specs.declared.plan.Throttle.{Throttle}
@@ -24,7 +24,7 @@ use Rattle.session_actions.specs.Configs.{chosen_of, config_of_call, no_choice}
 use Rattle.session_actions.specs.Deliveries.{available, end_by_channel, end_by_row, end_item, next_item, response_items}
 use Rattle.session_actions.specs.Links.{is_settings, link_of}
 use Rattle.session_actions.specs.Reading.{largest_window}
-use Rattle.session_actions.specs.Responses.{http_status, is_head, is_interim, limit_of_attempt, no_response, response, response_after, response_by, response_in, response_on, traffic_of, with_block, with_data, with_fault, with_messages, with_own_frame, with_read, with_reset, with_stream_frame, with_traffic, with_update, with_written}
+use Rattle.session_actions.specs.Responses.{http_status, is_head, is_interim, limit_of_attempt, no_response, response, response_after, response_by, response_on, traffic_of, with_block, with_data, with_fault, with_messages, with_own_frame, with_read, with_stream_frame, with_traffic, with_update}
 use Rattle.session_actions.specs.Words.{numbered}
 use Rattle.session_actions.specs.declared.attempt.Attempt.{Attempt}
 use Rattle.session_actions.specs.declared.call.Call.{Call}

@@ -4,6 +4,7 @@
 -- is refused with CallEnded.
 use Rattle.std.specs.Prelude.{List, None, Some, false, length, ℕ, ◌≡◌}
 use Rattle.call_core.specs.Parts.{furthest, is_too_long, pushed_over}
+use Rattle.call_core.specs.Steps.{send_refusal}
 use Rattle.channel_core.specs.Applying as channel
 use Rattle.channel_core.specs.Books.{slot_at}
 use Rattle.channel_core.specs.States.{StateSeen}
@@ -25,8 +26,8 @@ pub record IsFinish (e : Event) (x : StateSeen) (s : Seen) : Type 0 where
   pub event_is : e ≡ event.Finish call
   pub kept : channel.refusal_of e x ≡ None
 
--- it sends a message that neither ends its call nor commits it: it is not longer than the call's config allows, and what the call holds with it is no more than
--- is kept for attempts to come, or no attempt of the call is outstanding
+-- it sends a message that neither ends its call nor commits it: it is refused; or it is not longer than the call's config allows, and what the call holds with it is
+-- no more than is kept for attempts to come, or no attempt of the call is outstanding
 pub record IsPlainSend (e : Event) (x : StateSeen) (s : Seen) : Type 0 where
   pub call : ℕ
   pub message : List ℕ
@@ -34,5 +35,5 @@ pub record IsPlainSend (e : Event) (x : StateSeen) (s : Seen) : Type 0 where
   pub kept : channel.refusal_of e x ≡ None
   pub slot : CallSlot
   pub there : slot_at x.book call ≡ Some slot
-  pub short : is_too_long slot.call.chosen (length message) ≡ false
-  pub room : pushed_over slot.call.buffer (framed message) (furthest slot.call.buffer slot.call.live) ≡ false
+  pub short : send_refusal slot.call ≡ None → is_too_long slot.call.chosen (length message) ≡ false
+  pub room : send_refusal slot.call ≡ None → pushed_over slot.call.buffer (framed message) (furthest slot.call.buffer slot.call.live) ≡ false
