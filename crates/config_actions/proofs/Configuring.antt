@@ -1,5 +1,5 @@
 -- A call gets its config in the channel, where no message is too long for it.
-use Rattle.std.proofs.Common.{◌≡◌, ◌∙◌, ◌||◌, ◌-◌, ℕ, Bool, false, List, [], ◌∷◌, ap, refl, sym, subst, Option, Some, None, if◌then◌else◌, is_some, slice_set}
+use Rattle.std.proofs.Common.{◌≡◌, ◌∙◌, ◌||◌, ◌-◌, ◌==◌, ℕ, Bool, false, List, [], ◌∷◌, ap, refl, sym, subst, Option, Some, None, if◌then◌else◌, is_some, slice_set}
 use Rattle.std.specs.Set.{remove_key}
 use Rattle.attempt_ledger.specs.declared.ledger.Ledger.{Ledger}
 use Rattle.call_core.specs.Parts.{is_too_long}
@@ -20,7 +20,7 @@ use Rattle.picker_gate.specs.Pairs.{is_same}
 use Rattle.service_config.specs.Choice.{chosen_for}
 use Rattle.service_config.specs.declared.config.Config.{Config}
 use Rattle.set_frames.proofs.Keys.{head_out}
-use Rattle.set_frames.proofs.Slots.{acted_is, changed_slot_is, set_twice}
+use Rattle.set_frames.proofs.Slots.{acted_is, changed_slot_is, put_away, set_twice}
 
 module _ (n : ℕ) (config : Config) (slot : CallSlot) (open_now : slot.call.ended ≡ None) (unchosen : slot.call.chosen ≡ None)
     (short : is_too_long (Some (chosen_for config slot.call.request.path)) slot.call.longest ≡ false) where
@@ -91,3 +91,7 @@ module _ (n : ℕ) (config : Config) (slot : CallSlot) (open_now : slot.call.end
     configured_first held rest others =
         ap (λ (l : List (ℕ × ℕ)). record plain { bare = l; impatient = remove_key (is_same (0, n)) others }) (head_out (0, n) rest)
         ∙ sym (ap (λ (y : StateSeen). record y { bare = rest; impatient = remove_key (is_same (0, n)) others }) (configured_is held))
+
+    pub configured_away : z.held ≡ Some config → (m : ℕ) → (m == n) ≡ false → slot_at (configured_call n z).book m ≡ slot_at z.book m
+    configured_away held m away =
+        ap (λ (y : StateSeen). slot_at y.book m) (configured_is held) ∙ put_away z.book.calls n m slot (timed slot1) there away

@@ -1,3 +1,5 @@
 pub mod Closed
+pub mod Configuring
 pub mod NetLines
+pub mod Served
 pub mod Unserved

@@ -72,28 +72,28 @@ none_there : {X : Type 0} (n : ℕ) → numbered {X = X} [] n ≡ None
 none_there zero = refl
 none_there (suc n) = refl
 
-none_of : {X : Type 0} (o : Option X) → is_none o ≡ true → o ≡ None
+pub none_of : {X : Type 0} (o : Option X) → is_none o ≡ true → o ≡ None
 none_of None e = refl
 none_of (Some x) e = absurd (cc)
 
-is_zero : (n : ℕ) → (n == 0) ≡ true → n ≡ 0
+pub is_zero : (n : ℕ) → (n == 0) ≡ true → n ≡ 0
 is_zero n e = grind (arith, nat_tests)
 
 and_off : (a b : Bool) → (a && false && b) ≡ false
 and_off true b = refl
 and_off false b = refl
 
-below_all : (n m : ℕ) → n ≤ m → m ≤ 4294967295 → n ≤ 4294967295
+pub below_all : (n m : ℕ) → n ≤ m → m ≤ 4294967295 → n ≤ 4294967295
 below_all n m e f = omega (arith, e, f)
 
-or_true : (b : Bool) → (b || true) ≡ true
+pub or_true : (b : Bool) → (b || true) ≡ true
 or_true true = refl
 or_true false = refl
 
-equal_numbers : (n m : ℕ) → (n == m) ≡ true → n ≡ m
+pub equal_numbers : (n m : ℕ) → (n == m) ≡ true → n ≡ m
 equal_numbers n m e = grind (arith, nat_tests)
 
-within_word : (n : ℕ) → n ≤ 4294967295 → min n 4294967295 ≡ n
+pub within_word : (n : ℕ) → n ≤ 4294967295 → min n 4294967295 ≡ n
 within_word n e = omega arith
 
 no_held : (a b c : Bool) → c ≡ false → (a && b && c) ≡ false
@@ -113,7 +113,7 @@ lacks_is true true false d e f = absurd (cc)
 lacks_is true false c d e f = absurd (cc)
 lacks_is false b c d e f = absurd (cc)
 
-first_three : (a b c d e f g h : Option Action) (z : Action) → a ≡ None → b ≡ None → c ≡ None → d ≡ Some z → first_action (a ∷ b ∷ c ∷ d ∷ e ∷ f ∷ g ∷ h ∷ []) ≡ Some z
+pub first_three : (a b c d e f g h : Option Action) (z : Action) → a ≡ None → b ≡ None → c ≡ None → d ≡ Some z → first_action (a ∷ b ∷ c ∷ d ∷ e ∷ f ∷ g ∷ h ∷ []) ≡ Some z
 first_three a b c d e f g h z p q r s =
     ap (λ (w : Option Action). first_action (w ∷ b ∷ c ∷ d ∷ e ∷ f ∷ g ∷ h ∷ [])) p
     ∙ ap (λ (w : Option Action). first_action (w ∷ c ∷ d ∷ e ∷ f ∷ g ∷ h ∷ [])) q
@@ -182,7 +182,7 @@ pub record Waits (pairs : List (ℕ × ℕ)) (z : StateSeen) (o : OpenEntry) (s 
   pub few : (n : ℕ) → has pairs (0, n) ≡ true → n ≤ 4294967295
   pub idle : (n : ℕ) (slot : CallSlot) → has pairs (0, n) ≡ true → slot_at z.book n ≡ Some slot → slot.call.live ≡ []
 
-no_pass : (o : OpenEntry) (s : Seen) → o.turn ≡ None → next_of_pass o s ≡ None
+pub no_pass : (o : OpenEntry) (s : Seen) → o.turn ≡ None → next_of_pass o s ≡ None
 no_pass o s fresh = ap (option_and_then (λ (t : Turn). next_asked (is_after t) s)) fresh
 
 zero_first : (s : Seen) (a b : ℕ) → is_in_impatient s a b ≡ true → (a == 0) ≡ true
@@ -247,6 +247,7 @@ module _ (exact : CalmIsExact) (stir : CallsStir) (clocks : ClockChanges) (rests
       going = goes_on y s w.agrees w.held n found.0 found.1 in_set;
       next = follows;
       uncut = calm line.Cut;
+      unfollowed = calm line.Transparent;
       still =
           λ l uncut f. stir.ended n ending.NoConfig o s w.at.current
           (λ k c there. counted_at (λ (c : Call). c.number) s.calls k c w.agrees.kept.calls there) l o w.at.current (ap (λ (b : Bool). b || false) uncut) (calm l);
