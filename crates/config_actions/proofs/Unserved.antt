@@ -5,8 +5,6 @@ use Rattle.std.proofs.lemmas.Bool.Decides.{nat_tests}
 use Rattle.std.specs.Option.{option_map, option_map_or}
 use Rattle.std.specs.Prelude.{option_and_then}
 use Rattle.attempt_ledger.specs.declared.ledger.CallEnd.{CallEnd}
-use Rattle.call_ends.specs.Ends.{EndsNext, HasEnded}
-use Rattle.call_ends.specs.Laws.{OneCallEnds}
 use Rattle.call_actions.proofs.Bare.{none_live}
 use Rattle.call_actions.proofs.Places.{places_below}
 use Rattle.calls_apart.specs.Apart.{has_config}
@@ -26,8 +24,9 @@ use Rattle.channel_core.specs.declared.state.slots.CallSlot.{CallSlot}
 use Rattle.config_actions.proofs.Closed.{closed_away, closed_bare, closed_first, closed_held, closed_last, closed_moment, closed_net, closed_resets}
 use Rattle.config_actions.proofs.NetLines.{clock_stays, over_stays, wish_stays}
 use Rattle.grpc_base.specs.declared.event.EndCause.TheVariants as ending
-use Rattle.ends_follow.specs.Cuts.{AreUnreset}
-use Rattle.kept_calls.specs.Laws.{CallsAreBare}
+use Rattle.config_actions.specs.Ends.{BareCallsEnd, BareEndsNext, BareHasEnded}
+use Rattle.kept_calls.specs.Early.{IsEarlyKept}
+use Rattle.kept_calls.specs.Laws.{CallsAreBare, EarlyAlong}
 use Rattle.net_actions.specs.Laws.{ClockChanges, ClockRests, NoneConnects, TakeOversAreSame, WishesConnect}
 use Rattle.picker_gate.specs.Pairs.{has, is_same}
 use Rattle.service_config.specs.declared.config.Config.{Config}
@@ -48,10 +47,7 @@ use Rattle.session_actions.specs.declared.entry.Stage.TheVariants as stage
 use Rattle.session_actions.specs.declared.entry.Turn.{Turn}
 use Rattle.session_actions.specs.declared.seen.Seen.{Seen}
 use Rattle.session_order.specs.Calm as order
-use Rattle.session_order.specs.Laws.{CallsStir, CalmIsExact}
-use Rattle.session_order.specs.Lines.{is_line}
-use Rattle.session_order.specs.declared.line.Line.{Line}
-use Rattle.session_order.specs.declared.line.Line.TheVariants as line
+use Rattle.session_order.specs.Laws.{CalmIsExact}
 use Rattle.set_frames.proofs.Firsts.{first_numbered, none_numbered}
 use Rattle.set_frames.proofs.Keys.{are_plain, below_fails, head_passes, keys_next, none_later, plain_by}
 use Rattle.set_frames.proofs.Pairs.{none_behind, self_same}
@@ -176,7 +172,7 @@ pub record Waits (pairs : List (ℕ × ℕ)) (z : StateSeen) (o : OpenEntry) (s 
   pub empty : z.impatient ≡ []
   pub at : IsAt stage.Settling o s
   pub joined : IsJoined o s
-  pub unreset : AreUnreset s
+  pub early : IsEarlyKept s
   pub held : z.held ≡ None
   pub bare : z.unconfigured ≡ true
   pub few : (n : ℕ) → has pairs (0, n) ≡ true → n ≤ 4294967295
@@ -201,8 +197,8 @@ tended z o s w = record {
 }
 
 -- the next one ends
-module _ (exact : CalmIsExact) (stir : CallsStir) (clocks : ClockChanges) (rests : ClockRests) (overs : TakeOversAreSame) (wishes : WishesConnect) (nones : NoneConnects)
-    (ends : OneCallEnds) where
+module _ (exact : CalmIsExact) (clocks : ClockChanges) (rests : ClockRests) (overs : TakeOversAreSame) (wishes : WishesConnect) (nones : NoneConnects)
+    (ends : BareCallsEnd) (along : EarlyAlong) (bares : CallsAreBare) where
   module _ (n : ℕ) (rest : List (ℕ × ℕ)) (z : StateSeen) (o : OpenEntry) (s : Seen) (w : Waits ((0, n) ∷ rest) z o s) where
     abbrev y : StateSeen
     y = record z { impatient = (0, n) ∷ rest }
@@ -236,25 +232,20 @@ module _ (exact : CalmIsExact) (stir : CallsStir) (clocks : ClockChanges) (rests
     calm : order.IsCalm o s
     calm = (exact o s).0 (w.at.calm.calls, w.at.calm.links, w.at.calm.policies)
 
-    ends_next : EndsNext (λ l. false) n ending.NoConfig y o s
+    ends_next : BareEndsNext n ending.NoConfig y o s
     ends_next = record {
-      late = λ l e. absurd (cc);
       current = w.at.current;
       agrees = w.agrees;
-      unreset = w.unreset;
+      early = w.early;
       call = found.0;
       there = found.1;
-      going = goes_on y s w.agrees w.held n found.0 found.1 in_set;
+      bare = bares s n found.0 w.agrees.kept w.early found.1 (goes_on y s w.agrees w.held n found.0 found.1 in_set) (none_of found.0.config (calls_bare y s w.agrees w.held n found.0 found.1));
+      calm = calm;
       next = follows;
-      uncut = calm line.Cut;
-      unfollowed = calm line.Transparent;
-      still =
-          λ l uncut f. stir.ended n ending.NoConfig o s w.at.current
-          (λ k c there. counted_at (λ (c : Call). c.number) s.calls k c w.agrees.kept.calls there) l o w.at.current (ap (λ (b : Bool). b || false) uncut) (calm l);
     }
 
-    pub ended : HasEnded (λ l. false) n ending.NoConfig y o s
-    ended = ends (λ l. false) n ending.NoConfig y o s ends_next
+    pub ended : BareHasEnded n ending.NoConfig y o s
+    ended = ends n ending.NoConfig y o s ends_next
 
     -- its slot
     own : HasSlot y s found.0 n
@@ -267,7 +258,7 @@ module _ (exact : CalmIsExact) (stir : CallsStir) (clocks : ClockChanges) (rests
     live = w.idle n own.slot (ap (λ (b : Bool). b || has rest (0, n)) (self_same (0, n))) here
 
     unended : own.slot.call.ended ≡ None
-    unended = sym own.sees.serves.sees.ended ∙ ap (option_map (λ (e : CallEnd). e.cause)) ends_next.going
+    unended = sym own.sees.serves.sees.ended ∙ ap (option_map (λ (e : CallEnd). e.cause)) ends_next.bare.end
 
     quiet : z.resets ≡ []
     quiet = w.agrees.sets.resets
@@ -299,7 +290,7 @@ module _ (exact : CalmIsExact) (stir : CallsStir) (clocks : ClockChanges) (rests
       at = record {
         current = ended.current;
         stage_is = w.at.stage_is;
-        calm = (let back = (exact o ended.seen).1 (λ l. ended.still l refl) in record { calls = back.0; links = back.1; policies = back.2 });
+        calm = (let back = (exact o ended.seen).1 ended.calm in record { calls = back.0; links = back.1; policies = back.2 });
       };
       joined = record {
         turn = w.joined.turn;
@@ -313,7 +304,7 @@ module _ (exact : CalmIsExact) (stir : CallsStir) (clocks : ClockChanges) (rests
             wish_stays clocks rests overs wishes nones y (record after { impatient = rest }) s ended.seen w.agrees agrees_after
             (closed_net ending.NoConfig n own.slot live unended z here quiet) w.joined.connected;
       };
-      unreset = ended.unreset;
+      early = along (action.CallEnds n ending.NoConfig ∷ ended.actions) s ended.seen w.agrees.kept w.early ended.does;
       held = closed_held ending.NoConfig n own.slot live unended z here quiet ∙ w.held;
       bare = closed_bare ending.NoConfig n own.slot live unended z here quiet ∙ w.bare;
       few = λ m e. w.few m (later_in m e);
@@ -355,7 +346,7 @@ module _ (exact : CalmIsExact) (stir : CallsStir) (clocks : ClockChanges) (rests
       (leads_on (record (closed ending.NoConfig p.1 z) { impatient = rest }) (all_unconfigured (due_keys 0 rest) (closed ending.NoConfig p.1 z)) o s (λ q t. Unit {0}) IsTended one more)
 
   -- the whole step
-  module _ (bares : CallsAreBare) (x : StateSeen) (o : OpenEntry) (s : Seen) (h : Agrees x s) (sound : IsSound x s) (at : IsAt stage.Settling o s) (joined : IsJoined o s) (unheld : x.held ≡ None) where
+  module _ (x : StateSeen) (o : OpenEntry) (s : Seen) (h : Agrees x s) (sound : IsSound x s) (at : IsAt stage.Settling o s) (joined : IsJoined o s) (unheld : x.held ≡ None) where
     plain : are_plain x.impatient ≡ true
     plain = plain_by x.impatient (is_in_impatient s) h.sets.impatient (zero_first s)
 
@@ -368,7 +359,7 @@ module _ (exact : CalmIsExact) (stir : CallsStir) (clocks : ClockChanges) (rests
       empty = none_later x.impatient plain;
       at = at;
       joined = joined;
-      unreset = sound.early.resets;
+      early = sound.early;
       held = unheld;
       bare = bare;
       few =

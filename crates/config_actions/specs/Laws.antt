@@ -3,13 +3,13 @@
 -- Example: the calls 1, 2 and 3 wait for a config, call 2 waits for ready, and the resolution fails: CallEnds 1 and CallEnds 3, with NoConfig.
 use Rattle.std.specs.Prelude.{None, Some, false, true, ℕ, ◌≡◌}
 use Rattle.call_core.specs.Parts.{is_too_long}
-use Rattle.call_ends.specs.Laws.{OneCallEnds}
 use Rattle.channel_actions.specs.Agrees.{Agrees}
 use Rattle.channel_actions.specs.Calm.{IsAt}
 use Rattle.channel_core.specs.Books.{slot_at}
 use Rattle.channel_core.specs.States.{StateSeen}
 use Rattle.channel_core.specs.Steps.{bare_served}
 use Rattle.channel_core.specs.declared.state.slots.CallSlot.{CallSlot}
+use Rattle.config_actions.specs.Ends.{BareCallsEnd}
 use Rattle.configured_calls.specs.Laws.{Frames}
 use Rattle.picker_gate.specs.Pairs.{has}
 use Rattle.service_config.specs.Choice.{chosen_for}
@@ -23,7 +23,7 @@ use Rattle.settling_actions.specs.Steps.{IsJoined, IsTended, Leads}
 -- the step of configs, where no config is held
 abbrev pub UnservedCallsEnd : Type 0
 UnservedCallsEnd =
-    OneCallEnds → (x : StateSeen) (o : OpenEntry) (s : Seen) → Agrees x s → IsSound x s → IsAt stage.Settling o s → IsJoined o s → x.held ≡ None
+    BareCallsEnd → (x : StateSeen) (o : OpenEntry) (s : Seen) → Agrees x s → IsSound x s → IsAt stage.Settling o s → IsJoined o s → x.held ≡ None
     → Leads (bare_served x) o s IsTended
 
 -- and where one is held, and allows each message that calls without a config accepted, each of them gets it. (A call that accepted a longer one ends at once;

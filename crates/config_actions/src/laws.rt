@@ -1,17 +1,30 @@
 // Calls that wait for their configuration, in a settling, as actions of a session; nothing runs.
-ghost use Rattle.config_actions.specs.Laws.{UnservedCallsEnd};
+ghost use Rattle.config_actions.specs.Laws.{ServedCallsGetConfigs, UnservedCallsEnd};
 
+use config_stirs::configs_stir;
+use configured_calls::calls_get_configs;
 use kept_calls::calls_are_kept;
 use net_actions::{policy_steps_are_actions, subchannel_steps_are_actions};
-use session_order::{calls_stir, calm_is_exact};
+use session_order::calm_is_exact;
 
 /// Where no config is held and the resolver has answered, the calls that do not wait for ready end, one by one ("gRPC Wait for Ready Semantics").
 pub fn unserved_calls_end()
     ensures { UnservedCallsEnd }
 {
     calls_are_kept();
-    calls_stir();
     calm_is_exact();
+    policy_steps_are_actions();
+    subchannel_steps_are_actions();
+}
+
+/// Where a config is held that allows what they sent, the calls that wait get it, one by one (gRPC, "Service Config in gRPC").
+pub fn served_calls_get_configs()
+    ensures { ServedCallsGetConfigs }
+{
+    calls_are_kept();
+    calls_get_configs();
+    calm_is_exact();
+    configs_stir();
     policy_steps_are_actions();
     subchannel_steps_are_actions();
 }
