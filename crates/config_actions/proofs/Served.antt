@@ -29,6 +29,7 @@ use Rattle.config_actions.specs.Laws.{IsAllowed}
 use Rattle.config_stirs.specs.Laws.{ConfigsStir}
 use Rattle.configured_calls.specs.Laws.{CallsGetConfigs, ConfigNext, Frames}
 use Rattle.configured_calls.specs.Steps.{with_config}
+use Rattle.grpc_base.specs.declared.event.EndCause.TheVariants as ending
 use Rattle.grpc_base.specs.Requests.{RequestSeen}
 use Rattle.grpc_base.specs.declared.plan.Chosen.{Chosen}
 use Rattle.kept_calls.specs.Early.{IsEarlyKept}
@@ -146,15 +147,15 @@ module _ (y : StateSeen) (s : Seen) (h : Agrees y s) (config : Config) (held : y
 
     pub gives_config : is_in_bare s 0 m ≡ true → config_action s d ≡ Some (action.CallConfigured m (length s.configs))
     gives_config in_set =
-        ap (λ (b : Bool). if b then Some (action.CallConfigured d.number (length s.configs)) else if lacks_config s d then _ else None)
+        ap (λ (b : Bool). if b then Some (action.CallConfigured d.number (length s.configs)) else if lacks_config s d then Some (action.CallEnds d.number ending.NoConfig) else None)
         (configures_by (is_none d.end) (is_none d.config) (is_some (held_config s)) (sym bare_is ∙ in_set) (ap (λ (q : Option HeldConfig). is_some q) has_config.is))
         ∙ ap (λ (n : ℕ). Some (action.CallConfigured n (length s.configs))) (counted_at (λ (c : Call). c.number) s.calls m d h.kept.calls there)
 
     pub gives_nothing : is_in_bare s 0 m ≡ false → config_action s d ≡ None
     gives_nothing out =
-        ap (λ (b : Bool). if b then Some (action.CallConfigured d.number (length s.configs)) else if lacks_config s d then _ else None)
+        ap (λ (b : Bool). if b then Some (action.CallConfigured d.number (length s.configs)) else if lacks_config s d then Some (action.CallEnds d.number ending.NoConfig) else None)
         (configures_not (is_none d.end) (is_none d.config) (is_some (held_config s)) (sym bare_is ∙ out))
-        ∙ ap (λ (b : Bool). if b then _ else None)
+        ∙ ap (λ (b : Bool). if b then Some (action.CallEnds d.number ending.NoConfig) else None)
         (lacks_none (is_open_call d) (is_none (held_config s)) s.answered (not (waits_for_ready d s)) (ap (λ (q : Option HeldConfig). is_none q) has_config.is))
 
     pub is_bare_call : CallsAreBare → IsEarlyKept s → is_in_bare s 0 m ≡ true → IsBare s d
@@ -240,6 +241,7 @@ module _ (exact : CalmIsExact) (stir : ConfigsStir) (clocks : ClockChanges) (res
     mid = with_config (chosen_for g.held.config c.request.path) n own.slot y
 
     agrees_mid : Agrees mid t
+    unfolding next_one found
     agrees_mid = gets frames n y o s next_one own
 
     -- the same as what the channel makes of it

@@ -7,6 +7,7 @@ use Rattle.std.specs.Prelude.{option_and_then}
 use Rattle.attempt_ledger.specs.declared.ledger.CallEnd.{CallEnd}
 use Rattle.call_actions.proofs.Bare.{none_live}
 use Rattle.call_actions.proofs.Places.{places_below}
+use Rattle.call_actions.specs.Laws.{IsBare}
 use Rattle.calls_apart.specs.Apart.{has_config}
 use Rattle.channel_actions.proofs.Gone.{all_numbered}
 use Rattle.channel_actions.proofs.Settles.{follows_by}
@@ -232,6 +233,11 @@ module _ (exact : CalmIsExact) (clocks : ClockChanges) (rests : ClockRests) (ove
     calm : order.IsCalm o s
     calm = (exact o s).0 (w.at.calm.calls, w.at.calm.links, w.at.calm.policies)
 
+    bare_found : IsBare s found.0
+    bare_found =
+        bares s n found.0 w.agrees.kept w.early found.1 (goes_on y s w.agrees w.held n found.0 found.1 in_set)
+        (none_of found.0.config (calls_bare y s w.agrees w.held n found.0 found.1))
+
     ends_next : BareEndsNext n ending.NoConfig y o s
     ends_next = record {
       current = w.at.current;
@@ -239,7 +245,7 @@ module _ (exact : CalmIsExact) (clocks : ClockChanges) (rests : ClockRests) (ove
       early = w.early;
       call = found.0;
       there = found.1;
-      bare = bares s n found.0 w.agrees.kept w.early found.1 (goes_on y s w.agrees w.held n found.0 found.1 in_set) (none_of found.0.config (calls_bare y s w.agrees w.held n found.0 found.1));
+      bare = bare_found;
       calm = calm;
       next = follows;
     }
@@ -258,7 +264,7 @@ module _ (exact : CalmIsExact) (clocks : ClockChanges) (rests : ClockRests) (ove
     live = w.idle n own.slot (ap (λ (b : Bool). b || has rest (0, n)) (self_same (0, n))) here
 
     unended : own.slot.call.ended ≡ None
-    unended = sym own.sees.serves.sees.ended ∙ ap (option_map (λ (e : CallEnd). e.cause)) ends_next.bare.end
+    unended = sym own.sees.serves.sees.ended ∙ ap (option_map (λ (e : CallEnd). e.cause)) bare_found.end
 
     quiet : z.resets ≡ []
     quiet = w.agrees.sets.resets
