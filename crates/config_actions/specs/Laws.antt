@@ -5,9 +5,10 @@ use Rattle.std.specs.Prelude.{None, Some, false, true, ℕ, ◌≡◌}
 use Rattle.call_core.specs.Parts.{is_too_long}
 use Rattle.channel_actions.specs.Agrees.{Agrees}
 use Rattle.channel_actions.specs.Calm.{IsAt}
+use Rattle.channel_actions.specs.Stages.{SettlingsOf}
 use Rattle.channel_core.specs.Books.{slot_at}
 use Rattle.channel_core.specs.States.{StateSeen}
-use Rattle.channel_core.specs.Steps.{bare_served}
+use Rattle.channel_core.specs.Steps.{bare_served, clocked, net_settled}
 use Rattle.channel_core.specs.declared.state.slots.CallSlot.{CallSlot}
 use Rattle.config_actions.specs.Ends.{BareCallsEnd}
 use Rattle.configured_calls.specs.Laws.{Frames}
@@ -17,8 +18,8 @@ use Rattle.service_config.specs.declared.config.Config.{Config}
 use Rattle.session_actions.specs.declared.entry.OpenEntry.{OpenEntry}
 use Rattle.session_actions.specs.declared.entry.Stage.TheVariants as stage
 use Rattle.session_actions.specs.declared.seen.Seen.{Seen}
-use Rattle.settling_actions.specs.Sound.{IsSound}
-use Rattle.settling_actions.specs.Steps.{IsJoined, IsTended, Leads}
+use Rattle.settling_actions.specs.Sound.{IsSound, SoundStays}
+use Rattle.settling_actions.specs.Steps.{ClockSteps, IsJoined, IsTended, Leads, NetSteps}
 
 -- the step of configs, where no config is held
 abbrev pub UnservedCallsEnd : Type 0
@@ -37,3 +38,11 @@ abbrev pub ServedCallsGetConfigs : Type 0
 ServedCallsGetConfigs =
     Frames → (config : Config) (x : StateSeen) (o : OpenEntry) (s : Seen) → Agrees x s → IsSound x s → IsAt stage.Settling o s → IsJoined o s → x.held ≡ Some config
     → IsAllowed config x → Leads (bare_served x) o s IsTended
+
+-- a whole settling where no config is held: once the net has done its part, calls end or wait, and no attempt is due or queued, since there is none
+pub record IsUnserved (x : StateSeen) (s : Seen) : Type 0 where
+  pub sound : IsSound x s
+  pub unheld : x.held ≡ None
+
+abbrev pub UnservedSettlings : Type 0
+UnservedSettlings = BareCallsEnd → SoundStays clocked → SoundStays net_settled → ClockSteps → NetSteps → SettlingsOf IsUnserved
