@@ -3,3 +3,4 @@ pub mod Configuring
 pub mod NetLines
 pub mod Served
 pub mod Unserved
+pub mod Whole

@@ -403,6 +403,7 @@ module _ (exact : CalmIsExact) (stir : ConfigsStir) (clocks : ClockChanges) (res
   -- all of them, one after the other
   all_served : (pairs others : List (ℕ × ℕ)) (z : StateSeen) (o : OpenEntry) (s : Seen) → are_plain pairs ≡ true → Gets config pairs others z o s
       → Leads (all_configured (due_keys 0 pairs) z) o s IsTended
+  unfolding one_served
   all_served [] others z o s plain w =
       let none : others ≡ [] = no_others_left s others (record z { bare = []; impatient = others }) w.agrees refl in
       let same : record z { bare = []; impatient = others } ≡ z

@@ -335,6 +335,7 @@ module _ (exact : CalmIsExact) (clocks : ClockChanges) (rests : ClockRests) (ove
 
   -- all of them, one after the other
   all_ended : (pairs : List (ℕ × ℕ)) (z : StateSeen) (o : OpenEntry) (s : Seen) → are_plain pairs ≡ true → Waits pairs z o s → Leads (all_unconfigured (due_keys 0 pairs) z) o s IsTended
+  unfolding one_ended ended
   all_ended [] z o s plain w =
       subst (λ (x : StateSeen). Leads x o s IsTended) (ap (λ (l : List (ℕ × ℕ)). record z { impatient = l }) (sym w.empty))
       (stays_at (record z { impatient = [] }) o s IsTended w.agrees w.at (tended z o s w))

@@ -1,5 +1,5 @@
 // Calls that wait for their configuration, in a settling, as actions of a session; nothing runs.
-ghost use Rattle.config_actions.specs.Laws.{ServedCallsGetConfigs, UnservedCallsEnd};
+ghost use Rattle.config_actions.specs.Laws.{ServedCallsGetConfigs, UnservedCallsEnd, UnservedSettlings};
 
 use config_stirs::configs_stir;
 use configured_calls::calls_get_configs;
@@ -25,6 +25,16 @@ pub fn served_calls_get_configs()
     calls_get_configs();
     calm_is_exact();
     configs_stir();
+    policy_steps_are_actions();
+    subchannel_steps_are_actions();
+}
+
+/// Where no config is held, a settling is the net's part and the end of those calls: no attempt is due, and none waits.
+pub fn unserved_settlings()
+    ensures { UnservedSettlings }
+{
+    calls_are_kept();
+    calm_is_exact();
     policy_steps_are_actions();
     subchannel_steps_are_actions();
 }
