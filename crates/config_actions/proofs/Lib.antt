@@ -1,5 +1,6 @@
 pub mod Closed
 pub mod Configuring
+pub mod Either
 pub mod NetLines
 pub mod Served
 pub mod Unserved

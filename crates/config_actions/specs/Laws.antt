@@ -11,7 +11,6 @@ use Rattle.channel_core.specs.States.{StateSeen}
 use Rattle.channel_core.specs.Steps.{bare_served, clocked, net_settled}
 use Rattle.channel_core.specs.declared.state.slots.CallSlot.{CallSlot}
 use Rattle.config_actions.specs.Ends.{BareCallsEnd}
-use Rattle.configured_calls.specs.Laws.{Frames}
 use Rattle.picker_gate.specs.Pairs.{has}
 use Rattle.service_config.specs.Choice.{chosen_for}
 use Rattle.service_config.specs.declared.config.Config.{Config}
@@ -36,8 +35,14 @@ IsAllowed config x =
 
 abbrev pub ServedCallsGetConfigs : Type 0
 ServedCallsGetConfigs =
-    Frames → (config : Config) (x : StateSeen) (o : OpenEntry) (s : Seen) → Agrees x s → IsSound x s → IsAt stage.Settling o s → IsJoined o s → x.held ≡ Some config
+    (config : Config) (x : StateSeen) (o : OpenEntry) (s : Seen) → Agrees x s → IsSound x s → IsAt stage.Settling o s → IsJoined o s → x.held ≡ Some config
     → IsAllowed config x → Leads (bare_served x) o s IsTended
+
+-- so it is whichever config is held, if any
+abbrev pub ConfigsAreStep : Type 0
+ConfigsAreStep =
+    BareCallsEnd → (x : StateSeen) (o : OpenEntry) (s : Seen) → Agrees x s → IsSound x s → IsAt stage.Settling o s → IsJoined o s
+    → ((config : Config) → x.held ≡ Some config → IsAllowed config x) → Leads (bare_served x) o s IsTended
 
 -- a whole settling where no config is held: once the net has done its part, calls end or wait, and no attempt is due or queued, since there is none
 pub record IsUnserved (x : StateSeen) (s : Seen) : Type 0 where
