@@ -81,7 +81,7 @@ module _ (waits : Line → Bool) (n : ℕ) (why : EndCause) (x : StateSeen) (o :
   has : HasSlot x s is.call n
   has = is.agrees.calls.each n is.call is.there
 
-  next : IsNextToEnd waits n why o s
+  pub next : IsNextToEnd waits n why o s
   next = record {
     late = is.late;
     current = is.current;
@@ -112,11 +112,11 @@ module _ (waits : Line → Bool) (n : ℕ) (why : EndCause) (x : StateSeen) (o :
   pub t : Seen
   t = ended.ended.seen
 
-  cuts : List Action
-  cuts = ended.ended.cuts
+  abbrev pub their : List Action
+  their = ended.ended.cuts
 
-  are_cut : AreCut n cuts b t
-  are_cut = subst (λ (k : ℕ). AreCut k cuts (call_ended k why s) t) own ended.ended.cut
+  pub are_cut : AreCut n their b t
+  are_cut = subst (λ (k : ℕ). AreCut k their (call_ended k why s) t) own ended.ended.cut
 
   after_end : after (action.CallEnds n why) s ≡ b
   after_end = ap (λ (q : Option OpenEntry). after_if q (action.CallEnds n why) s) is.current
@@ -131,26 +131,26 @@ module _ (waits : Line → Bool) (n : ℕ) (why : EndCause) (x : StateSeen) (o :
   quiet = is.still line.Reset refl (early_by (waits line.Reset) (is_late line.Reset) (is.late line.Reset) refl)
 
   pub out : AreAllOut n why s t
-  out = cuts_are_out waits n why o s t cuts next are_cut
+  out = cuts_are_out waits n why o s t their next are_cut
 
   pub resets : AreResetToo (with_cuts out.attempts x) t
   resets = cuts_are_reset x b t out.attempts opened kept_end links_end is.unreset quiet out.off
 
-  on : FollowsOn waits n why o s (cuts ++ resets.actions) resets.seen
-  on = ends_follow waits n why o s t resets.seen cuts resets.actions next are_cut resets.resets
+  pub on : FollowsOn waits n why o s (their ++ resets.actions) resets.seen
+  on = ends_follow waits n why o s t resets.seen their resets.actions next are_cut resets.resets
 
   pub goes_on : EndsOn waits n why x o s
   goes_on = record {
     cuts = out.attempts;
     all = out.all;
-    actions = cuts ++ resets.actions;
+    actions = their ++ resets.actions;
     seen = resets.seen;
     does = on.does;
-    posts = none_on cuts resets.actions (cuts_unposted n cuts b t are_cut) (resets_unposted resets.actions t resets.seen resets.resets);
+    posts = none_on their resets.actions (cuts_unposted n their b t are_cut) (resets_unposted resets.actions t resets.seen resets.resets);
     current = on.current;
     still = on.still;
     rest = on.rest;
-    kept = kept_along (action.CallEnds n why ∷ (cuts ++ resets.actions)) s resets.seen kept on.does;
+    kept = kept_along (action.CallEnds n why ∷ (their ++ resets.actions)) s resets.seen kept on.does;
     unreset = resets.unreset;
     links = resets.links;
     net = same_nets_agree s resets.seen x.net (record { setup = on.rest.setup; asks = on.rest.asks; policies = on.rest.policies; subs = on.rest.subs }) is.agrees.net;

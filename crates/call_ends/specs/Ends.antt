@@ -3,6 +3,8 @@
 -- Example: call 1, with attempts on stream 3 and stream 1 of link 1, is cancelled. CallEnds 1; AttemptEnds of both; StreamReset of stream 1, and of stream 3.
 use Rattle.std.specs.Prelude.{Bool, List, None, Some, [], false, filter, true, ◌∷◌, ◌≡◌, ℕ}
 use Rattle.channel_actions.specs.Agrees.{Agrees}
+use Rattle.channel_actions.specs.Clock.{SeesClock}
+use Rattle.channel_actions.specs.Configs.{SeesConfigs}
 use Rattle.channel_actions.specs.Links.{SeesLinks}
 use Rattle.channel_core.specs.States.{StateSeen}
 use Rattle.channel_core.specs.Steps.{closed}
@@ -11,6 +13,7 @@ use Rattle.ends_follow.specs.Cuts.{AreUnreset}
 use Rattle.ends_follow.specs.Laws.{IsSameRest, is_late, is_out_of}
 use Rattle.kept_sessions.specs.Kept.{IsKept}
 use Rattle.link_ends.specs.Laws.{with_cuts}
+use Rattle.net_actions.specs.Runs.{IsOfCalls}
 use Rattle.net_actions.specs.Sees.{Sees}
 use Rattle.session_actions.specs.Actions.{following}
 use Rattle.session_actions.specs.CallEnds.{call_ended}
@@ -58,6 +61,20 @@ pub record EndsOn (waits : Line → Bool) (number : ℕ) (why : EndCause) (x : S
   pub unreset : AreUnreset seen
   pub links : SeesLinks (with_cuts cuts x) seen
   pub net : Sees seen x.net
+
+-- what agrees then: all but the columns of the ledger, the buckets, the calls and their sets
+pub record AgreesApart (y : StateSeen) (s : Seen) : Type 0 where
+  pub clock : SeesClock y s
+  pub configs : SeesConfigs y s
+  pub links : SeesLinks y s
+  pub net : Sees s y.net
+  pub orderly : IsOfCalls y.net
+  pub resets : y.resets ≡ []
+  pub kept : IsKept s
+
+pub record EndsApart (waits : Line → Bool) (number : ℕ) (why : EndCause) (x : StateSeen) (o : OpenEntry) (s : Seen) : Type 0 where
+  pub on : EndsOn waits number why x o s
+  pub agrees : AgreesApart (closed why number x) on.seen
 
 -- the session after it: in the same entry, at the same stage, with nothing that follows at once but what these lines give
 pub record HasEnded (waits : Line → Bool) (number : ℕ) (why : EndCause) (x : StateSeen) (o : OpenEntry) (s : Seen) : Type 0 where

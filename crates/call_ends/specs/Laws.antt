@@ -1,7 +1,7 @@
 -- Calls that end: one, for whatever cause; and the cases of events and of deadlines that stand on it.
 -- Example: Cancel of call 1, which is open: EventAnswered Done, then call 1 ends. Cancel of it again is refused with CallEnded.
 use Rattle.std.specs.Prelude.{None, Some, is_some, true, ℕ, ◌≡◌}
-use Rattle.call_ends.specs.Ends.{EndsNext, EndsOn, HasEnded}
+use Rattle.call_ends.specs.Ends.{EndsApart, EndsNext, EndsOn, HasEnded}
 use Rattle.channel_actions.specs.Cases.{HasOverdue}
 use Rattle.channel_actions.specs.Stages.{DeadlinesOf, EventsAnswered}
 use Rattle.channel_core.specs.Applying as channel
@@ -20,6 +20,11 @@ use Rattle.session_order.specs.declared.line.Line.{Line}
 abbrev pub EndsGoOn : Type 0
 EndsGoOn =
     (waits : Line → Bool) (number : ℕ) (why : EndCause) (x : StateSeen) (o : OpenEntry) (s : Seen) → EndsNext waits number why x o s → EndsOn waits number why x o s
+
+-- and the channel, which does it at once, agrees with it in all but the calls and what they change of the ledger, the buckets and the sets
+abbrev pub EndsAgree : Type 0
+EndsAgree =
+    (waits : Line → Bool) (number : ℕ) (why : EndCause) (x : StateSeen) (o : OpenEntry) (s : Seen) → EndsNext waits number why x o s → EndsApart waits number why x o s
 
 -- one call ends, and channel and session agree again
 abbrev pub OneCallEnds : Type 0

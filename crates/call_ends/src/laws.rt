@@ -1,10 +1,11 @@
 // Calls that end; nothing runs.
-ghost use Rattle.call_ends.specs.Laws.{EndsGoOn, LateCancels};
+ghost use Rattle.call_ends.specs.Laws.{EndsAgree, EndsGoOn, LateCancels};
 
-/// Where a call ends, its attempts are cut off and their streams are reset, each of these the next action; and then nothing more follows from it, and the links
-/// and the net agree (gRPC, "Core concepts": RPC life cycle).
+/// Where a call ends, its attempts are cut off and their streams are reset, each of these the next action; and then nothing more follows from it, and the clock,
+/// the configs, the links and the net of the channel agree (gRPC, "Core concepts": RPC life cycle).
 pub fn ends_go_on()
-    ensures { EndsGoOn }
+    ensures on { EndsGoOn }
+    ensures agree { EndsAgree }
 {}
 
 /// A Cancel of a call that has ended is refused with CallEnded, and changes nothing.

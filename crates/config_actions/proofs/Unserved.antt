@@ -2,14 +2,12 @@
 use Rattle.std.proofs.Common.{◌≡◌, ◌≤◌, ◌<◌, ◌&&◌, ◌||◌, ◌==◌, ◌∷◌, ap, arith, refl, subst, sym, ◌∙◌, Bool, true, false, List, [], Option, None, Some, ℕ, zero, suc, if◌then◌else◌, is_none, is_some, length, min, not, slice_get}
 use Rattle.std.proofs.lemmas.Bool.{and_parts}
 use Rattle.std.proofs.lemmas.Bool.Decides.{nat_tests}
-use Rattle.std.specs.List.{list_any}
 use Rattle.std.specs.Option.{option_map, option_map_or}
 use Rattle.std.specs.Prelude.{option_and_then}
 use Rattle.attempt_ledger.specs.declared.ledger.CallEnd.{CallEnd}
-use Rattle.call_ends.specs.Ends.{EndsNext, HasEnded}
-use Rattle.call_ends.specs.Laws.{OneCallEnds}
 use Rattle.call_actions.proofs.Bare.{none_live}
 use Rattle.call_actions.proofs.Places.{places_below}
+use Rattle.call_actions.specs.Laws.{IsBare}
 use Rattle.calls_apart.specs.Apart.{has_config}
 use Rattle.channel_actions.proofs.Gone.{all_numbered}
 use Rattle.channel_actions.proofs.Settles.{follows_by}
@@ -27,12 +25,13 @@ use Rattle.channel_core.specs.declared.state.slots.CallSlot.{CallSlot}
 use Rattle.config_actions.proofs.Closed.{closed_away, closed_bare, closed_first, closed_held, closed_last, closed_moment, closed_net, closed_resets}
 use Rattle.config_actions.proofs.NetLines.{clock_stays, over_stays, wish_stays}
 use Rattle.grpc_base.specs.declared.event.EndCause.TheVariants as ending
-use Rattle.link_ends.specs.Cuts.{AreUnreset}
+use Rattle.config_actions.specs.Ends.{BareCallsEnd, BareEndsNext, BareHasEnded}
+use Rattle.kept_calls.specs.Early.{IsEarlyKept}
+use Rattle.kept_calls.specs.Laws.{CallsAreBare, EarlyAlong}
 use Rattle.net_actions.specs.Laws.{ClockChanges, ClockRests, NoneConnects, TakeOversAreSame, WishesConnect}
 use Rattle.picker_gate.specs.Pairs.{has, is_same}
 use Rattle.service_config.specs.declared.config.Config.{Config}
 use Rattle.session_actions.specs.Actions.{config_action, first_action, following, following_in, of_calls, of_links, of_policies, of_stage}
-use Rattle.session_actions.specs.Attempts.{is_of}
 use Rattle.session_actions.specs.CallEnds.{lacks_config}
 use Rattle.session_actions.specs.Calls.{is_open_call}
 use Rattle.session_actions.specs.Configs.{held_config, is_to_configure, is_unconfigured, waits_for_ready}
@@ -49,15 +48,12 @@ use Rattle.session_actions.specs.declared.entry.Stage.TheVariants as stage
 use Rattle.session_actions.specs.declared.entry.Turn.{Turn}
 use Rattle.session_actions.specs.declared.seen.Seen.{Seen}
 use Rattle.session_order.specs.Calm as order
-use Rattle.session_order.specs.Laws.{CallsStir, CalmIsExact}
-use Rattle.session_order.specs.Lines.{is_line}
-use Rattle.session_order.specs.declared.line.Line.{Line}
-use Rattle.session_order.specs.declared.line.Line.TheVariants as line
+use Rattle.session_order.specs.Laws.{CalmIsExact}
 use Rattle.set_frames.proofs.Firsts.{first_numbered, none_numbered}
 use Rattle.set_frames.proofs.Keys.{are_plain, below_fails, head_passes, keys_next, none_later, plain_by}
 use Rattle.set_frames.proofs.Pairs.{none_behind, self_same}
 use Rattle.settling_actions.proofs.Composed.{leads_on, stays_at}
-use Rattle.settling_actions.specs.Sound.{IsSound, has_none, is_sound_call}
+use Rattle.settling_actions.specs.Sound.{IsSound}
 use Rattle.settling_actions.specs.Steps.{IsJoined, IsTended, Leads}
 
 -- the last of no things
@@ -69,40 +65,32 @@ none_last : {X : Type 0} (xs : List X) → last_of xs ≡ None → xs ≡ []
 none_last [] e = refl
 none_last (x ∷ xs) e = absurd (no_last x xs e)
 
-none_there : {X : Type 0} (n : ℕ) → numbered {X} [] n ≡ None
+none_there : {X : Type 0} (n : ℕ) → numbered {X = X} [] n ≡ None
 none_there zero = refl
 none_there (suc n) = refl
 
-none_of : {X : Type 0} (o : Option X) → is_none o ≡ true → o ≡ None
+pub none_of : {X : Type 0} (o : Option X) → is_none o ≡ true → o ≡ None
 none_of None e = refl
 none_of (Some x) e = absurd (cc)
 
-is_zero : (n : ℕ) → (n == 0) ≡ true → n ≡ 0
+pub is_zero : (n : ℕ) → (n == 0) ≡ true → n ≡ 0
 is_zero n e = grind (arith, nat_tests)
 
 and_off : (a b : Bool) → (a && false && b) ≡ false
 and_off true b = refl
 and_off false b = refl
 
-untouched_by : (a b c d e : Bool) → a ≡ false → b ≡ false → (a || b || (c && d && not e)) ≡ true → e ≡ false
-untouched_by true b c d e f g all = absurd (cc)
-untouched_by false true c d e f g all = absurd (cc)
-untouched_by false false c d false f g all = refl
-untouched_by false false true true true f g all = absurd (cc)
-untouched_by false false true false true f g all = absurd (cc)
-untouched_by false false false d true f g all = absurd (cc)
-
-below_all : (n m : ℕ) → n ≤ m → m ≤ 4294967295 → n ≤ 4294967295
+pub below_all : (n m : ℕ) → n ≤ m → m ≤ 4294967295 → n ≤ 4294967295
 below_all n m e f = omega (arith, e, f)
 
-or_true : (b : Bool) → (b || true) ≡ true
+pub or_true : (b : Bool) → (b || true) ≡ true
 or_true true = refl
 or_true false = refl
 
-equal_numbers : (n m : ℕ) → (n == m) ≡ true → n ≡ m
+pub equal_numbers : (n m : ℕ) → (n == m) ≡ true → n ≡ m
 equal_numbers n m e = grind (arith, nat_tests)
 
-within_word : (n : ℕ) → n ≤ 4294967295 → min n 4294967295 ≡ n
+pub within_word : (n : ℕ) → n ≤ 4294967295 → min n 4294967295 ≡ n
 within_word n e = omega arith
 
 no_held : (a b c : Bool) → c ≡ false → (a && b && c) ≡ false
@@ -122,7 +110,7 @@ lacks_is true true false d e f = absurd (cc)
 lacks_is true false c d e f = absurd (cc)
 lacks_is false b c d e f = absurd (cc)
 
-first_three : (a b c d e f g h : Option Action) (z : Action) → a ≡ None → b ≡ None → c ≡ None → d ≡ Some z → first_action (a ∷ b ∷ c ∷ d ∷ e ∷ f ∷ g ∷ h ∷ []) ≡ Some z
+pub first_three : (a b c d e f g h : Option Action) (z : Action) → a ≡ None → b ≡ None → c ≡ None → d ≡ Some z → first_action (a ∷ b ∷ c ∷ d ∷ e ∷ f ∷ g ∷ h ∷ []) ≡ Some z
 first_three a b c d e f g h z p q r s =
     ap (λ (w : Option Action). first_action (w ∷ b ∷ c ∷ d ∷ e ∷ f ∷ g ∷ h ∷ [])) p
     ∙ ap (λ (w : Option Action). first_action (w ∷ c ∷ d ∷ e ∷ f ∷ g ∷ h ∷ [])) q
@@ -180,18 +168,18 @@ call_by s m None e in_set =
 call_by s m (Some d) e in_set = (d, e)
 
 -- where the loop stands: these are left
-record Waits (pairs : List (ℕ × ℕ)) (z : StateSeen) (o : OpenEntry) (s : Seen) : Type 0 where
-  agrees : Agrees (record z { impatient = pairs }) s
-  empty : z.impatient ≡ []
-  at : IsAt stage.Settling o s
-  joined : IsJoined o s
-  unreset : AreUnreset s
-  held : z.held ≡ None
-  bare : z.unconfigured ≡ true
-  few : (n : ℕ) → has pairs (0, n) ≡ true → n ≤ 4294967295
-  idle : (n : ℕ) (slot : CallSlot) → has pairs (0, n) ≡ true → slot_at z.book n ≡ Some slot → slot.call.live ≡ []
+pub record Waits (pairs : List (ℕ × ℕ)) (z : StateSeen) (o : OpenEntry) (s : Seen) : Type 0 where
+  pub agrees : Agrees (record z { impatient = pairs }) s
+  pub empty : z.impatient ≡ []
+  pub at : IsAt stage.Settling o s
+  pub joined : IsJoined o s
+  pub early : IsEarlyKept s
+  pub held : z.held ≡ None
+  pub bare : z.unconfigured ≡ true
+  pub few : (n : ℕ) → has pairs (0, n) ≡ true → n ≤ 4294967295
+  pub idle : (n : ℕ) (slot : CallSlot) → has pairs (0, n) ≡ true → slot_at z.book n ≡ Some slot → slot.call.live ≡ []
 
-no_pass : (o : OpenEntry) (s : Seen) → o.turn ≡ None → next_of_pass o s ≡ None
+pub no_pass : (o : OpenEntry) (s : Seen) → o.turn ≡ None → next_of_pass o s ≡ None
 no_pass o s fresh = ap (option_and_then (λ (t : Turn). next_asked (is_after t) s)) fresh
 
 zero_first : (s : Seen) (a b : ℕ) → is_in_impatient s a b ≡ true → (a == 0) ≡ true
@@ -210,8 +198,8 @@ tended z o s w = record {
 }
 
 -- the next one ends
-module _ (exact : CalmIsExact) (stir : CallsStir) (clocks : ClockChanges) (rests : ClockRests) (overs : TakeOversAreSame) (wishes : WishesConnect) (nones : NoneConnects)
-    (ends : OneCallEnds) where
+module _ (exact : CalmIsExact) (clocks : ClockChanges) (rests : ClockRests) (overs : TakeOversAreSame) (wishes : WishesConnect) (nones : NoneConnects)
+    (ends : BareCallsEnd) (along : EarlyAlong) (bares : CallsAreBare) where
   module _ (n : ℕ) (rest : List (ℕ × ℕ)) (z : StateSeen) (o : OpenEntry) (s : Seen) (w : Waits ((0, n) ∷ rest) z o s) where
     abbrev y : StateSeen
     y = record z { impatient = (0, n) ∷ rest }
@@ -245,24 +233,25 @@ module _ (exact : CalmIsExact) (stir : CallsStir) (clocks : ClockChanges) (rests
     calm : order.IsCalm o s
     calm = (exact o s).0 (w.at.calm.calls, w.at.calm.links, w.at.calm.policies)
 
-    ends_next : EndsNext (λ l. false) n ending.NoConfig y o s
+    bare_found : IsBare s found.0
+    bare_found =
+        bares s n found.0 w.agrees.kept w.early found.1 (goes_on y s w.agrees w.held n found.0 found.1 in_set)
+        (none_of found.0.config (calls_bare y s w.agrees w.held n found.0 found.1))
+
+    ends_next : BareEndsNext n ending.NoConfig y o s
     ends_next = record {
-      late = λ l e. absurd (cc);
       current = w.at.current;
       agrees = w.agrees;
-      unreset = w.unreset;
+      early = w.early;
       call = found.0;
       there = found.1;
-      going = goes_on y s w.agrees w.held n found.0 found.1 in_set;
+      bare = bare_found;
+      calm = calm;
       next = follows;
-      uncut = calm line.Cut;
-      still =
-          λ l uncut f. stir.ended n ending.NoConfig o s w.at.current
-          (λ k c there. counted_at (λ (c : Call). c.number) s.calls k c w.agrees.kept.calls there) l o w.at.current (ap (λ (b : Bool). b || false) uncut) (calm l);
     }
 
-    ended : HasEnded (λ l. false) n ending.NoConfig y o s
-    ended = ends (λ l. false) n ending.NoConfig y o s ends_next
+    pub ended : BareHasEnded n ending.NoConfig y o s
+    ended = ends n ending.NoConfig y o s ends_next
 
     -- its slot
     own : HasSlot y s found.0 n
@@ -275,12 +264,12 @@ module _ (exact : CalmIsExact) (stir : CallsStir) (clocks : ClockChanges) (rests
     live = w.idle n own.slot (ap (λ (b : Bool). b || has rest (0, n)) (self_same (0, n))) here
 
     unended : own.slot.call.ended ≡ None
-    unended = sym own.sees.serves.sees.ended ∙ ap (option_map (λ (e : CallEnd). e.cause)) ends_next.going
+    unended = sym own.sees.serves.sees.ended ∙ ap (option_map (λ (e : CallEnd). e.cause)) bare_found.end
 
     quiet : z.resets ≡ []
     quiet = w.agrees.sets.resets
 
-    abbrev after : StateSeen
+    abbrev pub after : StateSeen
     after = closed ending.NoConfig n z
 
     same : closed ending.NoConfig n y ≡ record after { impatient = rest }
@@ -307,7 +296,7 @@ module _ (exact : CalmIsExact) (stir : CallsStir) (clocks : ClockChanges) (rests
       at = record {
         current = ended.current;
         stage_is = w.at.stage_is;
-        calm = (let back = (exact o ended.seen).1 (λ l. ended.still l refl) in record { calls = back.0; links = back.1; policies = back.2 });
+        calm = (let back = (exact o ended.seen).1 ended.calm in record { calls = back.0; links = back.1; policies = back.2 });
       };
       joined = record {
         turn = w.joined.turn;
@@ -321,7 +310,7 @@ module _ (exact : CalmIsExact) (stir : CallsStir) (clocks : ClockChanges) (rests
             wish_stays clocks rests overs wishes nones y (record after { impatient = rest }) s ended.seen w.agrees agrees_after
             (closed_net ending.NoConfig n own.slot live unended z here quiet) w.joined.connected;
       };
-      unreset = ended.unreset;
+      early = along (action.CallEnds n ending.NoConfig ∷ ended.actions) s ended.seen w.agrees.kept w.early ended.does;
       held = closed_held ending.NoConfig n own.slot live unended z here quiet ∙ w.held;
       bare = closed_bare ending.NoConfig n own.slot live unended z here quiet ∙ w.bare;
       few = λ m e. w.few m (later_in m e);
@@ -346,6 +335,7 @@ module _ (exact : CalmIsExact) (stir : CallsStir) (clocks : ClockChanges) (rests
 
   -- all of them, one after the other
   all_ended : (pairs : List (ℕ × ℕ)) (z : StateSeen) (o : OpenEntry) (s : Seen) → are_plain pairs ≡ true → Waits pairs z o s → Leads (all_unconfigured (due_keys 0 pairs) z) o s IsTended
+  unfolding one_ended ended
   all_ended [] z o s plain w =
       subst (λ (x : StateSeen). Leads x o s IsTended) (ap (λ (l : List (ℕ × ℕ)). record z { impatient = l }) (sym w.empty))
       (stays_at (record z { impatient = [] }) o s IsTended w.agrees w.at (tended z o s w))
@@ -367,12 +357,6 @@ module _ (exact : CalmIsExact) (stir : CallsStir) (clocks : ClockChanges) (rests
     plain : are_plain x.impatient ≡ true
     plain = plain_by x.impatient (is_in_impatient s) h.sets.impatient (zero_first s)
 
-    -- the calls of the set have no attempt
-    rowless : (d : Call) → d.end ≡ None → is_none d.config ≡ true → is_sound_call s d ≡ true → list_any (is_of d) s.attempts ≡ false
-    rowless d going bare fine =
-        untouched_by (is_some d.end) (is_some d.config) (is_none d.configured) (has_none d.marks) (list_any (is_of d) s.attempts)
-        (ap (λ (e : Option CallEnd). is_some e) going) (ap (λ (c : Option ℕ). is_some c) (none_of d.config bare)) fine
-
     same_slot : (n : ℕ) (a b : CallSlot) → slot_at x.book n ≡ Some a → slot_at x.book n ≡ Some b → a ≡ b
     same_slot n a b e f = let both : Some a ≡ Some b = sym e ∙ f in (cc)
 
@@ -382,7 +366,7 @@ module _ (exact : CalmIsExact) (stir : CallsStir) (clocks : ClockChanges) (rests
       empty = none_later x.impatient plain;
       at = at;
       joined = joined;
-      unreset = sound.unreset;
+      early = sound.early;
       held = unheld;
       bare = bare;
       few =
@@ -393,7 +377,7 @@ module _ (exact : CalmIsExact) (stir : CallsStir) (clocks : ClockChanges) (rests
           λ n slot e there. let in_set = sym (h.sets.impatient.exact 0 n) ∙ e in
           let d = call_by s n (numbered s.calls n) refl in_set in
           let own = h.calls.each n d.0 d.1 in
-          let none = rowless d.0 (goes_on x s h unheld n d.0 d.1 in_set) (calls_bare x s h unheld n d.0 d.1) (all_numbered (is_sound_call s) s.calls n d.0 d.1 sound.calls) in
+          let none = (bares s n d.0 h.kept sound.early d.1 (goes_on x s h unheld n d.0 d.1 in_set) (none_of d.0.config (calls_bare x s h unheld n d.0 d.1))).none in
           ap (λ (k : CallSlot). k.call.live) (same_slot n slot own.slot there own.there) ∙ sym own.sees.serves.sees.live ∙ none_live s d.0 none;
     }
 

@@ -3,4 +3,4 @@
 
 mod laws;
 
-pub use laws::unserved_calls_end;
+pub use laws::{configs_are_step, served_calls_get_configs, unserved_calls_end, unserved_settlings};

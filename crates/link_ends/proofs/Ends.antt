@@ -130,6 +130,7 @@ module _ (x : StateSeen) (s t : Seen) (cuts : List Attempt) (opened : is_some s.
     opened = (links_still cuts s t off cutting).1 ∙ opened;
     places = after.places;
     cancels = after.cancels;
+    unreset = after.unreset;
   }
 
   end : HasReset (links_closed cuts (links_cut cuts x.links)) t
@@ -155,6 +156,7 @@ module _ (x : StateSeen) (s t : Seen) (cuts : List Attempt) (opened : is_some s.
     actions = end.actions;
     seen = end.seen;
     resets = end.resets;
+    unreset = end.behind.unreset;
     links = record { count = end.behind.count; each = λ number l here. link_again number l (end.behind.each number l here) };
   }
 

@@ -24,7 +24,7 @@ use Rattle.ends_follow.proofs.Codes.{is_cancel, queued_code, reset_code, respons
 use Rattle.link_ends.proofs.Codes.{with_code}
 use Rattle.link_ends.proofs.Cutting.{IsPut, counted_places, filter_same, is_owed_on, is_put, owed_on}
 use Rattle.ends_follow.proofs.Streams.{IsForemost, IsOrder, is_foremost, loses, no_foremost, none_sorted, put, put_first, put_left, put_long, by_stream_order, sorted_by, sorted_low, stays_out}
-use Rattle.ends_follow.specs.Cuts.{AreReset}
+use Rattle.ends_follow.specs.Cuts.{AreReset, AreUnreset, is_unreset}
 use Rattle.loss_actions.proofs.Calls.{changed_any}
 use Rattle.reset_actions.proofs.Cuts.{none_is_left, resets_catch_up}
 use Rattle.reset_actions.specs.Ahead.{SeesAhead}
@@ -93,12 +93,20 @@ pub record AreBehind (links : List LinkSlot) (s : Seen) : Type 0 where
   pub opened : is_some s.current ≡ true
   pub places : ArePlaced 1 s.attempts
   pub cancels : list_all (λ (b : Attempt). is_cancel (reset_code_of s b)) s.attempts ≡ true
+  pub unreset : AreUnreset s
 
 -- a change of one thing leaves the length
 set_length : {X : Type 0} (xs : List X) (i : ℕ) (z : X) → length (slice_set xs i z) ≡ length xs
 set_length [] i z = refl
 set_length (x ∷ xs) zero z = refl
 set_length (x ∷ xs) (suc i) z = ap suc (set_length xs i z)
+
+all_set : {X : Type 0} (p : X → Bool) (xs : List X) (i : ℕ) (v : X) → list_all p xs ≡ true → p v ≡ true → list_all p (slice_set xs i v) ≡ true
+all_set p [] i v e h = refl
+all_set p (x ∷ xs) zero v e h = ap (λ (b : Bool). b && list_all p xs) h ∙ (and_parts (p x) (list_all p xs) e).1
+all_set p (x ∷ xs) (suc i) v e h =
+    let parts : (p x ≡ true) × (list_all p xs ≡ true) = and_parts (p x) (list_all p xs) e in
+    ap (λ (b : Bool). b && list_all p (slice_set xs i v)) parts.0 ∙ all_set p xs i v parts.1 h
 
 changed_length : {X : Type 0} (f : X → X) (n : ℕ) (xs : List X) → length (changed f n xs) ≡ length xs
 changed_length f zero xs = refl
@@ -330,6 +338,9 @@ module _ (s : Seen) (a : Attempt) (index : ℕ) (at : slice_get s.attempts index
         ap (λ (o : Option ℕ). is_cancel o && list_all (λ (b : Attempt). is_cancel (reset_code_of u b)) xs) (codes b)
         ∙ ap (λ (c : Bool). is_cancel (reset_code_of s b) && c) (cancel_same xs)
 
+    ended_now : is_unreset (with_reset_queued a) ≡ true
+    ended_now = ap (λ (o : Option RowEnd). is_some o || false) (is_owed s a cancel code).ended
+
     pub behind_still : AreBehind links s → AreBehind links u
     behind_still is = record {
       count = changed_length owing (link_number a) s.links ∙ is.count;
@@ -339,6 +350,7 @@ module _ (s : Seen) (a : Attempt) (index : ℕ) (at : slice_get s.attempts index
       places = placed_still;
       cancels = all_changed (λ (b : Attempt). is_cancel (reset_code_of u b)) with_reset_queued (λ b e. ap is_cancel (codes (with_reset_queued b) ∙ queued_code s b)) a.place s.attempts
           (cancel_same s.attempts ∙ is.cancels);
+      unreset = subst (λ (xs : List Attempt). list_all is_unreset xs ≡ true) (sym attempts_are) (all_set is_unreset s.attempts index (with_reset_queued a) is.unreset ended_now);
     }
 
 -- all of them

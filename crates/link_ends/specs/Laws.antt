@@ -32,6 +32,7 @@ pub record AreResetToo (x : StateSeen) (t : Seen) : Type 0 where
   pub actions : List Action
   pub seen : Seen
   pub resets : AreReset actions t seen
+  pub unreset : AreUnreset seen
   pub links : SeesLinks x seen
 
 abbrev pub CutsAreReset : Type 0

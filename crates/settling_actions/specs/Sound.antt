@@ -2,8 +2,8 @@
 -- where it is needed (`SoundStays`).
 -- Example: a call has no config yet. It has no mark and no attempt. Another call has one attempt, in row 2 of three: what it holds of its messages has a place
 -- for row 2 alone.
-use Rattle.std.specs.List.{list_all, list_any}
-use Rattle.std.specs.Prelude.{Bool, List, Some, [], false, is_none, is_some, length, nat_le, not, true, ℕ, ◌&&◌, ◌≡◌, ◌≤◌, ◌||◌, ◌∷◌}
+use Rattle.std.specs.List.{list_all}
+use Rattle.std.specs.Prelude.{List, Some, length, nat_le, true, ℕ, ◌≡◌, ◌≤◌}
 use Rattle.attempt_ledger.specs.Numbering.{most_attempts}
 use Rattle.call_core.specs.Going as call
 use Rattle.call_core.specs.Steps.{call_plan}
@@ -11,23 +11,10 @@ use Rattle.channel_actions.specs.Agrees.{Agrees}
 use Rattle.channel_core.specs.Books.{slot_at}
 use Rattle.channel_core.specs.States.{StateSeen}
 use Rattle.channel_core.specs.declared.state.slots.CallSlot.{CallSlot}
-use Rattle.session_actions.specs.Attempts.{is_of}
+use Rattle.kept_calls.specs.Early.{IsEarlyKept}
 use Rattle.session_actions.specs.Sessions.{Does}
 use Rattle.session_actions.specs.declared.action.Action.{Action}
-use Rattle.session_actions.specs.declared.call.Call.{Call}
-use Rattle.session_actions.specs.declared.call.Mark.{Mark}
 use Rattle.session_actions.specs.declared.seen.Seen.{Seen}
-
--- of the session alone: to an open call without a config nothing happened, and it has no attempt
-abbrev pub has_none : List Mark → Bool
-has_none [] = true
-has_none (m ∷ marks) = false
-
-abbrev pub is_untouched : Seen → Call → Bool
-is_untouched s c = is_none c.configured && has_none c.marks && not (list_any (is_of c) s.attempts)
-
-abbrev pub is_sound_call : Seen → Call → Bool
-is_sound_call s c = is_some c.end || is_some c.config || is_untouched s c
 
 -- of the channel alone: a call that runs does not stand still, and makes one attempt at a time where it does not hedge (`IsGoing`); what it holds for
 -- attempts is for rows that are there; and the most attempts of a plan are in the range of its type
@@ -39,9 +26,8 @@ pub record IsSoundSlot (rows : ℕ) (slot : CallSlot) : Type 0 where
 pub record IsSound (x : StateSeen) (s : Seen) : Type 0 where
   -- (numbers of calls do not end, which no session reaches)
   pub few : length s.calls ≤ 4294967295
-  -- no stream was reset of an attempt that goes on
-  pub unreset : list_all (λ a. is_some a.row.ended || not a.reset) s.attempts ≡ true
-  pub calls : list_all (is_sound_call s) s.calls ≡ true
+  -- of the session alone: to an open call without a config nothing happened, and no stream was reset of an attempt that goes on
+  pub early : IsEarlyKept s
   pub slots : (number : ℕ) (slot : CallSlot) → slot_at x.book number ≡ Some slot → IsSoundSlot (length x.book.ledger.rows) slot
 
 -- a step of the channel, with the actions that lead to a point at which both agree again, keeps it
