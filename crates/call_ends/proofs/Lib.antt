@@ -1,3 +1,4 @@
+pub mod Alone
 pub mod Late
 pub mod Linked
 pub mod On

@@ -17,6 +17,7 @@ use Rattle.call_actions.specs.Sees.{is_live, live_row}
 use Rattle.call_core.specs.Parts.{count_of, cut_end, read_of}
 use Rattle.call_core.specs.Steps.{Stepped, cut_all, cut_row, ended_as}
 use Rattle.call_core.specs.declared.live.LiveRow.{LiveRow}
+use Rattle.call_ends.proofs.Alone.{buckets_on, goes_apart}
 use Rattle.call_ends.proofs.On.{ends_go_on}
 use Rattle.call_ends.specs.Ends.{AgreesApart, EndsNext, EndsOn}
 use Rattle.call_ends.specs.Laws.{EndsAgree}
@@ -282,7 +283,7 @@ module _ (waits : Line → Bool) (n : ℕ) (why : EndCause) (x : StateSeen) (o :
 
   pub agree : AgreesApart y u
   agree = subst (λ (z : StateSeen). AgreesApart z u) (sym whole)
-      (record { clock = clock_on; configs = configs_on; links = links_on; net = on.net; orderly = is.agrees.orderly; resets = is.agrees.sets.resets; kept = on.kept })
+      (record { clock = clock_on; configs = configs_on; buckets = buckets_on waits n why x o s is; links = links_on; net = on.net; orderly = is.agrees.orderly; resets = is.agrees.sets.resets; kept = on.kept })
 
 pub ends_agree : EndsAgree
-ends_agree waits n why x o s is = record { on = on waits n why x o s is; agrees = agree waits n why x o s is }
+ends_agree waits n why x o s is = record { on = on waits n why x o s is; apart = goes_apart waits n why x o s is (on waits n why x o s is).kept; agrees = agree waits n why x o s is }
