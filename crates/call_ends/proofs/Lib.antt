@@ -1,4 +1,5 @@
 pub mod Alone
+pub mod Cancels
 pub mod Late
 pub mod Linked
 pub mod On

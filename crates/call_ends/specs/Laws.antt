@@ -56,6 +56,10 @@ LateCancels = EventsAnswered IsLateCancel
 abbrev pub OpenCancels : Type 0
 OpenCancels = EventsAnswered IsOpenCancel
 
+-- it stands on the end of one call
+abbrev pub CancelsStand : Type 0
+CancelsStand = OneCallEnds → OpenCancels
+
 -- calls end whose deadline has come
 pub record IsOverdue (x : StateSeen) (s : Seen) : Type 0 where
   pub overdue : HasOverdue x s
