@@ -1,5 +1,5 @@
 -- The end of a call with its cuts and resets is of that call alone, and no bucket counts it.
-use Rattle.std.proofs.Common.{◌≡◌, ◌&&◌, ◌==◌, ◌∷◌, ◌++◌, not, ap, refl, subst, sym, ◌∙◌, Bool, true, false, List, [], Option, None, Some, ℕ, if◌then◌else◌, is_some, map}
+use Rattle.std.proofs.Common.{◌≡◌, ◌&&◌, ◌==◌, ◌∷◌, ◌++◌, not, ap, refl, subst, sym, ◌∙◌, Bool, true, List, [], Option, None, Some, ℕ, if◌then◌else◌, is_some, map}
 use Rattle.std.proofs.lemmas.Bool.{eq-eqb}
 use Rattle.std.specs.Option.{option_and_then, option_map, option_map_or}
 use Rattle.a6_numbers.specs.Throttling.{Bucket}
@@ -10,7 +10,7 @@ use Rattle.call_ends.proofs.On.{are_cut, next, on, resets, t, their}
 use Rattle.call_ends.specs.Ends.{EndsNext}
 use Rattle.calls_apart.proofs.Books.{books_stay, tokens_stay}
 use Rattle.calls_apart.proofs.Fair.{lines_are_fair}
-use Rattle.calls_apart.specs.Apart.{IsBook, IsFair, acts_on, counts_in, run_counting, run_number}
+use Rattle.calls_apart.specs.Apart.{IsBook, IsFair, counts_in, run_counting, run_number}
 use Rattle.calls_apart.specs.Laws.{tokens_in_run}
 use Rattle.channel_actions.specs.Configs.{SeesBuckets, bucket_in, runs_in_turn}
 use Rattle.channel_core.specs.States.{StateSeen}

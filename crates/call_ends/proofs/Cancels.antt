@@ -6,7 +6,7 @@ use Rattle.std.specs.List.{list_any}
 use Rattle.std.specs.Option.{option_map}
 use Rattle.attempt_ledger.specs.declared.ledger.CallEnd.{CallEnd}
 use Rattle.call_ends.specs.Ends.{EndsNext, HasEnded}
-use Rattle.call_ends.specs.Laws.{CancelsStand, IsOpenCancel, OneCallEnds, OpenCancels}
+use Rattle.call_ends.specs.Laws.{CancelsStand, OneCallEnds}
 use Rattle.channel_actions.proofs.Answering.{event_next, replied_entry, replied_is}
 use Rattle.channel_actions.proofs.Dialling.{unshut_by}
 use Rattle.channel_actions.proofs.Settles.{is_with_open, reopened, with_open}
@@ -19,7 +19,6 @@ use Rattle.channel_core.specs.Applying as channel
 use Rattle.channel_core.specs.Applying.{AnswersBy}
 use Rattle.channel_core.specs.Arrivals.{cancelled}
 use Rattle.channel_core.specs.States.{StateSeen}
-use Rattle.channel_core.specs.Steps.{closed}
 use Rattle.channel_core.specs.Tables.{cancel_reply_of}
 use Rattle.ends_follow.specs.Cuts.{AreUnreset}
 use Rattle.grpc_base.specs.declared.event.EndCause.{EndCause}
@@ -35,8 +34,8 @@ use Rattle.session_actions.specs.Actions.{after, after_if, following}
 use Rattle.session_actions.specs.CallEnds.{call_ended, cancels, ending_call, has_long_request, is_after_event, is_cancelled, next_deadline, sends_too_long}
 use Rattle.session_actions.specs.Calls.{is_open_call}
 use Rattle.session_actions.specs.Configs.{is_too_long}
-use Rattle.session_actions.specs.Entries.{entry, now, replied}
-use Rattle.session_actions.specs.Events.{event_action, event_action_by, frame_action, frame_of_event, is_loss}
+use Rattle.session_actions.specs.Entries.{entry, now}
+use Rattle.session_actions.specs.Events.{event_action, event_action_by, frame_of_event, is_loss}
 use Rattle.session_actions.specs.Policies.{addresses_in}
 use Rattle.session_actions.specs.Refusals.{cancel_refusal, refused_if}
 use Rattle.session_actions.specs.Sessions.{Does}
@@ -44,7 +43,6 @@ use Rattle.session_actions.specs.Words.{changed, numbered}
 use Rattle.session_actions.specs.declared.action.Action.{Action}
 use Rattle.session_actions.specs.declared.action.Action.TheVariants as action
 use Rattle.session_actions.specs.declared.call.Call.{Call}
-use Rattle.session_actions.specs.declared.call.Mark.{Mark}
 use Rattle.session_actions.specs.declared.call.MarkKind.TheVariants as mark
 use Rattle.session_actions.specs.declared.entry.OpenEntry.{OpenEntry}
 use Rattle.session_actions.specs.declared.entry.Stage.TheVariants as stage
@@ -165,7 +163,7 @@ module _ (ends : OneCallEnds) (x : StateSeen) (o : OpenEntry) (s : Seen) (h : Ag
   answered = ap (λ (q : Option OpenEntry). after_if q (action.EventAnswered reply.Done) s) at.current ∙ replied_is reply.Done o s at.current
 
   still0 : (l : Line) → IsStill l o s
-  still0 = (calm_is_exact o s).0 (at.calm.calls, (at.calm.links, at.calm.policies))
+  still0 = (calm_is_exact o s).0 (at.calm.calls, at.calm.links, at.calm.policies)
 
   other_lines : (l : Line) → is_line l line.Cancelled ≡ false → is_line l line.Request ≡ false → IsStill l o1 s1
   other_lines l e f =
@@ -328,7 +326,7 @@ module _ (ends : OneCallEnds) (x : StateSeen) (o : OpenEntry) (s : Seen) (h : Ag
           does = (event_next o s at timely (action.EventAnswered reply.Done) asked, subst (λ (z : Seen). Does (action.CallEnds n ending.Cancelled ∷ ended.actions) z ended.seen) (sym answered) ended.does);
           posts = ended.posts;
           same = record { moment = refl; word = refl; event = refl; entries = ended.entries; setup = ended.setup };
-          at = record { current = ended.current; stage_is = refl; calm = record { calls = back.0; links = back.1.0; policies = back.1.1 } };
+          at = record { current = ended.current; stage_is = refl; calm = record { calls = back.0; links = back.1; policies = back.2 } };
           agrees = ended.agrees;
         };
         reply = refl;

@@ -1,5 +1,5 @@
 -- A call ends in the channel: what it does to links is what the session's cuts do, and the rest of the channel is as before.
-use Rattle.std.proofs.Common.{◌≡◌, ◌+◌, ◌∷◌, ◌&&◌, ◌||◌, ◌==◌, not, ap, refl, subst, sym, ◌∙◌, Bool, true, false, List, [], Option, None, Some, ℕ, suc, cond, filter, find, if◌then◌else◌, is_none, is_some, length, map, nat_lt, slice_get}
+use Rattle.std.proofs.Common.{◌≡◌, ◌+◌, ◌∷◌, ◌&&◌, ◌||◌, ◌==◌, not, ap, refl, subst, sym, ◌∙◌, Bool, true, false, List, [], Option, None, Some, ℕ, suc, cond, filter, find, if◌then◌else◌, is_none, is_some, length, map, slice_get}
 use Rattle.std.proofs.lemmas.Bool.{eqb-false, eqb-true}
 use Rattle.std.specs.List.{AllByRecursion}
 use Rattle.std.specs.Option.{option_map, option_map_or}
@@ -40,7 +40,7 @@ use Rattle.grpc_base.specs.declared.event.Entry.{Entry}
 use Rattle.ledger_stamps.specs.Steps.{changed_at, ended_row}
 use Rattle.link_ends.specs.Cuts.{links_closed, links_cut}
 use Rattle.link_ends.specs.Laws.{with_cuts}
-use Rattle.session_actions.specs.Attempts.{is_of, is_outstanding, is_over, is_queued}
+use Rattle.session_actions.specs.Attempts.{is_of, is_outstanding, is_over}
 use Rattle.session_actions.specs.Entries.{entry, last_moment}
 use Rattle.session_actions.specs.Links.{link_number}
 use Rattle.session_actions.specs.Policies.{is_current}
