@@ -140,7 +140,7 @@ module _ (waits : Line → Bool) (n : ℕ) (why : EndCause) (x : StateSeen) (o :
   abbrev acts : List Action
   acts = cuts ++ (resets waits n why x o s is).actions
 
-  has_cut : HasCut waits is.late n o (call_ended n why s) (base waits n why o s to) (call_ended n why s) (t waits n why x o s is) cuts
+  pub has_cut : HasCut waits is.late n o (call_ended n why s) (base waits n why o s to) (call_ended n why s) (t waits n why x o s is) cuts
   has_cut =
       cut_all waits n why o s to (t waits n why x o s is) u cuts (resets waits n why x o s is).actions (are_cut waits n why x o s is) (resets waits n why x o s is).resets
 

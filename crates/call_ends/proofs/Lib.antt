@@ -3,3 +3,4 @@ pub mod Cancels
 pub mod Late
 pub mod Linked
 pub mod On
+pub mod Sets

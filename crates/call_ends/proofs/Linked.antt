@@ -19,7 +19,8 @@ use Rattle.call_core.specs.Steps.{Stepped, cut_all, cut_row, ended_as}
 use Rattle.call_core.specs.declared.live.LiveRow.{LiveRow}
 use Rattle.call_ends.proofs.Alone.{buckets_on, goes_apart}
 use Rattle.call_ends.proofs.On.{ends_go_on}
-use Rattle.call_ends.specs.Ends.{AgreesApart, EndsNext, EndsOn}
+use Rattle.call_ends.proofs.Sets.{timers_agree}
+use Rattle.call_ends.specs.Ends.{AgreesApart, EndsNext, EndsOn, TimersAgree}
 use Rattle.call_ends.specs.Laws.{EndsAgree}
 use Rattle.channel_actions.specs.Calls.{HasSlot}
 use Rattle.channel_actions.specs.Clock.{DrawsAlike, SeesClock}
@@ -281,9 +282,14 @@ module _ (waits : Line → Bool) (n : ℕ) (why : EndCause) (x : StateSeen) (o :
     policy = λ some going. ap (λ (ps : List PolicyUse). is_some (find is_current ps)) on.rest.policies ∙ is.agrees.configs.policy some (sym on.rest.shut ∙ going);
   }
 
+  timers_on : TimersAgree w u
+  timers_on =
+      let k = timers_agree waits n why x o s is on.kept in
+      record { dues = k.dues; deadlines = k.deadlines; bare = k.bare; impatient = k.impatient }
+
   pub agree : AgreesApart y u
   agree = subst (λ (z : StateSeen). AgreesApart z u) (sym whole)
-      (record { clock = clock_on; configs = configs_on; buckets = buckets_on waits n why x o s is; links = links_on; net = on.net; orderly = is.agrees.orderly; resets = is.agrees.sets.resets; kept = on.kept })
+      (record { clock = clock_on; configs = configs_on; buckets = buckets_on waits n why x o s is; links = links_on; net = on.net; timers = timers_on; orderly = is.agrees.orderly; resets = is.agrees.sets.resets; kept = on.kept })
 
 pub ends_agree : EndsAgree
 ends_agree waits n why x o s is = record { on = on waits n why x o s is; apart = goes_apart waits n why x o s is (on waits n why x o s is).kept; agrees = agree waits n why x o s is }

@@ -6,6 +6,7 @@ use Rattle.channel_actions.specs.Agrees.{Agrees}
 use Rattle.channel_actions.specs.Clock.{SeesClock}
 use Rattle.channel_actions.specs.Configs.{SeesBuckets, SeesConfigs}
 use Rattle.channel_actions.specs.Links.{SeesLinks}
+use Rattle.channel_actions.specs.Sets.{AreExactly, is_in_bare, is_in_deadlines, is_in_dues, is_in_impatient}
 use Rattle.channel_core.specs.States.{StateSeen}
 use Rattle.channel_core.specs.Steps.{closed}
 use Rattle.grpc_base.specs.declared.event.EndCause.{EndCause}
@@ -63,7 +64,14 @@ pub record EndsOn (waits : Line → Bool) (number : ℕ) (why : EndCause) (x : S
   pub links : SeesLinks (with_cuts cuts x) seen
   pub net : Sees seen x.net
 
--- what agrees then: all but the columns of the ledger, the calls and their sets; and what happened was of this call alone, so that all that is of another one
+-- the moments for which calls wait, and the calls without a config
+pub record TimersAgree (y : StateSeen) (s : Seen) : Type 0 where
+  pub dues : AreExactly y.dues (is_in_dues s)
+  pub deadlines : AreExactly y.deadlines (is_in_deadlines s)
+  pub bare : AreExactly y.bare (is_in_bare s)
+  pub impatient : AreExactly y.impatient (is_in_impatient s)
+
+-- what agrees then: all but the columns of the ledger, the slots of calls, and the sets of rows; and what happened was of this call alone, so that all that is of another one
 -- is as before (`other_calls`)
 pub record AgreesApart (y : StateSeen) (s : Seen) : Type 0 where
   pub clock : SeesClock y s
@@ -72,6 +80,7 @@ pub record AgreesApart (y : StateSeen) (s : Seen) : Type 0 where
   pub links : SeesLinks y s
   pub net : Sees s y.net
   pub orderly : IsOfCalls y.net
+  pub timers : TimersAgree y s
   pub resets : y.resets ≡ []
   pub kept : IsKept s
 
