@@ -96,10 +96,10 @@ module _ (waits : Line → Bool) (n : ℕ) (o : OpenEntry) (b : Seen) (base : Is
   our_cuts : (cuts : List Action) (v t : Seen) → IsMid waits n o b v → AreCut n cuts v t → AreOurs n cuts v
   our_cuts [] v t is are = tt
   our_cuts (act ∷ cuts) v t is are =
-      let one : IsOneCut n v act o = one_cut n v act o is.left.done is.book.places is.current are.0 in
-      ( our_cut waits n o b v base act one
-      , subst (AreOurs n cuts) (sym one.does)
-        (our_cuts cuts (cut_off one.attempt v) t (mid_cut waits n o b v base is act one) (subst (λ (z : Seen). AreCut n cuts z t) one.does are.1))
+      let one : IsOneCut n v act o = one_cut n v act o is.left.done is.book.places is.current are.0 in (
+        our_cut waits n o b v base act one,
+        subst (AreOurs n cuts) (sym one.does)
+            (our_cuts cuts (cut_off one.attempt v) t (mid_cut waits n o b v base is act one) (subst (λ (z : Seen). AreCut n cuts z t) one.does are.1)),
       )
 
   our_resets : (acts : List Action) (v u : Seen) → IsReset waits n o b v → AreReset acts v u → AreOurs n acts v
@@ -156,10 +156,10 @@ module _ (waits : Line → Bool) (n : ℕ) (why : EndCause) (x : StateSeen) (o :
       (resets waits n why x o s is).resets)
 
   ours : AreOurs n (action.CallEnds n why ∷ acts) s
-  ours =
-      ( record { of = record { acts = eq-eqb n n refl; passes = λ c at off. refl }; counts = refl; runs = ap (λ (z : Seen). z.runs) after_end }
-      , subst (AreOurs n acts) (sym after_end) rest_ours
-      )
+  ours = (
+    record { of = record { acts = eq-eqb n n refl; passes = λ c at off. refl }; counts = refl; runs = ap (λ (z : Seen). z.runs) after_end },
+    subst (AreOurs n acts) (sym after_end) rest_ours,
+  )
 
   booked : (v : Seen) → IsKept v → IsBooked v
   booked v k = record { book = k.book; owned = k.owned; reads = k.reads }

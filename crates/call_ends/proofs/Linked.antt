@@ -248,7 +248,7 @@ module _ (waits : Line → Bool) (n : ℕ) (why : EndCause) (x : StateSeen) (o :
   links_on = record {
     count = on.links.count ∙ ap (λ (ls : List LinkSlot). length ls) (sym links_are);
     each = λ number l at. let h : HasLink (with_cuts on.cuts x) u l number = on.links.each number l at in
-            record { slot = h.slot; there = ap (λ (ls : List LinkSlot). numbered ls number) links_are ∙ h.there; sees = h.sees };
+        record { slot = h.slot; there = ap (λ (ls : List LinkSlot). numbered ls number) links_are ∙ h.there; sees = h.sees };
   }
 
   current_same : u.current ≡ s.current

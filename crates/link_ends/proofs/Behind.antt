@@ -244,11 +244,11 @@ some_map f None = refl
 some_map f (Some x) = refl
 
 links_one : (s : Seen) (a : Attempt) → IsOut s a → ArePlaced 1 s.attempts → ((cut_off a s).links ≡ s.links) × (is_some (cut_off a s).current ≡ is_some s.current)
-links_one s a out places =
-    ( ap (λ (v : Seen). v.links) (is_ended s a.place (end_of a cut_end s) a places out.there)
-    , ap (λ (v : Seen). is_some v.current) (is_ended s a.place (end_of a cut_end s) a places out.there)
-      ∙ some_map (λ (p : OpenEntry). record p { drawn = p.drawn + (if is_some (end_of a cut_end s).word then 1 else 0) }) s.current
-    )
+links_one s a out places = (
+  ap (λ (v : Seen). v.links) (is_ended s a.place (end_of a cut_end s) a places out.there),
+  ap (λ (v : Seen). is_some v.current) (is_ended s a.place (end_of a cut_end s) a places out.there)
+      ∙ some_map (λ (p : OpenEntry). record p { drawn = p.drawn + (if is_some (end_of a cut_end s).word then 1 else 0) }) s.current,
+)
 
 pub links_still : (cuts : List Attempt) (s t : Seen) → AreCutOff cuts s t → IsCutting s → (t.links ≡ s.links) × (is_some t.current ≡ is_some s.current)
 links_still [] s t off is = (ap (λ (v : Seen). v.links) off, ap (λ (v : Seen). is_some v.current) off)

@@ -6,6 +6,7 @@ use Rattle.calls_apart.specs.Laws.{tokens_in_run}
 use Rattle.channel_actions.specs.Configs.{SeesBuckets, bucket_in, bucket_place, is_same_run, runs_after, runs_in_turn}
 use Rattle.channel_core.specs.Tables.{BucketsSeen, tokens_in}
 use Rattle.other_calls.proofs.Grows.{IsMore}
+use Rattle.other_calls.specs.Laws.{BucketsAreOfRuns}
 use Rattle.session_actions.specs.Words.{numbered}
 use Rattle.session_actions.specs.declared.call.Call.{Call}
 use Rattle.session_actions.specs.declared.config.HeldConfig.{HeldConfig}
@@ -83,3 +84,6 @@ place_by s t (Some n) there more = ap (λ (l : List HeldConfig). length (runs_in
 
 pub place_same : (s t : Seen) (c : Call) → has_config s c ≡ true → IsMore s.configs t.configs → bucket_place t c ≡ bucket_place s c
 place_same s t c there more = place_by s t c.config there more
+
+pub buckets_are_of_runs : BucketsAreOfRuns
+buckets_are_of_runs s b c h there = tokens_same s b c h there

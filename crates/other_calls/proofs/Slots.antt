@@ -22,7 +22,7 @@ use Rattle.session_actions.specs.Sessions.{call_seen}
 use Rattle.session_actions.specs.Words.{numbered}
 use Rattle.session_actions.specs.declared.call.Call.{Call}
 use Rattle.session_actions.specs.declared.seen.Seen.{Seen}
-use Rattle.std.proofs.Common.{Bool, List, None, Option, Some, ap, eqb-true, false, if◌then◌else◌, length, map, option_map, refl, subst, sym, true, ℕ, ◌==◌, ◌∙◌, ◌≡◌}
+use Rattle.std.proofs.Common.{Bool, List, None, Option, Some, [], ap, eqb-true, false, if◌then◌else◌, length, map, option_map, refl, subst, sym, true, ℕ, ◌==◌, ◌∙◌, ◌≡◌}
 use Rattle.take_actions.specs.Serves.{Serves}
 use Rattle.takes_apart.proofs.Served.{deadlines_stay, others_are_due, others_are_served}
 use Rattle.takes_apart.specs.Heard.{IsHeardAlike}

@@ -1,9 +1,13 @@
 -- Every other call agrees as before, whatever happens to one: its slot, its part of the ledger, its attempts, and its places in the channel's sets.
 -- Example: call 2 takes its head. The slot of call 1 still is what the session has of call 1; and a pair of the deadlines that names call 1 is due as before.
-use Rattle.std.specs.Prelude.{Some, false, length, option_map, ℕ, ◌==◌, ◌≡◌}
+use Rattle.std.specs.Prelude.{Some, false, length, option_map, true, ℕ, ◌==◌, ◌≡◌}
+use Rattle.calls_apart.specs.Apart.{has_config, run_number}
+use Rattle.calls_apart.specs.Laws.{tokens_in_run}
 use Rattle.channel_actions.specs.Calls.{HasSlot, SeesCalls}
+use Rattle.channel_actions.specs.Configs.{SeesBuckets, bucket_place}
 use Rattle.channel_actions.specs.Sets.{is_in_bare, is_in_deadlines, is_in_dues, is_in_impatient, is_in_outstanding, is_in_patient, is_in_queue}
 use Rattle.channel_core.specs.States.{StateSeen}
+use Rattle.channel_core.specs.Tables.{BucketsSeen, tokens_in}
 use Rattle.other_calls.specs.Others.{BooksApart, GoesApart, is_of_number}
 use Rattle.session_actions.specs.Sessions.{call_seen}
 use Rattle.session_actions.specs.Words.{numbered}
@@ -49,3 +53,8 @@ pub record SetsApart (number : ℕ) (s t : Seen) : Type 0 where
 
 abbrev pub SetsStay : Type 0
 SetsStay = (number : ℕ) (x : StateSeen) (s t : Seen) → GoesApart number s t → SeesCalls x s → SetsApart number s t
+
+-- the bucket that the channel lends a call is that of the run of its config (gRFC A6, "Throttling Retry Attempts and Hedged RPCs")
+abbrev pub BucketsAreOfRuns : Type 0
+BucketsAreOfRuns =
+    (s : Seen) (b : BucketsSeen) (c : Call) → SeesBuckets b s → has_config s c ≡ true → tokens_in b (bucket_place s c) ≡ tokens_in_run s (run_number c s)

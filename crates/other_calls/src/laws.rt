@@ -1,5 +1,5 @@
 // What an action of one call leaves of every other one, along a list of actions; nothing runs.
-ghost use Rattle.other_calls.specs.Laws.{AllCallsStay, CallsStay, ColumnsStay, OthersAreSame, RowsStay, SetsStay};
+ghost use Rattle.other_calls.specs.Laws.{AllCallsStay, BucketsAreOfRuns, CallsStay, ColumnsStay, OthersAreSame, RowsStay, SetsStay};
 
 /// The slot of every other call agrees as before.
 pub fn calls_stay()
@@ -17,4 +17,9 @@ pub fn others_are_same()
 /// What the channel's sets say of other calls is as before.
 pub fn sets_stay()
     ensures { SetsStay }
+{}
+
+/// A call is lent the bucket of the run of its config (gRFC A6, "Throttling Retry Attempts and Hedged RPCs").
+pub fn buckets_are_of_runs()
+    ensures { BucketsAreOfRuns }
 {}

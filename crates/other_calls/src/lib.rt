@@ -3,4 +3,4 @@
 
 mod laws;
 
-pub use laws::{calls_stay, others_are_same, sets_stay};
+pub use laws::{buckets_are_of_runs, calls_stay, others_are_same, sets_stay};
