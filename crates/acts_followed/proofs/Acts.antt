@@ -10,9 +10,8 @@ use Rattle.call_core.specs.declared.act.CallAct.TheVariants as act
 use Rattle.call_core.specs.declared.live.LiveRow.{LiveRow}
 use Rattle.channel_core.specs.Books.{link_of}
 use Rattle.channel_core.specs.States.{StateSeen}
-use Rattle.channel_core.specs.Steps.{act_done, acts_done, cut_on, is_gone, reset_on, stamped_gone, with_ledger_links}
+use Rattle.channel_core.specs.Steps.{act_done, acts_done, cut_on, is_gone, reset_on, with_ledger_links}
 use Rattle.channel_core.specs.Tables.{numbered}
-use Rattle.channel_core.specs.declared.state.links.LinkSlot.{LinkSlot}
 use Rattle.ledger_stamps.specs.Steps.{changed_at, gone_link}
 use Rattle.picker_gate.specs.Pairs.{is_same}
 use Rattle.std.specs.Set.{remove_key}

@@ -1,22 +1,20 @@
 -- The end of a call, followed by the whole channel.
-use Rattle.std.proofs.Common.{◌≡◌, ◌-◌, ◌∷◌, ◌++◌, not, ap, arith, refl, subst, sym, ◌∙◌, Bool, true, false, List, [], Option, None, Some, ℕ, zero, suc, if◌then◌else◌, is_none, is_some, map, slice_get, slice_set}
+use Rattle.std.proofs.Common.{◌≡◌, ◌-◌, ◌∷◌, ◌++◌, not, ap, arith, refl, sym, ◌∙◌, List, [], Option, None, Some, ℕ, zero, suc, if◌then◌else◌, is_none, is_some, map, slice_get, slice_set}
 use Rattle.std.specs.List.{AllByRecursion}
 use Rattle.std.specs.Set.{remove_key}
 use Rattle.acts_followed.proofs.Acts.{IsDone, LinkIn, acts_form, all_done, done_append, given, link_list, links_of, parts_of, told_is}
 use Rattle.acts_followed.specs.Followed.{all_closed, all_given_up, all_out_gone, all_queue_gone, call_closed, call_lent, closed_in, followed_by_end, slot_closed}
 use Rattle.acts_followed.specs.Laws.{CanEnd, EndsAreFollowed, IsLinked, LinkIs}
-use Rattle.attempt_ledger.specs.declared.ledger.Ledger.{Ledger}
 use Rattle.attempt_ledger.specs.declared.ledger.LinkSeen.{LinkSeen}
-use Rattle.call_core.specs.Steps.{Stepped, closed_by, deadline_at, ended_as, next_due, told_all}
+use Rattle.call_core.specs.Steps.{Stepped, closed_by, deadline_at, ended_as, next_due}
 use Rattle.call_core.specs.declared.act.CallAct.{CallAct}
 use Rattle.call_core.specs.declared.act.CallAct.TheVariants as act
 use Rattle.call_core.specs.declared.live.LiveRow.{LiveRow}
-use Rattle.channel_core.specs.Books.{BookActs, book_asked, deadline_of, due_at, placed_in_book, slot_at, timers_set}
+use Rattle.channel_core.specs.Books.{BookActs, book_asked, deadline_of, due_at, slot_at}
 use Rattle.channel_core.specs.States.{StateSeen}
 use Rattle.channel_core.specs.Steps.{acts_done, call_asked, closed, links_sealed, sealed, sealed_one, timers_moved_to, with_book}
-use Rattle.channel_core.specs.Tables.{acted_as, changed_slot, numbered, sealed_in, tokens_in, with_call, with_timers}
+use Rattle.channel_core.specs.Tables.{changed_slot, numbered, sealed_in, with_call, with_timers}
 use Rattle.channel_core.specs.Timing.{timer_moved}
-use Rattle.channel_core.specs.declared.state.book.Book.{Book}
 use Rattle.channel_core.specs.declared.state.links.LinkSlot.{LinkSlot}
 use Rattle.channel_core.specs.declared.state.slots.CallSlot.{CallSlot}
 use Rattle.grpc_base.specs.declared.event.EndCause.{EndCause}

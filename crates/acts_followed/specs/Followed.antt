@@ -2,12 +2,11 @@
 -- pick leaves the queue; the call waits for no config; and its timers go. What was queued on links is closed.
 -- Example: call 1 has the rows 1 and 3 on link 2, and row 4 in the queue. Link 2 gives up 1 and 3, and is closed; (2, 1) and (2, 3) are no longer outstanding; and the
 -- queue has (1, 4) no more.
-use Rattle.std.specs.Prelude.{List, None, Option, Some, [], ℕ, ◌-◌, ◌∷◌, ◌≡◌, slice_set}
+use Rattle.std.specs.Prelude.{List, None, Option, Some, [], ℕ, ◌-◌, ◌∷◌, slice_set}
 use Rattle.std.specs.Set.{remove_key}
 use Rattle.attempt_ledger.specs.declared.ledger.Ledger.{Ledger}
 use Rattle.call_core.specs.Steps.{Stepped, closed_by, lent}
 use Rattle.call_core.specs.declared.live.LiveRow.{LiveRow}
-use Rattle.channel_core.specs.Books.{slot_at}
 use Rattle.channel_core.specs.States.{StateSeen}
 use Rattle.channel_core.specs.Tables.{reset_in, sealed_in, tokens_in}
 use Rattle.channel_core.specs.Timing.{timer_moved}

@@ -3,7 +3,6 @@
 use Rattle.std.specs.List.{AllByRecursion}
 use Rattle.std.specs.Prelude.{None, Option, Some, [], ℕ, ◌≡◌}
 use Rattle.acts_followed.specs.Followed.{call_closed, followed_by_end}
-use Rattle.attempt_ledger.specs.declared.row.Row.{Row}
 use Rattle.call_core.specs.declared.live.LiveRow.{LiveRow}
 use Rattle.channel_core.specs.Books.{link_of, slot_at}
 use Rattle.channel_core.specs.States.{StateSeen}

@@ -1,5 +1,5 @@
 -- The end of a call with its cuts and resets is of that call alone, and no bucket counts it.
-use Rattle.std.proofs.Common.{◌≡◌, ◌&&◌, ◌==◌, ◌∷◌, ◌++◌, not, ap, refl, subst, sym, ◌∙◌, Bool, true, false, List, [], Option, None, Some, ℕ, if◌then◌else◌, is_some, map}
+use Rattle.std.proofs.Common.{◌≡◌, ◌&&◌, ◌==◌, ◌∷◌, ◌++◌, not, ap, refl, subst, sym, ◌∙◌, Bool, true, List, [], Option, None, Some, ℕ, if◌then◌else◌, is_some, map}
 use Rattle.std.proofs.lemmas.Bool.{eq-eqb}
 use Rattle.std.specs.Option.{option_and_then, option_map, option_map_or}
 use Rattle.a6_numbers.specs.Throttling.{Bucket}
@@ -10,7 +10,7 @@ use Rattle.call_ends.proofs.On.{are_cut, next, on, resets, t, their}
 use Rattle.call_ends.specs.Ends.{EndsNext}
 use Rattle.calls_apart.proofs.Books.{books_stay, tokens_stay}
 use Rattle.calls_apart.proofs.Fair.{lines_are_fair}
-use Rattle.calls_apart.specs.Apart.{IsBook, IsFair, acts_on, counts_in, run_counting, run_number}
+use Rattle.calls_apart.specs.Apart.{IsBook, IsFair, counts_in, run_counting, run_number}
 use Rattle.calls_apart.specs.Laws.{tokens_in_run}
 use Rattle.channel_actions.specs.Configs.{SeesBuckets, bucket_in, runs_in_turn}
 use Rattle.channel_core.specs.States.{StateSeen}
@@ -96,10 +96,10 @@ module _ (waits : Line → Bool) (n : ℕ) (o : OpenEntry) (b : Seen) (base : Is
   our_cuts : (cuts : List Action) (v t : Seen) → IsMid waits n o b v → AreCut n cuts v t → AreOurs n cuts v
   our_cuts [] v t is are = tt
   our_cuts (act ∷ cuts) v t is are =
-      let one : IsOneCut n v act o = one_cut n v act o is.left.done is.book.places is.current are.0 in
-      ( our_cut waits n o b v base act one
-      , subst (AreOurs n cuts) (sym one.does)
-        (our_cuts cuts (cut_off one.attempt v) t (mid_cut waits n o b v base is act one) (subst (λ (z : Seen). AreCut n cuts z t) one.does are.1))
+      let one : IsOneCut n v act o = one_cut n v act o is.left.done is.book.places is.current are.0 in (
+        our_cut waits n o b v base act one,
+        subst (AreOurs n cuts) (sym one.does)
+            (our_cuts cuts (cut_off one.attempt v) t (mid_cut waits n o b v base is act one) (subst (λ (z : Seen). AreCut n cuts z t) one.does are.1)),
       )
 
   our_resets : (acts : List Action) (v u : Seen) → IsReset waits n o b v → AreReset acts v u → AreOurs n acts v
@@ -140,7 +140,7 @@ module _ (waits : Line → Bool) (n : ℕ) (why : EndCause) (x : StateSeen) (o :
   abbrev acts : List Action
   acts = cuts ++ (resets waits n why x o s is).actions
 
-  has_cut : HasCut waits is.late n o (call_ended n why s) (base waits n why o s to) (call_ended n why s) (t waits n why x o s is) cuts
+  pub has_cut : HasCut waits is.late n o (call_ended n why s) (base waits n why o s to) (call_ended n why s) (t waits n why x o s is) cuts
   has_cut =
       cut_all waits n why o s to (t waits n why x o s is) u cuts (resets waits n why x o s is).actions (are_cut waits n why x o s is) (resets waits n why x o s is).resets
 
@@ -156,10 +156,10 @@ module _ (waits : Line → Bool) (n : ℕ) (why : EndCause) (x : StateSeen) (o :
       (resets waits n why x o s is).resets)
 
   ours : AreOurs n (action.CallEnds n why ∷ acts) s
-  ours =
-      ( record { of = record { acts = eq-eqb n n refl; passes = λ c at off. refl }; counts = refl; runs = ap (λ (z : Seen). z.runs) after_end }
-      , subst (AreOurs n acts) (sym after_end) rest_ours
-      )
+  ours = (
+    record { of = record { acts = eq-eqb n n refl; passes = λ c at off. refl }; counts = refl; runs = ap (λ (z : Seen). z.runs) after_end },
+    subst (AreOurs n acts) (sym after_end) rest_ours,
+  )
 
   booked : (v : Seen) → IsKept v → IsBooked v
   booked v k = record { book = k.book; owned = k.owned; reads = k.reads }

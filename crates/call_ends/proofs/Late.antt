@@ -5,22 +5,19 @@ use Rattle.std.specs.Option.{option_map}
 use Rattle.attempt_ledger.specs.declared.ledger.CallEnd.{CallEnd}
 use Rattle.call_core.specs.Steps as call
 use Rattle.call_core.specs.Steps.{Stepped, lent}
-use Rattle.call_ends.specs.Laws.{IsLateCancel, LateCancels}
+use Rattle.call_ends.specs.Laws.{LateCancels}
 use Rattle.channel_actions.proofs.Answering.{refused_so}
 use Rattle.channel_actions.proofs.Dialling.{unshut_by}
 use Rattle.channel_actions.specs.Agrees.{Agrees}
 use Rattle.channel_actions.specs.Calls.{HasSlot}
-use Rattle.channel_actions.specs.Calm.{IsAt}
-use Rattle.channel_actions.specs.Stages.{IsAnswered}
 use Rattle.channel_core.specs.Applying as channel
 use Rattle.channel_core.specs.Applying.{AnswersBy}
 use Rattle.channel_core.specs.Arrivals.{cancelled}
 use Rattle.channel_core.specs.Books.{BookActs, book_asked, deadline_of, due_at, placed_in_book, slot_at, timers_set}
 use Rattle.channel_core.specs.States.{StateSeen}
-use Rattle.channel_core.specs.Steps.{call_asked, links_sealed, resets_taken, sealed, timers_moved_to, with_book}
+use Rattle.channel_core.specs.Steps.{call_asked, links_sealed, sealed, timers_moved_to, with_book}
 use Rattle.channel_core.specs.Tables.{acted_as, cancel_reply_of, tokens_in, with_timers}
 use Rattle.channel_core.specs.Timing.{is_same_moment, timer_moved, timer_off, timer_on}
-use Rattle.channel_core.specs.declared.state.book.Book.{Book}
 use Rattle.channel_core.specs.declared.state.slots.CallSlot.{CallSlot}
 use Rattle.grpc_base.specs.declared.event.EndCause.{EndCause}
 use Rattle.grpc_base.specs.declared.event.EndCause.TheVariants as ending
@@ -28,19 +25,14 @@ use Rattle.grpc_base.specs.declared.event.Event.{Event}
 use Rattle.grpc_base.specs.declared.event.Event.TheVariants as event
 use Rattle.grpc_base.specs.declared.event.Refusal.{Refusal}
 use Rattle.grpc_base.specs.declared.event.Refusal.TheVariants as refusal
-use Rattle.grpc_base.specs.declared.event.Reply.{Reply}
 use Rattle.grpc_base.specs.declared.event.Reply.TheVariants as reply
-use Rattle.session_actions.specs.CallEnds.{next_deadline}
 use Rattle.session_actions.specs.Configs.{deadline}
 use Rattle.session_actions.specs.DueAttempts.{next_due}
 use Rattle.session_actions.specs.Events.{event_action, event_action_by}
 use Rattle.session_actions.specs.Refusals.{cancel_refusal, refusal_of, refused_if}
 use Rattle.session_actions.specs.Words.{numbered}
-use Rattle.session_actions.specs.declared.action.Action.{Action}
 use Rattle.session_actions.specs.declared.action.Action.TheVariants as action
 use Rattle.session_actions.specs.declared.call.Call.{Call}
-use Rattle.session_actions.specs.declared.entry.OpenEntry.{OpenEntry}
-use Rattle.session_actions.specs.declared.entry.Stage.TheVariants as stage
 use Rattle.session_actions.specs.declared.seen.Seen.{Seen}
 use Rattle.set_frames.proofs.Slots.{asked_is, changed_slot_is}
 

@@ -1,5 +1,5 @@
 -- A call ends in the channel: what it does to links is what the session's cuts do, and the rest of the channel is as before.
-use Rattle.std.proofs.Common.{◌≡◌, ◌+◌, ◌∷◌, ◌&&◌, ◌||◌, ◌==◌, not, ap, refl, subst, sym, ◌∙◌, Bool, true, false, List, [], Option, None, Some, ℕ, suc, cond, filter, find, if◌then◌else◌, is_none, is_some, length, map, nat_lt, slice_get}
+use Rattle.std.proofs.Common.{◌≡◌, ◌+◌, ◌∷◌, ◌&&◌, ◌||◌, ◌==◌, not, ap, refl, subst, sym, ◌∙◌, Bool, true, false, List, [], Option, None, Some, ℕ, suc, cond, filter, find, if◌then◌else◌, is_none, is_some, length, map, slice_get}
 use Rattle.std.proofs.lemmas.Bool.{eqb-false, eqb-true}
 use Rattle.std.specs.List.{AllByRecursion}
 use Rattle.std.specs.Option.{option_map, option_map_or}
@@ -17,8 +17,10 @@ use Rattle.call_actions.specs.Sees.{is_live, live_row}
 use Rattle.call_core.specs.Parts.{count_of, cut_end, read_of}
 use Rattle.call_core.specs.Steps.{Stepped, cut_all, cut_row, ended_as}
 use Rattle.call_core.specs.declared.live.LiveRow.{LiveRow}
+use Rattle.call_ends.proofs.Alone.{buckets_on, goes_apart}
 use Rattle.call_ends.proofs.On.{ends_go_on}
-use Rattle.call_ends.specs.Ends.{AgreesApart, EndsNext, EndsOn}
+use Rattle.call_ends.proofs.Sets.{timers_agree}
+use Rattle.call_ends.specs.Ends.{AgreesApart, EndsNext, EndsOn, TimersAgree}
 use Rattle.call_ends.specs.Laws.{EndsAgree}
 use Rattle.channel_actions.specs.Calls.{HasSlot}
 use Rattle.channel_actions.specs.Clock.{DrawsAlike, SeesClock}
@@ -39,7 +41,7 @@ use Rattle.grpc_base.specs.declared.event.Entry.{Entry}
 use Rattle.ledger_stamps.specs.Steps.{changed_at, ended_row}
 use Rattle.link_ends.specs.Cuts.{links_closed, links_cut}
 use Rattle.link_ends.specs.Laws.{with_cuts}
-use Rattle.session_actions.specs.Attempts.{is_of, is_outstanding, is_over, is_queued}
+use Rattle.session_actions.specs.Attempts.{is_of, is_outstanding, is_over}
 use Rattle.session_actions.specs.Entries.{entry, last_moment}
 use Rattle.session_actions.specs.Links.{link_number}
 use Rattle.session_actions.specs.Policies.{is_current}
@@ -246,7 +248,7 @@ module _ (waits : Line → Bool) (n : ℕ) (why : EndCause) (x : StateSeen) (o :
   links_on = record {
     count = on.links.count ∙ ap (λ (ls : List LinkSlot). length ls) (sym links_are);
     each = λ number l at. let h : HasLink (with_cuts on.cuts x) u l number = on.links.each number l at in
-            record { slot = h.slot; there = ap (λ (ls : List LinkSlot). numbered ls number) links_are ∙ h.there; sees = h.sees };
+        record { slot = h.slot; there = ap (λ (ls : List LinkSlot). numbered ls number) links_are ∙ h.there; sees = h.sees };
   }
 
   current_same : u.current ≡ s.current
@@ -280,9 +282,14 @@ module _ (waits : Line → Bool) (n : ℕ) (why : EndCause) (x : StateSeen) (o :
     policy = λ some going. ap (λ (ps : List PolicyUse). is_some (find is_current ps)) on.rest.policies ∙ is.agrees.configs.policy some (sym on.rest.shut ∙ going);
   }
 
+  timers_on : TimersAgree w u
+  timers_on =
+      let k = timers_agree waits n why x o s is on.kept in
+      record { dues = k.dues; deadlines = k.deadlines; bare = k.bare; impatient = k.impatient }
+
   pub agree : AgreesApart y u
   agree = subst (λ (z : StateSeen). AgreesApart z u) (sym whole)
-      (record { clock = clock_on; configs = configs_on; links = links_on; net = on.net; orderly = is.agrees.orderly; resets = is.agrees.sets.resets; kept = on.kept })
+      (record { clock = clock_on; configs = configs_on; buckets = buckets_on waits n why x o s is; links = links_on; net = on.net; timers = timers_on; orderly = is.agrees.orderly; resets = is.agrees.sets.resets; kept = on.kept })
 
 pub ends_agree : EndsAgree
-ends_agree waits n why x o s is = record { on = on waits n why x o s is; agrees = agree waits n why x o s is }
+ends_agree waits n why x o s is = record { on = on waits n why x o s is; apart = goes_apart waits n why x o s is (on waits n why x o s is).kept; agrees = agree waits n why x o s is }

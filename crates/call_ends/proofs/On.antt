@@ -1,10 +1,10 @@
 -- A call ends, with its cuts and resets: the session, the links and the net.
-use Rattle.std.proofs.Common.{◌≡◌, ◌&&◌, ◌==◌, ◌∷◌, ◌++◌, ap, refl, subst, sym, ◌∙◌, Bool, true, false, List, [], Option, None, Some, ℕ, filter, if◌then◌else◌, is_some}
+use Rattle.std.proofs.Common.{◌≡◌, ◌&&◌, ◌==◌, ◌∷◌, ◌++◌, ap, refl, subst, ◌∙◌, Bool, true, false, List, [], Option, None, Some, ℕ, filter, if◌then◌else◌, is_some}
 use Rattle.std.proofs.lemmas.Bool.{both_ways}
 use Rattle.std.specs.List.{list_any}
 use Rattle.std.specs.Option.{option_and_then, option_map, option_or}
 use Rattle.std.specs.Prelude.{option_to_list}
-use Rattle.call_core.specs.Steps.{Stepped, closed_by}
+use Rattle.call_core.specs.Steps.{closed_by}
 use Rattle.call_ends.specs.Ends.{EndsNext, EndsOn}
 use Rattle.call_ends.specs.Laws.{EndsGoOn}
 use Rattle.channel_actions.proofs.Does.{none_on}
@@ -24,7 +24,7 @@ use Rattle.link_ends.proofs.Ends.{calls_end_off_links, cuts_are_reset}
 use Rattle.link_ends.specs.Laws.{AreResetToo, with_cuts}
 use Rattle.net_frames.proofs.Left.{same_nets_agree}
 use Rattle.session_actions.specs.Actions.{after, after_if}
-use Rattle.session_actions.specs.AttemptEnds.{cut, cut_end, end_of, next_reset, reset_code_of, reset_of}
+use Rattle.session_actions.specs.AttemptEnds.{cut, cut_end, end_of, reset_code_of, reset_of}
 use Rattle.session_actions.specs.Attempts.{is_outstanding, is_over}
 use Rattle.session_actions.specs.CallEnds.{call_ended}
 use Rattle.session_actions.specs.Entries.{now}

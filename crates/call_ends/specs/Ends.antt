@@ -4,8 +4,9 @@
 use Rattle.std.specs.Prelude.{Bool, List, None, Some, [], false, filter, true, ◌∷◌, ◌≡◌, ℕ}
 use Rattle.channel_actions.specs.Agrees.{Agrees}
 use Rattle.channel_actions.specs.Clock.{SeesClock}
-use Rattle.channel_actions.specs.Configs.{SeesConfigs}
+use Rattle.channel_actions.specs.Configs.{SeesBuckets, SeesConfigs}
 use Rattle.channel_actions.specs.Links.{SeesLinks}
+use Rattle.channel_actions.specs.Sets.{AreExactly, is_in_bare, is_in_deadlines, is_in_dues, is_in_impatient}
 use Rattle.channel_core.specs.States.{StateSeen}
 use Rattle.channel_core.specs.Steps.{closed}
 use Rattle.grpc_base.specs.declared.event.EndCause.{EndCause}
@@ -15,6 +16,7 @@ use Rattle.kept_sessions.specs.Kept.{IsKept}
 use Rattle.link_ends.specs.Laws.{with_cuts}
 use Rattle.net_actions.specs.Runs.{IsOfCalls}
 use Rattle.net_actions.specs.Sees.{Sees}
+use Rattle.other_calls.specs.Others.{GoesApart}
 use Rattle.session_actions.specs.Actions.{following}
 use Rattle.session_actions.specs.CallEnds.{call_ended}
 use Rattle.session_actions.specs.Laws.{posted_in}
@@ -62,18 +64,29 @@ pub record EndsOn (waits : Line → Bool) (number : ℕ) (why : EndCause) (x : S
   pub links : SeesLinks (with_cuts cuts x) seen
   pub net : Sees seen x.net
 
--- what agrees then: all but the columns of the ledger, the buckets, the calls and their sets
+-- the moments for which calls wait, and the calls without a config
+pub record TimersAgree (y : StateSeen) (s : Seen) : Type 0 where
+  pub dues : AreExactly y.dues (is_in_dues s)
+  pub deadlines : AreExactly y.deadlines (is_in_deadlines s)
+  pub bare : AreExactly y.bare (is_in_bare s)
+  pub impatient : AreExactly y.impatient (is_in_impatient s)
+
+-- what agrees then: all but the columns of the ledger, the slots of calls, and the sets of rows; and what happened was of this call alone, so that all that is of another one
+-- is as before (`other_calls`)
 pub record AgreesApart (y : StateSeen) (s : Seen) : Type 0 where
   pub clock : SeesClock y s
   pub configs : SeesConfigs y s
+  pub buckets : SeesBuckets y.book.buckets s
   pub links : SeesLinks y s
   pub net : Sees s y.net
   pub orderly : IsOfCalls y.net
+  pub timers : TimersAgree y s
   pub resets : y.resets ≡ []
   pub kept : IsKept s
 
 pub record EndsApart (waits : Line → Bool) (number : ℕ) (why : EndCause) (x : StateSeen) (o : OpenEntry) (s : Seen) : Type 0 where
   pub on : EndsOn waits number why x o s
+  pub apart : GoesApart number s on.seen
   pub agrees : AgreesApart (closed why number x) on.seen
 
 -- the session after it: in the same entry, at the same stage, with nothing that follows at once but what these lines give

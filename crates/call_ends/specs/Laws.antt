@@ -21,7 +21,7 @@ abbrev pub EndsGoOn : Type 0
 EndsGoOn =
     (waits : Line → Bool) (number : ℕ) (why : EndCause) (x : StateSeen) (o : OpenEntry) (s : Seen) → EndsNext waits number why x o s → EndsOn waits number why x o s
 
--- and the channel, which does it at once, agrees with it in all but the calls and what they change of the ledger, the buckets and the sets
+-- and the channel, which does it at once, agrees with it in all but the calls, their columns of the ledger and their sets; all that is of another call is as before
 abbrev pub EndsAgree : Type 0
 EndsAgree =
     (waits : Line → Bool) (number : ℕ) (why : EndCause) (x : StateSeen) (o : OpenEntry) (s : Seen) → EndsNext waits number why x o s → EndsApart waits number why x o s
@@ -55,6 +55,10 @@ LateCancels = EventsAnswered IsLateCancel
 
 abbrev pub OpenCancels : Type 0
 OpenCancels = EventsAnswered IsOpenCancel
+
+-- it stands on the end of one call
+abbrev pub CancelsStand : Type 0
+CancelsStand = OneCallEnds → OpenCancels
 
 -- calls end whose deadline has come
 pub record IsOverdue (x : StateSeen) (s : Seen) : Type 0 where

@@ -3,4 +3,4 @@
 
 mod laws;
 
-pub use laws::{ends_go_on, late_cancels_are_refused};
+pub use laws::{cancels_stand, ends_go_on, late_cancels_are_refused};

@@ -3,7 +3,6 @@ use Rattle.std.proofs.Common.{◌≡◌, ◌||◌, ◌&&◌, ◌∷◌, not, ap,
 use Rattle.std.proofs.lemmas.Bool.{and_parts}
 use Rattle.std.specs.List.{list_all}
 use Rattle.std.specs.Option.{option_or}
-use Rattle.attempt_ledger.specs.Throttling.{codes_of}
 use Rattle.attempt_ledger.specs.declared.row.RowEnd.{RowEnd}
 use Rattle.call_actions.specs.Order.{is_own_mark}
 use Rattle.calls_apart.proofs.Kept.{commitment_same, counted_same, due_same, last_same, licensed_same, live_one, made_same, plan_same}

@@ -1,14 +1,13 @@
 -- The next cut of a call that has ended is the first of its attempts that is outstanding; and after it the others are left.
-use Rattle.std.proofs.Common.{◌≡◌, ◌||◌, ◌&&◌, ◌==◌, ◌∷◌, not, ap, arith, refl, subst, sym, ◌∙◌, Bool, true, false, List, [], Option, None, Some, ℕ, ◌+◌, zero, suc, cond, filter, if◌then◌else◌, is_none, is_some, map, slice_get, slice_set}
-use Rattle.std.proofs.lemmas.Bool.{and_parts, eqb-true}
-use Rattle.std.specs.Option.{option_map, option_map_or, option_or}
-use Rattle.attempt_ledger.specs.declared.ledger.CallEnd.{CallEnd}
+use Rattle.std.proofs.Common.{◌≡◌, ◌||◌, ◌&&◌, ◌==◌, ◌∷◌, not, ap, arith, refl, sym, ◌∙◌, Bool, true, false, List, [], Option, None, Some, ℕ, ◌+◌, zero, suc, cond, filter, if◌then◌else◌, is_some, slice_get, slice_set}
+use Rattle.std.proofs.lemmas.Bool.{eqb-true}
+use Rattle.std.specs.Option.{option_map, option_or}
 use Rattle.attempt_ledger.specs.declared.row.RowEnd.{RowEnd}
 use Rattle.call_actions.specs.Order.{AreNumbered}
-use Rattle.ends_follow.specs.Cuts.{AreCutOff, IsOut, cut_off}
+use Rattle.ends_follow.specs.Cuts.{IsOut, cut_off}
 use Rattle.ends_follow.specs.Laws.{is_out_of}
 use Rattle.session_actions.specs.Actions.{after, after_if}
-use Rattle.session_actions.specs.AttemptEnds.{attempt_ended, cut, cut_end, end_of, with_end}
+use Rattle.session_actions.specs.AttemptEnds.{cut, cut_end, end_of, with_end}
 use Rattle.session_actions.specs.Attempts.{call_of, commitment, is_outstanding, is_over, is_over_in}
 use Rattle.session_actions.specs.Entries.{entry, now}
 use Rattle.session_actions.specs.Tokens.{run_of, tokens_in}

@@ -1,13 +1,12 @@
 -- A call ends, its attempts are cut off, and their streams are reset: each of these is the next action.
-use Rattle.std.proofs.Common.{◌≡◌, ◌||◌, ◌&&◌, ◌==◌, ◌∷◌, ◌++◌, ap, refl, subst, sym, ◌∙◌, Bool, true, false, List, [], Option, None, Some, ℕ, zero, suc, cond, filter, if◌then◌else◌, is_none, is_some, nat_lt, option_map, slice_get}
-use Rattle.std.proofs.lemmas.Bool.{and_parts, and_right, both_ways, eqb-false, or_parts}
+use Rattle.std.proofs.Common.{◌≡◌, ◌||◌, ◌&&◌, ◌==◌, ◌∷◌, ◌++◌, ap, refl, subst, sym, ◌∙◌, Bool, true, false, List, [], Option, None, Some, ℕ, zero, suc, cond, filter, if◌then◌else◌, is_some, nat_lt, option_map, slice_get}
+use Rattle.std.proofs.lemmas.Bool.{and_parts, both_ways, eqb-false, or_parts}
 use Rattle.std.specs.List.{list_all, list_any}
 use Rattle.std.specs.Option.{option_or}
-use Rattle.attempt_ledger.specs.declared.ledger.CallEnd.{CallEnd}
 use Rattle.calls_apart.proofs.Books.{books_stay}
 use Rattle.calls_apart.specs.Apart.{IsBook}
 use Rattle.calls_in_turn.proofs.Posts.{ends_keep}
-use Rattle.calls_in_turn.specs.Turns.{IsSteady, StaysInOrder, StaysSteady, waits as waits_for}
+use Rattle.calls_in_turn.specs.Turns.{StaysInOrder, StaysSteady, waits as waits_for}
 use Rattle.ends_follow.proofs.Cuts.{IsOneCut, none_out, one_cut}
 use Rattle.ends_follow.proofs.Stays.{IsBase, IsLeft, uncut}
 use Rattle.ends_follow.proofs.Steps.{IsMid, IsOneReset, IsReset, after_is, call_number, mid_cut, one_reset, reset_mid}
@@ -31,7 +30,7 @@ use Rattle.session_order.proofs.Calms.{first_line_gives}
 use Rattle.session_order.proofs.Changed.{changed_away, changed_map, lookup, passes_not}
 use Rattle.session_order.proofs.Lines.{lines_are_still}
 use Rattle.session_order.specs.Calm.{IsStill, is_to_cut, is_to_reset}
-use Rattle.session_order.specs.Lines.{is_before, is_line, rank}
+use Rattle.session_order.specs.Lines.{is_line, rank}
 use Rattle.session_order.specs.declared.line.Line.{Line}
 use Rattle.session_order.specs.declared.line.Line.TheVariants as line
 use Rattle.take_actions.specs.Cuts.{AreCut, next_cut_of}

@@ -1,41 +1,23 @@
 -- What stays while the attempts of a call that has ended are cut off and their streams are reset: every other call, and every line but those of cuts and resets.
-use Rattle.std.proofs.Common.{◌≡◌, ◌||◌, ◌&&◌, ◌==◌, ◌∷◌, not, ap, refl, subst, sym, ◌∙◌, Bool, true, false, List, [], Option, None, Some, ℕ, filter, if◌then◌else◌, is_none, is_some, option_map, slice_get}
-use Rattle.std.proofs.lemmas.Bool.{and_parts, and_right, both_ways, eq-eqb, eqb-false, eqb-true}
+use Rattle.std.proofs.Common.{◌≡◌, ◌&&◌, ◌==◌, ap, refl, sym, ◌∙◌, Bool, true, false, Option, None, Some, ℕ, is_none, is_some}
+use Rattle.std.proofs.lemmas.Bool.{eq-eqb, eqb-true}
 use Rattle.std.specs.List.{list_all, list_any}
-use Rattle.attempt_ledger.specs.declared.row.RowEnd.{RowEnd}
-use Rattle.call_actions.specs.Order.{IsInOrder, is_own_mark}
-use Rattle.calls_apart.proofs.Acts.{apart_joins, others_stay}
-use Rattle.calls_apart.proofs.Books.{books_stay}
+use Rattle.call_actions.specs.Order.{is_own_mark}
 use Rattle.calls_apart.proofs.Kept.{over_same, wants_same}
-use Rattle.calls_apart.specs.Apart.{IsApart, IsBook, IsFair}
-use Rattle.calls_in_turn.proofs.Rows.{ending_keeps}
-use Rattle.calls_in_turn.specs.Turns.{StaysSteady}
+use Rattle.calls_apart.specs.Apart.{IsApart}
 use Rattle.ends_follow.proofs.Apart.{final_in_same, holds_at, row_same}
-use Rattle.ends_follow.proofs.Codes.{ended_code, reset_code}
-use Rattle.ends_follow.proofs.Cuts.{IsDone, IsOneCut}
-use Rattle.ends_follow.specs.Cuts.{IsOut, cut_off}
-use Rattle.link_actions.specs.Sees.{ArePlaced}
-use Rattle.session_actions.specs.Actions.{after}
-use Rattle.session_actions.specs.AttemptEnds.{attempt_ended, cut_end, end_of, reset_code_of, stream_reset, stream_reset_of, with_end, with_reset_queued}
-use Rattle.session_actions.specs.Attempts.{is_of, is_outstanding, is_over, is_to_follow, wants_follower, wants_follower_by}
+use Rattle.ends_follow.proofs.Cuts.{IsDone}
+use Rattle.session_actions.specs.AttemptEnds.{reset_code_of}
+use Rattle.session_actions.specs.Attempts.{is_of, is_outstanding, wants_follower, wants_follower_by}
 use Rattle.session_actions.specs.CallEnds.{is_over_by_row}
 use Rattle.session_actions.specs.Commitments.{is_final_end, is_final_in}
-use Rattle.session_actions.specs.Words.{changed, holds, is_number, numbered}
-use Rattle.session_actions.specs.declared.action.Action.{Action}
-use Rattle.session_actions.specs.declared.action.Action.TheVariants as action
+use Rattle.session_actions.specs.Words.{holds, numbered}
 use Rattle.session_actions.specs.declared.attempt.Attempt.{Attempt}
 use Rattle.session_actions.specs.declared.call.Call.{Call}
 use Rattle.session_actions.specs.declared.call.Mark.{Mark}
-use Rattle.session_actions.specs.declared.entry.OpenEntry.{OpenEntry}
 use Rattle.session_actions.specs.declared.seen.Seen.{Seen}
-use Rattle.session_order.proofs.AttemptDone.{attempt_leaves}
-use Rattle.session_order.proofs.Changed.{changed_away, changed_here, none_from, passes_not}
-use Rattle.session_order.proofs.StreamResets.{reset_leaves}
-use Rattle.session_order.specs.Calm.{IsStill, is_to_cut}
-use Rattle.session_order.specs.Lines.{is_line}
-use Rattle.session_order.specs.Stirs.{stirs}
-use Rattle.session_order.specs.declared.line.Line.{Line}
-use Rattle.session_order.specs.declared.line.Line.TheVariants as line
+use Rattle.session_order.proofs.Changed.{none_from, passes_not}
+use Rattle.session_order.specs.Calm.{is_to_cut}
 
 -- what the session was where the call had just ended
 pub record IsBase (n : ℕ) (b : Seen) : Type 0 where

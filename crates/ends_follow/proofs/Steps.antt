@@ -1,6 +1,6 @@
 -- One more attempt is cut off, or one more stream is reset: the session is left as it was but for the call.
-use Rattle.std.proofs.Common.{◌≡◌, ◌+◌, ◌||◌, ◌&&◌, ◌==◌, ◌∷◌, not, ap, arith, refl, subst, sym, ◌∙◌, Bool, true, false, List, [], Option, None, Some, ℕ, zero, suc, filter, if◌then◌else◌, is_none, is_some, slice_get}
-use Rattle.std.proofs.lemmas.Bool.{and_right, both_ways, eqb-false, eqb-true}
+use Rattle.std.proofs.Common.{◌≡◌, ◌+◌, ◌&&◌, ◌==◌, ◌∷◌, ap, arith, refl, subst, sym, ◌∙◌, Bool, true, false, List, [], Option, None, Some, ℕ, zero, suc, filter, is_none, is_some, slice_get}
+use Rattle.std.proofs.lemmas.Bool.{both_ways, eqb-false, eqb-true}
 use Rattle.std.proofs.lemmas.Bool.Decides.{nat_tests}
 use Rattle.std.specs.List.{list_any}
 use Rattle.std.specs.Option.{option_and_then, option_map, option_map_or}
@@ -12,17 +12,17 @@ use Rattle.calls_apart.specs.Apart.{AreCalls, IsApart, IsBook}
 use Rattle.calls_in_turn.proofs.Rows.{ending_keeps}
 use Rattle.calls_in_turn.specs.Turns.{StaysSteady, waits as waits_for}
 use Rattle.ends_follow.proofs.Codes.{ended_code, reset_code}
-use Rattle.ends_follow.proofs.Cuts.{IsDone, IsOneCut, place_suc}
+use Rattle.ends_follow.proofs.Cuts.{IsOneCut, place_suc}
 use Rattle.ends_follow.proofs.Stays.{IsBase, IsLeft, final_still, row_still, unfollowed}
 use Rattle.ends_follow.proofs.Streams.{IsForemost, by_stream_order, is_foremost}
 use Rattle.ends_follow.specs.Cuts.{cut_off}
 use Rattle.link_actions.specs.Sees.{ArePlaced}
 use Rattle.session_actions.specs.Actions.{after, after_if}
-use Rattle.session_actions.specs.AttemptEnds.{attempt_ended, cut_end, end_of, next_reset, reset_code_of, reset_of, stream_reset, stream_reset_of, with_end, with_reset_queued}
-use Rattle.session_actions.specs.Attempts.{is_of, is_outstanding, is_to_follow, wants_follower}
+use Rattle.session_actions.specs.AttemptEnds.{cut_end, end_of, next_reset, reset_code_of, reset_of, stream_reset, stream_reset_of, with_end, with_reset_queued}
+use Rattle.session_actions.specs.Attempts.{wants_follower}
 use Rattle.session_actions.specs.Entries.{now}
 use Rattle.session_actions.specs.Links.{is_stream_before}
-use Rattle.session_actions.specs.Words.{changed, foremost, holds, is_number, numbered}
+use Rattle.session_actions.specs.Words.{changed, foremost, is_number, numbered}
 use Rattle.session_actions.specs.declared.action.Action.{Action}
 use Rattle.session_actions.specs.declared.action.Action.TheVariants as action
 use Rattle.session_actions.specs.declared.attempt.Attempt.{Attempt}

@@ -2,14 +2,13 @@
 -- is of the session alone, and of any cause (gRPC, "Core concepts": RPC life cycle; gRFC A6, "When Retries are Valid").
 -- Example: call 1 is cancelled, with the attempts 1 and 2. CallEnds 1, AttemptEnds 1, AttemptEnds 2, StreamReset 1, StreamReset 2: each is the next action, and
 -- after the last of them nothing follows at once. Call 2 is as it was.
-use Rattle.std.specs.List.{list_all, list_any}
-use Rattle.std.specs.Prelude.{Bool, List, None, Some, [], false, filter, is_some, true, ℕ, ◌&&◌, ◌++◌, ◌==◌, ◌∷◌, ◌≡◌}
+use Rattle.std.specs.List.{list_all}
+use Rattle.std.specs.Prelude.{Bool, List, Some, false, filter, is_some, true, ℕ, ◌&&◌, ◌++◌, ◌==◌, ◌∷◌, ◌≡◌}
 use Rattle.call_actions.specs.Order.{IsInOrder, IsInTurn}
 use Rattle.calls_apart.specs.Apart.{IsBook}
 use Rattle.ends_follow.specs.Cuts.{AreCutOff, AreReset}
 use Rattle.grpc_base.specs.declared.event.EndCause.{EndCause}
 use Rattle.session_actions.specs.Actions.{following}
-use Rattle.session_actions.specs.AttemptEnds.{reset_code_of}
 use Rattle.session_actions.specs.Attempts.{call_of, is_outstanding}
 use Rattle.session_actions.specs.CallEnds.{call_ended}
 use Rattle.session_actions.specs.Sessions.{Does}

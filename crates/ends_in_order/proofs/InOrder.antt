@@ -1,18 +1,17 @@
 -- A call that ended, and whose attempts were cut off, is in order.
-use Rattle.std.proofs.Common.{◌≡◌, ◌∷◌, ◌++◌, ◌||◌, ◌&&◌, ◌==◌, nat_lt, append-nil, ap, refl, subst, sym, ◌∙◌, Bool, true, false, List, [], Option, None, Some, ℕ, zero, suc, cond, filter, if◌then◌else◌, is_none, is_some, map, slice_get}
+use Rattle.std.proofs.Common.{◌≡◌, ◌∷◌, ◌&&◌, nat_lt, append-nil, ap, refl, subst, sym, ◌∙◌, Bool, true, false, List, [], Option, None, Some, ℕ, zero, suc, cond, filter, if◌then◌else◌, is_some, map, slice_get}
 use Rattle.std.proofs.lemmas.Bool.{and_parts, both_ways}
 use Rattle.std.proofs.lemmas.List.Folds.{list_all-append}
-use Rattle.std.specs.List.{list_all, list_any}
+use Rattle.std.specs.List.{list_all}
 use Rattle.std.specs.Option.{option_map}
-use Rattle.attempt_ledger.specs.declared.row.RowEnd.{RowEnd}
 use Rattle.call_actions.specs.Order.{AreNumbered, IsInOrder, is_beyond, is_own_mark}
 use Rattle.call_core.specs.Steps.{Stepped, closed_by}
-use Rattle.calls_apart.proofs.Acts.{IsIn, at_place, in_filter}
+use Rattle.calls_apart.proofs.Acts.{at_place, in_filter}
 use Rattle.ends_in_order.specs.Laws.{EndsInOrder, EndsStayInOrder}
 use Rattle.grpc_base.specs.declared.event.EndCause.{EndCause}
 use Rattle.session_actions.specs.Attempts.{is_of, is_outstanding}
 use Rattle.session_actions.specs.CallEnds.{call_ended}
-use Rattle.session_actions.specs.DueAttempts.{attempts_made, due_state}
+use Rattle.session_actions.specs.DueAttempts.{attempts_made}
 use Rattle.session_actions.specs.Entries.{entry, now}
 use Rattle.session_actions.specs.Words.{holds, numbered}
 use Rattle.session_actions.specs.declared.attempt.Attempt.{Attempt}
@@ -20,16 +19,13 @@ use Rattle.session_actions.specs.declared.call.Call.{Call}
 use Rattle.session_actions.specs.declared.call.Mark.{Mark}
 use Rattle.session_actions.specs.declared.call.MarkKind.{MarkKind}
 use Rattle.session_actions.specs.declared.call.MarkKind.TheVariants as mark
-use Rattle.session_actions.specs.declared.due.DueState.{DueState}
 use Rattle.session_actions.specs.declared.entry.OpenEntry.{OpenEntry}
 use Rattle.session_actions.specs.declared.seen.Seen.{Seen}
 use Rattle.take_actions.proofs.CutAttempts.{end_by_cut, ended_mark, is_cut_off, made_still}
-use Rattle.take_actions.proofs.CutWalk.{Walked}
 use Rattle.take_actions.proofs.EndSees.{all_gone, due_now, end_call, end_seen, final_at, first, own_stamp, serves_ended, tokens_now}
 use Rattle.take_actions.proofs.Ends.{end_walked, point, put}
-use Rattle.take_actions.proofs.Maps.{any_map, holds_map, numbered_each}
+use Rattle.take_actions.proofs.Maps.{any_map, numbered_each}
 use Rattle.take_actions.specs.Cuts.{AreCut}
-use Rattle.take_actions.specs.Laws.{IsEnded}
 use Rattle.take_actions.specs.Serves.{Serves}
 
 all_get : {X : Type 0} (p : X → Bool) (xs : List X) → ((i : ℕ) (x : X) → slice_get xs i ≡ Some x → p x ≡ true) → list_all p xs ≡ true

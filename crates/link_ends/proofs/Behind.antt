@@ -1,16 +1,14 @@
 -- All links while attempts are cut off: each is ahead of the session by the resets of its own.
-use Rattle.std.proofs.Common.{◌≡◌, ◌+◌, ◌∷◌, ◌||◌, ◌&&◌, ◌==◌, not, ap, arith, refl, subst, sym, ◌∙◌, Bool, true, false, List, [], Option, None, Some, ℕ, drop, if◌then◌else◌, is_none, is_some, length, map}
+use Rattle.std.proofs.Common.{◌≡◌, ◌+◌, ◌∷◌, ◌||◌, ◌&&◌, ◌==◌, not, ap, refl, subst, sym, ◌∙◌, Bool, true, false, List, [], Option, None, Some, ℕ, if◌then◌else◌, is_none, is_some, length}
 use Rattle.std.proofs.lemmas.Bool.{and_parts, and_right, eqb-false, eqb-true, or_parts}
 use Rattle.std.specs.List.{list_all, list_any}
 use Rattle.std.specs.Option.{option_map, option_map_or}
 use Rattle.attempt_ledger.specs.declared.row.Placed.{Placed}
 use Rattle.calls_apart.proofs.Moves.{all_changed}
 use Rattle.channel_actions.proofs.Gone.{all_numbered}
-use Rattle.channel_actions.specs.Links.{HasLink, IsGoing, SeesLinkOf, SeesLinks, lines_in}
 use Rattle.channel_actions.specs.Readers as channel
 use Rattle.channel_core.proofs.BookLaws.{number_changed, number_other}
 use Rattle.channel_core.proofs.Resting.{changed_length}
-use Rattle.channel_core.specs.States.{StateSeen}
 use Rattle.channel_core.specs.Tables.{reset_in, reset_link, sealed_in, sealed_link, with_link}
 use Rattle.channel_core.specs.declared.state.links.LinkSlot.{LinkSlot}
 use Rattle.grpc_base.specs.ErrorCodes.{cancel}
@@ -18,26 +16,22 @@ use Rattle.grpc_link.specs.Links.{reader_in}
 use Rattle.grpc_link.specs.Readers.{ReaderSeen}
 use Rattle.grpc_link.specs.declared.readers.TagReader.{TagReader}
 use Rattle.h2_link.specs.Feeds.{Line}
-use Rattle.h2_link.specs.Wire.{Wire}
-use Rattle.kept_sessions.specs.Kept.{AreCounted, IsKept}
 use Rattle.ledger_stamps.specs.Steps.{changed_at}
 use Rattle.link_actions.proofs.Ended.{is_ended}
 use Rattle.link_actions.proofs.Without as lists
-use Rattle.link_actions.proofs.Without.{at_place, places_at}
+use Rattle.link_actions.proofs.Without.{places_at}
 use Rattle.link_actions.specs.Sees.{ArePlaced}
 use Rattle.ends_follow.proofs.Codes.{cut_cancels, ended_code, is_cancel}
 use Rattle.link_ends.proofs.Codes.{with_code}
 use Rattle.link_ends.proofs.Cutting.{cut_elsewhere, cut_here, end_outstanding, is_owed_on, owed_on, owes_same, readers_elsewhere, readers_here}
-use Rattle.ends_follow.proofs.Streams.{none_sorted}
 use Rattle.ends_follow.specs.Cuts.{AreCutOff, AreUnreset, IsOut, cut_off, is_unreset}
 use Rattle.link_ends.specs.Cuts.{links_closed, links_cut}
-use Rattle.reset_actions.proofs.Cuts.{none_is_ahead, seals_keep}
+use Rattle.reset_actions.proofs.Cuts.{seals_keep}
 use Rattle.reset_actions.specs.Ahead.{SeesAhead}
 use Rattle.reset_actions.specs.Laws.{IsCut}
 use Rattle.response_actions.specs.Readers.{IsReaderOf, SeesReaders, attempt_on}
 use Rattle.session_actions.specs.AttemptEnds.{cut_end, end_of, reset_code_of, with_end}
-use Rattle.session_actions.specs.Attempts.{is_outstanding}
-use Rattle.session_actions.specs.Links.{is_retiring, link_number, read_bytes}
+use Rattle.session_actions.specs.Links.{link_number, read_bytes}
 use Rattle.session_actions.specs.Reading.{is_outstanding_on}
 use Rattle.session_actions.specs.Responses.{is_read_by}
 use Rattle.session_actions.specs.Words.{changed, holds, numbered}
@@ -250,11 +244,11 @@ some_map f None = refl
 some_map f (Some x) = refl
 
 links_one : (s : Seen) (a : Attempt) → IsOut s a → ArePlaced 1 s.attempts → ((cut_off a s).links ≡ s.links) × (is_some (cut_off a s).current ≡ is_some s.current)
-links_one s a out places =
-    ( ap (λ (v : Seen). v.links) (is_ended s a.place (end_of a cut_end s) a places out.there)
-    , ap (λ (v : Seen). is_some v.current) (is_ended s a.place (end_of a cut_end s) a places out.there)
-      ∙ some_map (λ (p : OpenEntry). record p { drawn = p.drawn + (if is_some (end_of a cut_end s).word then 1 else 0) }) s.current
-    )
+links_one s a out places = (
+  ap (λ (v : Seen). v.links) (is_ended s a.place (end_of a cut_end s) a places out.there),
+  ap (λ (v : Seen). is_some v.current) (is_ended s a.place (end_of a cut_end s) a places out.there)
+      ∙ some_map (λ (p : OpenEntry). record p { drawn = p.drawn + (if is_some (end_of a cut_end s).word then 1 else 0) }) s.current,
+)
 
 pub links_still : (cuts : List Attempt) (s t : Seen) → AreCutOff cuts s t → IsCutting s → (t.links ≡ s.links) × (is_some t.current ≡ is_some s.current)
 links_still [] s t off is = (ap (λ (v : Seen). v.links) off, ap (λ (v : Seen). is_some v.current) off)

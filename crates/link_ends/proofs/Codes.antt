@@ -1,35 +1,29 @@
 -- The stream of an attempt that is cut off, on a link that goes on, is reset with CANCEL.
-use Rattle.std.proofs.Common.{◌≡◌, ◌+◌, ◌∷◌, ◌||◌, ◌&&◌, ◌==◌, not, ap, refl, subst, sym, ◌∙◌, Bool, true, false, List, [], Option, None, Some, ℕ, if◌then◌else◌, is_none, is_some, length, map, nat_lt}
-use Rattle.std.proofs.lemmas.Bool.{and_parts, and_right, eq-eqb, eqb-true}
+use Rattle.std.proofs.Common.{◌≡◌, ◌∷◌, ◌&&◌, ◌==◌, not, ap, refl, ◌∙◌, Bool, true, false, List, [], Option, None, Some, ℕ, if◌then◌else◌, length, map, nat_lt}
+use Rattle.std.proofs.lemmas.Bool.{and_parts, eq-eqb, eqb-true}
 use Rattle.std.specs.List.{list_all}
-use Rattle.std.specs.Option.{option_and_then, option_map, option_map_or}
+use Rattle.std.specs.Option.{option_and_then, option_map_or}
 use Rattle.attempt_ledger.specs.declared.row.Placed.{Placed}
 use Rattle.attempt_ledger.specs.declared.row.RowEnd.{RowEnd}
 use Rattle.grpc_base.specs.ErrorCodes.{cancel}
-use Rattle.h2_frame.specs.Frames.{FrameSeen}
-use Rattle.h2_frame.specs.Sent.{rst_stream_frame}
 use Rattle.h2_link.specs.Feeds.{Line}
 use Rattle.h2_link.specs.Wire.{Wire}
-use Rattle.link_actions.proofs.Ended.{ended_seen, is_ended}
+use Rattle.link_actions.proofs.Ended.{is_ended}
 use Rattle.link_actions.specs.Sees.{ArePlaced}
 use Rattle.ends_follow.proofs.Codes.{code_for, code_in, entry_by}
 use Rattle.ends_follow.proofs.Streams.{put}
 use Rattle.response_actions.proofs.Counted.{codes_stay, cuts_are_cancelled}
 use Rattle.reset_actions.specs.Ahead.{put_reset}
-use Rattle.session_actions.specs.AttemptEnds.{attempt_ended, code_to_reset, cut_end, end_of, is_framing, is_reset, reset_code_of, stream_reset_of, with_end, with_end_in_run, with_reset_queued}
-use Rattle.session_actions.specs.Attempts.{call_of, is_outstanding}
+use Rattle.session_actions.specs.AttemptEnds.{attempt_ended, code_to_reset, cut_end, end_of, reset_code_of, with_end}
+use Rattle.session_actions.specs.Attempts.{is_outstanding}
 use Rattle.session_actions.specs.Entries.{entry}
-use Rattle.session_actions.specs.Links.{has_written_end, link_number, link_of, read_bytes, stream_number}
+use Rattle.session_actions.specs.Links.{link_of, read_bytes}
 use Rattle.session_actions.specs.Reading.{is_outstanding_on}
-use Rattle.session_actions.specs.Responses.{is_read_by, limit_of_attempt, no_response, response, response_by, response_in, response_on, traffic_of}
-use Rattle.session_actions.specs.Words.{changed, holds, numbered}
+use Rattle.session_actions.specs.Responses.{is_read_by, response}
+use Rattle.session_actions.specs.Words.{holds, numbered}
 use Rattle.session_actions.specs.declared.attempt.Attempt.{Attempt}
-use Rattle.session_actions.specs.declared.config.ThrottleRun.{ThrottleRun}
-use Rattle.session_actions.specs.declared.entry.OpenEntry.{OpenEntry}
 use Rattle.session_actions.specs.declared.link.Link.{Link}
-use Rattle.session_actions.specs.declared.response.Response.{Response}
 use Rattle.session_actions.specs.declared.seen.Seen.{Seen}
-use Rattle.session_order.proofs.Changed.{lookup}
 use Rattle.stream_actions.specs.Laws.{IsOn}
 use Rattle.stream_actions.specs.Sees.{SeesStreams}
 

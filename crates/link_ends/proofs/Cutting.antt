@@ -1,14 +1,11 @@
 -- One link while attempts are cut off, on it or elsewhere: it is ahead of the session by the resets of those that had a stream, in the order of their streams.
 use Rattle.std.proofs.Common.{◌≡◌, ◌+◌, ◌∷◌, ◌||◌, ◌&&◌, ◌==◌, not, ap, arith, refl, subst, sym, ◌∙◌, Bool, true, false, List, [], Option, None, Some, ℕ, zero, suc, cond, filter, if◌then◌else◌, is_none, is_some, map, slice_get, slice_set, unwrap_or}
-use Rattle.std.proofs.lemmas.Bool.{and_parts, and_right, both_ways, eqb-true}
+use Rattle.std.proofs.lemmas.Bool.{both_ways, eqb-true}
 use Rattle.std.proofs.lemmas.Bool.Decides.{nat_tests}
 use Rattle.std.specs.List.{AllByRecursion, list_all}
-use Rattle.std.specs.Option.{option_and_then, option_map, option_map_or}
-use Rattle.attempt_ledger.specs.declared.row.Placed.{Placed}
+use Rattle.std.specs.Option.{option_and_then}
 use Rattle.attempt_ledger.specs.declared.row.RowEnd.{RowEnd}
 use Rattle.channel_actions.proofs.Lines.{AtPlace, all_at_places, all_sorted}
-use Rattle.channel_core.specs.Tables.{reset_link, with_link}
-use Rattle.channel_core.specs.declared.state.links.LinkSlot.{LinkSlot}
 use Rattle.grpc_base.specs.ErrorCodes.{cancel}
 use Rattle.grpc_link.specs.Links.{reader_in, without}
 use Rattle.grpc_link.specs.Readers.{ReaderSeen}
@@ -29,17 +26,16 @@ use Rattle.ends_follow.proofs.Streams.{gains, put, sorted_by, stays_out}
 use Rattle.ends_follow.specs.Cuts.{IsOut, cut_off}
 use Rattle.reset_actions.proofs.Cuts.{cuts_go_ahead}
 use Rattle.reset_actions.proofs.Waits.{waits_are_cut}
-use Rattle.reset_actions.specs.Ahead.{SeesAhead, put_reset}
+use Rattle.reset_actions.specs.Ahead.{put_reset}
 use Rattle.reset_actions.specs.Laws.{IsCut}
 use Rattle.response_actions.proofs.Ended.{ends_keep_readers}
 use Rattle.response_actions.proofs.Taken.{cuts_take_readers}
-use Rattle.response_actions.specs.Readers.{IsReaderOf, SeesReaders, SeesReadersBut, attempt_on}
-use Rattle.session_actions.specs.AttemptEnds.{attempt_ended, cut_end, end_of, reset_code_of, with_end}
-use Rattle.session_actions.specs.Attempts.{is_outstanding}
+use Rattle.response_actions.specs.Readers.{IsReaderOf, SeesReaders, attempt_on}
+use Rattle.session_actions.specs.AttemptEnds.{cut_end, end_of, reset_code_of, with_end}
 use Rattle.session_actions.specs.Links.{link_number, read_bytes, stream_number}
 use Rattle.session_actions.specs.Reading.{is_outstanding_on, outstanding_on}
 use Rattle.session_actions.specs.Responses.{is_read_by}
-use Rattle.session_actions.specs.Words.{changed, changed_if, holds, numbered}
+use Rattle.session_actions.specs.Words.{changed, changed_if, numbered}
 use Rattle.session_actions.specs.Writing.{streaming_on, waiting_on}
 use Rattle.session_actions.specs.declared.attempt.Attempt.{Attempt}
 use Rattle.session_actions.specs.declared.link.Link.{Link}

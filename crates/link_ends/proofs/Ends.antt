@@ -34,7 +34,7 @@ use Rattle.session_actions.specs.CallEnds.{call_ended}
 use Rattle.session_actions.specs.Calls.{marked, with_call}
 use Rattle.session_actions.specs.Configs.{chosen_of}
 use Rattle.session_actions.specs.Entries.{entry, now}
-use Rattle.session_actions.specs.Links.{is_retiring, link_number, read_bytes, stream_number}
+use Rattle.session_actions.specs.Links.{link_number, read_bytes, stream_number}
 use Rattle.session_actions.specs.Responses.{is_read_by, limit_of_attempt, response}
 use Rattle.session_actions.specs.Words.{numbered}
 use Rattle.session_actions.specs.declared.attempt.Attempt.{Attempt}

@@ -1,6 +1,6 @@
 -- The streams of the attempts that were cut off are reset, by link and stream, and each link catches up with the session.
-use Rattle.std.proofs.Common.{◌≡◌, ◌+◌, ◌∷◌, ◌++◌, ◌||◌, ◌&&◌, ◌==◌, ap, arith, refl, subst, sym, ◌∙◌, Bool, true, false, List, [], Option, None, Some, ℕ, zero, suc, cond, drop, filter, if◌then◌else◌, is_none, is_some, length, map, nat_le, nat_lt, slice_get, slice_set, unwrap_or}
-use Rattle.std.proofs.lemmas.Bool.{and_parts, and_right, eq-eqb, eqb-false, eqb-true}
+use Rattle.std.proofs.Common.{◌≡◌, ◌∷◌, ◌||◌, ◌&&◌, ◌==◌, ap, arith, refl, subst, sym, ◌∙◌, Bool, true, false, List, [], Option, None, Some, ℕ, zero, suc, drop, filter, if◌then◌else◌, is_none, is_some, length, map, nat_le, nat_lt, slice_get, slice_set, unwrap_or}
+use Rattle.std.proofs.lemmas.Bool.{and_parts, eqb-false, eqb-true}
 use Rattle.std.proofs.lemmas.Bool.Decides.{nat_tests}
 use Rattle.std.specs.List.{AllByRecursion, list_all}
 use Rattle.std.specs.Option.{option_and_then, option_map, option_map_or}
@@ -22,8 +22,8 @@ use Rattle.link_actions.specs.Laws.{with_owed}
 use Rattle.link_actions.specs.Sees.{ArePlaced, IsFed}
 use Rattle.ends_follow.proofs.Codes.{is_cancel, queued_code, reset_code, response_reset}
 use Rattle.link_ends.proofs.Codes.{with_code}
-use Rattle.link_ends.proofs.Cutting.{IsPut, counted_places, filter_same, is_owed_on, is_put, owed_on}
-use Rattle.ends_follow.proofs.Streams.{IsForemost, IsOrder, is_foremost, loses, no_foremost, none_sorted, put, put_first, put_left, put_long, by_stream_order, sorted_by, sorted_low, stays_out}
+use Rattle.link_ends.proofs.Cutting.{counted_places, filter_same, is_owed_on, owed_on}
+use Rattle.ends_follow.proofs.Streams.{IsForemost, is_foremost, loses, no_foremost, none_sorted, put, put_first, put_left, put_long, by_stream_order, sorted_by, sorted_low, stays_out}
 use Rattle.ends_follow.specs.Cuts.{AreReset, AreUnreset, is_unreset}
 use Rattle.loss_actions.proofs.Calls.{changed_any}
 use Rattle.reset_actions.proofs.Cuts.{none_is_left, resets_catch_up}

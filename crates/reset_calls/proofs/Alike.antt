@@ -1,7 +1,7 @@
 -- Two lists whose elements are the same but for a change: what does not see the change says the same of both.
 use Rattle.std.proofs.Common.{◌≡◌, ◌⊎◌, inl, inr, ◌∷◌, ◌&&◌, ap, refl, subst, sym, ◌∙◌, Bool, true, false, List, [], Option, None, Some, ℕ, zero, suc, cond, filter, fold, map, slice_get, slice_set}
 use Rattle.std.specs.List.{AllByRecursion, list_all}
-use Rattle.session_actions.specs.Words.{changed, changed_if, numbered}
+use Rattle.session_actions.specs.Words.{changed, changed_if}
 
 abbrev pub IsLike : {X : Type 0} → (X → X) → X → X → Type 0
 IsLike f x y = (y ≡ x) ⊎ (y ≡ f x)

@@ -1,7 +1,6 @@
 -- Once it is noted of an attempt that its stream was reset: which attempts are over, followed and counted, and when the next one is due.
-use Rattle.std.proofs.Common.{◌≡◌, ◌+◌, ◌-◌, ◌==◌, ◌∷◌, ◌||◌, ◌&&◌, not, nat_le, nat_lt, ap, refl, sym, ◌∙◌, Bool, List, [], Option, None, Some, ℕ, cond, count_by, filter, fold, if◌then◌else◌, is_none, is_some, map, max}
-use Rattle.std.specs.List.{list_any}
-use Rattle.std.specs.Option.{option_map, option_map_or}
+use Rattle.std.proofs.Common.{◌≡◌, ◌+◌, ◌-◌, ◌==◌, ◌∷◌, ◌||◌, ◌&&◌, not, nat_le, ap, refl, ◌∙◌, Bool, List, [], Option, None, Some, ℕ, cond, filter, fold, if◌then◌else◌, is_none, is_some, max}
+use Rattle.std.specs.Option.{option_map_or}
 use Rattle.std.specs.Prelude.{filter_map}
 use Rattle.attempt_ledger.specs.Ends.{delay_of, is_cut}
 use Rattle.attempt_ledger.specs.Numbering.{is_transparent}
@@ -14,7 +13,7 @@ use Rattle.grpc_base.specs.declared.plan.CallPlan.{CallPlan}
 use Rattle.grpc_base.specs.declared.plan.CallPlan.TheVariants as plan
 use Rattle.reset_calls.proofs.Alike.{alike_changed, alike_filter, alike_fold, filter_same, fold_same}
 use Rattle.session_actions.specs.AttemptEnds.{with_reset_queued}
-use Rattle.session_actions.specs.Attempts.{call_of, commitment, counts_by, is_commitment, is_counted, is_followed, is_later_of, is_of, is_over, is_over_in, is_to_follow, wants_follower_by, was_refused, was_retried_so}
+use Rattle.session_actions.specs.Attempts.{commitment, counts_by, is_commitment, is_counted, is_followed, is_later_of, is_of, is_over, is_over_in, is_to_follow, wants_follower_by, was_refused, was_retried_so}
 use Rattle.session_actions.specs.Configs.{plan_of}
 use Rattle.session_actions.specs.DueAttempts.{attempts_made, counted_row, due_after_end, due_after_making, due_after_mark, due_by, due_by_plan, due_state, is_licensed, last_counted, last_delayed, next_due, no_due, retry_due, was_delayed}
 use Rattle.session_actions.specs.Words.{changed, holds, last_of, numbered}

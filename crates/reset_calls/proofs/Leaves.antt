@@ -1,24 +1,20 @@
 -- Once it is noted of an attempt that its stream was reset, session and channel have of its call what they had.
-use Rattle.std.proofs.Common.{◌≡◌, inl, inr, ◌∷◌, ◌||◌, ◌&&◌, ◌==◌, not, nat_lt, ap, refl, subst, sym, ◌∙◌, Bool, true, false, List, [], Option, None, Some, ℕ, suc, filter, fold, is_none, is_some, map}
-use Rattle.std.specs.List.{AllByRecursion, list_all, list_any}
+use Rattle.std.proofs.Common.{◌≡◌, inl, inr, ◌∷◌, ◌||◌, ◌&&◌, ◌==◌, not, nat_lt, ap, refl, subst, sym, ◌∙◌, Bool, true, List, [], Option, None, Some, ℕ, suc, filter, is_none, is_some, map}
+use Rattle.std.specs.List.{list_all}
 use Rattle.std.specs.Option.{option_map, option_map_or}
-use Rattle.a6_numbers.specs.Throttling.{Bucket}
 use Rattle.attempt_buffer.specs.Buffers.{Buffered, taken_by, text_of}
-use Rattle.attempt_ledger.specs.declared.row.Row.{Row}
 use Rattle.call_actions.specs.Order.{AreNumbered, IsInOrder, IsInTurn, goes_on_followed, goes_on_older, has_ended, is_beyond, is_own_mark, is_retried}
 use Rattle.call_actions.specs.Sees.{AreAttempts, AreDue, Sees, bucket_of, is_live, live_row, live_rows}
 use Rattle.call_core.specs.Laws as channel
 use Rattle.call_core.specs.Steps.{Stepped}
-use Rattle.call_core.specs.declared.live.LiveRow.{LiveRow}
 use Rattle.grpc_base.specs.declared.event.Reply.{Reply}
 use Rattle.grpc_frame.specs.Messages.{framed_all}
 use Rattle.reset_calls.proofs.Alike.{Alike, IsLike, alike_all, alike_changed, alike_filter, alike_map, all_same, filter_same, fold_same}
-use Rattle.reset_calls.proofs.Counts.{delayed_same, due_same, followed_same, last_same, made_same, next_same, none_same, of_commitment, over_same, put, retried_same, t}
+use Rattle.reset_calls.proofs.Counts.{delayed_same, due_same, followed_same, last_same, made_same, next_same, of_commitment, over_same, put, retried_same, t}
 use Rattle.reset_calls.specs.Laws.{LeavesCall, ResetsLeaveCalls}
-use Rattle.session_actions.specs.Attempts.{commitment, is_followed, is_of, is_outstanding, is_queued}
+use Rattle.session_actions.specs.Attempts.{is_of, is_outstanding}
 use Rattle.session_actions.specs.Configs.{plan_of}
 use Rattle.session_actions.specs.Deliveries.{response_items}
-use Rattle.session_actions.specs.DueAttempts.{attempts_made, due_state}
 use Rattle.session_actions.specs.Responses.{response}
 use Rattle.session_actions.specs.Sessions.{call_seen}
 use Rattle.session_actions.specs.Tokens.{run_of, tokens_by, tokens_in}
@@ -35,7 +31,7 @@ use Rattle.session_actions.specs.declared.seen.Seen.{Seen}
 use Rattle.session_order.proofs.Changed.{any_changed, lookup}
 use Rattle.session_order.proofs.Lists.{any_same}
 use Rattle.take_actions.specs.Serves as serves
-use Rattle.take_actions.specs.Serves.{ArePlaced, AreFed, Holds, IsAt, IsLeft, Serves, came, drained_so_far, is_ended_at, passed}
+use Rattle.take_actions.specs.Serves.{ArePlaced, Holds, IsAt, IsLeft, Serves, came, is_ended_at, passed}
 
 -- each attempt stands at its place
 placed_by : (k : ℕ) (f : Attempt → Attempt) → ((a : Attempt) → (f a).place ≡ a.place) → (xs ys : List Attempt) → Alike f xs ys → ArePlaced k xs → ArePlaced k ys

@@ -2,7 +2,7 @@
 -- leaves of other calls is in `calls_apart` and `takes_apart`.)
 -- Example: call 1 is cancelled, and attempt 1 of it ends, cut off. Its stream 3 is reset: call 1 has ended as before, with the same rows, and its application has
 -- the same to take.
-use Rattle.std.specs.Prelude.{Option, ℕ, ◌≡◌}
+use Rattle.std.specs.Prelude.{ℕ, ◌≡◌}
 use Rattle.call_actions.specs.Order.{IsInOrder, IsInTurn}
 use Rattle.call_core.specs.Steps.{Stepped}
 use Rattle.session_actions.specs.AttemptEnds.{with_reset_queued}
