@@ -32,6 +32,7 @@ use Rattle.net_actions.specs.Laws.{ClockChanges, EndsBackoff, TimesOut}
 use Rattle.net_actions.specs.Sees.{IsShaped, Sees}
 use Rattle.net_settlings.proofs.Limits.{slots_after, slots_more, stamps_after, stamps_more, wanting}
 use Rattle.net_settlings.proofs.Overdue.{fails, gives_up, none_still, some_still, timed_none, timed_some}
+use Rattle.net_settlings.proofs.Unlinked.{joined_after, link_if, same_links, subs_after}
 use Rattle.net_settlings.proofs.Stamped.{map_stamped, stamp_over}
 use Rattle.net_settlings.specs.Joined.{AreJoined}
 use Rattle.net_steps.proofs.Alike.{links_cannot_tell, still, untold_links_agree}
@@ -45,7 +46,7 @@ use Rattle.session_actions.specs.Actions.{after, after_if, config_action, first_
 use Rattle.session_actions.specs.Closing.{noted_gone}
 use Rattle.session_actions.specs.Entries.{entry, now}
 use Rattle.session_actions.specs.Laws.{posted_in}
-use Rattle.session_actions.specs.Links.{has_settings, link_over, wants_resolution}
+use Rattle.session_actions.specs.Links.{link_over, wants_resolution}
 use Rattle.session_actions.specs.Making.{next_due_attempt}
 use Rattle.session_actions.specs.Policies.{is_failure, is_shutdown, next_of_pass, next_of_queue, next_take_over}
 use Rattle.session_actions.specs.Refusals.{is_gone, is_shutdown_sub}
@@ -54,7 +55,6 @@ use Rattle.session_actions.specs.Subchannels.{clock_action, connect_timed_out, i
 use Rattle.session_actions.specs.Words.{changed, changed_if, first_of, holds, numbered}
 use Rattle.session_actions.specs.declared.action.Action.{Action}
 use Rattle.session_actions.specs.declared.action.Action.TheVariants as action
-use Rattle.session_actions.specs.declared.attempt.Attempt.{Attempt}
 use Rattle.session_actions.specs.declared.entry.OpenEntry.{OpenEntry}
 use Rattle.session_actions.specs.declared.entry.Stage.TheVariants as stage
 use Rattle.session_actions.specs.declared.link.Link.{Link}
@@ -62,7 +62,7 @@ use Rattle.session_actions.specs.declared.link.LinkOver.TheVariants as over
 use Rattle.session_actions.specs.declared.policy.PolicyUse.{PolicyUse}
 use Rattle.session_actions.specs.declared.seen.Seen.{Seen}
 use Rattle.session_actions.specs.declared.subchannel.Subchannel.{Subchannel}
-use Rattle.session_order.proofs.Boards.{connecting_live, same_sub, with_sub_current}
+use Rattle.session_order.proofs.Boards.{connecting_live, with_sub_current}
 use Rattle.session_order.proofs.Changed.{changed_away, changed_map}
 use Rattle.session_order.specs.Calm as order
 use Rattle.session_order.specs.Laws.{BoardsStir, CalmIsExact}
@@ -115,11 +115,6 @@ first_in f a (b ∷ xs) e = first_step f a b xs (f b) refl e (first_in f a xs)
 has_sub : (t : Seen) (a : Action) → next_of_clock t ≡ Some a → HasSub t a
 has_sub t a e = let f = first_in (clock_action t) a t.subs e in record { place = f.0; one = f.1.0; there = f.1.1.0; acts = f.1.1.1 }
 
-number_of_out : Action → ℕ
-number_of_out (action.ConnectTimesOut sub) = sub
-number_of_out (action.BackoffEnds sub) = sub
-number_of_out _ = 0
-
 rested_by : (late rested : Bool) (k sub : ℕ)
     → (if late then Some (action.ConnectTimesOut k) else if rested then Some (action.BackoffEnds k) else None) ≡ Some (action.BackoffEnds sub) → (rested ≡ true) × (k ≡ sub)
 rested_by true rested k sub e = absurd (cc)
@@ -135,55 +130,6 @@ late_by false false k sub e = absurd (cc)
 pub first_true : (a b : Bool) → (a && b) ≡ true → a ≡ true
 first_true true b e = refl
 first_true false b e = absurd (cc)
-
--- where the links of subchannels and attempts come from
-pub joined_after : (t u : Seen) → AreJoined t
-    → ((n k : ℕ) (c : Subchannel) → numbered u.subs n ≡ Some c → c.link ≡ Some k → (b : Subchannel) × ((numbered t.subs n ≡ Some b) × (b.link ≡ Some k)))
-    → ((m : ℕ) (q : Link) → numbered u.links m ≡ Some q → (l : Link) × ((numbered t.links m ≡ Some l) × ((q.sub ≡ l.sub) × (has_settings q ≡ has_settings l))))
-    → u.attempts ≡ t.attempts → AreJoined u
-joined_after t u h subs links rows = record {
-  own = λ n k c q here has there.
-      let b = subs n k c here has in
-      let l = links k q there in
-      l.1.1.0 ∙ h.own n k b.0 l.0 b.1.0 b.1.1 l.1.0;
-  greeted = λ row a at q here placed there.
-      let l = links at.link q there in
-      l.1.1.1 ∙ h.greeted row a at l.0 (ap (λ (xs : List Attempt). numbered xs row) (sym rows) ∙ here) placed l.1.0;
-}
-
-module _ (f : Subchannel → Subchannel) (narrow : (b : Subchannel) (k : ℕ) → (f b).link ≡ Some k → b.link ≡ Some k) (n : ℕ) (t : Seen) where
-  one_sub : (b c : Subchannel) (k : ℕ) → numbered t.subs n ≡ Some b → numbered (changed f n t.subs) n ≡ Some c → c.link ≡ Some k
-      → (d : Subchannel) × ((numbered t.subs n ≡ Some d) × (d.link ≡ Some k))
-  one_sub b c k there here has =
-      let same : f b ≡ c = same_sub (f b) c (numbered (changed f n t.subs) n) (changed_map f n t.subs ∙ ap (option_map f) there) here in
-      (b, (there, narrow b k (ap (λ (x : Subchannel). x.link) same ∙ has)))
-
-  sub_if : (j k : ℕ) (c : Subchannel) (b : Subchannel) (is : Bool) → (j == n) ≡ is → numbered t.subs n ≡ Some b → numbered (changed f n t.subs) j ≡ Some c → c.link ≡ Some k
-      → (d : Subchannel) × ((numbered t.subs j ≡ Some d) × (d.link ≡ Some k))
-  sub_if j k c b true is there here has =
-      let same : j ≡ n = eqb-true j n is in
-      let r = one_sub b c k there (ap (numbered (changed f n t.subs)) (sym same) ∙ here) has in
-      (r.0, (ap (numbered t.subs) same ∙ r.1.0, r.1.1))
-  sub_if j k c b false is there here has = (c, (sym (changed_away f n j t.subs (eqb-false j n is)) ∙ here, has))
-
-  pub subs_after : (b : Subchannel) → numbered t.subs n ≡ Some b → (j k : ℕ) (c : Subchannel) → numbered (changed f n t.subs) j ≡ Some c → c.link ≡ Some k
-      → (d : Subchannel) × ((numbered t.subs j ≡ Some d) × (d.link ≡ Some k))
-  subs_after b there j k c here has = sub_if j k c b (j == n) refl there here has
-
-pub same_links : (t : Seen) (m : ℕ) (q : Link) → numbered t.links m ≡ Some q → (l : Link) × ((numbered t.links m ≡ Some l) × ((q.sub ≡ l.sub) × (has_settings q ≡ has_settings l)))
-same_links t m q there = (q, (there, (refl, refl)))
-
-given_up : (o : Option Link) (q : Link) → option_map gives_up o ≡ Some q → (l : Link) × ((o ≡ Some l) × ((q.sub ≡ l.sub) × (has_settings q ≡ has_settings l)))
-given_up None q e = absurd (cc)
-given_up (Some l) q e = let one : q ≡ gives_up l = (cc) in (l, (refl, (ap (λ (x : Link). x.sub) one, ap has_settings one)))
-
-link_if : (k : ℕ) (t : Seen) (m : ℕ) (q : Link) (is : Bool) → (m == k) ≡ is → numbered (changed gives_up k t.links) m ≡ Some q
-    → (l : Link) × ((numbered t.links m ≡ Some l) × ((q.sub ≡ l.sub) × (has_settings q ≡ has_settings l)))
-link_if k t m q true is there =
-    let same : m ≡ k = eqb-true m k is in
-    let r = given_up (numbered t.links k) q (sym (changed_map gives_up k t.links) ∙ ap (numbered (changed gives_up k t.links)) (sym same) ∙ there) in
-    (r.0, (ap (numbered t.links) same ∙ r.1.0, r.1.1))
-link_if k t m q false is there = (q, (sym (changed_away gives_up k m t.links (eqb-false m k is)) ∙ there, (refl, refl)))
 
 shaped_failure : (c : Conn) (until : Option ℕ) (linked : Bool) → IsShaped c until linked → is_failure c ≡ true → linked ≡ false
 shaped_failure conn.Failure until linked h e = h.1

@@ -4,5 +4,6 @@ pub mod Limits
 pub mod Overdue
 pub mod Stamped
 pub mod Starting
+pub mod Unlinked
 pub mod Wished
 pub mod Wishing

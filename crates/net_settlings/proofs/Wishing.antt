@@ -24,7 +24,8 @@ use Rattle.link_frames.specs.Laws.{LinksStay}
 use Rattle.net_actions.proofs.Subs.{Both, both_at}
 use Rattle.net_actions.specs.Laws.{TakeOversAreSame, WishesConnect}
 use Rattle.net_actions.specs.Sees.{AreApart, IsShaped, IsUse, Sees}
-use Rattle.net_settlings.proofs.Clocking.{board_on, first_true, joined_after, no_link, same_links, subs_after}
+use Rattle.net_settlings.proofs.Clocking.{board_on, first_true, no_link}
+use Rattle.net_settlings.proofs.Unlinked.{joined_after, same_links, subs_after}
 use Rattle.net_settlings.proofs.Starting.{AreIdleIn, IsIdleIn, starting_state}
 use Rattle.net_settlings.specs.Joined.{AreJoined}
 use Rattle.net_steps.proofs.Alike.{untold_links_agree}
