@@ -1,0 +1,6 @@
+// Where an action is next, it fits.
+#![tactic(auto)]
+
+mod laws;
+
+pub use laws::actions_fit;
