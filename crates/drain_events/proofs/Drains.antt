@@ -1,9 +1,7 @@
 -- A drain is answered by the frames that the session writes.
-use Rattle.std.proofs.Common.{◌≡◌, ◌≤◌, ◌<◌, ◌^◌, ◌%◌, ◌&&◌, ◌||◌, ◌==◌, ◌∷◌, ap, arith, eq-eqb, refl, subst, sym, ◌∙◌, Bool, true, false, List, [], Option, None, Some, ℕ, zero, suc, if◌then◌else◌, is_none, is_some, length, map, min, nat_le, nat_lt, not, slice_get, slice_set}
-use Rattle.std.proofs.Math.Nat.{min-eq_left, min-eq_right}
-use Rattle.std.proofs.lemmas.Bool.{eqb-false, eqb-true, le-leb, leb-false, leb-true, ltb-false}
-use Rattle.std.specs.List.{list_any}
-use Rattle.std.specs.Option.{option_map, option_map_or}
+use Rattle.std.proofs.Common.{◌≡◌, ◌<◌, ◌^◌, ◌%◌, ◌&&◌, ◌==◌, ◌∷◌, ap, refl, subst, sym, ◌∙◌, true, false, List, [], Option, None, Some, ℕ, is_some, length, map, min, nat_lt}
+use Rattle.std.proofs.lemmas.Bool.{eqb-false, eqb-true}
+use Rattle.std.specs.Option.{option_map}
 use Rattle.call_actions.proofs.Lists.{changed_here}
 use Rattle.call_actions.specs.Order.{AreNumbered}
 use Rattle.channel_actions.proofs.Answering.{event_next, replied_entry, replied_is}
@@ -26,7 +24,7 @@ use Rattle.channel_core.specs.Applying as channel
 use Rattle.channel_core.specs.Applying.{AnswersBy, or_room}
 use Rattle.channel_core.specs.Books.{lines_of}
 use Rattle.channel_core.specs.Draining.{DrainLeaves, drained_limit, octets_by, opened_by, with_streams, streams_given}
-use Rattle.channel_core.specs.Feeding.{all_fed, book_fed}
+use Rattle.channel_core.specs.Feeding.{all_fed}
 use Rattle.channel_core.specs.States.{StateSeen}
 use Rattle.channel_core.specs.Tables.{BucketsSeen, DrainGives, DrainsOn, LinkDrains, drains_at}
 use Rattle.channel_core.specs.declared.state.book.Book.{Book}
@@ -36,7 +34,7 @@ use Rattle.drain_books.proofs.Sets.{buckets_stay, call_columns_stay, sets_stay}
 use Rattle.drain_books.specs.Laws.{AreSameSets}
 use Rattle.drain_calls.specs.Laws.{IsOnlyStreamed}
 use Rattle.drain_events.proofs.Links.{all_kept, all_orderly, drained_slot, none_borne, read_so, sends_fresh}
-use Rattle.drain_events.specs.Laws.{DrainsAreAnswered, DrainsKeepCalls, HasRun, IsDrain}
+use Rattle.drain_events.specs.Laws.{DrainsAreAnswered, DrainsKeepCalls, HasRun}
 use Rattle.drain_lends.proofs.Lends.{lines_are_lent}
 use Rattle.drain_lends.specs.Laws.{AreNear}
 use Rattle.drain_writes.proofs.Runs.{drains_are_actions}
@@ -62,22 +60,16 @@ use Rattle.net_actions.specs.Sees.{Sees}
 use Rattle.session_actions.specs.Actions.{after, after_if, following}
 use Rattle.session_actions.specs.CallEnds.{cancels, is_after_event, next_deadline, sends_too_long}
 use Rattle.session_actions.specs.Events.{event_action}
-use Rattle.session_actions.specs.Laws.{posted_in}
-use Rattle.session_actions.specs.Links.{is_retiring}
 use Rattle.session_actions.specs.Policies.{addresses_in}
-use Rattle.session_actions.specs.Reading.{is_outstanding_on}
-use Rattle.session_actions.specs.Refusals.{is_gone, is_shutdown_sub, link_refusal, refusal_of, refused_if}
+use Rattle.session_actions.specs.Refusals.{link_refusal, refused_if}
 use Rattle.session_actions.specs.Sessions.{Does}
-use Rattle.session_actions.specs.Words.{changed, changed_if, numbered}
+use Rattle.session_actions.specs.Words.{changed, numbered}
 use Rattle.session_actions.specs.declared.action.Action.{Action}
 use Rattle.session_actions.specs.declared.action.Action.TheVariants as action
 use Rattle.session_actions.specs.declared.attempt.Attempt.{Attempt}
-use Rattle.session_actions.specs.declared.call.Call.{Call}
 use Rattle.session_actions.specs.declared.entry.OpenEntry.{OpenEntry}
 use Rattle.session_actions.specs.declared.entry.Stage.TheVariants as stage
 use Rattle.session_actions.specs.declared.link.Link.{Link}
-use Rattle.session_actions.specs.declared.link.LinkOver.{LinkOver}
-use Rattle.session_actions.specs.declared.link.Sent.{Sent}
 use Rattle.session_actions.specs.declared.policy.PolicyUse.{PolicyUse}
 use Rattle.session_actions.specs.declared.seen.Seen.{Seen}
 use Rattle.session_order.proofs.Calms.{calm_is_exact}

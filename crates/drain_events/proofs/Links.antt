@@ -1,5 +1,5 @@
 -- The links after a drain: the one that was drained agrees, with its readers and the lines of the session; and the others cannot tell.
-use Rattle.std.proofs.Common.{◌≡◌, ◌-◌, ◌∷◌, ◌==◌, ◌||◌, ap, refl, subst, sym, ◌∙◌, Bool, true, false, List, [], Option, None, Some, ℕ, drop, is_some, length, map, min, slice_get}
+use Rattle.std.proofs.Common.{◌≡◌, ◌-◌, ◌∷◌, ◌==◌, ◌||◌, ap, refl, sym, ◌∙◌, Bool, false, List, [], Option, None, Some, ℕ, drop, is_some, length, map, min, slice_get}
 use Rattle.std.proofs.Math.Nat.{zero-min}
 use Rattle.std.specs.Option.{option_map_or}
 use Rattle.channel_actions.proofs.Lines.{all_at_places}
@@ -11,7 +11,7 @@ use Rattle.drain_writes.specs.Laws.{with_all_sent, writing}
 use Rattle.grpc_link.specs.Links.{reader_in}
 use Rattle.grpc_link.specs.Readers.{ReaderSeen}
 use Rattle.grpc_link.specs.declared.readers.TagReader.{TagReader}
-use Rattle.h2_link.specs.Drains.{Outgoing, Sends, next, next_control, next_data, next_head, opens, sender, sent_control, sent_head}
+use Rattle.h2_link.specs.Drains.{Outgoing, Sends, next_control, next_data, next_head, opens, sender, sent_control, sent_head}
 use Rattle.h2_link.specs.Drains.{Sent as Sending}
 use Rattle.h2_link.specs.Feeds.{Line}
 use Rattle.h2_link.specs.Wire.{Wire}

@@ -1,88 +1,24 @@
 -- The link of a drain is there, and the room is enough; and small things.
-use Rattle.std.proofs.Common.{◌≡◌, ◌≤◌, ◌<◌, ◌^◌, ◌%◌, ◌&&◌, ◌||◌, ◌==◌, ◌∷◌, ap, arith, eq-eqb, refl, subst, sym, ◌∙◌, Bool, true, false, List, [], Option, None, Some, ℕ, zero, suc, if◌then◌else◌, is_none, is_some, length, map, min, nat_le, nat_lt, not, slice_get, slice_set}
+use Rattle.std.proofs.Common.{◌≡◌, ◌≤◌, ◌<◌, ◌&&◌, ◌||◌, ◌∷◌, ap, arith, refl, subst, sym, ◌∙◌, Bool, true, false, List, [], Option, None, Some, ℕ, zero, suc, if◌then◌else◌, is_some, length, map, min, nat_le, nat_lt, not, slice_get, slice_set}
 use Rattle.std.proofs.Math.Nat.{min-eq_left, min-eq_right}
-use Rattle.std.proofs.lemmas.Bool.{eqb-false, eqb-true, le-leb, leb-false, leb-true, ltb-false}
+use Rattle.std.proofs.lemmas.Bool.{le-leb, leb-false, leb-true, ltb-false}
 use Rattle.std.specs.List.{list_any}
-use Rattle.std.specs.Option.{option_map, option_map_or}
-use Rattle.call_actions.proofs.Lists.{changed_here}
-use Rattle.call_actions.specs.Order.{AreNumbered}
-use Rattle.channel_actions.proofs.Answering.{event_next, replied_entry, replied_is}
-use Rattle.channel_actions.proofs.Dialling.{applied_next, open_in, unshut_by}
-use Rattle.channel_actions.proofs.Refusing.{room_same}
-use Rattle.channel_actions.proofs.Settles.{IsQuiet, calm_stays, is_with_open, reopened, with_open}
-use Rattle.channel_actions.proofs.Stamps.{counted_at}
-use Rattle.channel_actions.specs.Agrees.{Agrees}
-use Rattle.channel_actions.specs.Calm as calm
-use Rattle.channel_actions.specs.Calm.{IsAt}
-use Rattle.channel_actions.specs.Clock.{SeesClock}
-use Rattle.channel_actions.specs.Columns.{SeesColumns}
-use Rattle.channel_actions.specs.Configs.{SeesBuckets, SeesConfigs}
-use Rattle.channel_actions.specs.Links.{HasLink, IsGoing, SeesLinks, lines_in}
-use Rattle.channel_actions.specs.Sets.{SeesSets}
-use Rattle.channel_actions.specs.Stages.{IsAnswered}
-use Rattle.channel_core.proofs.BookLaws.{number_changed, number_other}
-use Rattle.channel_core.proofs.Resting.{changed_length}
-use Rattle.channel_core.specs.Applying as channel
-use Rattle.channel_core.specs.Applying.{AnswersBy, or_room}
-use Rattle.channel_core.specs.Books.{lines_of}
-use Rattle.channel_core.specs.Draining.{DrainLeaves, drained_limit, octets_by, opened_by, with_streams}
+use Rattle.channel_core.specs.Draining.{drained_limit}
 use Rattle.channel_core.specs.Feeding.{all_fed, book_fed}
-use Rattle.channel_core.specs.States.{StateSeen}
-use Rattle.channel_core.specs.Tables.{BucketsSeen, DrainGives, DrainsOn, LinkDrains, drains_at}
+use Rattle.channel_core.specs.Tables.{drains_at}
 use Rattle.channel_core.specs.declared.state.book.Book.{Book}
 use Rattle.channel_core.specs.declared.state.links.LinkSlot.{LinkSlot}
-use Rattle.drain_books.proofs.Columns.{link_columns_stay}
-use Rattle.drain_books.proofs.Sets.{buckets_stay, call_columns_stay, sets_stay}
-use Rattle.drain_books.specs.Laws.{AreSameSets}
-use Rattle.drain_calls.specs.Laws.{IsOnlyStreamed}
-use Rattle.drain_events.proofs.Links.{all_kept, all_orderly, drained_slot, none_borne, read_so, sends_fresh}
-use Rattle.drain_events.specs.Laws.{DrainsAreAnswered, DrainsKeepCalls, HasRun, IsDrain}
-use Rattle.drain_lends.proofs.Lends.{lines_are_lent}
-use Rattle.drain_lends.specs.Laws.{AreNear}
-use Rattle.drain_writes.proofs.Runs.{drains_are_actions}
-use Rattle.drain_writes.specs.Laws.{IsDrainRun, IsDraining, with_all_sent, writing}
-use Rattle.grpc_base.specs.declared.event.Event.{Event}
-use Rattle.grpc_base.specs.declared.event.Event.TheVariants as event
-use Rattle.grpc_base.specs.declared.event.Refusal.{Refusal}
+use Rattle.drain_writes.specs.Laws.{writing}
 use Rattle.grpc_base.specs.declared.event.Refusal.TheVariants as refusal
-use Rattle.grpc_base.specs.declared.event.Reply.{Reply}
-use Rattle.grpc_base.specs.declared.event.Reply.TheVariants as reply
-use Rattle.grpc_link.specs.Links.{opened_all}
-use Rattle.h2_link.specs.Drains.{opened_between}
-use Rattle.h2_link.specs.declared.news.Drained.{Drained}
-use Rattle.kept_sessions.proofs.Along.{kept_along}
-use Rattle.kept_sessions.specs.Kept.{IsKept}
-use Rattle.link_frames.proofs.Frame.{links_stay}
-use Rattle.link_frames.proofs.Tellings.{fewer_tell}
-use Rattle.link_frames.proofs.Untold.{lists_are_untold}
-use Rattle.link_frames.specs.Alike.{CannotTell, Numbers}
-use Rattle.link_frames.specs.Bears.{bear_on}
-use Rattle.net_actions.specs.Runs.{IsOfCalls}
-use Rattle.net_actions.specs.Sees.{Sees}
-use Rattle.session_actions.specs.Actions.{after, after_if, following}
-use Rattle.session_actions.specs.CallEnds.{cancels, is_after_event, next_deadline, sends_too_long}
-use Rattle.session_actions.specs.Events.{event_action}
 use Rattle.session_actions.specs.Laws.{posted_in}
 use Rattle.session_actions.specs.Links.{is_retiring}
-use Rattle.session_actions.specs.Policies.{addresses_in}
 use Rattle.session_actions.specs.Reading.{is_outstanding_on}
-use Rattle.session_actions.specs.Refusals.{is_gone, is_shutdown_sub, link_refusal, refusal_of, refused_if}
-use Rattle.session_actions.specs.Sessions.{Does}
+use Rattle.session_actions.specs.Refusals.{is_gone, is_shutdown_sub, link_refusal, refused_if}
 use Rattle.session_actions.specs.Words.{changed, changed_if, numbered}
-use Rattle.session_actions.specs.declared.action.Action.{Action}
-use Rattle.session_actions.specs.declared.action.Action.TheVariants as action
-use Rattle.session_actions.specs.declared.call.Call.{Call}
-use Rattle.session_actions.specs.declared.entry.OpenEntry.{OpenEntry}
-use Rattle.session_actions.specs.declared.entry.Stage.TheVariants as stage
 use Rattle.session_actions.specs.declared.link.Link.{Link}
 use Rattle.session_actions.specs.declared.link.LinkOver.{LinkOver}
 use Rattle.session_actions.specs.declared.link.Sent.{Sent}
-use Rattle.session_actions.specs.declared.policy.PolicyUse.{PolicyUse}
 use Rattle.session_actions.specs.declared.seen.Seen.{Seen}
-use Rattle.session_order.proofs.Calms.{calm_is_exact}
-use Rattle.session_order.specs.Calm as order
-use Rattle.session_order.specs.declared.line.Line.TheVariants as line
-use Rattle.stream_actions.specs.Sees.{SeesStreams}
 
 -- small things
 pub and_no : (b : Bool) → (b && false) ≡ false

@@ -1,15 +1,12 @@
 -- Each call after a drain.
-use Rattle.std.proofs.Common.{◌≡◌, ◌∷◌, ◌==◌, ap, refl, subst, sym, ◌∙◌, Bool, true, false, List, [], Option, None, Some, ℕ, if◌then◌else◌, inl, inr, is_some, length, map}
+use Rattle.std.proofs.Common.{◌≡◌, ◌∷◌, ◌==◌, ap, refl, subst, sym, ◌∙◌, List, [], Option, None, Some, ℕ, if◌then◌else◌, inl, inr, is_some, length, map}
 use Rattle.std.proofs.lemmas.Bool.{cases_Bool, eqb-false, eqb-true}
 use Rattle.std.specs.Option.{option_map}
-use Rattle.a6_numbers.specs.Throttling.{Bucket}
-use Rattle.attempt_ledger.specs.declared.ledger.Ledger.{Ledger}
 use Rattle.call_actions.specs.Order.{AreNumbered}
 use Rattle.call_core.specs.Parts.{fed_buffer}
-use Rattle.call_core.specs.Steps.{Stepped, lent}
-use Rattle.call_core.specs.declared.state.CallState.{CallState}
+use Rattle.call_core.specs.Steps.{lent}
 use Rattle.channel_actions.specs.Agrees.{Agrees}
-use Rattle.channel_actions.specs.Calls.{HasSlot, SeesCall, SeesCalls, deadline_of, due_of, ledger_lent, lent_to}
+use Rattle.channel_actions.specs.Calls.{HasSlot, SeesCall, SeesCalls, deadline_of, ledger_lent, lent_to}
 use Rattle.channel_actions.specs.Columns.{SeesColumns}
 use Rattle.channel_actions.specs.Configs.{bucket_place}
 use Rattle.channel_core.proofs.BookLaws.{called, number_changed, number_other, put_call}
@@ -24,7 +21,7 @@ use Rattle.channel_core.specs.declared.state.book.Book.{Book}
 use Rattle.channel_core.specs.declared.state.slots.CallSlot.{CallSlot}
 use Rattle.drain_calls.specs.Laws.{IsOnlyStreamed}
 use Rattle.drain_events.specs.Laws.{HasRun}
-use Rattle.drain_writes.specs.Laws.{IsDrainRun, with_all_sent, writing}
+use Rattle.drain_writes.specs.Laws.{with_all_sent, writing}
 use Rattle.drained_calls.specs.Laws.{CallsAreHeld, HeldCallsAgree, IsHeld}
 use Rattle.grpc_base.specs.declared.event.Reply.{Reply}
 use Rattle.kept_sessions.proofs.Along.{kept_along}
@@ -32,7 +29,6 @@ use Rattle.kept_sessions.specs.Kept.{IsKept}
 use Rattle.ledger_stamps.specs.Steps.{changed_at}
 use Rattle.session_actions.specs.Calls.{is_open_call}
 use Rattle.session_actions.specs.Words.{changed, numbered}
-use Rattle.session_actions.specs.declared.attempt.Attempt.{Attempt}
 use Rattle.session_actions.specs.declared.call.Call.{Call}
 use Rattle.session_actions.specs.declared.entry.OpenEntry.{OpenEntry}
 use Rattle.session_actions.specs.declared.link.Link.{Link}
@@ -62,23 +58,23 @@ one_slot tag len b number old is =
     let n : ℕ = call_of (row_at b tag) in
     elim (cases_Bool (number == n)) [
       | inl same ↦
-        let e : number ≡ n = eqb-true number n same in
-        record {
-          slot = called (fed_call tag len) is.slot;
-          there = ap (λ (ls : List CallSlot). table.numbered ls number) (fed_calls tag len b)
-              ∙ ap (λ (k : ℕ). table.numbered (changed_at (called (fed_call tag len)) b.calls n) k) e
-              ∙ number_changed (called (fed_call tag len)) b.calls n
-              ∙ ap (λ (k : ℕ). option_map (called (fed_call tag len)) (table.numbered b.calls k)) (sym e)
-              ∙ ap (option_map (called (fed_call tag len))) is.there;
-          like = still_like tag len old is.slot is.like;
-        }
+          let e : number ≡ n = eqb-true number n same in
+          record {
+            slot = called (fed_call tag len) is.slot;
+            there = ap (λ (ls : List CallSlot). table.numbered ls number) (fed_calls tag len b)
+                ∙ ap (λ (k : ℕ). table.numbered (changed_at (called (fed_call tag len)) b.calls n) k) e
+                ∙ number_changed (called (fed_call tag len)) b.calls n
+                ∙ ap (λ (k : ℕ). option_map (called (fed_call tag len)) (table.numbered b.calls k)) (sym e)
+                ∙ ap (option_map (called (fed_call tag len))) is.there;
+            like = still_like tag len old is.slot is.like;
+          }
       | inr other ↦
-        record {
-          slot = is.slot;
-          there = ap (λ (ls : List CallSlot). table.numbered ls number) (fed_calls tag len b)
-              ∙ number_other (called (fed_call tag len)) b.calls n number (eqb-false number n other) ∙ is.there;
-          like = is.like;
-        }
+          record {
+            slot = is.slot;
+            there = ap (λ (ls : List CallSlot). table.numbered ls number) (fed_calls tag len b)
+                ∙ number_other (called (fed_call tag len)) b.calls n number (eqb-false number n other) ∙ is.there;
+            like = is.like;
+          }
     ]
 
 all_slots : (feeds : List (ℕ × ℕ)) (b : Book) (number : ℕ) (old : CallSlot) → IsSlotOf old b number → IsSlotOf old (all_fed feeds b) number
