@@ -1,5 +1,5 @@
 -- A call without an attempt ends in the channel: it leaves the sets of calls without a config, and nothing is cut off.
-use Rattle.std.proofs.Common.{◌≡◌, ◌∙◌, ◌++◌, ◌-◌, ◌==◌, ℕ, Bool, false, List, [], ◌∷◌, refl, sym, ap, subst, Option, Some, None, is_some, not, slice_set}
+use Rattle.std.proofs.Common.{◌≡◌, ◌∙◌, ◌++◌, ◌-◌, ◌==◌, ℕ, false, List, [], ◌∷◌, sym, ap, Option, Some, None, is_some, not, slice_set}
 use Rattle.std.specs.Set.{remove_key}
 use Rattle.a6_numbers.specs.Throttling.{Bucket}
 use Rattle.attempt_ledger.specs.declared.ledger.Ledger.{Ledger}

@@ -1,16 +1,14 @@
 -- A call gets its config in the channel, where no message is too long for it.
-use Rattle.std.proofs.Common.{◌≡◌, ◌∙◌, ◌||◌, ◌-◌, ◌==◌, ℕ, Bool, false, List, [], ◌∷◌, ap, refl, sym, subst, Option, Some, None, if◌then◌else◌, is_some, slice_set}
+use Rattle.std.proofs.Common.{◌≡◌, ◌∙◌, ◌||◌, ◌-◌, ◌==◌, ℕ, Bool, false, List, [], ◌∷◌, ap, sym, Option, Some, None, if◌then◌else◌, is_some, slice_set}
 use Rattle.std.specs.Set.{remove_key}
 use Rattle.attempt_ledger.specs.declared.ledger.Ledger.{Ledger}
 use Rattle.call_core.specs.Parts.{is_too_long}
 use Rattle.call_core.specs.Steps.{Stepped, configured, ended_if, lent, with_chosen}
-use Rattle.call_core.specs.declared.act.CallAct.{CallAct}
 use Rattle.channel_core.proofs.Places.{put_there}
-use Rattle.channel_core.specs.Books.{BookActs, book_configured, deadline_of, due_at, placed_in_book, slot_at, timers_set}
+use Rattle.channel_core.specs.Books.{BookActs, book_configured, deadline_of, due_at, placed_in_book, slot_at}
 use Rattle.channel_core.specs.States.{StateSeen}
-use Rattle.channel_core.specs.Steps.{chosen_in, configured_as, configured_call, followed, timers_moved, timers_moved_to, with_book}
-use Rattle.channel_core.specs.Tables.{Acted, acted, acted_as, changed_slot, last_run, numbered, with_bucket, with_call, with_timers}
-use Rattle.channel_core.specs.declared.state.book.Book.{Book}
+use Rattle.channel_core.specs.Steps.{chosen_in, configured_as, configured_call, timers_moved, timers_moved_to, with_book}
+use Rattle.channel_core.specs.Tables.{Acted, acted, acted_as, changed_slot, last_run, numbered, with_bucket, with_timers}
 use Rattle.channel_core.specs.declared.state.slots.CallSlot.{CallSlot}
 use Rattle.configured_calls.specs.Steps.{bucket_slot, chosen_slot, chosen_step, timed, with_config}
 use Rattle.grpc_base.specs.declared.event.EndCause.{EndCause}

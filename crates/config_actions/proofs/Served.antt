@@ -1,5 +1,5 @@
 -- Where a config is held, and no message that was accepted is too long for it, each call without a config gets it.
-use Rattle.std.proofs.Common.{◌≡◌, ◌≤◌, ◌<◌, ◌&&◌, ◌||◌, ◌==◌, ◌++◌, ◌∷◌, ap, arith, refl, subst, sym, ◌∙◌, Bool, true, false, List, [], Option, None, Some, ℕ, if◌then◌else◌, is_none, is_some, length, max, min, not}
+use Rattle.std.proofs.Common.{◌≡◌, ◌≤◌, ◌<◌, ◌&&◌, ◌||◌, ◌==◌, ◌++◌, ◌∷◌, ap, arith, refl, subst, sym, ◌∙◌, Bool, true, false, List, [], Option, None, Some, ℕ, if◌then◌else◌, is_none, is_some, length, max, not}
 use Rattle.std.proofs.lemmas.Bool.{and_parts, eqb-false}
 use Rattle.std.proofs.lemmas.Bool.Decides.{nat_tests}
 use Rattle.std.specs.List.{list_any}
@@ -9,13 +9,12 @@ use Rattle.std.specs.Set.{remove_key}
 use Rattle.attempt_ledger.specs.declared.ledger.CallEnd.{CallEnd}
 use Rattle.call_actions.proofs.Places.{places_below}
 use Rattle.call_actions.specs.Laws.{IsBare}
-use Rattle.call_actions.specs.Sees.{longest}
 use Rattle.call_core.specs.Parts.{is_too_long}
 use Rattle.channel_actions.proofs.Settles.{follows_by}
 use Rattle.channel_actions.proofs.Stamps.{counted_at}
 use Rattle.channel_actions.specs.Agrees.{Agrees}
 use Rattle.channel_actions.specs.Calls.{HasSlot}
-use Rattle.channel_actions.specs.Calm.{IsAt, IsCalm}
+use Rattle.channel_actions.specs.Calm.{IsAt}
 use Rattle.channel_actions.specs.Sets.{AreExactly, is_in_bare, is_in_impatient, is_patient}
 use Rattle.channel_core.specs.Books.{slot_at}
 use Rattle.channel_core.specs.States.{StateSeen}
@@ -38,8 +37,7 @@ use Rattle.net_actions.specs.Laws.{ClockChanges, ClockRests, NoneConnects, TakeO
 use Rattle.picker_gate.specs.Pairs.{has, is_same}
 use Rattle.service_config.specs.Choice.{chosen_for}
 use Rattle.service_config.specs.declared.config.Config.{Config}
-use Rattle.session_actions.specs.Actions.{after, after_if, config_action, following, following_in, of_calls, of_links, of_policies, of_stage}
-use Rattle.session_actions.specs.Attempts.{is_of}
+use Rattle.session_actions.specs.Actions.{after_if, config_action, following, following_in, of_calls, of_links, of_policies, of_stage}
 use Rattle.session_actions.specs.CallEnds.{has_long_request, is_after_event, lacks_config, sends_too_long}
 use Rattle.session_actions.specs.Calls.{is_open_call}
 use Rattle.session_actions.specs.Configs as session
@@ -49,7 +47,7 @@ use Rattle.session_actions.specs.Making.{next_due_attempt}
 use Rattle.session_actions.specs.Policies.{next_of_pass, next_of_queue, next_take_over}
 use Rattle.session_actions.specs.Sessions.{Does}
 use Rattle.session_actions.specs.Subchannels.{next_connected, next_of_clock}
-use Rattle.session_actions.specs.Words.{changed, first_of, holds, numbered}
+use Rattle.session_actions.specs.Words.{first_of, holds, numbered}
 use Rattle.session_actions.specs.declared.action.Action.{Action}
 use Rattle.session_actions.specs.declared.action.Action.TheVariants as action
 use Rattle.session_actions.specs.declared.attempt.Attempt.{Attempt}

@@ -15,14 +15,14 @@ use Rattle.channel_actions.proofs.Stamps.{counted_at}
 use Rattle.channel_actions.proofs.States.{unconfigured}
 use Rattle.channel_actions.specs.Agrees.{Agrees}
 use Rattle.channel_actions.specs.Calls.{HasSlot}
-use Rattle.channel_actions.specs.Calm.{IsAt, IsCalm}
-use Rattle.channel_actions.specs.Sets.{AreExactly, is_in_impatient, is_patient}
+use Rattle.channel_actions.specs.Calm.{IsAt}
+use Rattle.channel_actions.specs.Sets.{is_in_impatient, is_patient}
 use Rattle.channel_core.specs.Books.{slot_at}
 use Rattle.channel_core.specs.States.{StateSeen}
 use Rattle.channel_core.specs.Steps.{all_configured, all_unconfigured, bare_served, closed}
 use Rattle.channel_core.specs.Timing.{due_keys, later, number_of}
 use Rattle.channel_core.specs.declared.state.slots.CallSlot.{CallSlot}
-use Rattle.config_actions.proofs.Closed.{closed_away, closed_bare, closed_first, closed_held, closed_last, closed_moment, closed_net, closed_resets}
+use Rattle.config_actions.proofs.Closed.{closed_away, closed_bare, closed_first, closed_held, closed_last, closed_moment, closed_net}
 use Rattle.config_actions.proofs.NetLines.{clock_stays, over_stays, wish_stays}
 use Rattle.grpc_base.specs.declared.event.EndCause.TheVariants as ending
 use Rattle.config_actions.specs.Ends.{BareCallsEnd, BareEndsNext, BareHasEnded}

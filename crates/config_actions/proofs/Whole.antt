@@ -1,8 +1,7 @@
 -- A whole settling where no config is held: after the net's part and the ends of calls nothing is due, and no attempt waits, since there is none.
 use Rattle.std.proofs.Common.{◌≡◌, ◌&&◌, ◌||◌, ◌==◌, ◌∷◌, ap, arith, refl, subst, sym, ◌∙◌, Bool, true, false, List, [], Option, None, Some, ℕ, zero, suc, cond, filter, if◌then◌else◌, is_none, is_some, not, slice_get}
 use Rattle.std.proofs.lemmas.Bool.Decides.{nat_tests}
-use Rattle.std.specs.Option.{option_map, option_map_or}
-use Rattle.std.specs.Prelude.{nat_le, option_and_then}
+use Rattle.std.specs.Prelude.{option_and_then}
 use Rattle.attempt_ledger.specs.declared.ledger.CallEnd.{CallEnd}
 use Rattle.call_actions.proofs.Bare.{due_of_marks}
 use Rattle.call_actions.proofs.Lists.{numbered_not}
@@ -15,9 +14,9 @@ use Rattle.channel_actions.specs.Calm.{IsAt}
 use Rattle.channel_actions.specs.Cases.{IsIdle}
 use Rattle.channel_actions.specs.Stages.{IsSettled}
 use Rattle.channel_core.proofs.Resting.{Rests, close, gone_all, gone_one}
-use Rattle.channel_core.specs.Settling.{most, prepared, rounds, settled}
+use Rattle.channel_core.specs.Settling.{prepared, settled}
 use Rattle.channel_core.specs.States.{StateSeen}
-use Rattle.channel_core.specs.Steps.{all_configured, all_unconfigured, bare_served, clocked, clocked_to, limit_passed, limits_passed, links_left, net_settled, with_generations}
+use Rattle.channel_core.specs.Steps.{all_configured, all_unconfigured, bare_served, clocked, limit_passed, limits_passed, net_settled}
 use Rattle.channel_core.specs.Timing.{due_keys, later, number_of}
 use Rattle.channel_net.specs.Steps as net
 use Rattle.channel_net.specs.Steps.{NetLeft}
@@ -32,14 +31,12 @@ use Rattle.service_config.specs.declared.config.Config.{Config}
 use Rattle.session_actions.specs.Attempts.{call_of, commitment, is_of, is_over, is_over_in}
 use Rattle.session_actions.specs.Calls.{is_open_call}
 use Rattle.session_actions.specs.Configs.{plan_of}
-use Rattle.session_actions.specs.DueAttempts.{attempts_made, due_by, due_state, next_due, no_due}
+use Rattle.session_actions.specs.DueAttempts.{attempts_made, due_by, next_due}
 use Rattle.session_actions.specs.Making.{due_action, due_if_past, next_due_attempt}
 use Rattle.session_actions.specs.Policies.{asking, current_policy, is_queued_before, is_served, is_served_by, next_of_queue, policy_state}
 use Rattle.session_actions.specs.Words.{foremost, holds, numbered}
-use Rattle.session_actions.specs.declared.action.Action.{Action}
 use Rattle.session_actions.specs.declared.attempt.Attempt.{Attempt}
 use Rattle.session_actions.specs.declared.call.Call.{Call}
-use Rattle.session_actions.specs.declared.due.DueState.{DueState}
 use Rattle.session_actions.specs.declared.entry.OpenEntry.{OpenEntry}
 use Rattle.session_actions.specs.declared.entry.Stage.TheVariants as stage
 use Rattle.session_actions.specs.declared.policy.PolicyUse.{PolicyUse}

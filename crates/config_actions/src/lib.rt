@@ -3,4 +3,6 @@
 
 mod laws;
 
-pub use laws::{configs_are_step, served_calls_get_configs, unserved_calls_end, unserved_settlings};
+pub use laws::{
+    configs_are_step, served_calls_get_configs, unserved_calls_end, unserved_settlings,
+};

@@ -1,5 +1,5 @@
 -- A pass over the queue, attempt by attempt.
-use Rattle.std.proofs.Common.{◌≡◌, ◌||◌, ◌⊎◌, inl, inr, ap, refl, subst, sym, ◌∙◌, Bool, true, false, Option, None, Some, ℕ, zero, suc}
+use Rattle.std.proofs.Common.{◌≡◌, ◌||◌, inl, refl, sym, ◌∙◌, Bool, true, false, Option, None, Some, ℕ, zero, suc}
 use Rattle.channel_actions.specs.Agrees.{Agrees}
 use Rattle.channel_actions.specs.Calm.{IsAt}
 use Rattle.channel_core.specs.Settling.{also, most, passed, passed_on, served, stays}
@@ -12,7 +12,7 @@ use Rattle.session_actions.specs.declared.entry.Stage.TheVariants as stage
 use Rattle.session_actions.specs.declared.seen.Seen.{Seen}
 use Rattle.settling_actions.proofs.Composed.{leads_on, stays_at}
 use Rattle.settling_actions.specs.Sound.{IsSound}
-use Rattle.settling_actions.specs.Steps.{IsDone, IsMade, IsPassed, IsTended, Leads}
+use Rattle.settling_actions.specs.Steps.{IsMade, IsPassed, Leads}
 
 or_true : (b c : Bool) → c ≡ true → (b || c) ≡ true
 or_true true c e = refl

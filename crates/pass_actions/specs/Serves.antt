@@ -5,7 +5,7 @@
 use Rattle.std.specs.Prelude.{Bool, None, Option, Some, false, suc, true, zero, ℕ, ◌≡◌, ◌⊎◌}
 use Rattle.channel_actions.specs.Agrees.{Agrees}
 use Rattle.channel_actions.specs.Calm.{IsAt}
-use Rattle.channel_core.specs.Settling.{also, most, queue_served, served, stays}
+use Rattle.channel_core.specs.Settling.{also, most, served, stays}
 use Rattle.channel_core.specs.States.{StateSeen}
 use Rattle.channel_core.specs.Steps.{Moved, next_served}
 use Rattle.session_actions.specs.Actions.{config_action}
