@@ -31,6 +31,8 @@ pub struct RunTally {
     /// How many fields of the line were read.
     place: u32,
     line: Line,
+    /// Whether the last line of a report was read.
+    is_over: bool,
 }
 
 impl RunTally {
@@ -41,6 +43,7 @@ impl RunTally {
             field: Field::new(),
             place: 0,
             line: Line::Other,
+            is_over: false,
         }
     }
 
@@ -60,9 +63,13 @@ impl RunTally {
     }
 
     /// How the calls ended, how many attempts were made for them, and how long it took, in one line behind the name of the mode; before
-    /// it a line where the service config was refused. As `live: 6 calls: 3 OK, 3 UNAVAILABLE; 9 attempts, 3 retries; 941 ms`.
+    /// it a line where the service config was refused. As `live: 6 calls: 3 OK, 3 UNAVAILABLE; 9 attempts, 3 retries; 941 ms`. Nothing
+    /// where no report was written.
     pub fn words(&self, alloc: Global, mode: &[u8]) -> Result<Vec<u8>, NoMemory> {
         let mut out = Vec::new(alloc);
+        if !self.is_over {
+            return Ok(out);
+        }
         if self.counts.is_config_refused {
             out.extend_from_slice(
                 b"warning: the service config was refused, and calls got none of it; 'grpcc config' says what is wrong in it\n",
@@ -79,6 +86,7 @@ impl RunTally {
     fn end_field(&mut self) {
         let next = read_field(&mut self.counts, self.line, self.place, self.field.text());
         self.line = next;
+        self.is_over |= next == Line::Last;
         self.field.clear();
         self.place = self.place.saturating_add(1);
     }
