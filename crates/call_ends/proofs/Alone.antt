@@ -46,7 +46,7 @@ record IsOurs (n : ℕ) (a : Action) (v : Seen) : Type 0 where
   counts : counts_in a v ≡ None
   runs : (after a v).runs ≡ v.runs
 
-AreOurs : ℕ → List Action → Seen → Type 0
+abbrev AreOurs : ℕ → List Action → Seen → Type 0
 AreOurs n [] v = Unit {0}
 AreOurs n (a ∷ acts) v = IsOurs n a v × AreOurs n acts (after a v)
 
@@ -131,7 +131,7 @@ module _ (waits : Line → Bool) (n : ℕ) (why : EndCause) (x : StateSeen) (o :
   abbrev u : Seen
   u = (resets waits n why x o s is).seen
 
-  to : IsNextToEnd waits n why o s
+  abbrev pub to : IsNextToEnd waits n why o s
   to = next waits n why x o s is
 
   abbrev cuts : List Action
