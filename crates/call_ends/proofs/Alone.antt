@@ -111,9 +111,9 @@ module _ (waits : Line → Bool) (n : ℕ) (o : OpenEntry) (b : Seen) (base : Is
 
 -- what a bucket holds is as before
 fair_next : (s : Seen) (a : Action) → IsBook s → IsNext a s → IsFair a s
-fair_next s (action.AttemptEnds row end) book next = lines_are_fair s (action.AttemptEnds row end) book next
-fair_next s (action.CallConfigured call config) book next = lines_are_fair s (action.CallConfigured call config) book next
-fair_next s _ book next = tt
+fair_next s (action.AttemptEnds row end) book is_next = lines_are_fair s (action.AttemptEnds row end) book is_next
+fair_next s (action.CallConfigured call config) book is_next = lines_are_fair s (action.CallConfigured call config) book is_next
+fair_next s _ book is_next = tt
 
 tokens_along : (n k : ℕ) (acts : List Action) (v u : Seen) → IsBook v → AreOurs n acts v → Does acts v u → is_some (numbered v.runs k) ≡ true
     → tokens_in_run u (Some k) ≡ tokens_in_run v (Some k)
