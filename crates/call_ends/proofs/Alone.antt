@@ -46,7 +46,7 @@ record IsOurs (n : ℕ) (a : Action) (v : Seen) : Type 0 where
   counts : counts_in a v ≡ None
   runs : (after a v).runs ≡ v.runs
 
-AreOurs : ℕ → List Action → Seen → Type 0
+abbrev AreOurs : ℕ → List Action → Seen → Type 0
 AreOurs n [] v = Unit {0}
 AreOurs n (a ∷ acts) v = IsOurs n a v × AreOurs n acts (after a v)
 
@@ -111,9 +111,9 @@ module _ (waits : Line → Bool) (n : ℕ) (o : OpenEntry) (b : Seen) (base : Is
 
 -- what a bucket holds is as before
 fair_next : (s : Seen) (a : Action) → IsBook s → IsNext a s → IsFair a s
-fair_next s (action.AttemptEnds row end) book next = lines_are_fair s (action.AttemptEnds row end) book next
-fair_next s (action.CallConfigured call config) book next = lines_are_fair s (action.CallConfigured call config) book next
-fair_next s _ book next = tt
+fair_next s (action.AttemptEnds row end) book is_next = lines_are_fair s (action.AttemptEnds row end) book is_next
+fair_next s (action.CallConfigured call config) book is_next = lines_are_fair s (action.CallConfigured call config) book is_next
+fair_next s _ book is_next = tt
 
 tokens_along : (n k : ℕ) (acts : List Action) (v u : Seen) → IsBook v → AreOurs n acts v → Does acts v u → is_some (numbered v.runs k) ≡ true
     → tokens_in_run u (Some k) ≡ tokens_in_run v (Some k)
@@ -131,7 +131,7 @@ module _ (waits : Line → Bool) (n : ℕ) (why : EndCause) (x : StateSeen) (o :
   abbrev u : Seen
   u = (resets waits n why x o s is).seen
 
-  to : IsNextToEnd waits n why o s
+  abbrev pub to : IsNextToEnd waits n why o s
   to = next waits n why x o s is
 
   abbrev cuts : List Action

@@ -29,7 +29,7 @@ use Rattle.grpc_base.specs.declared.event.Reply.TheVariants as reply
 use Rattle.session_actions.specs.Configs.{deadline}
 use Rattle.session_actions.specs.DueAttempts.{next_due}
 use Rattle.session_actions.specs.Events.{event_action, event_action_by}
-use Rattle.session_actions.specs.Refusals.{cancel_refusal, refusal_of, refused_if}
+use Rattle.session_actions.specs.Refusals.{cancel_refusal, refused_if}
 use Rattle.session_actions.specs.Words.{numbered}
 use Rattle.session_actions.specs.declared.action.Action.TheVariants as action
 use Rattle.session_actions.specs.declared.call.Call.{Call}

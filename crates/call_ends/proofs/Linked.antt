@@ -18,7 +18,7 @@ use Rattle.call_core.specs.Parts.{count_of, cut_end, read_of}
 use Rattle.call_core.specs.Steps.{Stepped, cut_all, cut_row, ended_as}
 use Rattle.call_core.specs.declared.live.LiveRow.{LiveRow}
 use Rattle.call_ends.proofs.Alone.{buckets_on, goes_apart}
-use Rattle.call_ends.proofs.On.{ends_go_on}
+use Rattle.call_ends.proofs.On.{goes_on}
 use Rattle.call_ends.proofs.Sets.{timers_agree}
 use Rattle.call_ends.specs.Ends.{AgreesApart, EndsNext, EndsOn, TimersAgree}
 use Rattle.call_ends.specs.Laws.{EndsAgree}
@@ -173,7 +173,7 @@ none_cause : (o : Option CallEnd) (p : Option EndCause) → option_map (λ (e : 
 none_cause o p e h = sym e ∙ ap (option_map (λ (k : CallEnd). k.cause)) h
 
 module _ (waits : Line → Bool) (n : ℕ) (why : EndCause) (x : StateSeen) (o : OpenEntry) (s : Seen) (is : EndsNext waits n why x o s) where
-  has : HasSlot x s is.call n
+  abbrev pub has : HasSlot x s is.call n
   has = is.agrees.calls.each n is.call is.there
 
   abbrev slot : CallSlot
@@ -211,7 +211,7 @@ module _ (waits : Line → Bool) (n : ℕ) (why : EndCause) (x : StateSeen) (o :
   live_is : map live_row (filter (is_live s is.call) s.attempts) ≡ slot.call.live
   live_is = has.sees.serves.sees.live
 
-  can : CanEnd why n x
+  abbrev can : CanEnd why n x
   can = record {
     slot = slot;
     there = has.there;
@@ -231,8 +231,8 @@ module _ (waits : Line → Bool) (n : ℕ) (why : EndCause) (x : StateSeen) (o :
   whole : y ≡ w
   whole = ends_are_followed why n x can
 
-  on : EndsOn waits n why x o s
-  on = ends_go_on waits n why x o s is
+  abbrev pub on : EndsOn waits n why x o s
+  on = goes_on waits n why x o s is
 
   abbrev u : Seen
   u = on.seen

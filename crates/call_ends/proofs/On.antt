@@ -51,7 +51,7 @@ cut_unposted s [] act e = absurd (cc)
 cut_unposted s (a ∷ xs) act e =
     cut_if (is_outstanding a && is_over a s) (action.AttemptEnds a.place (end_of a cut_end s)) act (first_of (cut s) xs) refl (cut_unposted s xs act) e
 
-cuts_unposted : (n : ℕ) (acts : List Action) (s t : Seen) → AreCut n acts s t → posted_in acts ≡ []
+pub cuts_unposted : (n : ℕ) (acts : List Action) (s t : Seen) → AreCut n acts s t → posted_in acts ≡ []
 cuts_unposted n [] s t are = refl
 cuts_unposted n (act ∷ acts) s t are =
     ap (λ (o : Option Stamped). option_to_list o ++ posted_in acts) (cut_unposted s (filter (λ (a : Attempt). a.row.call == n) s.attempts) act are.0)
@@ -65,7 +65,7 @@ reset_unposted : (s : Seen) (o : Option Attempt) (act : Action) → option_and_t
 reset_unposted s None act e = absurd (cc)
 reset_unposted s (Some a) act e = reset_if a.place (reset_code_of s a) act e
 
-resets_unposted : (acts : List Action) (s t : Seen) → AreReset acts s t → posted_in acts ≡ []
+pub resets_unposted : (acts : List Action) (s t : Seen) → AreReset acts s t → posted_in acts ≡ []
 resets_unposted [] s t are = refl
 resets_unposted (act ∷ acts) s t are =
     ap (λ (o : Option Stamped). option_to_list o ++ posted_in acts) (reset_unposted s _ act are.0) ∙ resets_unposted acts (after act s) t are.1
@@ -75,13 +75,13 @@ early_by false l turn e = refl
 early_by true l turn e = absurd (both_ways l e (turn refl))
 
 module _ (waits : Line → Bool) (n : ℕ) (why : EndCause) (x : StateSeen) (o : OpenEntry) (s : Seen) (is : EndsNext waits n why x o s) where
-  kept : IsKept s
+  abbrev kept : IsKept s
   kept = is.agrees.kept
 
-  has : HasSlot x s is.call n
+  abbrev pub has : HasSlot x s is.call n
   has = is.agrees.calls.each n is.call is.there
 
-  pub next : IsNextToEnd waits n why o s
+  abbrev pub next : IsNextToEnd waits n why o s
   next = record {
     late = is.late;
     current = is.current;
@@ -109,7 +109,7 @@ module _ (waits : Line → Bool) (n : ℕ) (why : EndCause) (x : StateSeen) (o :
   abbrev pub b : Seen
   b = call_ended n why s
 
-  pub t : Seen
+  abbrev pub t : Seen
   t = ended.ended.seen
 
   abbrev pub their : List Action
@@ -139,7 +139,7 @@ module _ (waits : Line → Bool) (n : ℕ) (why : EndCause) (x : StateSeen) (o :
   pub on : FollowsOn waits n why o s (their ++ resets.actions) resets.seen
   on = ends_follow waits n why o s t resets.seen their resets.actions next are_cut resets.resets
 
-  pub goes_on : EndsOn waits n why x o s
+  abbrev pub goes_on : EndsOn waits n why x o s
   goes_on = record {
     cuts = out.attempts;
     all = out.all;

@@ -68,7 +68,7 @@ module _ (waits : Line → Bool) (n : ℕ) (why : EndCause) (x : StateSeen) (o :
   abbrev u : Seen
   u = (resets waits n why x o s is).seen
 
-  has : HasSlot x s is.call n
+  abbrev pub has : HasSlot x s is.call n
   has = is.agrees.calls.each n is.call is.there
 
   done : IsDone n u

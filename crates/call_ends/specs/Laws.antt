@@ -1,6 +1,6 @@
 -- Calls that end: one, for whatever cause; and the cases of events and of deadlines that stand on it.
 -- Example: Cancel of call 1, which is open: EventAnswered Done, then call 1 ends. Cancel of it again is refused with CallEnded.
-use Rattle.std.specs.Prelude.{None, Some, is_some, true, ℕ, ◌≡◌}
+use Rattle.std.specs.Prelude.{Bool, None, Some, is_some, true, ℕ, ◌≡◌}
 use Rattle.call_ends.specs.Ends.{EndsApart, EndsNext, EndsOn, HasEnded}
 use Rattle.channel_actions.specs.Cases.{HasOverdue}
 use Rattle.channel_actions.specs.Stages.{DeadlinesOf, EventsAnswered}
