@@ -1,8 +1,8 @@
 -- One call gets its config: channel and session agree after it.
-use Rattle.std.proofs.Common.{◌≡◌, ◌∙◌, ◌==◌, ◌&&◌, ◌||◌, ◌+◌, ◌-◌, ◌++◌, ◌∷◌, Bool, true, false, not, List, [], Option, None, Some, ℕ, ap, arith, refl, sym, subst, if◌then◌else◌, is_none, is_some, length, map, take, slice_get, slice_set, filter}
+use Rattle.std.proofs.Common.{◌≡◌, ◌∙◌, ◌==◌, ◌&&◌, ◌-◌, ◌++◌, ◌∷◌, Bool, true, false, not, List, [], Option, None, Some, ℕ, ap, arith, refl, sym, subst, if◌then◌else◌, is_none, is_some, length, map, slice_get, filter}
 use Rattle.std.proofs.lemmas.Bool.{and_parts}
 use Rattle.std.proofs.lemmas.Bool.Decides.{nat_tests}
-use Rattle.std.specs.List.{list_all, list_any}
+use Rattle.std.specs.List.{list_all}
 use Rattle.std.specs.Option.{option_map, option_map_or}
 use Rattle.std.specs.Prelude.{option_and_then}
 use Rattle.a6_numbers.specs.Throttling.{Bucket}
@@ -14,7 +14,6 @@ use Rattle.call_actions.specs.Laws.{AttemptsAreDue, IsBare, tokens_of_config}
 use Rattle.call_actions.specs.Sees.{Sees, bucket_of}
 use Rattle.call_core.specs.Laws.{came as channel_came}
 use Rattle.call_core.specs.Steps.{Stepped, deadline_at, next_due, with_chosen}
-use Rattle.call_core.specs.declared.act.CallAct.{CallAct}
 use Rattle.calls_apart.specs.Apart.{is_counted_there, is_end_there}
 use Rattle.calls_apart.specs.Laws.{LinesAreFair, TokensStay, tokens_in_run}
 use Rattle.call_actions.specs.Order.{IsInOrder}
@@ -27,7 +26,7 @@ use Rattle.channel_actions.specs.Calls.{HasSlot, SeesCall, deadline_of, due_of, 
 use Rattle.channel_actions.specs.Columns.{SeesColumns}
 use Rattle.channel_actions.specs.Configs.{SeesBuckets, bucket_in, bucket_place, runs_in_turn}
 use Rattle.channel_actions.specs.Links.{SeesLinks}
-use Rattle.channel_actions.specs.Sets.{AreExactly, SeesSets, is_in_bare, is_in_deadlines, is_in_dues, is_in_impatient, is_in_outstanding, is_in_patient, is_in_queue, is_patient, is_waiting}
+use Rattle.channel_actions.specs.Sets.{SeesSets, is_in_bare, is_in_deadlines, is_in_dues, is_in_impatient, is_in_patient, is_in_queue, is_patient, is_waiting}
 use Rattle.channel_core.proofs.BookLaws.{number_other}
 use Rattle.channel_core.proofs.Places.{put_there}
 use Rattle.channel_core.specs.Books.{slot_at}
@@ -36,13 +35,13 @@ use Rattle.channel_core.specs.Tables.{last_run, tokens_in}
 use Rattle.channel_core.specs.declared.state.slots.CallSlot.{CallSlot}
 use Rattle.set_frames.proofs.Slots.{put_away}
 use Rattle.configured_calls.proofs.Lists.{all_also, changed_length, draws_same, equal_numbers, last_bucket, map_length, other_numbers, same_number, same_numbered, same_words, set_length, take_all}
-use Rattle.configured_calls.specs.Laws.{CallsGetConfigs, ConfigNext, Frames}
-use Rattle.configured_calls.specs.Steps.{bucket_slot, chosen_slot, chosen_step, timed, with_config}
+use Rattle.configured_calls.specs.Laws.{CallsGetConfigs, Frames}
+use Rattle.configured_calls.specs.Steps.{chosen_slot, timed, with_config}
 use Rattle.grpc_base.specs.declared.event.Reply.{Reply}
 use Rattle.grpc_base.specs.declared.plan.Chosen.{Chosen}
 use Rattle.kept_sessions.specs.Kept.{IsKept}
 use Rattle.ledger_stamps.specs.Steps.{configured_call}
-use Rattle.link_frames.specs.Alike.{CannotTell, Numbers}
+use Rattle.link_frames.specs.Alike.{CannotTell}
 use Rattle.link_frames.specs.Bears.{IsOrderly, bears_on}
 use Rattle.net_actions.specs.Sees.{Sees as Sees_net}
 use Rattle.other_calls.specs.Laws.{SetsApart}
@@ -57,7 +56,7 @@ use Rattle.session_actions.specs.DueAttempts as session
 use Rattle.session_actions.specs.Deliveries.{response_items}
 use Rattle.session_actions.specs.Entries.{entry, now}
 use Rattle.session_actions.specs.Responses.{response}
-use Rattle.session_actions.specs.Sessions.{Does, call_seen, link_seen}
+use Rattle.session_actions.specs.Sessions.{Does, call_seen}
 use Rattle.session_actions.specs.Tokens.{run_of}
 use Rattle.session_actions.specs.Words.{holds, is_number, numbered}
 use Rattle.session_actions.specs.Writing.{drained}
@@ -70,10 +69,9 @@ use Rattle.session_actions.specs.declared.call.MarkKind.TheVariants as mark
 use Rattle.session_actions.specs.declared.config.HeldConfig.{HeldConfig}
 use Rattle.session_actions.specs.declared.config.ThrottleRun.{ThrottleRun}
 use Rattle.session_actions.specs.declared.entry.OpenEntry.{OpenEntry}
-use Rattle.session_actions.specs.declared.link.Link.{Link}
 use Rattle.session_actions.specs.declared.seen.Seen.{Seen}
 use Rattle.set_frames.proofs.Pairs.{exactly_by, exactly_remove}
-use Rattle.set_frames.proofs.Timers.{by_number, other_key, own_key, timers_exactly}
+use Rattle.set_frames.proofs.Timers.{other_key, own_key, timers_exactly}
 use Rattle.take_actions.proofs.Deadlines.{deadline_is}
 use Rattle.take_actions.specs.Serves.{AreFed, Holds, IsAt, IsLeft, Serves, came, drained_so_far, is_ended_at, passed}
 use Rattle.attempt_buffer.specs.Buffers.{text_of}

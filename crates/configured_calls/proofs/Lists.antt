@@ -1,9 +1,8 @@
 -- Lists by their elements, and the buckets of configs.
-use Rattle.std.proofs.Common.{◌≡◌, ◌∙◌, ◌&&◌, ◌==◌, ◌+◌, ◌-◌, ◌∷◌, Bool, true, false, List, [], Option, None, Some, ℕ, zero, suc, ap, arith, refl, sym, subst, if◌then◌else◌, length, map, take, slice_get, slice_set}
+use Rattle.std.proofs.Common.{◌≡◌, ◌∙◌, ◌&&◌, ◌==◌, ◌∷◌, Bool, true, false, List, [], Option, None, Some, ℕ, zero, suc, ap, arith, refl, sym, if◌then◌else◌, length, map, take, slice_get, slice_set}
 use Rattle.std.proofs.lemmas.Bool.{and_parts}
 use Rattle.std.proofs.lemmas.Bool.Decides.{nat_tests}
 use Rattle.std.specs.List.{list_all}
-use Rattle.std.specs.Option.{option_map}
 use Rattle.channel_actions.specs.Clock.{DrawsAlike}
 use Rattle.channel_actions.specs.Configs.{is_same_run, runs_after, runs_in_turn}
 use Rattle.channel_core.specs.States.{StateSeen}

@@ -1,7 +1,6 @@
 -- Nobody has to believe this: what the channel is once one call got its config, before a message that is too long for it ends the call.
-use Rattle.std.specs.Prelude.{None, Option, Some, [], ℕ, ◌-◌, slice_set}
+use Rattle.std.specs.Prelude.{None, Some, [], ℕ, ◌-◌, slice_set}
 use Rattle.std.specs.Set.{remove_key}
-use Rattle.attempt_ledger.specs.declared.ledger.Ledger.{Ledger}
 use Rattle.call_core.specs.Steps.{Stepped, lent, with_chosen}
 use Rattle.channel_core.specs.Books.{deadline_of, due_at}
 use Rattle.channel_core.specs.States.{StateSeen}

@@ -1,5 +1,5 @@
 -- The first of several that gives something.
-use Rattle.std.proofs.Common.{◌≡◌, ◌∙◌, ◌<◌, ℕ, zero, suc, List, [], ◌∷◌, Option, None, Some, refl, ap, sym, arith, slice_get}
+use Rattle.std.proofs.Common.{◌≡◌, ◌∙◌, ◌<◌, ℕ, zero, suc, List, [], ◌∷◌, Option, None, Some, refl, ap, arith, slice_get}
 use Rattle.std.specs.Option.{option_or}
 use Rattle.session_actions.specs.Words.{first_of, numbered}
 

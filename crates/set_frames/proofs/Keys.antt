@@ -1,14 +1,14 @@
 -- The keys of timers that are due, where the first numbers of all pairs are 0: calls in the order of their numbers.
-use Rattle.std.proofs.Common.{◌≡◌, ◌∙◌, ◌<◌, ℕ, ◌==◌, Bool, true, false, not, ◌&&◌, ◌||◌, List, [], ◌∷◌, refl, ap, sym, subst, arith, if◌then◌else◌}
+use Rattle.std.proofs.Common.{◌≡◌, ◌∙◌, ◌<◌, ℕ, ◌==◌, Bool, true, false, ◌&&◌, ◌||◌, List, [], ◌∷◌, refl, ap, sym, arith, if◌then◌else◌}
 use Rattle.std.proofs.lemmas.Bool.{and_parts}
 use Rattle.std.proofs.lemmas.Bool.Decides.{nat_tests}
-use Rattle.std.specs.List.{list_all, list_any}
+use Rattle.std.specs.List.{list_all}
 use Rattle.std.specs.Prelude.{nat_le}
 use Rattle.std.specs.Set.{remove_key}
-use Rattle.channel_actions.specs.Sets.{AreExactly, AreRising}
+use Rattle.channel_actions.specs.Sets.{AreExactly}
 use Rattle.channel_core.specs.Timing.{due_keys, later}
 use Rattle.picker_gate.specs.Pairs.{has, is_behind, is_same}
-use Rattle.set_frames.proofs.Pairs.{self_same, same_is}
+use Rattle.set_frames.proofs.Pairs.{self_same}
 
 -- all pairs begin with 0
 abbrev pub are_plain : List (ℕ × ℕ) → Bool

@@ -1,13 +1,12 @@
 -- What a call does in the channel, where the call of the number is known.
-use Rattle.std.proofs.Common.{◌≡◌, ◌∙◌, ◌-◌, ◌==◌, ℕ, zero, suc, Bool, true, false, nat_lt, if◌then◌else◌, List, [], ◌∷◌, length, refl, sym, ap, subst, inl, inr, arith, slice_get, slice_set, Option, Some, None}
+use Rattle.std.proofs.Common.{◌≡◌, ◌∙◌, ◌-◌, ◌==◌, ℕ, zero, suc, Bool, false, nat_lt, if◌then◌else◌, List, [], ◌∷◌, length, refl, sym, ap, inl, inr, arith, slice_get, slice_set, Option, Some, None}
 use Rattle.std.proofs.lemmas.Bool.{cases_Bool, ltb-false}
 use Rattle.std.proofs.lemmas.Bool.Decides.{nat_tests}
 use Rattle.std.proofs.lemmas.Option.{slice_get_past}
 use Rattle.a6_numbers.specs.Throttling.{Bucket}
 use Rattle.attempt_ledger.specs.declared.ledger.Ledger.{Ledger}
 use Rattle.call_core.specs.Steps.{Stepped, lent}
-use Rattle.channel_core.proofs.Places.{put_there}
-use Rattle.channel_core.specs.Books.{BookActs, book_asked, bucket_at, placed_in_book, slot_at}
+use Rattle.channel_core.specs.Books.{book_asked, bucket_at, placed_in_book, slot_at}
 use Rattle.channel_core.specs.Tables.{Acted, acted, acted_as, acted_at, acted_on, changed_slot, changed_slot_at, changed_slot_on, numbered, tokens_in}
 use Rattle.channel_core.specs.declared.state.book.Book.{Book}
 use Rattle.channel_core.specs.declared.state.slots.CallSlot.{CallSlot}

@@ -1,14 +1,14 @@
 -- A settling is its steps: one after the other, then rounds until one does nothing.
-use Rattle.std.proofs.Common.{◌≡◌, ◌||◌, ◌++◌, ◌∷◌, ap, refl, subst, sym, ◌∙◌, Bool, true, false, List, [], Option, None, Some, ℕ, zero, suc, if◌then◌else◌}
+use Rattle.std.proofs.Common.{◌≡◌, ◌||◌, ◌++◌, ◌∷◌, ap, refl, ◌∙◌, Bool, true, false, [], Option, None, Some, ℕ, zero, suc, if◌then◌else◌}
 use Rattle.std.specs.Prelude.{option_and_then}
 use Rattle.channel_actions.proofs.Does.{does_on, none_on}
 use Rattle.channel_actions.proofs.Settles.{follows_by}
 use Rattle.channel_actions.specs.Agrees.{Agrees}
 use Rattle.channel_actions.specs.Calm.{IsAt}
-use Rattle.channel_actions.specs.Stages.{IsSettled, SettlingsOf}
-use Rattle.channel_core.specs.Settling.{also, most, prepared, queue_served, round, rounds, rounds_on, settled}
+use Rattle.channel_actions.specs.Stages.{IsSettled}
+use Rattle.channel_core.specs.Settling.{most, prepared, queue_served, round, rounds, settled}
 use Rattle.channel_core.specs.States.{StateSeen}
-use Rattle.channel_core.specs.Steps.{Moved, bare_served, clocked, net_settled, round_made}
+use Rattle.channel_core.specs.Steps.{clocked, net_settled, round_made}
 use Rattle.session_actions.specs.Actions.{config_action, first_action, following, following_in, of_calls, of_links, of_policies, of_stage}
 use Rattle.session_actions.specs.Making.{next_due_attempt}
 use Rattle.session_actions.specs.Policies.{next_of_pass, next_of_queue, next_take_over}
@@ -21,7 +21,7 @@ use Rattle.session_actions.specs.declared.entry.Stage.TheVariants as stage
 use Rattle.session_actions.specs.declared.seen.Seen.{Seen}
 use Rattle.settling_actions.specs.Laws.{RoundsAreSteps, SettlingKeeps, SettlingsAreSteps}
 use Rattle.settling_actions.specs.Sound.{IsSound}
-use Rattle.settling_actions.specs.Steps.{ClockSteps, ConfigSteps, IsBegun, IsClocked, IsDone, IsJoined, IsMade, IsPassed, IsRound, IsTended, Leads, MakingSteps, NetSteps, QueueSteps, RoundSteps, RoundsEnd, are_over, round_made_state}
+use Rattle.settling_actions.specs.Steps.{ClockSteps, ConfigSteps, IsClocked, IsDone, IsJoined, IsMade, IsPassed, IsRound, IsTended, Leads, MakingSteps, NetSteps, QueueSteps, RoundSteps, RoundsEnd, are_over, round_made_state}
 
 -- from one point to the next, and from that one further
 pub leads_on : (y z : StateSeen) (o : OpenEntry) (s : Seen) (Mid After : OpenEntry → Seen → Type 0) (l : Leads y o s Mid)

@@ -2,11 +2,11 @@
 -- and the session the actions that follow. The points are named by the lines of the settling that give nothing there.
 -- Example: a call begins on a channel that is READY and has a config. Clock, take-overs and wishes do nothing; configs bring CallConfigured; the first round
 -- brings AttemptMade, and then PickRequested and AttemptPlaced. The second round does nothing, and the entry closes.
-use Rattle.std.specs.Prelude.{Bool, None, Some, false, if◌then◌else◌, suc, true, zero, ℕ, ◌≡◌}
+use Rattle.std.specs.Prelude.{Bool, None, false, if◌then◌else◌, suc, true, zero, ℕ, ◌≡◌}
 use Rattle.channel_actions.specs.Agrees.{Agrees}
 use Rattle.channel_actions.specs.Calm.{IsAt}
 use Rattle.channel_actions.specs.Points.{Reaches}
-use Rattle.channel_core.specs.Settling.{most, queue_served, round, rounds}
+use Rattle.channel_core.specs.Settling.{most, queue_served, round}
 use Rattle.channel_core.specs.States.{StateSeen}
 use Rattle.channel_core.specs.Steps.{bare_served, clocked, net_settled, round_made}
 use Rattle.session_actions.specs.Actions.{config_action}
