@@ -1,5 +1,5 @@
 -- The links in the ledger after a drain: what was written makes none gone, and is not read.
-use Rattle.std.proofs.Common.{◌≡◌, ◌&&◌, ◌||◌, ◌+◌, ◌==◌, ◌∷◌, ap, refl, subst, sym, ◌∙◌, Bool, true, false, List, [], Option, None, Some, ℕ, zero, suc, if◌then◌else◌, is_none, is_some, length, map, not, slice_get, slice_set}
+use Rattle.std.proofs.Common.{◌≡◌, ◌&&◌, ◌||◌, ◌+◌, ◌∷◌, ap, refl, subst, sym, ◌∙◌, Bool, true, false, List, [], Option, None, Some, ℕ, zero, suc, if◌then◌else◌, is_none, is_some, length, map, not, slice_get, slice_set}
 use Rattle.std.specs.List.{list_any}
 use Rattle.std.specs.Option.{option_map_or}
 use Rattle.attempt_ledger.specs.declared.ledger.LinkSeen.{LinkSeen}
@@ -15,7 +15,6 @@ use Rattle.session_actions.specs.Reading.{is_outstanding_on}
 use Rattle.session_actions.specs.Refusals.{is_gone, is_shutdown_sub}
 use Rattle.session_actions.specs.Sessions.{link_seen}
 use Rattle.session_actions.specs.Words.{changed, changed_if, last_of}
-use Rattle.session_actions.specs.declared.attempt.Attempt.{Attempt}
 use Rattle.session_actions.specs.declared.entry.OpenEntry.{OpenEntry}
 use Rattle.session_actions.specs.declared.link.Link.{Link}
 use Rattle.session_actions.specs.declared.link.LinkOver.{LinkOver}
@@ -23,7 +22,7 @@ use Rattle.session_actions.specs.declared.link.ReadFrame.{ReadFrame}
 use Rattle.session_actions.specs.declared.link.Sent.{Sent}
 use Rattle.session_actions.specs.declared.seen.Seen.{Seen}
 use Rattle.streams_opened.proofs.Responses.{read_same, retiring_same, with_sent}
-use Rattle.streams_opened.proofs.Rows.{h, restreamed, t}
+use Rattle.streams_opened.proofs.Rows.{h, t}
 use Rattle.streams_opened.proofs.Streams.{streams_of}
 
 -- what of a link the ledger looks at

@@ -1,6 +1,6 @@
 -- Sets, buckets and calls after a drain.
-use Rattle.std.proofs.Common.{◌≡◌, ◌&&◌, ◌||◌, ◌==◌, ◌∷◌, ap, refl, subst, sym, ◌∙◌, Bool, true, false, List, [], Option, None, Some, ℕ, cond, filter, if◌then◌else◌, is_some, map, not}
-use Rattle.std.specs.Option.{option_and_then, option_map, option_map_or}
+use Rattle.std.proofs.Common.{◌≡◌, ◌&&◌, ◌==◌, ◌∷◌, ap, refl, subst, sym, ◌∙◌, Bool, true, false, List, [], Option, None, Some, ℕ, cond, filter, if◌then◌else◌, map, not}
+use Rattle.std.specs.Option.{option_and_then, option_map}
 use Rattle.std.specs.Prelude.{fold}
 use Rattle.a6_numbers.specs.Throttling.{Bucket}
 use Rattle.call_actions.proofs.Ranks.{numbered_map}
@@ -9,7 +9,6 @@ use Rattle.channel_actions.specs.Calls.{due_of}
 use Rattle.channel_actions.specs.Configs.{SeesBuckets, bucket_in, runs_in_turn}
 use Rattle.channel_actions.specs.Sets.{AreExactly, SeesSets, is_in_bare, is_in_deadlines, is_in_dues, is_in_impatient, is_in_outstanding, is_in_patient, is_in_queue, is_patient, is_waiting}
 use Rattle.channel_core.specs.States.{StateSeen}
-use Rattle.channel_core.specs.Tables.{BucketsSeen}
 use Rattle.drain_books.specs.Laws.{AreSameSets, BucketsStay, CallColumnsStay, SetsStay}
 use Rattle.drain_calls.proofs.Streamed.{streamed_is}
 use Rattle.session_actions.specs.Attempts.{is_of, is_outstanding, is_queued}
@@ -26,7 +25,7 @@ use Rattle.session_actions.specs.declared.link.Link.{Link}
 use Rattle.session_actions.specs.declared.seen.Seen.{Seen}
 use Rattle.session_order.proofs.Lists.{holds_same}
 use Rattle.streams_opened.proofs.Dues.{next_same}
-use Rattle.streams_opened.proofs.Rows.{h, queued_same, restream, restreamed, t}
+use Rattle.streams_opened.proofs.Rows.{h, queued_same, t}
 use Rattle.streams_opened.proofs.Streams.{streams_of}
 
 -- lists

@@ -1,7 +1,6 @@
 -- What a drain leaves as it was, beside links and buffers: the sets that a channel keeps in order, the tokens of its buckets, and its ledger but for the rows.
 -- Example: HEADERS are written for attempt 1 of call 1. No attempt is queued, due or outstanding that was not before, no tokens are taken, and no link is gone by it.
-use Rattle.std.specs.Prelude.{List, None, Some, is_some, map, ℕ, ◌≡◌}
-use Rattle.attempt_ledger.specs.declared.ledger.LinkSeen.{LinkSeen}
+use Rattle.std.specs.Prelude.{List, is_some, map, ℕ, ◌≡◌}
 use Rattle.channel_actions.specs.Columns.{links_noted}
 use Rattle.channel_actions.specs.Configs.{SeesBuckets}
 use Rattle.channel_actions.specs.Sets.{SeesSets}
@@ -10,7 +9,6 @@ use Rattle.channel_core.specs.Tables.{BucketsSeen}
 use Rattle.call_actions.specs.Order.{AreNumbered}
 use Rattle.drain_calls.specs.Laws.{IsOnlyStreamed}
 use Rattle.drain_writes.specs.Laws.{with_all_sent}
-use Rattle.session_actions.specs.Entries.{entry}
 use Rattle.session_actions.specs.Sessions.{call_seen}
 use Rattle.session_actions.specs.Words.{changed}
 use Rattle.session_actions.specs.declared.link.Sent.{Sent}

@@ -1,5 +1,5 @@
 -- A buffer of which rows took bytes: which rows are open stays, and none took more than is held.
-use Rattle.std.proofs.Common.{◌≡◌, ◌+◌, ◌-◌, ◌≤◌, ◌∷◌, ◌++◌, ◌&&◌, ◌==◌, ◌⊎◌, inl, inr, ap, arith, length-append, length-drop, refl, subst, sym, ◌∙◌, Bool, true, false, List, [], Option, None, Some, ℕ, cond, drop, if◌then◌else◌, is_some, length, map, nat_le}
+use Rattle.std.proofs.Common.{◌≡◌, ◌+◌, ◌-◌, ◌≤◌, ◌∷◌, ◌&&◌, ◌==◌, ◌⊎◌, inl, inr, ap, arith, length-append, length-drop, refl, subst, sym, ◌∙◌, Bool, true, false, List, [], Option, None, Some, ℕ, cond, drop, if◌then◌else◌, is_some, length, nat_le}
 use Rattle.std.proofs.Math.Nat.{le_refl}
 use Rattle.std.proofs.lemmas.Bool.{and_parts, eqb-true, leb-true}
 use Rattle.std.specs.List.{concat, find}

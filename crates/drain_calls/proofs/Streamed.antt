@@ -1,10 +1,10 @@
 -- A later history in which attempts have streams is the earlier one with the streams by place.
-use Rattle.std.proofs.Common.{◌≡◌, ◌∷◌, ap, refl, subst, sym, ◌∙◌, Bool, true, false, List, [], Option, None, Some, ℕ, map, slice_get}
+use Rattle.std.proofs.Common.{◌≡◌, ◌∷◌, ap, subst, sym, ◌∙◌, Bool, true, false, List, [], Option, Some, ℕ, slice_get}
 use Rattle.std.proofs.lemmas.Option.{slice_get-map}
 use Rattle.std.specs.Option.{option_map}
 use Rattle.attempt_buffer.specs.Buffers.{Buffered}
 use Rattle.call_actions.specs.Order.{AreNumbered}
-use Rattle.drain_calls.proofs.Feeds.{IsFedFrom, fed_all_so}
+use Rattle.drain_calls.proofs.Feeds.{fed_all_so}
 use Rattle.drain_calls.proofs.Holds.{holds_now}
 use Rattle.drain_calls.specs.Laws.{FeedsHold, IsLeftAt, IsOnlyStreamed, IsSoundBuffer, fed_some}
 use Rattle.drain_writes.specs.Laws as written

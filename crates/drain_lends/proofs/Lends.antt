@@ -1,10 +1,10 @@
 -- The line that the book lends for an attempt on a link.
-use Rattle.std.proofs.Common.{◌≡◌, ◌+◌, ◌-◌, ◌<◌, ◌≤◌, ◌&&◌, ◌||◌, ◌∷◌, ◌==◌, ap, arith, refl, subst, sym, ◌∙◌, Bool, true, false, List, [], Option, None, Some, ℕ, zero, suc, cond, drop, eq-eqb, filter, is_none, is_some, map, max, min, nat_le, not, slice_get}
+use Rattle.std.proofs.Common.{◌≡◌, ◌+◌, ◌-◌, ◌<◌, ◌≤◌, ◌&&◌, ◌||◌, ◌∷◌, ◌==◌, ap, arith, refl, subst, sym, ◌∙◌, Bool, true, false, List, [], Option, None, Some, ℕ, zero, suc, cond, drop, eq-eqb, filter, is_none, is_some, max, min, nat_le, not, slice_get}
 use Rattle.std.proofs.Math.Nat.{max-eq_left, min-eq_left}
 use Rattle.std.proofs.lemmas.Bool.{and_parts, leb-false, leb-true}
-use Rattle.std.specs.List.{AllByRecursion, list_all, list_any}
-use Rattle.std.specs.Option.{option_and_then, option_map, option_map_or}
-use Rattle.attempt_buffer.specs.Buffers.{Buffered, left_of, taken_by, text_of}
+use Rattle.std.specs.List.{AllByRecursion, list_all}
+use Rattle.std.specs.Option.{option_map, option_map_or}
+use Rattle.attempt_buffer.specs.Buffers.{Buffered, taken_by, text_of}
 use Rattle.attempt_ledger.specs.declared.ledger.CallEnd.{CallEnd}
 use Rattle.attempt_ledger.specs.declared.row.Placed.{Placed}
 use Rattle.attempt_ledger.specs.declared.row.Row.{Row}
@@ -37,7 +37,7 @@ use Rattle.session_actions.specs.Entries.{now}
 use Rattle.session_actions.specs.Links.{link_of}
 use Rattle.session_actions.specs.Reading.{used}
 use Rattle.session_actions.specs.Words.{foremost, holds, numbered}
-use Rattle.session_actions.specs.Writing.{accepted_bytes, drained, time_left}
+use Rattle.session_actions.specs.Writing.{drained, time_left}
 use Rattle.session_actions.specs.declared.attempt.Attempt.{Attempt}
 use Rattle.session_actions.specs.declared.call.Call.{Call}
 use Rattle.session_actions.specs.declared.link.Link.{Link}

@@ -1,5 +1,5 @@
 -- A link that is fed with other lines: each attempt on it, with the line of its place.
-use Rattle.std.proofs.Common.{◌≡◌, ◌&&◌, ◌∷◌, ap, refl, subst, sym, ◌∙◌, Bool, true, false, List, [], Option, Some, ℕ, cond, filter, is_none, is_some, map}
+use Rattle.std.proofs.Common.{◌≡◌, ◌∷◌, refl, subst, sym, Bool, true, false, List, [], Some, ℕ, cond, filter, is_none, is_some, map}
 use Rattle.std.specs.List.{AllByRecursion}
 use Rattle.channel_actions.proofs.Lines.{all_at_places, all_filter, all_sorted}
 use Rattle.h2_link.specs.Feeds.{Line}

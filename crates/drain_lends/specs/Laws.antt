@@ -4,7 +4,7 @@
 -- messages that were accepted and not written.
 use Rattle.std.specs.List.{list_all}
 use Rattle.std.specs.Option.{option_map_or}
-use Rattle.std.specs.Prelude.{None, Some, nat_le, true, ℕ, ◌+◌, ◌≡◌}
+use Rattle.std.specs.Prelude.{None, nat_le, true, ℕ, ◌+◌, ◌≡◌}
 use Rattle.channel_actions.specs.Agrees.{Agrees}
 use Rattle.channel_core.specs.Books.{lines_of}
 use Rattle.channel_core.specs.States.{StateSeen}

@@ -1,5 +1,5 @@
 -- HEADERS that are written next open a stream of a number that was not opened, on a link that takes one.
-use Rattle.std.proofs.Common.{◌≡◌, ◌+◌, ◌*◌, ◌∷◌, ◌==◌, ◌&&◌, ◌^◌, not, ap, refl, subst, sym, ◌∙◌, Bool, true, false, List, Option, None, Some, ℕ, if◌then◌else◌, length, nat_lt, slice_get, take}
+use Rattle.std.proofs.Common.{◌≡◌, ◌+◌, ◌*◌, ◌==◌, ◌&&◌, ◌^◌, not, ap, refl, sym, ◌∙◌, Bool, true, false, List, Option, None, Some, ℕ, if◌then◌else◌, length, nat_lt, slice_get, take}
 use Rattle.h2_frame.specs.Frames.{FrameSeen}
 use Rattle.h2_frame.specs.Numbers.{headers_type}
 use Rattle.h2_frame.specs.Sent.{data_frame, headers_frame}
@@ -8,7 +8,7 @@ use Rattle.h2_link.specs.Feeds.{Line}
 use Rattle.h2_link.specs.Wire.{Wire}
 use Rattle.h2_link.specs.declared.control.Control.{Control}
 use Rattle.link_actions.proofs.DataSent.{IsShare, share_found}
-use Rattle.link_actions.proofs.Owed.{IsControlFrame, is_frame}
+use Rattle.link_actions.proofs.Owed.{is_frame}
 
 pub record IsFreshHead (w : Wire) (f : FrameSeen) : Type 0 where
   pub stream : f.stream ≡ 2 * w.opened + 1

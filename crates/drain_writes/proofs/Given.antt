@@ -1,5 +1,5 @@
 -- The streams that a drain opens are given to the attempts that wait, one after the other.
-use Rattle.std.proofs.Common.{◌≡◌, ◌+◌, ◌*◌, ◌-◌, ◌-ℤ◌, ◌++◌, ◌∷◌, ◌&&◌, ◌==◌, ◌^◌, append-nil, append_assoc, ap, arith, refl, subst, sym, ◌∙◌, Bool, true, false, List, [], Option, None, Some, ℕ, zero, suc, cond, drop, filter, if◌then◌else◌, is_none, length, map, nat_lt, not, pos, slice_get, slice_set, take}
+use Rattle.std.proofs.Common.{◌≡◌, ◌+◌, ◌*◌, ◌-ℤ◌, ◌++◌, ◌∷◌, ◌&&◌, ◌==◌, ◌^◌, append-nil, append_assoc, ap, arith, refl, subst, sym, ◌∙◌, Bool, true, false, List, [], Option, None, Some, ℕ, zero, suc, cond, drop, filter, if◌then◌else◌, is_none, length, map, nat_lt, not, pos, slice_get, slice_set, take}
 use Rattle.std.proofs.lemmas.Option.{slice_get-map}
 use Rattle.std.specs.Option.{option_map, option_map_or}
 use Rattle.call_actions.specs.Order.{AreNumbered}
@@ -8,7 +8,7 @@ use Rattle.drain_writes.specs.Laws.{AreWaiting, given_in}
 use Rattle.h2_frame.specs.Frames.{FrameSeen}
 use Rattle.h2_frame.specs.Numbers.{headers_type}
 use Rattle.h2_frame.specs.Sent.{data_frame, headers_frame}
-use Rattle.h2_link.specs.Drains.{AFrame, Outgoing, Sends, head_block, is_below, named, next, next_control, next_data, next_head, opened_between, opens, outgoing, sender, sent_control, sent_head, stream_opened}
+use Rattle.h2_link.specs.Drains.{head_block, is_below, named, next, next_control, next_data, next_head, opened_between, opens, outgoing, sender, sent_control, sent_head, stream_opened}
 use Rattle.h2_link.specs.Drains.{Sent as Sending}
 use Rattle.h2_link.specs.Feeds.{Line}
 use Rattle.h2_link.specs.Wire.{Wire}

@@ -1,5 +1,5 @@
 -- A drain, frame after frame.
-use Rattle.std.proofs.Common.{◌≡◌, ◌+◌, ◌*◌, ◌++◌, ◌<◌, ◌≤◌, ◌^◌, ◌∷◌, ◌&&◌, ◌==◌, ap, append-nil, append_assoc, arith, length-append, refl, subst, sym, ◌∙◌, Bool, true, false, List, [], Option, None, Some, ℕ, zero, suc, drop, if◌then◌else◌, flat_map, length, map, min, nat_le, not, slice_get, slice_set}
+use Rattle.std.proofs.Common.{◌≡◌, ◌+◌, ◌*◌, ◌++◌, ◌<◌, ◌≤◌, ◌^◌, ◌∷◌, ◌&&◌, ◌==◌, ap, append-nil, append_assoc, arith, length-append, refl, subst, sym, ◌∙◌, Bool, true, List, [], Option, None, Some, ℕ, zero, suc, drop, if◌then◌else◌, flat_map, length, map, min, nat_le, not, slice_get, slice_set}
 use Rattle.std.proofs.lemmas.Bool.{le-leb, lt-leb}
 use Rattle.std.specs.Option.{option_and_then, option_map, option_map_or}
 use Rattle.call_actions.proofs.Lists.{changed_twice}
@@ -8,16 +8,15 @@ use Rattle.drain_writes.proofs.Counts.{sends_opened}
 use Rattle.drain_writes.proofs.Forms.{IsForm, rows_join, rows_self, sent_on, written_form}
 use Rattle.drain_writes.proofs.Fresh.{IsFreshHead, fresh_head}
 use Rattle.drain_writes.proofs.Given.{AreGiven, frame_given, given_between, given_on, none_given}
-use Rattle.drain_writes.specs.Laws.{AreRows, DrainsAreActions, IsDrainRun, IsDraining, with_all_sent, writing}
+use Rattle.drain_writes.specs.Laws.{AreRows, DrainsAreActions, IsDraining, with_all_sent, writing}
 use Rattle.grpc_base.specs.declared.event.Event.{Event}
-use Rattle.grpc_base.specs.declared.event.Event.TheVariants as event
 use Rattle.grpc_base.specs.declared.event.Reply.{Reply}
 use Rattle.grpc_base.specs.declared.event.Reply.TheVariants as reply
 use Rattle.grpc_link.specs.Links.{opened_all}
 use Rattle.grpc_link.specs.declared.readers.TagReader.{TagReader}
 use Rattle.h2_frame.specs.Frames.{FrameSeen}
 use Rattle.h2_frame.specs.Numbers.{headers_type}
-use Rattle.h2_link.specs.Drains.{AFrame, Drains, Outgoing, Sends, named, next, octets_of, opened_between}
+use Rattle.h2_link.specs.Drains.{AFrame, Outgoing, Sends, named, next, octets_of, opened_between}
 use Rattle.h2_link.specs.Drains.{Sent as Sending}
 use Rattle.h2_link.specs.Feeds.{Line}
 use Rattle.h2_link.specs.Wire.{Wire}
@@ -28,27 +27,23 @@ use Rattle.link_actions.specs.Sees.{ArePlaced, outgoing_of}
 use Rattle.reader_actions.proofs.Openings.{openings_add_up}
 use Rattle.reader_actions.proofs.Written.{writes_keep_readers}
 use Rattle.response_actions.specs.Readers.{SeesReaders}
-use Rattle.session_actions.specs.Actions.{after, after_if, first_action, following, of_frames, of_stage}
+use Rattle.session_actions.specs.Actions.{after, after_if, first_action, following, of_stage}
 use Rattle.session_actions.specs.CallEnds.{is_after_event, is_refusal, is_replied}
 use Rattle.session_actions.specs.Events.{frame_action, frame_of_event}
-use Rattle.session_actions.specs.Links.{is_retiring}
 use Rattle.session_actions.specs.Responses.{limit_of_attempt, response_in}
 use Rattle.session_actions.specs.Sessions.{Does}
 use Rattle.session_actions.specs.Words.{changed, changed_if, holds, numbered}
-use Rattle.session_actions.specs.Writing.{bytes_given, bytes_of, fits_drain, frame_to_write, frame_written, frame_written_on, next_written, sendable, stream_opened_by, waiting_on, with_written_bytes}
+use Rattle.session_actions.specs.Writing.{bytes_given, bytes_of, fits_drain, frame_to_write, frame_written, frame_written_on, sendable, stream_opened_by, with_written_bytes}
 use Rattle.session_actions.specs.declared.action.Action.{Action}
 use Rattle.session_actions.specs.declared.action.Action.TheVariants as action
 use Rattle.session_actions.specs.declared.attempt.Attempt.{Attempt}
 use Rattle.session_actions.specs.declared.entry.OpenEntry.{OpenEntry}
 use Rattle.session_actions.specs.declared.entry.Stage.{Stage}
-use Rattle.session_actions.specs.declared.entry.Stage.TheVariants as stage
 use Rattle.session_actions.specs.declared.link.Link.{Link}
 use Rattle.session_actions.specs.declared.link.Sent.{Sent}
 use Rattle.session_actions.specs.declared.link.Sent.TheVariants as sent
-use Rattle.session_actions.specs.declared.link.Traffic.TheVariants as traffic
 use Rattle.session_actions.specs.declared.seen.Seen.{Seen}
 use Rattle.session_order.proofs.Calms.{calm_leaves_stage}
-use Rattle.session_order.specs.Calm.{IsCalm}
 use Rattle.stream_actions.proofs.WriteStreams.{writes_keep_streams}
 use Rattle.stream_actions.specs.Laws.{IsWrittenOn}
 use Rattle.stream_actions.specs.Sees.{SeesStreams}

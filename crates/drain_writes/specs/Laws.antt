@@ -2,7 +2,7 @@
 -- further frame fits. Link and session agree then, with the readers and with what attempts are fed with.
 -- Example: a drain with room for 100 bytes finds the preface and HEADERS of attempt 1 to be written. FrameWritten of the preface is next, then FrameWritten of HEADERS,
 -- which gives attempt 1 its stream. Then nothing is left to write.
-use Rattle.std.specs.Prelude.{List, None, Some, [], map, min, true, ℕ, ◌++◌, ◌<◌, ◌^◌, ◌∷◌, ◌≡◌}
+use Rattle.std.specs.Prelude.{List, None, Some, [], map, min, ℕ, ◌++◌, ◌<◌, ◌^◌, ◌∷◌, ◌≡◌}
 use Rattle.grpc_base.specs.declared.event.Event.TheVariants as event
 use Rattle.grpc_base.specs.declared.event.Reply.TheVariants as reply
 use Rattle.grpc_link.specs.Links.{opened_all}

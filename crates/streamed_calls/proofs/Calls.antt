@@ -1,6 +1,6 @@
 -- A call of which attempts have streams: what the channel keeps of it, and what the session keeps in order.
 use Rattle.std.proofs.Common.{◌≡◌, ◌+◌, ◌∷◌, ◌&&◌, ◌||◌, ◌==◌, ap, refl, subst, sym, ◌∙◌, Bool, true, false, List, [], Option, None, Some, ℕ, suc, cond, filter, if◌then◌else◌, is_none, is_some, length, map, max, nat_le, nat_lt, not}
-use Rattle.std.specs.List.{list_all, list_any}
+use Rattle.std.specs.List.{list_all}
 use Rattle.std.specs.Option.{option_map, option_map_or}
 use Rattle.std.specs.Prelude.{fold}
 use Rattle.a6_numbers.specs.Throttling.{Bucket}
@@ -15,7 +15,6 @@ use Rattle.call_actions.specs.Sees.{AreDue, Sees, bucket_of, is_live, live_row, 
 use Rattle.call_core.specs.Laws as channel
 use Rattle.call_core.specs.Steps.{Stepped}
 use Rattle.drain_calls.proofs.Streamed.{streamed_is}
-use Rattle.drain_calls.specs.Laws.{IsOnlyStreamed}
 use Rattle.grpc_base.specs.declared.event.Reply.{Reply}
 use Rattle.session_actions.specs.Attempts.{commitment, is_followed, is_of, is_outstanding, was_refused, was_retried_so}
 use Rattle.session_actions.specs.Configs.{plan_of}

@@ -3,7 +3,7 @@
 -- Example: HEADERS are written for attempt 1 of call 1. Its row has stream 1; that attempt 1 is live, that nothing is due of call 1, and what came of its
 -- response, is as before.
 use Rattle.std.specs.List.{list_all}
-use Rattle.std.specs.Prelude.{None, is_some, map, option_map, true, ℕ, ◌≡◌}
+use Rattle.std.specs.Prelude.{None, is_some, map, true, ◌≡◌}
 use Rattle.attempt_buffer.specs.Buffers.{Buffered}
 use Rattle.attempt_ledger.specs.declared.ledger.Ledger.{Ledger}
 use Rattle.call_actions.specs.Order.{AreNumbered, IsInOrder, IsInTurn}
