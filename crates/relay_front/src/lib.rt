@@ -8,7 +8,7 @@ mod turned;
 mod turns;
 
 pub use ends::relay_close;
-pub use links::relay_link;
+pub use links::{LinkEnd, relay_link};
 pub use relay_connection::{RelayAsk, RelayFault, pieces_join, streams_are_apart, streams_rise};
 pub use relay_core::RelayCore;
 pub use turned::RelayTurn;

@@ -23,7 +23,7 @@ const DRAIN_ROOM: u32 = 65_536;
 
 /// Why the rounds of a link end.
 #[derive(Clone, Copy, Debug)]
-pub(crate) enum LinkEnd {
+pub enum LinkEnd {
     /// A read gave the link's end, or failed, or a write failed.
     Lost,
     /// A turn answered that the client's bytes broke the protocol.

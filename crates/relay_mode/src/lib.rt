@@ -1,0 +1,15 @@
+// The mode `relay`: links of a listener whose calls all go through one channel over the links of a world.
+#![tactic(auto)]
+
+mod accepting;
+mod front;
+mod link;
+mod mode;
+mod prompt;
+mod run;
+mod session;
+mod settings;
+mod sides;
+
+pub use mode::run_relay;
+pub use settings::RelaySettings;
