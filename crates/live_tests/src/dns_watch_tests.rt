@@ -118,6 +118,38 @@ fn a_job_tells_the_channel_what_its_lookups_found(rt: HostRuntime) -> Result<(),
     Ok(())
 }
 
+/// A lookup whose answer has 70 addresses.
+fn many(alloc: Global) -> Result<MemLookup, Fail> {
+    let mut ips = Items::new(alloc);
+    for ip in 1..71u32 {
+        ips.push(ip)?;
+    }
+    let mut answers = Vec::new(alloc);
+    answers.push(ips)?;
+    Ok(MemLookup::new(answers, Vec::new(alloc)))
+}
+
+#[test]
+fn of_seventy_addresses_the_first_64_are_told(rt: HostRuntime) -> Result<(), Fail> {
+    let alloc = rt.alloc();
+    let mut channel = Channel::new(alloc, Plan::new()).expect(&rt, "0 is a moment");
+    let came = dns_once(
+        alloc,
+        &mut channel,
+        &mut DnsWatch::new(name(alloc)?),
+        &mut many(alloc)?,
+        &ListClock::new(vec![in alloc; 0]?),
+        &mut PcgDraws::new(0),
+        &Some(Octets::of_static(b"{}")),
+    );
+    assert_eq!(rt; came, DnsOnce::Posted);
+    let told = resolved(&channel);
+    assert_eq!(rt; told.len(), 64);
+    let (ip, port) = (64, 50_051);
+    assert_eq!(rt; told.last(), Some(&Address { ip, port }));
+    Ok(())
+}
+
 #[test]
 fn a_job_answers_by_what_came_of_its_post(rt: HostRuntime) -> Result<(), Fail> {
     let alloc = rt.alloc();

@@ -60,6 +60,19 @@ fn a_table_tends_the_links_that_were_opened(rt: HostRuntime) -> Result<(), Fail>
 }
 
 #[test]
+fn a_table_tends_a_thousand_links(rt: HostRuntime) -> Result<(), Fail> {
+    let Ok(mut table) = KeepTable::new(rt.alloc(), RULE) else {
+        panic!(rt; "the rule is refused");
+    };
+    for link in 0..1_000u32 {
+        table.opened(link, 0)?;
+    }
+    assert_eq!(rt; table.turn(999, 10_000_000_000), Tend::Ping { word: 1 });
+    assert_eq!(rt; table.turn(1_000, 10_000_000_000), Tend::Nothing);
+    Ok(())
+}
+
+#[test]
 fn a_list_breaks_the_rule_at_its_first_wrong_entry(rt: HostRuntime) {
     let kept = [
         KeepEntry {
