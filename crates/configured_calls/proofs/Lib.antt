@@ -1,2 +1,0 @@
-pub mod Configured
-pub mod Lists

@@ -1,6 +1,0 @@
-pub mod Answered
-pub mod Failing
-pub mod Joining
-pub mod Nets
-pub mod Taking
-pub mod Words

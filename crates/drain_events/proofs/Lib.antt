@@ -1,4 +1,0 @@
-pub mod Links
-pub mod Rooms
-pub mod Rows
-pub mod Drains

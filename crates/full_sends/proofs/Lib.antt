@@ -1,4 +1,0 @@
-pub mod Chosen
-pub mod Bare
-pub mod Stepping
-pub mod Leading

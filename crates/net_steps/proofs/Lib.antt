@@ -1,5 +1,0 @@
-pub mod Alike
-pub mod Clocks
-pub mod Passing
-pub mod Stepped
-pub mod Subbed

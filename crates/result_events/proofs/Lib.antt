@@ -1,2 +1,0 @@
-pub mod BadConfigs
-pub mod Shutdowns
