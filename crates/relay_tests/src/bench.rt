@@ -15,8 +15,8 @@ use std::alloc::Global;
 /// A connection and its channel.
 #[derive(Drop)]
 pub struct Bench {
-    pub core: RelayCore,
-    pub channel: Channel,
+    core: RelayCore,
+    channel: Channel,
     /// How many entries were looked at.
     seen: usize,
 }

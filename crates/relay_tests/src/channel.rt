@@ -1,9 +1,10 @@
 // A channel in memory for a relay: it makes an entry of each event, and replies by what it is told.
-ghost use Rattle.std.specs.Prelude.{◌≡◌, [], ℕ, List, IfOk, OnErr, Some};
-ghost use Rattle.grpc_base.specs.declared.request.Request.{Request};
+ghost use Rattle.std.specs.Prelude.{◌≡◌, [], ℕ, IfOk, OnErr, Some, true};
 ghost use Rattle.grpc_base.specs.Counts.{one_more};
 ghost use Rattle.grpc_base.specs.Posts.{AddsEntry, CountsErrors, MayReply, Posts};
 ghost use Rattle.grpc_base.specs.declared.event.Event.TheVariants as event;
+ghost use Rattle.grpc_base.specs.declared.event.Refusal.TheVariants as refusal;
+ghost use Rattle.grpc_base.specs.declared.event.Reply.TheVariants as reply;
 
 use grpc_base::{
     Code, Conn, EndCause, Entry, Event, Glance, Items, Look, Metadata, Moment, NoMemory, Octets,
@@ -102,7 +103,7 @@ impl Plan {
 
     /// What comes next of a call.
     fn next_of(&mut self, call: u32) -> Reply
-        ensures { (call : ℕ) → MayReply (event.Take call) result }
+        ensures { MayReply (event.Take call) result }
     {
         match self.coming.iter().position(|c| c.call == call) {
             Some(place) => {
@@ -113,28 +114,20 @@ impl Plan {
         }
     }
 
-    /// The reply to a Send that is not refused.
-    fn taken(&mut self) -> Reply
-        ensures { (call : ℕ) (message : List ℕ) → MayReply (event.Send call message) result }
-    {
-        if self.room == 0 {
-            return Reply::Full { held: 0 };
-        }
-        self.room -= 1;
-        Reply::Done
+    /// Takes room for a message, and says whether there was some.
+    fn takes_room(&mut self) -> bool {
+        let has_room = self.room > 0;
+        self.room = self.room.saturating_sub(1);
+        has_room
     }
 
-    /// A call is begun, unless the channel was shut down.
-    fn begin(&mut self) -> Reply
-        ensures { (request : Request) → MayReply (event.Begin request) result }
-    {
+    /// The number of one more call; None where the channel was shut down.
+    fn begins(&mut self) -> Option<u32> {
         if self.shut {
-            return Reply::Refused {
-                refusal: Refusal::Shut,
-            };
+            return None;
         }
         self.begun = self.begun.saturating_add(1);
-        Reply::Call { call: self.begun }
+        Some(self.begun)
     }
 
     /// A reply that the event may get.
@@ -142,14 +135,18 @@ impl Plan {
         ensures { MayReply event.now result }
     {
         match event {
-            Event::Begin { .. } => self.begin(),
-            Event::Send { .. } | Event::Finish { .. } | Event::Cancel { .. } | Event::Take { .. }
-                if self.refuses => {
-                Reply::Refused {
-                    refusal: Refusal::NoSuchCall,
+            Event::Begin { .. } => match self.begins() {
+                Some(call) => Reply::Call { call },
+                None => Reply::Refused {
+                    refusal: Refusal::Shut,
+                },
+            },
+            Event::Send { .. } => {
+                if self.takes_room() {
+                    return Reply::Done;
                 }
+                Reply::Full { held: 0 }
             }
-            Event::Send { .. } => self.taken(),
             Event::Take { call } => self.next_of(*call),
             Event::TakeDial => Reply::NotYet,
             Event::LinkUp { .. } => Reply::Link { link: 1 },
@@ -174,6 +171,16 @@ impl Plan {
         self.posts = self.posts.saturating_add(1);
         self.posts == self.fails
     }
+}
+
+/// Whether an event of a call may be refused since there is no such call.
+fn is_refusable(event: &Event) -> bool
+    ensures { result ≡ true → MayReply event.now (reply.Refused refusal.NoSuchCall) }
+{
+    matches!(
+        event,
+        Event::Send { .. } | Event::Finish { .. } | Event::Cancel { .. } | Event::Take { .. }
+    )
 }
 
 /// A channel in memory.
@@ -277,6 +284,14 @@ impl Post for Channel {
     fn post(&mut self, event: Event) -> Result<Reply, PostError> {
         if self.plan.fails_now() {
             return Err(self.fail(PostError::NoMemory { spent: true }));
+        }
+        if self.plan.refuses && is_refusable(&event) {
+            return self.give(
+                event,
+                &Reply::Refused {
+                    refusal: Refusal::NoSuchCall,
+                },
+            );
         }
         let reply = self.plan.reply_to(&event);
         self.give(event, &reply)

@@ -1,9 +1,9 @@
 // The job of a link over memory: what goes out, what is posted, and how it ends.
-use crate::bench::{Bench, is_word, plans};
-use crate::channel::Channel;
+use crate::bench::{is_word, plans};
+use crate::channel::{Channel, Plan};
 use crate::told::{bytes_of, is_told, tell_entries};
 use gate_io::{MemLinkIn, MemLinkOut, MemSink, MemSource};
-use relay_front::relay_link;
+use relay_front::{RelayCore, relay_link};
 use std::alloc::Global;
 use std::process::Abort;
 use std::sync::Wait;
@@ -65,13 +65,13 @@ fn output_of(alloc: Global, cut: Cut) -> Option<MemLinkOut> {
     Some(MemLinkOut::new(MemSink::new(alloc, cut.write.max(1), failing)))
 }
 
-/// A connection at a channel that replies so.
-fn bench_of(alloc: Global, lines: &'static str) -> Option<Bench> {
-    let mut bench = Bench::new(alloc)?;
+/// A channel that replies so.
+fn channel_of(alloc: Global, lines: &'static str) -> Option<Channel> {
+    let mut plan = Plan::new(alloc);
     for line in lines.split('\n') {
-        plans(&mut bench.channel.plan, line)?;
+        plans(&mut plan, line)?;
     }
-    Some(bench)
+    Channel::new(alloc, plan)
 }
 
 /// Whether a link was closed, and took these bytes.
@@ -89,18 +89,13 @@ fn has_posted(alloc: Global, channel: &Channel, words: &str) -> Option<bool> {
 
 /// Runs the job of a link, and says whether all is as the row has it, and the link closed.
 fn goes<R: Wait>(rt: &R, alloc: Global, row: Row, cut: Cut) -> Option<bool> {
-    let mut bench = bench_of(alloc, row.plan)?;
+    let mut core = RelayCore::new(alloc).ok()?;
+    let mut channel = channel_of(alloc, row.plan)?;
     let mut input = input_of(alloc, row.comes, cut)?;
     let mut output = output_of(alloc, cut)?;
-    let turn = relay_link(
-        rt,
-        &mut bench.channel,
-        &mut bench.core,
-        &mut input,
-        &mut output,
-    );
+    let turn = relay_link(rt, &mut channel, &mut core, &mut input, &mut output);
     let answered = is_word(turn, row.answer);
-    let posted = has_posted(alloc, &bench.channel, row.posts)?;
+    let posted = has_posted(alloc, &channel, row.posts)?;
     let taken = has_taken(alloc, &output, row.goes)?;
     Some(answered && posted && taken)
 }
