@@ -105,11 +105,11 @@ module _ (R : StateSeen → StateSeen → Type 0) (c : Rests R) where
       let n : NetSeen = net.net_resolved kind addresses s.net in
       left_net n _ (net.resolved_shut kind addresses s.net) s (gen_resolved s kind s.net n)
 
-  take_config : (kinds : KindsSeen) (text : Option (List ℕ)) (read : Result Config ConfigFault) (s : StateSeen) → Holds R text → config_read kinds text ≡ read → R s (applying.config_taken read s).state
+  pub take_config : (kinds : KindsSeen) (text : Option (List ℕ)) (read : Result Config ConfigFault) (s : StateSeen) → Holds R text → config_read kinds text ≡ read → R s (applying.config_taken read s).state
   take_config kinds text (Ok config) s holds e = holds config kinds s e
   take_config kinds text (Err fault) s holds e = c.beside s _ refl refl refl (λ e. e)
 
-  resolve : (addresses : List Address) (text : Option (List ℕ)) (s : StateSeen) → Holds R text → R s (applying.resolved addresses text s).state
+  pub resolve : (addresses : List Address) (text : Option (List ℕ)) (s : StateSeen) → Holds R text → R s (applying.resolved addresses text s).state
   resolve addresses text s holds =
       let kinds : KindsSeen = kinds_of s.net.asker.rack.policies in
       let t : StateSeen = applying.answered_question s in
@@ -128,30 +128,30 @@ module _ (R : StateSeen → StateSeen → Type 0) (c : Rests R) where
       let r : RackSeen = s.net.asker.rack in
       left_net (net.net_shut s.net).net _ (net.net_shut s.net).gone s (gen_retired_live s (live_of r.policies r.pending) _ (gen_retired_live s (live_of r.policies r.current) s.book.ledger.generations (same R c s)))
 
-  shut_off : (s : StateSeen) → R s (applying.shut_off s)
+  pub shut_off : (s : StateSeen) → R s (applying.shut_off s)
   shut_off s =
       let t : StateSeen = record s { shut = true } in
       let u : StateSeen = applying.all_closed t in
       c.joined s t _ (c.beside s t refl refl refl (λ e. refl)) (c.joined t u _ (close_all (length t.book.calls) 0 t) (close_net u))
 
-  shut_down : (s : StateSeen) → R s (applying.shut_down s)
+  pub shut_down : (s : StateSeen) → R s (applying.shut_down s)
   shut_down s = either R c s.shut s s _ (same R c s) (shut_off s)
 
   -- a link comes up, a dial is taken
-  link_up : (refused : Option Refusal) (sub : ℕ) (s : StateSeen) → ComesUp R sub → R s (arrivals.linked_for refused sub s).state
+  pub link_up : (refused : Option Refusal) (sub : ℕ) (s : StateSeen) → ComesUp R sub → R s (arrivals.linked_for refused sub s).state
   link_up None sub s up = up s
   link_up (Some why) sub s up = same R c s
 
-  dial_down : (refused : Option Refusal) (sub : ℕ) (s : StateSeen) → R s (arrivals.dial_failed_for refused sub s).state
+  pub dial_down : (refused : Option Refusal) (sub : ℕ) (s : StateSeen) → R s (arrivals.dial_failed_for refused sub s).state
   dial_down None sub s = c.beside s _ refl refl refl (λ e. e)
   dial_down (Some why) sub s = same R c s
 
-  dial_drawn : (d : Option Dialing) (s t : StateSeen) → R s t → R s (step.dial_draw d t)
+  pub dial_drawn : (d : Option Dialing) (s t : StateSeen) → R s t → R s (step.dial_draw d t)
   dial_drawn None s t h = h
   dial_drawn (Some d) s t h = c.joined s t _ h (c.beside t _ refl refl refl (λ e. e))
 
   -- an event
-  begin : (request : RequestSeen) (s : StateSeen) → Begins R request → R s (arrivals.begun_by request s).state
+  pub begin : (request : RequestSeen) (s : StateSeen) → Begins R request → R s (arrivals.begun_by request s).state
   begin request s begins =
       let number : ℕ = length s.book.ledger.calls + 1 in
       let t : StateSeen = with_book (book_begun request s.book) s in
@@ -183,21 +183,21 @@ module _ (R : StateSeen → StateSeen → Type 0) (c : Rests R) where
   answered None e s t r k g = applied e s t r k g
 
   -- the settling: the clock and the policies
-  limit_all : (links : List ℕ) (s : StateSeen) → R s (step.limits_passed links s)
+  pub limit_all : (links : List ℕ) (s : StateSeen) → R s (step.limits_passed links s)
   limit_all [] s = same R c s
   limit_all (link ∷ links) s =
       let t : StateSeen = record s { links = buried_in link s.links; resolver = true } in
       let u : StateSeen = step.limit_passed link s in
       c.joined s u _ (c.joined s t u (c.beside s t refl refl (changed_length buried s.links link) (λ e. e)) (gone_one R c link t)) (limit_all links u)
 
-  clock : (s : StateSeen) → R s (clocked s)
+  pub clock : (s : StateSeen) → R s (clocked s)
   unfolding clocked
   clock s =
       let l : NetLeft = net.net_clocked s.book.moment s.net in
       let t : StateSeen = record s { net = l.net } in
       c.joined s t _ (c.beside s t refl refl refl (λ e. e)) (limit_all l.gone t)
 
-  settle_net : (s : StateSeen) → R s (net_settled s)
+  pub settle_net : (s : StateSeen) → R s (net_settled s)
   unfolding net_settled
   settle_net s =
       let l : NetLeft = net.net_settled s.net in
@@ -205,24 +205,24 @@ module _ (R : StateSeen → StateSeen → Type 0) (c : Rests R) where
       left_net l.net _ l.gone s (gen_over s n _ (gen_over s s.net s.book.ledger.generations (same R c s)))
 
   -- calls without a configuration
-  configure : (chosen : Option Chosen) (number : ℕ) (s : StateSeen) → Configures R → chosen_in s.held (slot_at s.book number) ≡ chosen → R s (step.configured_as number chosen s)
+  pub configure : (chosen : Option Chosen) (number : ℕ) (s : StateSeen) → Configures R → chosen_in s.held (slot_at s.book number) ≡ chosen → R s (step.configured_as number chosen s)
   configure None number s f e = same R c s
   configure (Some chosen) number s f e = after_book R c (book_configured chosen number s.book) number s s refl refl (λ e. e) (f chosen number s e)
 
-  configure_all : (calls : List ℕ) (s : StateSeen) → Configures R → R s (step.all_configured calls s)
+  pub configure_all : (calls : List ℕ) (s : StateSeen) → Configures R → R s (step.all_configured calls s)
   configure_all [] s f = same R c s
   configure_all (key ∷ calls) s f =
       let number : ℕ = number_of key in
       let t : StateSeen = step.configured_call number s in
       c.joined s t _ (configure (chosen_in s.held (slot_at s.book number)) number s f refl) (configure_all calls t f)
 
-  unconfigure_all : (calls : List ℕ) (s : StateSeen) → R s (step.all_unconfigured calls s)
+  pub unconfigure_all : (calls : List ℕ) (s : StateSeen) → R s (step.all_unconfigured calls s)
   unconfigure_all [] s = same R c s
   unconfigure_all (key ∷ calls) s =
       let t : StateSeen = step.closed ends.NoConfig (number_of key) s in
       c.joined s t _ (close R c ends.NoConfig (number_of key) s refl) (unconfigure_all calls t)
 
-  serve_bare : (s : StateSeen) → Configures R → R s (bare_served s)
+  pub serve_bare : (s : StateSeen) → Configures R → R s (bare_served s)
   unfolding bare_served
   serve_bare s f =
       let t : StateSeen = record s { bare = later 0 s.bare; impatient = [] } in
@@ -231,20 +231,20 @@ module _ (R : StateSeen → StateSeen → Type 0) (c : Rests R) where
       (either R c s.unconfigured s _ s (c.joined s u _ (c.beside s u refl refl refl (λ e. e)) (unconfigure_all (due_keys 0 s.impatient) u)) (same R c s))
 
   -- due attempts
-  make_all : (calls : List ℕ) (s : StateSeen) → R s (step.all_made calls s)
+  pub make_all : (calls : List ℕ) (s : StateSeen) → R s (step.all_made calls s)
   make_all [] s = same R c s
   make_all (key ∷ calls) s =
       let number : ℕ = number_of key in
       let t : StateSeen = step.made_one number s in
       c.joined s t _ (then_seal R c s _ (after_book R c (book_asked (call.made_due s.book.moment) number s.book) number s s refl refl (λ e. e) (c.made number s))) (make_all calls t)
 
-  forget_all : (calls : List ℕ) (s : StateSeen) → R s (step.dues_forgotten calls s)
+  pub forget_all : (calls : List ℕ) (s : StateSeen) → R s (step.dues_forgotten calls s)
   forget_all [] s = same R c s
   forget_all (key ∷ calls) s =
       let t : StateSeen = step.due_gone (number_of key) s in
       c.joined s t _ (c.forgotten (number_of key) s) (forget_all calls t)
 
-  make_round : (s : StateSeen) → R s (step.round_made s).state
+  pub make_round : (s : StateSeen) → R s (step.round_made s).state
   make_round s =
       let keys : List ℕ = due_keys s.book.moment s.dues in
       let t : StateSeen = record s { dues = later s.book.moment s.dues } in
@@ -252,29 +252,29 @@ module _ (R : StateSeen → StateSeen → Type 0) (c : Rests R) where
       c.joined s t _ (c.beside s t refl refl refl (λ e. e)) (c.joined t u _ (forget_all keys t) (make_all (due_keys 0 (sorted_into [] keys)) u))
 
   -- the queue
-  place_if : (takes : Bool) (number row : ℕ) (at : Placed) (s : StateSeen) → at.entry ≡ s.book.ledger.entry → at.moment ≡ s.book.moment → R s (settling.placed_if takes number row at s).state
+  pub place_if : (takes : Bool) (number row : ℕ) (at : Placed) (s : StateSeen) → at.entry ≡ s.book.ledger.entry → at.moment ≡ s.book.moment → R s (settling.placed_if takes number row at s).state
   place_if true number row at s entry moment =
       after_book R c (book_placed row at number s.book) number s (settling.outstanding_on at.link row (step.unqueued number row s)) refl refl (λ e. e) (c.placed row at number s entry moment)
   place_if false number row at s entry moment = same R c s
 
-  place_on : (number row generation sub : ℕ) (link : Option ℕ) (s : StateSeen) → R s (settling.placed_on number row generation sub link s).state
+  pub place_on : (number row generation sub : ℕ) (link : Option ℕ) (s : StateSeen) → R s (settling.placed_on number row generation sub link s).state
   place_on number row generation sub None s = same R c s
   place_on number row generation sub (Some link) s =
       let t : StateSeen = settling.offered link row (limit_at (slot_at s.book number)) s in
       c.joined s t _ (c.beside s t refl refl (placed_length (takes_rows link s.links) link row (limit_at (slot_at s.book number)) s.links) (λ e. e)) (place_if (takes_rows link s.links) number row (settling.place_at generation sub link s) t refl refl)
 
-  pick_for : (number row generation : ℕ) (p : Pick) (s : StateSeen) → R s (settling.picked number row generation p s).state
+  pub pick_for : (number row generation : ℕ) (p : Pick) (s : StateSeen) → R s (settling.picked number row generation p s).state
   pick_for number row generation (pick.Place sub) s = place_on number row generation sub (net_lists.link_of s.net.links sub) s
   pick_for number row generation pick.Wait s = same R c s
   pick_for number row generation pick.Fail s = fail R c number row s
 
-  serve_by : (number row : ℕ) (a : Option Asked) (s : StateSeen) → R s (settling.served_by number row a s).state
+  pub serve_by : (number row : ℕ) (a : Option Asked) (s : StateSeen) → R s (settling.served_by number row a s).state
   serve_by number row None s = same R c s
   serve_by number row (Some a) s =
       let t : StateSeen = step.asked_by row a s in
       c.joined s t _ (c.asked (record { entry = s.book.ledger.entry; generation = a.generation; row = row; answer = a.pick }) s refl) (pick_for number row a.generation a.pick t)
 
-  serve : (number row : ℕ) (s : StateSeen) → R s (settling.served number row s).state
+  pub serve : (number row : ℕ) (s : StateSeen) → R s (settling.served number row s).state
   serve number row s =
       let t : StateSeen = settling.asked s in
       c.joined s t _ (c.beside s t refl refl refl (λ e. e)) (serve_by number row (net.net_answer s.net) t)
@@ -285,13 +285,13 @@ module _ (R : StateSeen → StateSeen → Type 0) (c : Rests R) where
       let after : Moved = settling.also m.moved (settling.served p.0 p.1 m.state) in
       c.joined m.state after.state _ (serve p.0 p.1 m.state) (more p after)
 
-  pass : (k : ℕ) (last : ℕ × ℕ) (m : Moved) → R m.state (passed k last m).state
+  pub pass : (k : ℕ) (last : ℕ × ℕ) (m : Moved) → R m.state (passed k last m).state
   unfolding passed
   pass zero last m = same R c m.state
   pass (suc k) last m = pass_on (passed k) (step.next_served last m.state) m (pass k)
 
   -- rounds until nothing moves
-  one_round : (s : StateSeen) → R s (settling.round s).state
+  pub one_round : (s : StateSeen) → R s (settling.round s).state
   one_round s =
       let t : StateSeen = (step.round_made s).state in
       c.joined s t _ (make_round s) (pass settling.most (0, 0) (settling.stays t))
@@ -299,7 +299,7 @@ module _ (R : StateSeen → StateSeen → Type 0) (c : Rests R) where
   rounds_on : (further : StateSeen → StateSeen) (m : Moved) → ((s : StateSeen) → R s (further s)) → R m.state (settling.rounds_on further m)
   rounds_on further m more = either R c m.moved m.state (further m.state) m.state (more m.state) (same R c m.state)
 
-  all_rounds : (k : ℕ) (s : StateSeen) → R s (rounds k s)
+  pub all_rounds : (k : ℕ) (s : StateSeen) → R s (rounds k s)
   unfolding rounds
   all_rounds zero s = same R c s
   all_rounds (suc k) s =

@@ -1,0 +1,15 @@
+use Rattle.drain_books.proofs.Columns as columns
+use Rattle.drain_books.proofs.Sets as sets
+use Rattle.drain_books.proofs.laws.drains_leave_books.Goals as goal
+
+pub returns-clause-sets : goal.returns-clause-sets
+returns-clause-sets c = sets.sets_stay
+
+pub returns-clause-buckets : goal.returns-clause-buckets
+returns-clause-buckets c = sets.buckets_stay
+
+pub returns-clause-calls : goal.returns-clause-calls
+returns-clause-calls c = sets.call_columns_stay
+
+pub returns-clause-links : goal.returns-clause-links
+returns-clause-links c = columns.link_columns_stay

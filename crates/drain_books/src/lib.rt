@@ -1,0 +1,6 @@
+// What a drain leaves of the books of a channel.
+#![tactic(auto)]
+
+mod laws;
+
+pub use laws::drains_leave_books;

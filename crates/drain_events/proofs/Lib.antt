@@ -1,0 +1,4 @@
+pub mod Links
+pub mod Rooms
+pub mod Rows
+pub mod Drains

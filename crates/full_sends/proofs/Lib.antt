@@ -1,0 +1,4 @@
+pub mod Chosen
+pub mod Bare
+pub mod Stepping
+pub mod Leading

@@ -1,0 +1,2 @@
+pub mod BadConfigs
+pub mod Shutdowns
