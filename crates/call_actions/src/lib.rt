@@ -9,10 +9,10 @@ pub use laws::{
     refused_attempts_are_retried,
 };
 
-pub mod take_actions;
-pub mod last_ends;
 pub mod calls_apart;
-pub mod takes_apart;
 pub mod calls_in_turn;
-pub mod reads_in_order;
 pub mod ends_in_order;
+pub mod last_ends;
+pub mod reads_in_order;
+pub mod take_actions;
+pub mod takes_apart;

@@ -8,21 +8,21 @@ pub use laws::{
     plain_events_are_answered, runs_are_sessions,
 };
 
-pub mod kept_sessions;
-pub mod kept_calls;
 pub mod actions_fit;
-pub mod own_links;
-pub mod set_frames;
-pub mod other_calls;
-pub mod ends_follow;
-pub mod link_ends;
 pub mod acts_followed;
-pub mod link_frames;
-pub mod streams_opened;
-pub mod reset_calls;
-pub mod going_calls;
+pub mod board_actions;
+pub mod drain_books;
+pub mod drain_calls;
 pub mod drain_lends;
 pub mod drain_writes;
-pub mod drain_calls;
-pub mod drain_books;
-pub mod board_actions;
+pub mod ends_follow;
+pub mod going_calls;
+pub mod kept_calls;
+pub mod kept_sessions;
+pub mod link_ends;
+pub mod link_frames;
+pub mod other_calls;
+pub mod own_links;
+pub mod reset_calls;
+pub mod set_frames;
+pub mod streams_opened;

@@ -1,15 +1,15 @@
 // Calls that wait for their configuration, in a settling, as actions of a session; nothing runs.
 ghost use Rattle.channel_cases.specs.ConfigActions.Laws.{ConfigsAreStep, ServedCallsGetConfigs, UnservedCallsEnd, UnservedSettlings};
 
-use session_order::config_stirs::configs_stir;
 use crate::configured_calls::calls_get_configs;
 use channel_actions::kept_calls::calls_are_kept;
 use channel_actions::kept_sessions::sessions_are_kept;
 use channel_actions::link_frames::{actions_are_untold, links_stay};
-use net_actions::{policy_steps_are_actions, subchannel_steps_are_actions};
-use net_actions::net_frames::nets_stay;
 use channel_actions::other_calls::{calls_stay, others_are_same, sets_stay};
+use net_actions::net_frames::nets_stay;
+use net_actions::{policy_steps_are_actions, subchannel_steps_are_actions};
 use session_order::calm_is_exact;
+use session_order::config_stirs::configs_stir;
 
 /// Where no config is held and the resolver has answered, the calls that do not wait for ready end, one by one ("gRPC Wait for Ready Semantics").
 pub fn unserved_calls_end()

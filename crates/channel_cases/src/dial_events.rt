@@ -3,10 +3,10 @@ ghost use Rattle.channel_cases.specs.DialEvents.Laws.{FailedDialsAreAnswered, Li
 
 use channel_actions::kept_sessions::sessions_are_kept;
 use channel_actions::link_frames::links_stay;
-use net_actions::subchannel_steps_are_actions;
 use channel_actions::other_calls::{calls_stay, sets_stay};
-use session_order::{boards_stir, calm_is_exact};
 use link_actions::stream_actions::streams_are_kept;
+use net_actions::subchannel_steps_are_actions;
+use session_order::{boards_stir, calm_is_exact};
 
 /// A dial that is taken, fails or is up is answered alike ("gRPC Connectivity Semantics and API"; "Connection Backoff Protocol").
 pub fn dials_are_answered()

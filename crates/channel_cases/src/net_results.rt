@@ -1,8 +1,8 @@
 // What a result, a take-over and a shutdown make of policies and subchannels; nothing runs.
 ghost use Rattle.channel_cases.specs.NetResults.Laws.{ResultsAreNext, ShutdownsAreNext, TakeOversAreNext};
 
-use net_actions::policies_come_and_go;
 use crate::net_chains::chains_are_next;
+use net_actions::policies_come_and_go;
 use session_order::{calm_is_exact, policies_stir_apart};
 
 /// After a result of the resolver, in a take-over and after a shutdown, the session's next actions make of policies and subchannels what one step of the net

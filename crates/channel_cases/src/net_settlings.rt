@@ -3,8 +3,8 @@ ghost use Rattle.channel_cases.specs.NetSettlings.Laws.{ClocksAreParts, WishesAr
 
 use channel_actions::kept_sessions::sessions_are_kept;
 use channel_actions::link_frames::links_stay;
-use net_actions::{policy_steps_are_actions, subchannel_steps_are_actions};
 use channel_actions::other_calls::{calls_stay, sets_stay};
+use net_actions::{policy_steps_are_actions, subchannel_steps_are_actions};
 use session_order::{boards_stir, calm_is_exact};
 
 /// Dials that took too long are given up and backoffs end, until none is due ("Connection Backoff Protocol"); and IDLE subchannels that a policy wishes

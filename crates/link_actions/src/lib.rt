@@ -8,10 +8,10 @@ pub use laws::{
     reading_is_actions, writing_is_actions,
 };
 
-pub mod stream_actions;
 pub mod loss_actions;
+pub mod loss_order;
+pub mod reader_actions;
+pub mod reset_actions;
 pub mod response_actions;
 pub mod steady_links;
-pub mod reset_actions;
-pub mod reader_actions;
-pub mod loss_order;
+pub mod stream_actions;

@@ -11,5 +11,5 @@ pub use laws::{
 };
 pub use line::Line;
 
-pub mod session_laws;
 pub mod config_stirs;
+pub mod session_laws;
