@@ -5,7 +5,7 @@
 use Rattle.std.specs.Prelude.{None, Some, ℕ, length, max, ◌+◌, ◌≡◌}
 use Rattle.channel_actions.specs.Agrees.{Agrees}
 use Rattle.channel_actions.specs.Calm.{AreCalm, IsAt}
-use Rattle.kept_sessions.specs.Kept.{IsKept}
+use Rattle.channel_actions.specs.KeptSessions.Kept.{IsKept}
 use Rattle.channel_actions.specs.Points.{Reaches, Rests}
 use Rattle.channel_core.specs.Applying.{AnswersBy, begun_at, refusal_of}
 use Rattle.channel_core.specs.Settling.{settled}
