@@ -14,6 +14,7 @@ pub mod NetChains
 pub mod NetResults
 pub mod NetSettlings
 pub mod NetSteps
+pub mod OneCallEnds
 pub mod PassActions
 pub mod ResultEvents
 pub mod SendsEnd
