@@ -14,6 +14,8 @@ pub mod NetChains
 pub mod NetResults
 pub mod NetSettlings
 pub mod NetSteps
+pub mod OneCallEnds
+pub mod OverdueCalls
 pub mod PassActions
 pub mod ResultEvents
 pub mod SendsEnd
