@@ -8,6 +8,7 @@ pub mod ConfiguredCalls
 pub mod DialEvents
 pub mod DrainEvents
 pub mod DrainedCalls
+pub mod FirstShutdowns
 pub mod FullSends
 pub mod LongSends
 pub mod NetChains

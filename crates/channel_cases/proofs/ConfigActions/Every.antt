@@ -1,76 +1,30 @@
 -- Where a config is held, each call without a config gets it, or ends by it.
-use Rattle.std.proofs.Common.{◌≡◌, ◌≤◌, ◌<◌, ◌&&◌, ◌||◌, ◌==◌, ◌++◌, ◌∷◌, ap, arith, refl, subst, sym, ◌∙◌, Bool, true, false, List, [], Option, None, Some, ℕ, if◌then◌else◌, is_none, is_some, length, max, not}
-use Rattle.std.proofs.lemmas.Bool.{and_parts, both_ways, eqb-false}
-use Rattle.std.proofs.lemmas.Bool.Decides.{nat_tests}
-use Rattle.std.specs.List.{list_any}
-use Rattle.std.specs.Option.{option_map, option_map_or}
-use Rattle.std.specs.Prelude.{fold, nat_lt, option_and_then}
+use Rattle.std.proofs.Common.{◌≡◌, ◌||◌, ◌==◌, ◌∷◌, ap, refl, subst, sym, ◌∙◌, Bool, true, false, List, [], Option, Some, ℕ, if◌then◌else◌, is_some, length, not}
+use Rattle.std.proofs.lemmas.Bool.{and_parts}
 use Rattle.std.specs.Set.{remove_key}
-use Rattle.attempt_ledger.specs.declared.ledger.CallEnd.{CallEnd}
-use Rattle.call_actions.proofs.Bare.{none_live}
 use Rattle.call_actions.proofs.Places.{places_below}
-use Rattle.call_actions.specs.Laws.{IsBare}
 use Rattle.call_core.specs.Parts.{is_too_long}
-use Rattle.channel_actions.proofs.Settles.{follows_by}
-use Rattle.channel_actions.proofs.Stamps.{counted_at}
 use Rattle.channel_actions.specs.Agrees.{Agrees}
-use Rattle.channel_actions.specs.Calls.{HasSlot, deadline_of, due_of}
 use Rattle.channel_actions.specs.Calm.{IsAt}
-use Rattle.channel_actions.specs.Sets.{AreExactly, is_in_bare, is_in_impatient, is_patient}
-use Rattle.channel_core.specs.Books.{slot_at}
+use Rattle.channel_actions.specs.Sets.{is_in_bare, is_in_impatient, is_patient}
 use Rattle.channel_core.specs.States.{StateSeen}
-use Rattle.channel_cases.specs.CallEnds.Ends.{HasEnded}
 use Rattle.channel_core.specs.Steps.{all_configured, all_unconfigured, bare_served, configured_call}
 use Rattle.channel_core.specs.Timing.{due_keys, later, number_of}
-use Rattle.channel_core.specs.declared.state.slots.CallSlot.{CallSlot}
-use Rattle.channel_cases.proofs.ConfigActions.Configuring.{configured_away, configured_first, configured_is}
-use Rattle.channel_cases.proofs.ConfigActions.NetLines.{clock_stays, over_stays, wish_stays}
-use Rattle.channel_cases.proofs.ConfigActions.Unserved.{below_all, equal_numbers, first_three, is_zero, no_pass, none_of, or_true, within_word}
-use Rattle.channel_cases.specs.ConfigActions.Laws.{IsAllowed}
+use Rattle.channel_cases.proofs.ConfigActions.Unserved.{below_all, is_zero, within_word}
 use Rattle.session_order.specs.ConfigStirs.Laws.{ConfigsStir}
-use Rattle.channel_cases.specs.ConfiguredCalls.Laws.{CallsGetConfigs, ConfigNext, Frames}
-use Rattle.channel_cases.specs.ConfiguredCalls.Steps.{with_config}
-use Rattle.grpc_base.specs.declared.event.EndCause.TheVariants as ending
-use Rattle.grpc_base.specs.Requests.{RequestSeen}
-use Rattle.grpc_base.specs.declared.plan.Chosen.{Chosen}
-use Rattle.channel_actions.specs.KeptCalls.Early.{IsEarlyKept}
+use Rattle.channel_cases.specs.ConfiguredCalls.Laws.{CallsGetConfigs, Frames}
 use Rattle.channel_actions.specs.KeptCalls.Laws.{CallsAreBare, EarlyAlong}
 use Rattle.net_actions.specs.Laws.{ClockChanges, ClockRests, NoneConnects, TakeOversAreSame, WishesConnect}
 use Rattle.picker_gate.specs.Pairs.{has, is_same}
 use Rattle.service_config.specs.Choice.{chosen_for}
 use Rattle.service_config.specs.declared.config.Config.{Config}
-use Rattle.session_actions.specs.Actions.{after_if, config_action, following, following_in, of_calls, of_links, of_policies, of_stage}
-use Rattle.session_actions.specs.CallEnds.{has_long_request, is_after_event, lacks_config, sends_too_long}
-use Rattle.session_actions.specs.Calls.{is_open_call}
-use Rattle.session_actions.specs.Configs as session
-use Rattle.session_actions.specs.Configs.{call_configured, chosen_of, held_config, is_to_configure, is_unconfigured, no_choice, waits_for_ready}
-use Rattle.session_actions.specs.Entries.{entry, now}
-use Rattle.session_actions.specs.Making.{next_due_attempt}
-use Rattle.session_actions.specs.Policies.{next_of_pass, next_of_queue, next_take_over}
-use Rattle.session_actions.specs.Sessions.{Does}
-use Rattle.session_actions.specs.Subchannels.{next_connected, next_of_clock}
-use Rattle.session_actions.specs.Words.{first_of, holds, is_number, numbered}
-use Rattle.session_actions.specs.declared.action.Action.{Action}
-use Rattle.session_actions.specs.declared.action.Action.TheVariants as action
-use Rattle.session_actions.specs.declared.attempt.Attempt.{Attempt}
-use Rattle.session_actions.specs.declared.call.Call.{Call}
-use Rattle.session_actions.specs.declared.call.MarkKind.TheVariants as mark
-use Rattle.session_actions.specs.declared.config.HeldConfig.{HeldConfig}
+use Rattle.session_actions.specs.Words.{numbered}
 use Rattle.session_actions.specs.declared.entry.OpenEntry.{OpenEntry}
-use Rattle.session_actions.specs.declared.entry.Stage.{Stage}
 use Rattle.session_actions.specs.declared.entry.Stage.TheVariants as stage
 use Rattle.session_actions.specs.declared.seen.Seen.{Seen}
-use Rattle.session_order.proofs.Aside.{long_as}
-use Rattle.session_order.proofs.Changed.{changed_away, changed_here, none_from, passes_not}
-use Rattle.session_order.specs.Calm as order
-use Rattle.session_order.specs.Calm.{IsStill}
-use Rattle.session_order.specs.Laws.{CalmIsExact, Leaves}
-use Rattle.session_order.specs.Lines.{is_line}
-use Rattle.session_order.specs.declared.line.Line.{Line}
-use Rattle.session_order.specs.declared.line.Line.TheVariants as line
-use Rattle.channel_actions.proofs.SetFrames.Firsts.{first_numbered, none_numbered}
-use Rattle.channel_actions.proofs.SetFrames.Keys.{are_plain, below_fails, head_passes, keys_next, none_later, plain_by}
-use Rattle.channel_actions.proofs.SetFrames.Pairs.{none_behind, self_same}
+use Rattle.session_order.specs.Laws.{CalmIsExact}
+use Rattle.channel_actions.proofs.SetFrames.Keys.{are_plain, keys_next, none_later, plain_by}
+use Rattle.channel_actions.proofs.SetFrames.Pairs.{self_same}
 use Rattle.channel_cases.proofs.SettlingActions.Composed.{leads_on, stays_at}
 use Rattle.channel_cases.specs.SettlingActions.Sound.{IsSound}
 use Rattle.channel_cases.specs.SettlingActions.Steps.{IsJoined, IsTended, Leads}

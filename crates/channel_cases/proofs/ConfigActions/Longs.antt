@@ -1,17 +1,15 @@
 -- A call gets its config in the channel, and ends at once, as a message is too long for it: this is the end of a call that has got its config.
-use Rattle.std.proofs.Common.{◌≡◌, ◌∙◌, ◌&&◌, ◌||◌, ◌-◌, ◌==◌, ◌++◌, ℕ, Bool, true, false, List, [], ◌∷◌, ap, refl, sym, Option, Some, None, if◌then◌else◌, is_none, is_some, not, slice_set}
+use Rattle.std.proofs.Common.{◌≡◌, ◌∙◌, ◌&&◌, ◌||◌, ◌-◌, ◌++◌, ℕ, Bool, true, false, List, [], ◌∷◌, ap, refl, sym, Option, Some, None, if◌then◌else◌, is_some, not, slice_set}
 use Rattle.std.specs.Set.{remove_key}
 use Rattle.a6_numbers.specs.Throttling.{Bucket}
 use Rattle.attempt_ledger.specs.declared.ledger.Ledger.{Ledger}
 use Rattle.call_core.specs.Parts.{count_of, is_too_long}
 use Rattle.call_core.specs.Steps as call
 use Rattle.call_core.specs.Steps.{Stepped, configured, cut_all, end_stamped, ended_as, ended_if, fresh_buffer, lent, told_all, with_chosen}
-use Rattle.call_core.specs.Parts.{stopped_attempts}
-use Rattle.call_core.specs.declared.act.CallAct.{CallAct}
 use Rattle.call_core.specs.declared.act.CallAct.TheVariants as act
 use Rattle.call_core.specs.declared.live.LiveRow.{LiveRow}
 use Rattle.channel_core.proofs.Places.{put_there}
-use Rattle.channel_core.specs.Books.{BookActs, book_asked, book_configured, deadline_of, due_at, placed_in_book, slot_at}
+use Rattle.channel_core.specs.Books.{BookActs, book_asked, book_configured, placed_in_book, slot_at}
 use Rattle.channel_core.specs.States.{StateSeen}
 use Rattle.channel_core.specs.Steps.{chosen_in, closed, clothed, configured_as, configured_call, timers_moved, timers_moved_to, with_book}
 use Rattle.channel_core.specs.Tables.{Acted, acted, acted_as, changed_slot, last_run, numbered, tokens_in, with_bucket, with_call, with_timers}
@@ -25,7 +23,7 @@ use Rattle.channel_actions.specs.Sets.{AreRising}
 use Rattle.grpc_base.specs.declared.event.EndCause.{EndCause}
 use Rattle.grpc_base.specs.declared.event.EndCause.TheVariants as ending
 use Rattle.grpc_base.specs.declared.plan.Chosen.{Chosen}
-use Rattle.picker_gate.specs.Pairs.{has, is_behind, is_same}
+use Rattle.picker_gate.specs.Pairs.{has, is_same}
 use Rattle.service_config.specs.Choice.{chosen_for}
 use Rattle.service_config.specs.declared.config.Config.{Config}
 use Rattle.session_actions.specs.Words.{is_number}

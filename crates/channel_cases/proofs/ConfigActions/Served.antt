@@ -8,7 +8,6 @@ use Rattle.std.specs.Prelude.{fold, nat_lt, option_and_then}
 use Rattle.std.specs.Set.{remove_key}
 use Rattle.attempt_ledger.specs.declared.ledger.CallEnd.{CallEnd}
 use Rattle.call_actions.proofs.Bare.{none_live}
-use Rattle.call_actions.proofs.Places.{places_below}
 use Rattle.call_actions.specs.Laws.{IsBare}
 use Rattle.call_core.specs.Parts.{is_too_long}
 use Rattle.channel_actions.proofs.Settles.{follows_by}
@@ -16,19 +15,16 @@ use Rattle.channel_actions.proofs.Stamps.{counted_at}
 use Rattle.channel_actions.specs.Agrees.{Agrees}
 use Rattle.channel_actions.specs.Calls.{HasSlot, deadline_of, due_of}
 use Rattle.channel_actions.specs.Calm.{IsAt}
-use Rattle.channel_actions.specs.Sets.{AreExactly, is_in_bare, is_in_impatient, is_patient}
+use Rattle.channel_actions.specs.Sets.{AreExactly, is_in_bare}
 use Rattle.channel_core.specs.Books.{slot_at}
 use Rattle.channel_core.specs.States.{StateSeen}
 use Rattle.channel_cases.specs.CallEnds.Ends.{HasEnded}
 use Rattle.channel_core.specs.Steps.{closed, configured_call}
-use Rattle.channel_core.specs.Timing.{due_keys, later, number_of}
-use Rattle.channel_core.specs.declared.state.slots.CallSlot.{CallSlot}
-use Rattle.channel_cases.proofs.ConfigActions.Configuring.{configured_away, configured_first, configured_is}
+use Rattle.channel_cases.proofs.ConfigActions.Configuring.{configured_first, configured_is}
 use Rattle.channel_cases.proofs.ConfigActions.Ending.{long_ended}
 use Rattle.channel_cases.proofs.ConfigActions.Longs.{configured_ends, configured_is as long_configured, ended_shape}
 use Rattle.channel_cases.proofs.ConfigActions.NetLines.{clock_stays, over_stays, wish_stays}
-use Rattle.channel_cases.proofs.ConfigActions.Unserved.{below_all, equal_numbers, first_three, is_zero, no_pass, none_of, or_true, within_word}
-use Rattle.channel_cases.specs.ConfigActions.Laws.{IsAllowed}
+use Rattle.channel_cases.proofs.ConfigActions.Unserved.{equal_numbers, first_three, no_pass, none_of, or_true}
 use Rattle.session_order.specs.ConfigStirs.Laws.{ConfigsStir}
 use Rattle.channel_cases.specs.ConfiguredCalls.Laws.{CallsGetConfigs, ConfigNext, Frames}
 use Rattle.channel_cases.specs.ConfiguredCalls.Steps.{with_config}
@@ -71,10 +67,7 @@ use Rattle.session_order.specs.Lines.{is_line}
 use Rattle.session_order.specs.declared.line.Line.{Line}
 use Rattle.session_order.specs.declared.line.Line.TheVariants as line
 use Rattle.channel_actions.proofs.SetFrames.Firsts.{first_numbered, none_numbered}
-use Rattle.channel_actions.proofs.SetFrames.Keys.{are_plain, below_fails, head_passes, keys_next, none_later, plain_by}
-use Rattle.channel_actions.proofs.SetFrames.Pairs.{none_behind, self_same}
-use Rattle.channel_cases.proofs.SettlingActions.Composed.{leads_on, stays_at}
-use Rattle.channel_cases.specs.SettlingActions.Sound.{IsSound}
+use Rattle.channel_actions.proofs.SetFrames.Keys.{below_fails, head_passes}
 use Rattle.channel_cases.specs.SettlingActions.Steps.{IsJoined, IsTended, Leads}
 
 -- no message is longer than the longest

@@ -1,5 +1,5 @@
 -- A timer that moves twice, and is gone then, is as one that goes at once.
-use Rattle.std.proofs.Common.{◌≡◌, ◌&&◌, ◌||◌, ◌==◌, ◌∷◌, ap, arith, refl, sym, ◌∙◌, Bool, true, false, cond, List, [], Option, None, Some, ℕ, if◌then◌else◌, not}
+use Rattle.std.proofs.Common.{◌≡◌, ◌&&◌, ◌==◌, ◌∷◌, ap, arith, refl, sym, ◌∙◌, Bool, true, false, cond, List, [], Option, None, Some, ℕ, if◌then◌else◌, not}
 use Rattle.std.proofs.lemmas.Bool.{or_parts}
 use Rattle.std.proofs.lemmas.Bool.Decides.{nat_tests}
 use Rattle.std.specs.BTreeSet.{insert_key}
