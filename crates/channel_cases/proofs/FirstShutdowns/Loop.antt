@@ -80,7 +80,7 @@ found_at p (x ∷ xs) (suc i) a at passes none =
 there_at : {X : Type 0} (xs : List X) (i more : ℕ) → i + suc more ≡ length xs → (x : X) × (slice_get xs i ≡ Some x)
 there_at [] i more e = absurd (let bad : i + suc more ≡ 0 = e in omega (arith, bad))
 there_at (x ∷ xs) zero more e = (x, refl)
-there_at (x ∷ xs) (suc i) more e = there_at xs i more (let le : suc (i + suc more) ≡ suc (length xs) = e in omega (arith, le))
+there_at (x ∷ xs) (suc i) more e = there_at xs i more (let le : suc i + suc more ≡ suc (length xs) = e in omega (arith, le))
 
 below_of : (k i : ℕ) → k ≤ i + 1 → (k == suc i) ≡ false → k ≤ i
 below_of k i less off = grind (arith, nat_tests)

@@ -64,7 +64,7 @@ module _ (x : StateSeen) (o : OpenEntry) (s : Seen) (h : Agrees x (with_open o s
     unreset = case.unreset;
     shut = refl;
     over = λ k d less there. absurd (no_zero_call s.calls k d less there);
-    count = sym h.calls.count;
+    count = (let e : length s.calls ≡ length x.book.calls = h.calls.count in omega (arith, e));
     few = case.few;
   }
 

@@ -1,5 +1,5 @@
 -- One call ends, and channel and session agree again.
-use Rattle.std.proofs.Common.{◌≡◌, ap, subst, sym, ◌∙◌, Bool, List, length, ℕ}
+use Rattle.std.proofs.Common.{◌≡◌, ap, subst, sym, ◌∙◌, Bool, true, List, Some, is_some, length, ℕ}
 use Rattle.std.proofs.lemmas.List.{length-map}
 use Rattle.attempt_ledger.specs.declared.ledger.CallSeen.{CallSeen}
 use Rattle.channel_actions.proofs.OtherCalls.Slots.{all_calls_stay}
