@@ -3,6 +3,7 @@ pub mod BeginActions
 pub mod CallEnds
 pub mod CallPosts
 pub mod CallSends
+pub mod CommitsFollow
 pub mod ConfigActions
 pub mod ConfiguredCalls
 pub mod DialEvents

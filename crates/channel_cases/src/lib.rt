@@ -6,6 +6,7 @@ pub mod begin_actions;
 pub mod call_ends;
 pub mod call_posts;
 pub mod call_sends;
+pub mod commits_follow;
 pub mod config_actions;
 pub mod configured_calls;
 pub mod dial_events;

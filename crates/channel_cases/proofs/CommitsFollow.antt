@@ -1,0 +1,4 @@
+pub mod Cuts
+pub mod Follow
+pub mod Stays
+pub mod Steps
