@@ -15,6 +15,7 @@ pub mod NetChains
 pub mod NetResults
 pub mod NetSettlings
 pub mod NetSteps
+pub mod OneCallEnds
 pub mod PassActions
 pub mod ResultEvents
 pub mod SendsEnd

@@ -10,6 +10,8 @@ pub mod ConfiguredCalls
 pub mod DialEvents
 pub mod DrainEvents
 pub mod DrainedCalls
+pub mod EndedCalls
+pub mod FirstShutdowns
 pub mod FullSends
 pub mod LongSends
 pub mod NetChains

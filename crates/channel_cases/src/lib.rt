@@ -18,6 +18,7 @@ pub mod net_chains;
 pub mod net_results;
 pub mod net_settlings;
 pub mod net_steps;
+pub mod one_call_ends;
 pub mod pass_actions;
 pub mod result_events;
 pub mod sends_end;
