@@ -1,5 +1,6 @@
 pub mod BareEnds
 pub mod BeginActions
+pub mod CallCommits
 pub mod CallEnds
 pub mod CallPosts
 pub mod CallSends

@@ -96,21 +96,21 @@ last_set : {X : Type 0} (T : X → Bool) (k : X) (xs : List X) (i : ℕ) (a b : 
     → find_last T (slice_set xs i b) ≡ Some k
 last_set T k [] i a b at other same is = is
 last_set T k (x ∷ xs) zero a b at other same is =
-    let one : x ≡ a = (cc) in here_by (find_last T xs) (T x) (T b) refl is (λ e. other (sym one ∙ e))
+    let one : x ≡ a = (cc) in here_by x b k (find_last T xs) (T x) (T b) is (λ e. other (sym one ∙ e))
   where
-    here_by : {X : Type 0} {x b k : X} (o : Option X) (q r : Bool) → o ≡ o → option_or o (if q then Some x else None) ≡ Some k → (x ≡ k → ⊥) → option_or o (if r then Some b else None) ≡ Some k
-    here_by (Some z) q r e is other = is
-    here_by None true r e is other = absurd (let bad : ⊥ = other (cc) in bad)
-    here_by None false r e is other = absurd (cc)
-last_set T k (x ∷ xs) (suc i) a b at other same is = later_by (find_last T xs) refl
+    here_by : {X : Type 0} (x b k : X) (o : Option X) (q r : Bool) → option_or o (if q then Some x else None) ≡ Some k → (x ≡ k → ⊥) → option_or o (if r then Some b else None) ≡ Some k
+    here_by x b k (Some z) q r is other = is
+    here_by x b k None true r is other = absurd (let bad : ⊥ = other (cc) in bad)
+    here_by x b k None false r is other = absurd (cc)
+last_set T k (x ∷ xs) (suc i) a b at other same is = later_by (find_last T xs) refl (λ found. last_set T k xs i a b at other same found)
   where
-    later_by : (o : Option _) → find_last T xs ≡ o → find_last T (x ∷ slice_set xs i b) ≡ Some k
-    later_by None none =
+    later_by : (o : Option _) → find_last T xs ≡ o → (find_last T xs ≡ Some k → find_last T (slice_set xs i b) ≡ Some k) → find_last T (x ∷ slice_set xs i b) ≡ Some k
+    later_by None none next =
         ap (λ (o : Option _). option_or o (if T x then Some x else None)) (last_none_set T xs i a b at same none)
         ∙ sym (ap (λ (o : Option _). option_or o (if T x then Some x else None)) none) ∙ is
-    later_by (Some z) some =
+    later_by (Some z) some next =
         let found : Some z ≡ Some k = sym (ap (λ (o : Option _). option_or o (if T x then Some x else None)) some) ∙ is in
-        ap (λ (o : Option _). option_or o (if T x then Some x else None)) (last_set T k xs i a b at other same (some ∙ found))
+        ap (λ (o : Option _). option_or o (if T x then Some x else None)) (next (some ∙ found))
 
 last_changed : {X : Type 0} (T : X → Bool) (k : X) (f : X → X) (n : ℕ) (xs : List X) (a : X) → numbered xs n ≡ Some a → (a ≡ k → ⊥) → T (f a) ≡ T a → find_last T xs ≡ Some k
     → find_last T (changed f n xs) ≡ Some k
@@ -333,8 +333,8 @@ module _ (waits : Line → Bool) (n : ℕ) (k : Attempt) (o : OpenEntry) (b v : 
           absurd (both_ways (r.row.call == n) (sym (ap (λ (y : Attempt). y.row.call == n) same) ∙ off) one.own)
       row_by false e = (at_by with_reset_queued r.place p v.attempts r x false e one.there at).1 refl
 
-  not_kept : r ≡ k → ⊥
-  not_kept same =
+  reset_not_kept : r ≡ k → ⊥
+  reset_not_kept same =
       let none : reset_code_of v r ≡ None = ap (reset_code_of v) same ∙ going_code v k goes in
       let bad : Some one.number ≡ None = sym one.coded ∙ none in absurd (cc)
 
@@ -344,7 +344,7 @@ module _ (waits : Line → Bool) (n : ℕ) (k : Attempt) (o : OpenEntry) (b v : 
       call = mid.left.done.call;
       there = mid.left.done.there;
       going = mid.left.done.going;
-      is = last_changed (is_commitment mid.left.done.call) k with_reset_queued r.place v.attempts r one.there not_kept refl mid.left.done.is;
+      is = last_changed (is_commitment mid.left.done.call) k with_reset_queued r.place v.attempts r one.there reset_not_kept refl mid.left.done.is;
     };
     apart = λ d own off. apart_joins b v z d (mid.left.apart d own off) (apart_reset d own off);
     calls = mid.left.calls;
