@@ -160,7 +160,7 @@ module _ (moment : ℕ) (tokens : Option ℕ) where
   entry_stays (r ∷ live) ledger = entry_stays live (cut_row moment tokens r.place ledger r.link) ∙ entry_cut r.place r.link ledger
 
 -- a property of all that pass, by their places
-all_passing : (P : LiveRow → Type 0) (p : Attempt → Bool) (xs : List Attempt) → ((i : ℕ) (a : Attempt) → slice_get xs i ≡ Some a → P (live_row a)) → AllByRecursion P (map live_row (filter p xs))
+pub all_passing : (P : LiveRow → Type 0) (p : Attempt → Bool) (xs : List Attempt) → ((i : ℕ) (a : Attempt) → slice_get xs i ≡ Some a → P (live_row a)) → AllByRecursion P (map live_row (filter p xs))
 all_passing P p [] each = tt
 all_passing P p (a ∷ xs) each = passing_by P a (filter p xs) (p a) (each 0 a refl) (all_passing P p xs (λ i b at. each (suc i) b at))
   where
@@ -191,19 +191,19 @@ module _ (waits : Line → Bool) (n : ℕ) (why : EndCause) (x : StateSeen) (o :
   pub closed_now : call_closed why x slot ≡ ended_as why x.book.moment (call_lent x slot)
   closed_now = ap (λ (q : Option EndCause). if not (is_some q) then ended_as why x.book.moment (call_lent x slot) else call_lent x slot) going
 
-  link_same : (k : ℕ) → link_of (numbered (call_closed why x slot).ledger.rows k) ≡ link_of (numbered x.book.ledger.rows k)
+  pub link_same : (k : ℕ) → link_of (numbered (call_closed why x slot).ledger.rows k) ≡ link_of (numbered x.book.ledger.rows k)
   link_same k = ap (λ (z : Stepped). link_of (numbered z.ledger.rows k)) closed_now ∙ links_stay x.book.moment tokens slot.call.live x.book.ledger k
 
   pub entry_same : (call_closed why x slot).ledger.entry ≡ x.book.ledger.entry
   entry_same = ap (λ (z : Stepped). z.ledger.entry) closed_now ∙ entry_stays x.book.moment tokens slot.call.live x.book.ledger
 
-  row_link : (i : ℕ) (a : Attempt) → slice_get s.attempts i ≡ Some a → link_of (numbered x.book.ledger.rows a.place) ≡ link_of_placed a.row.placed
+  pub row_link : (i : ℕ) (a : Attempt) → slice_get s.attempts i ≡ Some a → link_of (numbered x.book.ledger.rows a.place) ≡ link_of_placed a.row.placed
   row_link i a at =
       let place : a.place ≡ suc i = place_suc i s.attempts a is.agrees.kept.book.places at in
       ap (λ (rows : List Row). link_of (numbered rows a.place)) (sym is.agrees.columns.rows)
       ∙ ap link_of (numbered_map (λ (b : Attempt). b.row) s.attempts a.place ∙ ap (option_map (λ (b : Attempt). b.row)) (ap (numbered s.attempts) place ∙ at))
 
-  linked_by : (place : ℕ) (p : Option Placed) → link_of (numbered (call_closed why x slot).ledger.rows place) ≡ link_of_placed p
+  pub linked_by : (place : ℕ) (p : Option Placed) → link_of (numbered (call_closed why x slot).ledger.rows place) ≡ link_of_placed p
       → LinkIs x why slot place (option_map (λ (at : Placed). at.link) p)
   linked_by place None e = tt
   linked_by place (Some at) e = e

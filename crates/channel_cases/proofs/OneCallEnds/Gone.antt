@@ -1,5 +1,5 @@
 -- The links of the channel's ledger, once a call has ended, are those of the session were the entry to close.
-use Rattle.std.proofs.Common.{◌≡◌, ◌||◌, ◌&&◌, ◌+◌, ◌∷◌, not, ap, refl, subst, sym, ◌∙◌, Bool, true, false, List, [], Option, None, Some, ℕ, zero, suc, if◌then◌else◌, is_some, length, map, slice_get}
+use Rattle.std.proofs.Common.{◌≡◌, ◌||◌, ◌&&◌, ◌+◌, ◌∷◌, not, ap, refl, subst, sym, ◌∙◌, Bool, true, false, List, [], Option, None, Some, ℕ, zero, suc, if◌then◌else◌, is_none, is_some, length, map, slice_get}
 use Rattle.std.specs.List.{AllByRecursion, list_any}
 use Rattle.std.specs.Option.{option_map}
 use Rattle.attempt_ledger.specs.declared.ledger.LinkSeen.{LinkSeen}
@@ -71,6 +71,14 @@ pub subs_at : (number : ℕ) (subs : List Subchannel) (board : List SubRecord) (
     → is_shut_state (state_at board number) ≡ holds (λ (b : Subchannel). is_shutdown b.state) (numbered subs number)
 subs_at zero subs board links h there = absurd (cc)
 subs_at (suc i) subs board links h there = subs_from 1 i subs board links h there
+
+-- what is queued on a link is not stamped
+unowed_by : (entry : ℕ) (l : Link) (b : Bool) → link_seen (if b then record (unowed l) { gone = Some entry } else unowed l) ≡ link_seen (if b then record l { gone = Some entry } else l)
+unowed_by entry l true = refl
+unowed_by entry l false = refl
+
+unowed_seen : (gone : Bool) (entry : ℕ) (l : Link) → seen_if gone entry (unowed l) ≡ seen_if gone entry l
+unowed_seen gone entry l = unowed_by entry l (is_none l.gone && gone)
 
 module _ (waits : Line → Bool) (n : ℕ) (why : EndCause) (x : StateSeen) (o : OpenEntry) (s : Seen) (is : EndsNext waits n why x o s) where
   abbrev u : Seen
@@ -210,7 +218,7 @@ module _ (waits : Line → Bool) (n : ℕ) (why : EndCause) (x : StateSeen) (o :
     link_now : link_seen (noted_gone u m) ≡ stamped_if (gone_by x k (has_outstanding k last)) moment (seen_if (is_gone l s) (entry s) l)
     link_now =
         ap (λ (j : ℕ). seen_if (is_gone m u) j m) entry_now
-        ∙ ap (seen_if (is_gone m u) (entry s)) alike
+        ∙ sym (unowed_seen (is_gone m u) (entry s) m) ∙ ap (seen_if (is_gone m u) (entry s)) alike ∙ unowed_seen (is_gone m u) (entry s) l
         ∙ ap (λ (b : Bool). seen_if b (entry s) l) (sym gone_now)
         ∙ seen_on (is_gone l s) (gone_by x k (has_outstanding k last)) (entry s) l still_gone
         ∙ ap (λ (j : ℕ). stamped_if (gone_by x k (has_outstanding k last)) j (seen_if (is_gone l s) (entry s) l)) is.agrees.clock.entry_is

@@ -29,7 +29,7 @@ read_at f g same xs (Some i) =
 pub read_alike : {X : Type 0} (f g : X → LinkSeen) → ((x : X) → (f x).read ≡ (g x).read) → (xs : List X) → AreReadAlike (map f xs) (map g xs)
 read_alike f g same xs = record {
   each = λ k.
-      ap (λ (n : ℕ). read_in (map f xs) (index_at k n)) (length-map f xs ∙ sym (length-map g xs))
+      ap (λ (n : ℕ). read_in (map f xs) (index_at k n)) (length-map xs f ∙ sym (length-map xs g))
       ∙ read_at f g same xs (index_at k (length (map g xs)));
 }
 

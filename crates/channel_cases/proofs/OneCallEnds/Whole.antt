@@ -50,9 +50,9 @@ module _ (waits : Line → Bool) (n : ℕ) (why : EndCause) (x : StateSeen) (o :
 
   count : length u.calls ≡ length now.book.calls
   count =
-      sym (length-map (call_seen u) u.calls) ∙ ap (λ (l : List CallSeen). length l) (columns.calls ∙ calls_are waits n why x o s is)
+      sym (length-map u.calls (call_seen u)) ∙ ap (λ (l : List CallSeen). length l) (columns.calls ∙ calls_are waits n why x o s is)
       ∙ changed_length _ x.book.ledger.calls (slot waits n why x o s is).call.number ∙ sym (ap (λ (l : List CallSeen). length l) is.agrees.columns.calls)
-      ∙ length-map (call_seen s) s.calls ∙ is.agrees.calls.count ∙ sym (set_length x.book.calls _ (slot_closed why x (slot waits n why x o s is)))
+      ∙ length-map s.calls (call_seen s) ∙ is.agrees.calls.count ∙ sym (set_length x.book.calls _ (slot_closed why x (slot waits n why x o s is)))
 
   calls : SeesCalls now u
   calls = all_calls_stay n x now s u g books is.agrees.calls count (own_slot waits n why x o s is)
