@@ -1,6 +1,12 @@
 pub mod Alone
+pub mod Along
 pub mod Followed
 pub mod Given
+pub mod Gone
 pub mod InOrder
 pub mod Linked
 pub mod On
+pub mod Own
+pub mod Rows
+pub mod Timers
+pub mod Whole

@@ -52,14 +52,14 @@ put_here xs (suc i) x v e = ap (λ (k : ℕ). slice_get (slice_set xs k v) i) (l
 module _ (f : Stepped → Stepped) (n : ℕ) (x : StateSeen) (slot : CallSlot) (there : slot_at x.book n ≡ Some slot) (rows : List LiveRow)
     (acts_are : (f (call_lent x slot)).acts ≡ map given rows) (linked : AllByRecursion (λ (r : LiveRow). LinkIn (f (call_lent x slot)).ledger.rows r.place r.link) rows)
     (resets : x.resets ≡ []) where
-  abbrev a : Stepped
+  abbrev pub a : Stepped
   a = f (call_lent x slot)
 
   -- the book, and the acts
-  abbrev v : CallSlot
+  abbrev pub v : CallSlot
   v = with_call a.call slot
 
-  abbrev x1 : StateSeen
+  abbrev pub x1 : StateSeen
   x1 = record x { book = record x.book { calls = slice_set x.book.calls (n - 1) v; ledger = a.ledger } }
 
   book_is : book_asked f n x.book ≡ record { book = x1.book; acts = map given rows }
@@ -87,11 +87,11 @@ module _ (f : Stepped → Stepped) (n : ℕ) (x : StateSeen) (slot : CallSlot) (
   abbrev pub slot_after : CallSlot
   slot_after = record { call = a.call; bucket = slot.bucket; due = due_at (Some v); deadline = deadline_of (Some v) }
 
-  abbrev slots : List CallSlot
+  abbrev pub slots : List CallSlot
   slots = slice_set x.book.calls (n - 1) slot_after
 
   -- the channel, by its parts
-  abbrev shaped : List CallSlot → List LinkSlot → List ℕ → List (ℕ × ℕ) → List (ℕ × ℕ) → List (ℕ × ℕ) → List (ℕ × ℕ) → List (ℕ × ℕ) → List LinkSeen → StateSeen
+  abbrev pub shaped : List CallSlot → List LinkSlot → List ℕ → List (ℕ × ℕ) → List (ℕ × ℕ) → List (ℕ × ℕ) → List (ℕ × ℕ) → List (ℕ × ℕ) → List LinkSeen → StateSeen
   shaped calls links resets outstanding queue patient bare impatient stamps = record x {
     book = record x.book { ledger = record a.ledger { links = stamps }; calls = calls };
     links = links;
@@ -130,7 +130,7 @@ module _ (f : Stepped → Stepped) (n : ℕ) (x : StateSeen) (slot : CallSlot) (
       ap sealed (asked_is_so ∙ moved_is) ∙ ap (λ (ls : List ℕ). links_sealed ls (unsealed y.links [])) resets_are ∙ sealed_is (links_of rows) (unsealed y.links [])
 
   -- part by part
-  abbrev ls : List LinkSlot
+  abbrev pub ls : List LinkSlot
   ls = all_closed rows (all_given_up rows x.links)
 
   abbrev pub after_acts : List LinkSeen → StateSeen

@@ -21,8 +21,8 @@ use Rattle.channel_actions.specs.Configs.{SeesConfigs}
 use Rattle.channel_actions.specs.LinkEnds.Cuts.{links_closed, links_cut}
 use Rattle.channel_actions.specs.LinkEnds.Laws.{with_cuts}
 use Rattle.channel_actions.specs.Links.{HasLink, SeesLinks}
-use Rattle.channel_cases.proofs.CallCommits.Followed.{acts_followed, after_acts}
-use Rattle.channel_cases.proofs.CallCommits.Given.{all_plain, closed_same, cut_is, cut_out, elses, given_same, goes_out, rows_are, told_is}
+use Rattle.channel_cases.proofs.CallCommits.Followed.{acts_followed, after_acts, slot_after, x1}
+use Rattle.channel_cases.proofs.CallCommits.Given.{IsPlain, all_plain, closed_same, cut_is, cut_out, elses, given_same, goes_out, rows_are, told_is}
 use Rattle.channel_cases.proofs.CallCommits.On as on_
 use Rattle.channel_cases.proofs.CallCommits.On.{has, on, out, own, resets}
 use Rattle.channel_cases.proofs.CallEnds.Linked.{entry_stays, links_stay}
@@ -30,6 +30,7 @@ use Rattle.channel_cases.specs.CallCommits.Commits.{CommitsNext, commits_with, c
 use Rattle.channel_core.proofs.BookLaws.{number_changed, number_other}
 use Rattle.channel_core.specs.Books.{link_of, link_of_placed}
 use Rattle.channel_core.specs.States.{StateSeen}
+use Rattle.channel_core.specs.Steps.{acts_done}
 use Rattle.channel_core.specs.Tables.{numbered, tokens_in}
 use Rattle.channel_core.specs.declared.state.links.LinkSlot.{LinkSlot}
 use Rattle.channel_core.specs.declared.state.slots.CallSlot.{CallSlot}
@@ -105,7 +106,7 @@ module _ (waits : Line → Bool) (n : ℕ) (why : CommitCause) (inbox : Inbox) (
   ledger_is =
       cut_is k.place x.book.moment tokens live stamped ∙ ap (λ (rs : List LiveRow). cut_all None x.book.moment tokens rs stamped) else_rows
 
-  acts_are : (f (call_lent x slot)).acts ≡ map given rows
+  pub acts_are : (f (call_lent x slot)).acts ≡ map given rows
   acts_are = told_is k.place live [] ∙ ap (map given) else_rows
 
   link_same : (m : ℕ) → link_of (numbered (f (call_lent x slot)).ledger.rows m) ≡ link_of (numbered x.book.ledger.rows m)
@@ -129,14 +130,27 @@ module _ (waits : Line → Bool) (n : ℕ) (why : CommitCause) (inbox : Inbox) (
       all_passing (λ (r : LiveRow). LinkIn (f (call_lent x slot)).ledger.rows r.place r.link) outs s.attempts
       (λ i a at. linked_by a.place a.row.placed (link_same a.place ∙ row_link i a at))
 
+  abbrev pub after_slot : CallSlot
+  after_slot = slot_after f n x slot (has waits n why inbox x o s is).there rows acts_are linked is.agrees.sets.resets
+
   abbrev pub y : StateSeen
   y = committed_state n k.place inbox x
 
   abbrev pub w : StateSeen
   w = after_acts f n x slot (has waits n why inbox x o s is).there rows acts_are linked is.agrees.sets.resets y.book.ledger.links
 
-  followed : y ≡ after_acts f n x slot (has waits n why inbox x o s is).there rows acts_are linked is.agrees.sets.resets _
+  -- where the acts begin, and where they end
+  abbrev pub first : StateSeen
+  first = x1 f n x slot (has waits n why inbox x o s is).there rows acts_are linked is.agrees.sets.resets
+
+  abbrev pub last : StateSeen
+  last = acts_done n (map given rows) first
+
+  followed : y ≡ after_acts f n x slot (has waits n why inbox x o s is).there rows acts_are linked is.agrees.sets.resets last.book.ledger.links
   followed = acts_followed f n x slot (has waits n why inbox x o s is).there rows acts_are linked is.agrees.sets.resets
+
+  pub stamps_are : y.book.ledger.links ≡ last.book.ledger.links
+  stamps_are = ap (λ (z : StateSeen). z.book.ledger.links) followed
 
   pub whole : y ≡ w
   whole =
@@ -149,11 +163,11 @@ module _ (waits : Line → Bool) (n : ℕ) (why : CommitCause) (inbox : Inbox) (
   abbrev cuts : List Attempt
   cuts = (out waits n why inbox x o s is).attempts
 
-  plain : AllByRecursion _ s.attempts
-  plain = all_plain s is.call k n (own waits n why inbox x o s is) is.can is.agrees.kept.book.places
-
   abbrev cut_test : Attempt → Bool
   cut_test a = cut_out s is.call k n (own waits n why inbox x o s is) is.can is.agrees.kept.book.places a
+
+  plain : AllByRecursion (IsPlain outs cut_test) s.attempts
+  plain = all_plain s is.call k n (own waits n why inbox x o s is) is.can is.agrees.kept.book.places
 
   links_are : w.links ≡ (with_cuts cuts x).links
   links_are =
