@@ -3,6 +3,7 @@
 
 pub mod bare_ends;
 pub mod begin_actions;
+pub mod call_commits;
 pub mod call_ends;
 pub mod call_posts;
 pub mod call_sends;

@@ -67,6 +67,10 @@ owner_is : (n : ℕ) (q : Option Attempt) → is_of_number n q ≡ holds (λ (k 
 owner_is n None = refl
 owner_is n (Some a) = refl
 
+other_place : (b : Bool) → (b ≡ true → ⊥) → b ≡ false
+other_place true never = absurd (never refl)
+other_place false never = refl
+
 -- the one that is found
 pub record IsAt (xs : List Attempt) (k : Attempt) : Type 0 where
   pub index : ℕ
@@ -285,10 +289,6 @@ module _ (waits : Line → Bool) (n : ℕ) (why : CommitCause) (inbox : Inbox) (
       = both_of (is_live s c a) (not (k.place == a.place))
       (both_of (is_of c a) (is_outstanding a || is_queued a s) (mine_is a ∙ mine) (or_left (is_outstanding a) (is_queued a s) parts.0)) (not_off (k.place == a.place) turned) in
       placed_out link i a test a.row.placed refl at passes parts.0 parts.1
-    where
-      other_place : (b : Bool) → (b ≡ true → ⊥) → b ≡ false
-      other_place true no = absurd (no refl)
-      other_place false no = refl
 
   own_out : (link row : ℕ) (b : Bool) → is_in_outstanding s link row ≡ b → is_of_number n (numbered s.attempts row) ≡ true → (row == k.place) ≡ false
       → all_out_left gone (is_in_outstanding s) link row ≡ false

@@ -1,52 +1,41 @@
 -- A call is committed, its other attempts are cut off, and their streams are reset: each of these is the next action.
-use Rattle.std.proofs.Common.{◌≡◌, ◌||◌, ◌&&◌, ◌==◌, ◌∷◌, ◌++◌, ap, refl, subst, sym, ◌∙◌, Bool, true, false, List, [], Option, None, Some, ℕ, zero, suc, cond, filter, if◌then◌else◌, is_none, is_some, nat_lt, not, option_map, slice_get, arith}
-use Rattle.std.proofs.lemmas.Bool.{and_parts, both_ways, eq-eqb, eqb-false, eqb-true, or_parts}
-use Rattle.std.proofs.lemmas.Bool.Decides.{nat_tests}
-use Rattle.std.specs.List.{list_all, list_any}
-use Rattle.std.specs.Option.{option_map_or, option_or}
+use Rattle.std.proofs.Common.{◌≡◌, ◌||◌, ◌&&◌, ◌==◌, ◌∷◌, ◌++◌, ap, refl, subst, sym, ◌∙◌, Bool, true, false, List, [], Option, None, Some, ℕ, zero, suc, cond, filter, if◌then◌else◌, is_some, nat_lt, not, slice_get}
+use Rattle.std.proofs.lemmas.Bool.{both_ways, eq-eqb, or_parts}
+use Rattle.std.specs.List.{list_any}
+use Rattle.std.specs.Option.{option_or}
 use Rattle.std.specs.Prelude.{slice_set}
-use Rattle.attempt_ledger.specs.declared.row.Placed.{Placed}
-use Rattle.attempt_ledger.specs.declared.row.RowEnd.{RowEnd}
-use Rattle.call_actions.proofs.CallsApart.Books.{books_stay}
 use Rattle.call_actions.specs.CallsApart.Apart.{IsBook}
-use Rattle.call_actions.proofs.CallsApart.Acts.{others_stay}
 use Rattle.call_actions.proofs.CallsApart.Kept.{over_same}
 use Rattle.call_actions.proofs.CallsInTurn.Rows.{committing_keeps}
-use Rattle.call_actions.proofs.TakeActions.CutOne.{marked_also}
-use Rattle.call_actions.specs.CallsApart.Apart.{IsApart}
 use Rattle.call_actions.specs.CallsInTurn.Turns.{StaysSteady, waits as waits_for}
-use Rattle.call_actions.specs.Order.{is_own_mark}
 use Rattle.channel_actions.proofs.EndsFollow.Follow.{rest_on, rest_self}
 use Rattle.channel_actions.proofs.EndsFollow.Stays.{IsBase}
 use Rattle.channel_actions.proofs.EndsFollow.Steps.{call_number}
+use Rattle.channel_cases.proofs.CommitsFollow.Begun as begun
+use Rattle.channel_cases.proofs.CommitsFollow.Begun.{IsToCommit}
 use Rattle.channel_cases.proofs.CommitsFollow.Cuts.{IsOneCut, none_out, one_cut}
 use Rattle.channel_cases.proofs.CommitsFollow.Stays.{IsLeft, uncut}
 use Rattle.channel_cases.proofs.CommitsFollow.Steps.{IsMid, IsOneReset, IsReset, after_is, mid_cut, one_reset, reset_mid}
 use Rattle.channel_cases.specs.CommitsFollow.Laws.{CommitFollowsOn, CommitsFollow, IsNextToCommit, OthersAreCutOff, OthersAreOut, is_other_out}
 use Rattle.channel_actions.specs.EndsFollow.Cuts.{AreCutOff, AreReset, cut_off}
 use Rattle.channel_actions.specs.EndsFollow.Laws.{IsSameRest, is_late}
-use Rattle.session_actions.specs.Actions.{after, after_if, following}
+use Rattle.session_actions.specs.Actions.{after, following}
 use Rattle.session_actions.specs.AttemptEnds.{cut, cut_end, end_of, next_cut, next_reset, reset_code_of}
-use Rattle.session_actions.specs.Attempts.{call_of, is_commitment, is_of, is_outstanding, wants_follower, with_attempt}
-use Rattle.session_actions.specs.Calls.{marked}
+use Rattle.session_actions.specs.Attempts.{call_of, is_of, is_outstanding, wants_follower}
 use Rattle.session_actions.specs.Commitments.{call_committed, with_commitment}
-use Rattle.session_actions.specs.Entries.{entry, now}
+use Rattle.session_actions.specs.Entries.{entry}
 use Rattle.session_actions.specs.Events.{is_loss}
 use Rattle.session_actions.specs.Sessions.{Does, IsNext}
-use Rattle.session_actions.specs.Words.{changed, changed_if, find_last, first_of, holds, is_number, numbered}
+use Rattle.session_actions.specs.Words.{changed, changed_if, first_of, numbered}
 use Rattle.session_actions.specs.declared.action.Action.{Action}
 use Rattle.session_actions.specs.declared.action.Action.TheVariants as action
 use Rattle.session_actions.specs.declared.action.CommitCause.{CommitCause}
 use Rattle.session_actions.specs.declared.attempt.Attempt.{Attempt}
 use Rattle.session_actions.specs.declared.call.Call.{Call}
-use Rattle.session_actions.specs.declared.call.Mark.{Mark}
-use Rattle.session_actions.specs.declared.call.MarkKind.{MarkKind}
-use Rattle.session_actions.specs.declared.call.MarkKind.TheVariants as mark
 use Rattle.session_actions.specs.declared.entry.OpenEntry.{OpenEntry}
 use Rattle.session_actions.specs.declared.seen.Seen.{Seen}
 use Rattle.session_order.proofs.Calms.{first_line_gives}
-use Rattle.session_order.proofs.Changed.{changed_away, changed_here, lookup, passes_not}
-use Rattle.session_order.proofs.Lists.{or_none}
+use Rattle.session_order.proofs.Changed.{passes_not}
 use Rattle.session_order.proofs.Lines.{lines_are_still}
 use Rattle.session_order.specs.Calm.{IsStill, is_to_cut, is_to_reset}
 use Rattle.session_order.specs.Lines.{is_line, rank}
@@ -236,6 +225,9 @@ module _ (waits : Line → Bool) (late : (l : Line) → waits l ≡ true → is_
 
 -- where the call has just been committed
 module _ (waits : Line → Bool) (n : ℕ) (why : CommitCause) (o : OpenEntry) (s : Seen) (is : IsNextToCommit waits n why o s) where
+  abbrev first_ : IsToCommit n o s
+  first_ = record { current = is.current; call = is.call; there = is.there; attempt = is.attempt; can = is.can; book = is.book; owned = is.owned; orders = is.orders }
+
   abbrev a : Attempt
   a = is.attempt
 
@@ -246,122 +238,53 @@ module _ (waits : Line → Bool) (n : ℕ) (why : CommitCause) (o : OpenEntry) (
   put q = with_commitment (entry s) q
 
   abbrev pub k : Attempt
-  k = put a
-
-  abbrev first : Mark
-  first = record { what = mark.Committed; moment = now s }
+  k = begun.k n o s first_
 
   abbrev pub b : Seen
-  b = record s { attempts = changed put a.place s.attempts; calls = changed (marked_also first) n s.calls }
+  b = begun.b n o s first_
 
   own_number : c.number ≡ n
-  own_number = call_number n s.calls c is.book.calls is.there
-
-  of_it : a.row.call ≡ n
-  of_it = eqb-true a.row.call c.number is.can.mine ∙ own_number
+  own_number = begun.own_number n o s first_
 
   pub goes : k.row.ended ≡ None
-  goes = unended a.row.placed a.row.ended is.can.outstanding
-    where
-      unended : (p : Option Placed) (e : Option RowEnd) → (is_some p && is_none e) ≡ true → e ≡ None
-      unended p None h = refl
-      unended None (Some x) h = absurd (cc)
-      unended (Some p) (Some x) h = absurd (cc)
+  goes = begun.goes n o s first_
 
   pub committed_is : call_committed a.place s ≡ b
-  committed_is =
-      ap (λ (q : Option Attempt). option_map_or (λ (x : Attempt). marked mark.Committed x.row.call (with_attempt put a.place s)) q (with_attempt put a.place s))
-      (changed_here put a.place s.attempts a is.can.at)
-      ∙ ap (λ (m : ℕ). record s { attempts = changed put a.place s.attempts; calls = changed (marked_also first) m s.calls }) of_it
+  committed_is = begun.committed_is n o s first_
 
   after_commit : after (action.CallCommitted a.place why) s ≡ b
-  after_commit = ap (λ (x : Option OpenEntry). after_if x (action.CallCommitted a.place why) s) is.current ∙ committed_is
+  after_commit = begun.after_commit n o s first_ why
+
+  book_b : IsBook b
+  book_b = begun.book_b n o s first_
 
   pub still_b : (l : Line) → is_line l line.Cut ≡ false → waits l ≡ false → IsStill l o b
   still_b l e w = subst (IsStill l o) committed_is (is.still l e w)
 
-  book_b : IsBook b
-  book_b = subst IsBook after_commit (books_stay s (action.CallCommitted a.place why) is.book tt)
-
   quiet : (l : Line) → is_late l ≡ false → waits l ≡ false
   quiet l e = early_by (waits l) (is_late l) (is.late l) e
-
-  same_call : (m : ℕ) → (m == n) ≡ false → numbered b.calls m ≡ numbered s.calls m
-  same_call m off = changed_away (marked_also first) n m s.calls (eqb-false m n off)
-
-  some_call : (m : ℕ) → is_some (numbered b.calls m) ≡ is_some (numbered s.calls m)
-  some_call m = lookup (λ (x : Option Call). is_some x) (marked_also first) (λ x. refl) n s.calls m
-
-  all_at : {X : Type 0} (p : X → Bool) (xs : List X) (m : ℕ) (x : X) → list_all p xs ≡ true → numbered xs m ≡ Some x → p x ≡ true
-  all_at p xs zero x e at = absurd (cc)
-  all_at p [] (suc i) x e at = absurd (cc)
-  all_at p (y ∷ xs) (suc zero) x e at = let same : x ≡ y = (cc) in ap p same ∙ (and_parts (p y) (list_all p xs) e).0
-  all_at p (y ∷ xs) (suc (suc i)) x e at = all_at p xs (suc i) x (and_parts (p y) (list_all p xs) e).1 at
-
-  -- another call
-  other_apart : (d : Call) → numbered s.calls d.number ≡ Some d → (d.number == n) ≡ false → IsApart s b d
-  other_apart d own off =
-      subst (λ (z : Seen). IsApart s z d) after_commit
-      (others_stay s d (action.CallCommitted a.place why) is.book own
-      (ap (λ (x : Option Attempt). is_number d.number (option_map (λ (y : Attempt). y.row.call) x)) is.can.at ∙ other_call a.row.call n d.number of_it off))
-    where
-      other_call : (m n d : ℕ) → m ≡ n → (d == n) ≡ false → (m == d) ≡ false
-      other_call m n d e f = grind (arith, nat_tests, e, f)
-
-  -- an attempt that is there now was there, of the same call
-  before_by : (p : ℕ) (x : Attempt) (q : Bool) → (p == a.place) ≡ q → numbered b.attempts p ≡ Some x → (x.row.call == n) ≡ false → numbered s.attempts p ≡ Some x
-  before_by p x true e at off =
-      let two : Some x ≡ Some k = sym at ∙ ap (numbered b.attempts) (eqb-true p a.place e) ∙ changed_here put a.place s.attempts a is.can.at in
-      let same : x ≡ k = (cc) in
-      absurd (both_ways (a.row.call == n) (sym (ap (λ (y : Attempt). y.row.call == n) same) ∙ off) (eq-eqb a.row.call n of_it))
-  before_by p x false e at off = sym (changed_away put a.place p s.attempts (eqb-false p a.place e)) ∙ at
-
-  before : (p : ℕ) (x : Attempt) → numbered b.attempts p ≡ Some x → (x.row.call == n) ≡ false → numbered s.attempts p ≡ Some x
-  before p x at off = before_by p x (p == a.place) refl at off
-
-  call_of_row : (p : ℕ) (x : Attempt) (q : Bool) → (p == a.place) ≡ q → numbered b.attempts p ≡ Some x → is_some (numbered s.calls x.row.call) ≡ true
-  call_of_row p x true e at =
-      let two : Some x ≡ Some k = sym at ∙ ap (numbered b.attempts) (eqb-true p a.place e) ∙ changed_here put a.place s.attempts a is.can.at in
-      let same : x ≡ k = (cc) in
-      ap (λ (y : Attempt). is_some (numbered s.calls y.row.call)) same ∙ ap (λ (m : ℕ). is_some (numbered s.calls m)) of_it ∙ ap (λ (o : Option Call). is_some o) is.there
-  call_of_row p x false e at =
-      all_at (λ (y : Attempt). is_some (call_of y s)) s.attempts p x is.owned (sym (changed_away put a.place p s.attempts (eqb-false p a.place e)) ∙ at)
-
-  mark_same : (d : Call) (w : MarkKind) → is_own_mark b d w ≡ is_own_mark s d w
-  mark_same d mark.Configured = refl
-  mark_same d (mark.Made row) = lookup (holds (is_of d)) put (λ x. refl) a.place s.attempts row
-  mark_same d (mark.Placed row) = refl
-  mark_same d (mark.Ended row) = lookup (holds (λ (x : Attempt). is_of d x && is_some x.row.ended)) put (λ x. refl) a.place s.attempts row
-  mark_same d mark.Withheld = refl
-  mark_same d mark.Committed = refl
-  mark_same d mark.Closed = refl
-
-  marks_same : (d : Call) (ms : List Mark) → list_all (λ (m : Mark). is_own_mark b d m.what) ms ≡ list_all (λ (m : Mark). is_own_mark s d m.what) ms
-  marks_same d [] = refl
-  marks_same d (m ∷ ms) =
-      ap (λ (q : Bool). q && list_all (λ (i : Mark). is_own_mark b d i.what) ms) (mark_same d m.what) ∙ ap (λ (q : Bool). is_own_mark s d m.what && q) (marks_same d ms)
 
   over_other : (p : ℕ) (x : Attempt) → numbered b.attempts p ≡ Some x → (x.row.call == n) ≡ false → is_to_cut b x ≡ false
   over_other p x at off = over_by (numbered s.calls x.row.call) refl
     where
       there : numbered s.attempts p ≡ Some x
-      there = before p x at off
+      there = begun.before n o s first_ p x at off
 
       over_by : (o : Option Call) → numbered s.calls x.row.call ≡ o → is_to_cut b x ≡ false
       over_by None e =
-          absurd (both_ways (is_some (numbered s.calls x.row.call)) (ap (λ (q : Option Call). is_some q) e) (all_at (λ (y : Attempt). is_some (call_of y s)) s.attempts p x is.owned there))
+          absurd (both_ways (is_some (numbered s.calls x.row.call)) (ap (λ (q : Option Call). is_some q) e) (begun.all_at n o s first_ (λ (y : Attempt). is_some (call_of y s)) s.attempts p x is.owned there))
       over_by (Some d) e =
           let number : d.number ≡ x.row.call = call_number x.row.call s.calls d is.book.calls e in
           let own : numbered s.calls d.number ≡ Some d = ap (numbered s.calls) number ∙ e in
           let away : (d.number == n) ≡ false = ap (λ (m : ℕ). m == n) number ∙ off in
-          ap (λ (q : Bool). is_outstanding x && q) (over_same s b d (other_apart d own away) own x (eq-eqb x.row.call d.number (sym number)))
+          ap (λ (q : Bool). is_outstanding x && q) (over_same s b d (begun.other_apart n o s first_ d own away) own x (eq-eqb x.row.call d.number (sym number)))
           ∙ passes_not (is_to_cut s) s.attempts p x is.uncut there
 
   pub base : IsBase n b
   base = record {
     numbers = λ m d at. call_number m b.calls d book_b.calls at;
-    owned = λ p x at. some_call x.row.call ∙ call_of_row p x (p == a.place) refl at;
-    marks = λ d at off. marks_same d d.marks ∙ (is.orders d (sym (same_call d.number off) ∙ at)).marks;
+    owned = λ p x at. begun.some_call n o s first_ x.row.call ∙ begun.call_of_row n o s first_ p x (p == a.place) refl at;
+    marks = λ d at off. begun.marks_same n o s first_ d d.marks ∙ (is.orders d (sym (begun.same_call n o s first_ d.number off) ∙ at)).marks;
     row = still_b line.Row refl (quiet line.Row refl);
     final = still_b line.Final refl (quiet line.Final refl);
     followed = still_b line.Transparent refl (quiet line.Transparent refl);
@@ -372,30 +295,9 @@ module _ (waits : Line → Bool) (n : ℕ) (why : CommitCause) (o : OpenEntry) (
   none_of None e = refl
   none_of (Some m) e = absurd (cc)
 
-  -- the commitment is there
-  new_set : (T : Attempt → Bool) (xs : List Attempt) (i : ℕ) (x y : Attempt) → slice_get xs i ≡ Some x → find_last T xs ≡ None → T y ≡ true → find_last T (slice_set xs i y) ≡ Some y
-  new_set T [] i x y at none now_ = absurd (cc)
-  new_set T (z ∷ xs) zero x y at none now_ =
-      ap (λ (o : Option Attempt). option_or o (if T y then Some y else None)) (or_none (find_last T xs) (if T z then Some z else None) none).0
-      ∙ ap (λ (q : Bool). if q then Some y else None) now_
-  new_set T (z ∷ xs) (suc i) x y at none now_ =
-      ap (λ (o : Option Attempt). option_or o (if T z then Some z else None)) (new_set T xs i x y at (or_none (find_last T xs) (if T z then Some z else None) none).0 now_)
-
-  new_last : (T : Attempt → Bool) (m : ℕ) (xs : List Attempt) (x : Attempt) → numbered xs m ≡ Some x → find_last T xs ≡ None → T (put x) ≡ true → find_last T (changed put m xs) ≡ Some (put x)
-  new_last T zero xs x at none now_ = absurd (cc)
-  new_last T (suc i) xs x at none now_ = ap (λ (o : Option Attempt). find_last T (changed_if put (suc i) xs o)) at ∙ new_set T xs i x (put x) at none now_
-
-  mine : is_commitment c k ≡ true
-  mine = ap (λ (q : Bool). q && true) is.can.mine
-
   pub left : IsLeft n k b b
   left = record {
-    done = record {
-      call = marked_also first c;
-      there = changed_here (marked_also first) n s.calls c is.there;
-      going = is.can.open_now;
-      is = new_last (λ (x : Attempt). is_commitment c x) a.place s.attempts a is.can.at is.can.free mine;
-    };
+    done = begun.taken n o s first_;
     apart = λ d own off. record { call = refl; config = refl; attempts = refl; rows = λ p e. refl; throttle = refl };
     calls = λ m off. refl;
     rows = λ p x at off. at;
