@@ -17,6 +17,7 @@ pub mod NetResults
 pub mod NetSettlings
 pub mod NetSteps
 pub mod OneCallEnds
+pub mod OverdueCalls
 pub mod PassActions
 pub mod ResultEvents
 pub mod SendsEnd

@@ -13,6 +13,7 @@ pub mod configured_calls;
 pub mod dial_events;
 pub mod drain_events;
 pub mod drained_calls;
+pub mod ended_calls;
 pub mod full_sends;
 pub mod long_sends;
 pub mod net_chains;

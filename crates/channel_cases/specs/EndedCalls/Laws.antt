@@ -6,6 +6,9 @@ use Rattle.channel_actions.specs.EndsFollow.Cuts.{AreUnreset}
 use Rattle.channel_actions.specs.Stages.{DeadlinesOf, EventsAnswered}
 use Rattle.channel_cases.specs.CallSends.Laws.{CallsCommitAlike, IsSend}
 use Rattle.channel_cases.specs.LongSends.Laws.{IsLongSendThen}
+use Rattle.channel_core.specs.States.{StateSeen}
+use Rattle.session_actions.specs.declared.seen.Seen.{Seen}
+use Rattle.std.specs.Prelude.{length, ◌≤◌}
 
 abbrev pub LongSendsEnd : Type 0
 LongSendsEnd = EventsAnswered IsLongSendThen
@@ -14,6 +17,11 @@ LongSendsEnd = EventsAnswered IsLongSendThen
 abbrev pub SendsAreAnsweredToo : Type 0
 SendsAreAnsweredToo = CallsCommitAlike → EventsAnswered IsSend
 
--- whether a deadline has come or not, where no stream was reset of an attempt that goes on (`kept_calls` has that of every session)
+-- calls whose deadline has come end one after the other, the earliest first, until none is left; also where none has come. (Asked is of the session that no stream was
+-- reset of an attempt that goes on, which `kept_calls` has of every session, and that numbers of calls do not end, which no session reaches.)
+pub record IsTimed (x : StateSeen) (s : Seen) : Type 0 where
+  pub unreset : AreUnreset s
+  pub few : length s.calls ≤ 4294967295
+
 abbrev pub DeadlinesAreMet : Type 0
-DeadlinesAreMet = DeadlinesOf (λ x s. AreUnreset s)
+DeadlinesAreMet = DeadlinesOf IsTimed
