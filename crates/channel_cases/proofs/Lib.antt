@@ -22,4 +22,5 @@ pub mod PassActions
 pub mod ResultEvents
 pub mod SendsEnd
 pub mod SettlingActions
+pub mod SoundBuffers
 pub mod StreamedCalls

@@ -25,4 +25,5 @@ pub mod pass_actions;
 pub mod result_events;
 pub mod sends_end;
 pub mod settling_actions;
+pub mod sound_buffers;
 pub mod streamed_calls;

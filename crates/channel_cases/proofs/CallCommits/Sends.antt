@@ -115,13 +115,13 @@ module _ (n : ℕ) (why : CommitCause) (x y : StateSeen) (r : Reply) (o : OpenEn
   unreset_t : AreUnreset t
   unreset_t = ap (list_all is_unreset) attempts_are ∙ unreset
 
-  has : HasSlot z t c n
+  abbrev has : HasSlot z t c n
   has = led.agrees.calls.each n c led.there
 
   own : c.number ≡ n
   own = call_number n t.calls c led.agrees.kept.book.calls led.there
 
-  to_commit : IsToCommit n p t
+  abbrev to_commit : IsToCommit n p t
   to_commit = record {
     current = led.current;
     call = c;
@@ -149,10 +149,10 @@ module _ (n : ℕ) (why : CommitCause) (x y : StateSeen) (r : Reply) (o : OpenEn
   items : response_items (response k t) ≡ call_laws.head_items inbox.head ++ call_laws.message_items inbox.messages
   items = no_items k t headless ∙ sym (nothing_left left.front (call_laws.came has.slot.call) (sym none_came ∙ left.joined))
 
-  never : Line → Bool
+  abbrev never : Line → Bool
   never l = false
 
-  next : CommitsNext never n why inbox z p t
+  abbrev next : CommitsNext never n why inbox z p t
   next = record {
     late = λ l e. absurd (let bad : false ≡ true = e in (cc));
     current = led.current;
@@ -172,7 +172,7 @@ module _ (n : ℕ) (why : CommitCause) (x y : StateSeen) (r : Reply) (o : OpenEn
     still = λ l e w. committed_still n p t to_commit has.sees.turn led.still others l e;
   }
 
-  done : HasCommitted never n k.place why inbox z p t
+  abbrev done : HasCommitted never n k.place why inbox z p t
   done = one_call_commits never n why inbox z p t next
 
   pub commits_alike : CommitsAlike n k.place why z p t

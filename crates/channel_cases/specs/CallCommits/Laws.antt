@@ -4,7 +4,8 @@
 use Rattle.std.specs.Prelude.{Bool, ℕ}
 use Rattle.call_core.specs.declared.inbox.Inbox.{Inbox}
 use Rattle.channel_cases.specs.CallCommits.Commits.{CommitsNext, HasCommitted}
-use Rattle.channel_cases.specs.CallSends.Laws.{CallsCommitAlike}
+use Rattle.channel_actions.specs.Stages.{EventsAnswered}
+use Rattle.channel_cases.specs.CallSends.Laws.{CallsCommitAlike, IsSend}
 use Rattle.channel_core.specs.States.{StateSeen}
 use Rattle.session_actions.specs.declared.action.CommitCause.{CommitCause}
 use Rattle.session_actions.specs.declared.entry.OpenEntry.{OpenEntry}
@@ -20,3 +21,8 @@ OneCallCommits =
 -- so a Send that commits its call does
 abbrev pub SendsCommit : Type 0
 SendsCommit = CallsCommitAlike
+
+-- and every Send of a call that is there is answered: the application's message is accepted, or answered with what the call holds, or refused; or it ends or commits
+-- the call
+abbrev pub SendsAreAnswered : Type 0
+SendsAreAnswered = EventsAnswered IsSend
