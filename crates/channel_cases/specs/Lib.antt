@@ -1,8 +1,10 @@
 pub mod BareEnds
 pub mod BeginActions
+pub mod CallCommits
 pub mod CallEnds
 pub mod CallPosts
 pub mod CallSends
+pub mod CommitsFollow
 pub mod ConfigActions
 pub mod ConfiguredCalls
 pub mod DialEvents
@@ -20,4 +22,5 @@ pub mod PassActions
 pub mod ResultEvents
 pub mod SendsEnd
 pub mod SettlingActions
+pub mod SoundBuffers
 pub mod StreamedCalls

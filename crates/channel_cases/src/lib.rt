@@ -3,9 +3,11 @@
 
 pub mod bare_ends;
 pub mod begin_actions;
+pub mod call_commits;
 pub mod call_ends;
 pub mod call_posts;
 pub mod call_sends;
+pub mod commits_follow;
 pub mod config_actions;
 pub mod configured_calls;
 pub mod dial_events;
@@ -24,4 +26,5 @@ pub mod pass_actions;
 pub mod result_events;
 pub mod sends_end;
 pub mod settling_actions;
+pub mod sound_buffers;
 pub mod streamed_calls;
