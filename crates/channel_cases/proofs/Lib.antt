@@ -18,4 +18,5 @@ pub mod PassActions
 pub mod ResultEvents
 pub mod SendsEnd
 pub mod SettlingActions
+pub mod SettlingKeeps
 pub mod StreamedCalls

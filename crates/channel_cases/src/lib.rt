@@ -21,4 +21,5 @@ pub mod pass_actions;
 pub mod result_events;
 pub mod sends_end;
 pub mod settling_actions;
+pub mod settling_keeps;
 pub mod streamed_calls;
