@@ -10,12 +10,14 @@ pub mod DrainEvents
 pub mod DrainedCalls
 pub mod FullSends
 pub mod LongSends
+pub mod MakingSteps
 pub mod NetChains
 pub mod NetResults
 pub mod NetSettlings
 pub mod NetSteps
 pub mod PassActions
 pub mod ResultEvents
+pub mod RoundSteps
 pub mod SendsEnd
 pub mod SettlingActions
 pub mod SettlingKeeps

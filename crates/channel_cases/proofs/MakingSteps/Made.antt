@@ -143,26 +143,28 @@ and_second : (a b : Bool) → b ≡ false → (a && b) ≡ false
 and_second true b e = e
 and_second false b e = refl
 
+any_by : (p : Attempt → Bool) (a : Attempt) (xs : List Attempt) (b : Bool) → p a ≡ b → (find p xs ≡ None → list_any p xs ≡ false) → cond b (Some a) (find p xs) ≡ None
+    → (p a || list_any p xs) ≡ false
+any_by p a xs true is rest e = absurd (let bad : Some a ≡ None = e in (cc))
+any_by p a xs false is rest e = ap (λ (b : Bool). b || list_any p xs) is ∙ rest e
+
 any_none : (p : Attempt → Bool) (xs : List Attempt) → find p xs ≡ None → list_any p xs ≡ false
 any_none p [] e = refl
-any_none p (a ∷ xs) e = by_test (p a) refl e
-  where
-    by_test : (b : Bool) → p a ≡ b → cond b (Some a) (find p xs) ≡ None → (p a || list_any p xs) ≡ false
-    by_test true is f = absurd (let bad : Some a ≡ None = f in (cc))
-    by_test false is f = ap (λ (b : Bool). b || list_any p xs) is ∙ any_none p xs f
+any_none p (a ∷ xs) e = any_by p a xs (p a) refl (any_none p xs) e
 
 unmapped : {X Y : Type 0} (g : X → Y) (o : Option X) → option_map g o ≡ None → o ≡ None
 unmapped g None e = refl
 unmapped g (Some x) e = absurd (let bad : Some (g x) ≡ None = e in (cc))
 
+less_by : (p q : Attempt → Bool) (a : Attempt) (xs : List Attempt) (b : Bool) → q a ≡ b → (list_any q xs ≡ false → list_any (λ (k : Attempt). p k && q k) xs ≡ false)
+    → (b || list_any q xs) ≡ false → ((p a && q a) || list_any (λ (k : Attempt). p k && q k) xs) ≡ false
+less_by p q a xs true is rest e = absurd (let bad : true ≡ false = e in (cc))
+less_by p q a xs false is rest e =
+    ap (λ (b : Bool). b || list_any (λ (k : Attempt). p k && q k) xs) (and_second (p a) (q a) is) ∙ rest e
+
 any_less : (p q : Attempt → Bool) (xs : List Attempt) → list_any q xs ≡ false → list_any (λ (a : Attempt). p a && q a) xs ≡ false
 any_less p q [] e = refl
-any_less p q (a ∷ xs) e = by_test (q a) refl e
-  where
-    by_test : (b : Bool) → q a ≡ b → (b || list_any q xs) ≡ false → ((p a && q a) || list_any (λ (k : Attempt). p k && q k) xs) ≡ false
-    by_test true is f = absurd (let bad : true ≡ false = f in (cc))
-    by_test false is f =
-        ap (λ (b : Bool). b || list_any (λ (k : Attempt). p k && q k) xs) (and_second (p a) (q a) is) ∙ any_less p q xs f
+any_less p q (a ∷ xs) e = less_by p q a xs (q a) refl (any_less p q xs) e
 
 placed_so : (n : ℕ) (xs : List Attempt) → AreNumbered n xs → ArePlaced n xs
 placed_so n [] p = tt

@@ -188,9 +188,9 @@ none_passes p (y ∷ xs) each =
     ap (λ (b : Bool). cond b (y ∷ filter p xs) (filter p xs)) (each zero y refl) ∙ none_passes p xs (λ i z e. each (suc i) z e)
 
 two_off : (b c : Bool) → (b ≡ true → c ≡ true → ⊥) → (b && c) ≡ false
-two_off true true no = absurd (no refl refl)
-two_off true false no = refl
-two_off false c no = refl
+two_off true true never = absurd (never refl refl)
+two_off true false never = refl
+two_off false c never = refl
 
 pub none_asks : (state : StatesAreSame) (x : StateSeen) (s : Seen) (h : Agrees x s) (last : ℕ × ℕ) (test : Attempt → Bool)
     → ((a : Attempt) (i : ℕ) → a.place ≡ suc i → test a ≡ true → is_behind last (a.row.call, a.place) ≡ true) → next_served last x ≡ None → next_asked test s ≡ None

@@ -35,7 +35,7 @@ use Rattle.grpc_base.specs.declared.plan.Chosen.{Chosen}
 use Rattle.grpc_base.specs.declared.plan.HedgePolicy.{HedgePolicy}
 use Rattle.grpc_frame.specs.Messages.{framed}
 use Rattle.hedge_core.specs.DueMoments as hedging
-use Rattle.channel_cases.proofs.SettlingKeeps.Steps.{Leaves, Sized, Within, committed_if, counts, is_held, is_there, leaves_committed, leaves_ended, leaves_if, leaves_on, leaves_refused, leaves_same, left_live, row_ended, to_held, within_more}
+use Rattle.channel_cases.proofs.SettlingKeeps.Steps.{Leaves, Sized, Within, committed_if, counts, is_held, is_there, leaves_committed, leaves_ended, leaves_if, leaves_on, leaves_refused, leaves_same, left_live, less_self, row_ended, to_held, waiting, within_more}
 
 -- a step that may make an attempt
 pub record Goes (s t : Stepped) : Type 0 where
@@ -251,10 +251,19 @@ head_commits false row moment s =
       within = λ n w. record { live = w.live; held = committed_if (buffers.is_open row s.call.buffer) n row s.call.buffer w.held };
       chosen = refl;
       sent = refl;
+      waiting = less_self (waiting s.ledger.rows);
+      stopped = λ e. e;
     }) (leaves_committed row moment t)
 
 with_head : (meta : List Field) (s t : Stepped) → Leaves s t → Leaves s (step.with_head meta t)
-with_head meta s t l = record { rows = l.rows; within = λ n w. (let v : Within n t.call = l.within n w in record { live = v.live; held = v.held }); chosen = l.chosen; sent = l.sent }
+with_head meta s t l = record {
+  rows = l.rows;
+  within = λ n w. (let v : Within n t.call = l.within n w in record { live = v.live; held = v.held });
+  chosen = l.chosen;
+  sent = l.sent;
+  waiting = l.waiting;
+  stopped = l.stopped;
+}
 
 heard_head : (row : ℕ) (meta : List Field) (moment : ℕ) (s : Stepped) → Leaves s (step.heard_head row meta moment s)
 heard_head row meta moment s =
@@ -264,7 +273,14 @@ heard_head row meta moment s =
 
 message_if : (b : Bool) (octets : List ℕ) (s : Stepped)
     → Leaves s (record s { call = if b then record s.call { inbox = record s.call.inbox { messages = s.call.inbox.messages ++ octets ∷ [] } } else s.call })
-message_if true octets s = record { rows = refl; within = λ n w. record { live = w.live; held = w.held }; chosen = refl; sent = refl }
+message_if true octets s = record {
+  rows = refl;
+  within = λ n w. record { live = w.live; held = w.held };
+  chosen = refl;
+  sent = refl;
+  waiting = less_self (waiting s.ledger.rows);
+  stopped = λ e. e;
+}
 message_if false octets s = leaves_same s
 
 large_if : (b : Bool) (moment : ℕ) (s : Stepped) → Leaves s (step.ended_if b ends.Response moment s)
@@ -320,6 +336,8 @@ accepted_by None message moment s =
       within = λ n w. record { live = w.live; held = pushed_by n text s.call.buffer row (buffers.push_answer s.call.buffer (length text) row) w.held };
       chosen = refl;
       sent = refl;
+      waiting = less_self (waiting s.ledger.rows);
+      stopped = λ e. e;
     }) (committed_over over row moment t)
 
 sent_by : (o : Option Refusal) (message : List ℕ) (moment : ℕ) (s : Stepped) → Leaves s (step.sent_if o message moment s)

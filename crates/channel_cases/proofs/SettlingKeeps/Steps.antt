@@ -1,5 +1,5 @@
 -- What is done to a call leaves its attempts, and what it holds for them, among the rows that are there; and it makes no more attempts than its plan allows.
-use Rattle.std.proofs.Common.{◌≡◌, ◌≤◌, ◌+◌, ◌-◌, ◌∙◌, ◌∷◌, ◌++◌, ℕ, Bool, true, false, List, [], Option, None, Some, refl, ap, sym, subst, arith, length, min, nat_le, nat_lt, not, ◌&&◌, ◌||◌, ◌==◌, if◌then◌else◌, is_some, map}
+use Rattle.std.proofs.Common.{◌≡◌, ◌≤◌, ◌+◌, ◌-◌, ◌∙◌, ◌∷◌, ◌++◌, ℕ, Bool, true, false, List, [], Option, None, Some, refl, ap, sym, subst, arith, length, min, nat_le, nat_lt, not, ◌&&◌, ◌||◌, ◌==◌, if◌then◌else◌, is_none, is_some, map, suc, zero}
 use Rattle.std.proofs.lemmas.Bool.{and_parts}
 use Rattle.std.proofs.lemmas.Bool.Decides.{nat_tests}
 use Rattle.std.proofs.lemmas.List.{length-append}
@@ -11,6 +11,7 @@ use Rattle.attempt_ledger.specs.Numbering.{most_attempts}
 use Rattle.attempt_ledger.specs.declared.ledger.Ledger.{Ledger}
 use Rattle.attempt_ledger.specs.declared.news.EndNews.{EndNews}
 use Rattle.attempt_ledger.specs.declared.row.Placed.{Placed}
+use Rattle.attempt_ledger.specs.declared.row.Row.{Row}
 use Rattle.attempt_ledger.specs.declared.row.RowEnd.{RowEnd}
 use Rattle.attempt_ledger.specs.declared.row.RowKind.{RowKind}
 use Rattle.call_core.specs.Parts as parts
@@ -28,7 +29,8 @@ use Rattle.grpc_base.specs.declared.plan.CallPlan.{CallPlan}
 use Rattle.grpc_base.specs.declared.plan.CallPlan.TheVariants as plans
 use Rattle.grpc_base.specs.declared.plan.Chosen.{Chosen}
 use Rattle.a6_numbers.specs.Throttling.{Bucket}
-use Rattle.ledger_stamps.specs.Steps.{committed_row, ended_row, placed_row}
+use Rattle.hedge_core.specs.DueMoments.{stops}
+use Rattle.ledger_stamps.specs.Steps.{changed, changed_at, committed_row, ended_row, index_at, placed_row, stamped}
 
 -- the rows of its attempts, and of what it holds for attempts, are no later than this one
 abbrev pub is_there : ℕ → LiveRow → Bool
@@ -55,12 +57,90 @@ pub record Sized (call : CallState) : Type 0 where
   pub range : most_attempts (call_plan call) ≤ 5
   pub sent : call.attempts.sent ≤ most_attempts (call_plan call)
 
+-- the rows that wait for a pick: neither placed nor ended
+abbrev pub waits_in : Row → Bool
+waits_in r = is_none r.placed && is_none r.ended
+
+abbrev pub one_if : Bool → ℕ
+one_if b = if b then 1 else 0
+
+abbrev pub waiting : List Row → ℕ
+waiting [] = 0
+waiting (r ∷ rows) = one_if (waits_in r) + waiting rows
+
+pub less_self : (n : ℕ) → n ≤ n
+less_self n = omega arith
+
+pub less_on : (a b c : ℕ) → a ≤ b → b ≤ c → a ≤ c
+less_on a b c e f = omega (arith, e, f)
+
+one_less : (b c : Bool) → (b ≡ true → c ≡ true) → one_if b ≤ one_if c
+one_less true true e = less_self 1
+one_less true false e = absurd (let bad : false ≡ true = e refl in (cc))
+one_less false c e = omega arith
+
+module _ (f : Row → Row) (less : (r : Row) → waits_in (f r) ≡ true → waits_in r ≡ true) where
+  waiting_changed : (rows : List Row) (i : ℕ) → waiting (changed f rows i) ≤ waiting rows
+  waiting_changed [] i = less_self 0
+  waiting_changed (r ∷ rows) zero =
+      let one : one_if (waits_in (f r)) ≤ one_if (waits_in r) = one_less (waits_in (f r)) (waits_in r) (less r) in
+      let first : waiting (f r ∷ rows) ≡ one_if (waits_in (f r)) + waiting rows = refl in
+      let second : waiting (r ∷ rows) ≡ one_if (waits_in r) + waiting rows = refl in
+      omega (arith, one, first, second)
+  waiting_changed (r ∷ rows) (suc i) =
+      let more : waiting (changed f rows i) ≤ waiting rows = waiting_changed rows i in
+      let first : waiting (r ∷ changed f rows i) ≡ one_if (waits_in r) + waiting (changed f rows i) = refl in
+      let second : waiting (r ∷ rows) ≡ one_if (waits_in r) + waiting rows = refl in
+      omega (arith, more, first, second)
+
+  waiting_by : (rows : List Row) (o : Option ℕ) → waiting (option_map_or (λ i. changed f rows i) o rows) ≤ waiting rows
+  waiting_by rows None = less_self (waiting rows)
+  waiting_by rows (Some i) = waiting_changed rows i
+
+  pub waiting_at : (rows : List Row) (place : ℕ) → waiting (changed_at f rows place) ≤ waiting rows
+  waiting_at rows place = waiting_by rows (index_at place (length rows))
+
+-- one that ended, or was placed, waits no more
+ended_off : (e : RowEnd) (o : Option RowEnd) → is_none (stamped e o) ≡ false
+ended_off e None = refl
+ended_off e (Some w) = refl
+
+placed_off : (at : Placed) (o : Option Placed) → is_none (stamped at o) ≡ false
+placed_off at None = refl
+placed_off at (Some w) = refl
+
+and_off : (a b : Bool) → b ≡ false → (a && b) ≡ true → ⊥
+and_off true b e f = (let bad : false ≡ true = sym e ∙ f in (cc))
+and_off false b e f = (let bad : false ≡ true = f in (cc))
+
+off_and : (a b : Bool) → a ≡ false → (a && b) ≡ true → ⊥
+off_and true b e f = (let bad : true ≡ false = e in (cc))
+off_and false b e f = (let bad : false ≡ true = f in (cc))
+
+pub ended_not : (e : RowEnd) (r : Row) → waits_in (ended_row e r) ≡ true → ⊥
+ended_not e r f = and_off (is_none r.placed) (is_none (stamped e r.ended)) (ended_off e r.ended) f
+
+pub placed_not : (at : Placed) (r : Row) → waits_in (placed_row at r) ≡ true → ⊥
+placed_not at r f = off_and (is_none (stamped at r.placed)) (is_none r.ended) (placed_off at r.placed) f
+
+pub ended_less : (e : RowEnd) (rows : List Row) (place : ℕ) → waiting (changed_at (ended_row e) rows place) ≤ waiting rows
+ended_less e rows place = waiting_at (ended_row e) (λ r f. absurd (ended_not e r f)) rows place
+
+pub placed_less : (at : Placed) (rows : List Row) (place : ℕ) → waiting (changed_at (placed_row at) rows place) ≤ waiting rows
+placed_less at rows place = waiting_at (placed_row at) (λ r f. absurd (placed_not at r f)) rows place
+
+committed_less : (entry : ℕ) (rows : List Row) (place : ℕ) → waiting (changed_at (committed_row entry) rows place) ≤ waiting rows
+committed_less entry rows place = waiting_at (committed_row entry) (λ r f. f) rows place
+
 -- a step that makes no attempt, and brings no config
 pub record Leaves (s t : Stepped) : Type 0 where
   pub rows : length t.ledger.rows ≡ length s.ledger.rows
   pub within : (n : ℕ) → Within n s.call → Within n t.call
   pub chosen : t.call.chosen ≡ s.call.chosen
   pub sent : t.call.attempts.sent ≡ s.call.attempts.sent
+  -- no row waits that did not, and where no further attempt was to be made none is
+  pub waiting : waiting t.ledger.rows ≤ waiting s.ledger.rows
+  pub stopped : s.call.attempts.stopped ≡ true → t.call.attempts.stopped ≡ true
 
 pub leaves_on : (s t u : Stepped) → Leaves s t → Leaves t u → Leaves s u
 leaves_on s t u a b = record {
@@ -68,10 +148,12 @@ leaves_on s t u a b = record {
   within = λ n w. b.within n (a.within n w);
   chosen = b.chosen ∙ a.chosen;
   sent = b.sent ∙ a.sent;
+  waiting = less_on (waiting u.ledger.rows) (waiting t.ledger.rows) (waiting s.ledger.rows) b.waiting a.waiting;
+  stopped = λ e. b.stopped (a.stopped e);
 }
 
 pub leaves_same : (s : Stepped) → Leaves s s
-leaves_same s = record { rows = refl; within = λ n w. w; chosen = refl; sent = refl }
+leaves_same s = record { rows = refl; within = λ n w. w; chosen = refl; sent = refl; waiting = less_self (waiting s.ledger.rows); stopped = λ e. e }
 
 pub leaves_if : (b : Bool) (s t u : Stepped) → Leaves s t → Leaves s u → Leaves s (if b then t else u)
 leaves_if true s t u a b = a
@@ -92,6 +174,21 @@ all_rows kept moment tokens [] ledger = refl
 all_rows kept moment tokens (row ∷ live) ledger =
     all_rows kept moment tokens live (cut_unless kept moment tokens row ledger) ∙ unless_rows (names row.place kept) moment tokens row ledger
 
+cut_less : (moment : ℕ) (tokens : Option ℕ) (place : ℕ) (ledger : Ledger) (link : Option ℕ) → waiting (cut_row moment tokens place ledger link).rows ≤ waiting ledger.rows
+cut_less moment tokens place ledger None = less_self (waiting ledger.rows)
+cut_less moment tokens place ledger (Some link) = ended_less (cut_end ledger.entry moment (read_of ledger.links link) tokens) ledger.rows place
+
+unless_less : (b : Bool) (moment : ℕ) (tokens : Option ℕ) (row : LiveRow) (ledger : Ledger)
+    → waiting (if b then ledger else cut_row moment tokens row.place ledger row.link).rows ≤ waiting ledger.rows
+unless_less true moment tokens row ledger = less_self (waiting ledger.rows)
+unless_less false moment tokens row ledger = cut_less moment tokens row.place ledger row.link
+
+all_less : (kept : Option ℕ) (moment : ℕ) (tokens : Option ℕ) (live : List LiveRow) (ledger : Ledger) → waiting (cut_all kept moment tokens live ledger).rows ≤ waiting ledger.rows
+all_less kept moment tokens [] ledger = less_self (waiting ledger.rows)
+all_less kept moment tokens (row ∷ live) ledger =
+    less_on (waiting (cut_all kept moment tokens live (cut_unless kept moment tokens row ledger)).rows) (waiting (cut_unless kept moment tokens row ledger).rows) (waiting ledger.rows)
+    (all_less kept moment tokens live (cut_unless kept moment tokens row ledger)) (unless_less (names row.place kept) moment tokens row ledger)
+
 -- a commitment, and the end of the call
 pub leaves_committed : (place moment : ℕ) (s : Stepped) → Leaves s (step.committed place moment s)
 leaves_committed place moment s = record {
@@ -99,6 +196,11 @@ leaves_committed place moment s = record {
   within = λ n w. record { live = all_filter (is_there n) (is_row place) s.call.live w.live; held = w.held };
   chosen = refl;
   sent = refl;
+  waiting =
+      less_on (waiting (cut_all (Some place) moment (count_of s.tokens) s.call.live (step.commit_stamped place s.ledger)).rows) (waiting (step.commit_stamped place s.ledger).rows)
+      (waiting s.ledger.rows) (all_less (Some place) moment (count_of s.tokens) s.call.live (step.commit_stamped place s.ledger))
+      (committed_less s.ledger.entry s.ledger.rows place);
+  stopped = λ e. refl;
 }
 
 pub leaves_ended : (why : EndCause) (moment : ℕ) (s : Stepped) → Leaves s (step.ended_as why moment s)
@@ -107,25 +209,41 @@ leaves_ended why moment s = record {
   within = λ n w. record { live = refl; held = refl };
   chosen = refl;
   sent = refl;
+  waiting = all_less None moment (count_of s.tokens) s.call.live s.ledger;
+  stopped = λ e. refl;
 }
 
 ended_if : (b : Bool) (why : EndCause) (moment : ℕ) (s : Stepped) → Leaves s (step.ended_if b why moment s)
 ended_if b why moment s = leaves_if b s (step.ended_as why moment s) s (leaves_ended why moment s) (leaves_same s)
 
-by_row : (place moment : ℕ) (s : Stepped) → Leaves s (step.ended_by_row place moment s)
+pub by_row : (place moment : ℕ) (s : Stepped) → Leaves s (step.ended_by_row place moment s)
 by_row place moment s =
     let t : Stepped = step.committed place moment s in
     leaves_on s t (step.ended_as ends.Row moment t) (leaves_committed place moment s) (leaves_ended ends.Row moment t)
 
-closed_if : (b : Bool) (place moment : ℕ) (s : Stepped) → Leaves s (step.closed_if b place moment s)
+pub closed_if : (b : Bool) (place moment : ℕ) (s : Stepped) → Leaves s (step.closed_if b place moment s)
 closed_if b place moment s = leaves_if b s (step.ended_by_row place moment s) s (by_row place moment s) (leaves_same s)
 
 -- a row ended
 pub row_ended : (place : ℕ) (end : RowEnd) (s : Stepped) → Leaves s (step.row_ended place end s)
-row_ended place end s = record { rows = changed_length (ended_row end) s.ledger.rows place; within = λ n w. w; chosen = refl; sent = refl }
+row_ended place end s = record {
+  rows = changed_length (ended_row end) s.ledger.rows place;
+  within = λ n w. w;
+  chosen = refl;
+  sent = refl;
+  waiting = ended_less end s.ledger.rows place;
+  stopped = λ e. e;
+}
 
-with_attempts : (a : Attempts) (s : Stepped) → a.sent ≡ s.call.attempts.sent → Leaves s (step.with_attempts a s)
-with_attempts a s e = record { rows = refl; within = λ n w. record { live = w.live; held = w.held }; chosen = refl; sent = e }
+pub with_attempts : (a : Attempts) (s : Stepped) → a.sent ≡ s.call.attempts.sent → (s.call.attempts.stopped ≡ true → a.stopped ≡ true) → Leaves s (step.with_attempts a s)
+with_attempts a s e stops = record {
+  rows = refl;
+  within = λ n w. record { live = w.live; held = w.held };
+  chosen = refl;
+  sent = e;
+  waiting = less_self (waiting s.ledger.rows);
+  stopped = stops;
+}
 
 shut_held : (b : Bool) (place n : ℕ) (c : Buffered) → list_all (is_held n) c.cursors ≡ true
     → list_all (is_held n) (if b then record c { committed = option_map buffers.shut c.committed }
@@ -142,32 +260,45 @@ left_live place s = record {
   };
   chosen = refl;
   sent = refl;
+  waiting = less_self (waiting s.ledger.rows);
+  stopped = λ e. e;
 }
 
-judged_sent : (plan : CallPlan) (a : Attempts) (number : ℕ) (alone : Bool) (end : RowEnd) (above : Bool) (word : ℕ) → (judged plan a number alone end above word).attempts.sent ≡ a.sent
+pub judged_sent : (plan : CallPlan) (a : Attempts) (number : ℕ) (alone : Bool) (end : RowEnd) (above : Bool) (word : ℕ) → (judged plan a number alone end above word).attempts.sent ≡ a.sent
 judged_sent plans.None a number alone end above word = refl
 judged_sent (plans.Retry policy) a number alone end above word = refl
 judged_sent (plans.Hedge policy) a number alone end above word = refl
 
-free : (row : LiveRow) (end : RowEnd) (moment word : ℕ) (s : Stepped) → Leaves s (step.counted_free row end moment word s)
+or_true : (a b : Bool) → a ≡ true → (a || b) ≡ true
+or_true true b e = refl
+or_true false b e = absurd (let bad : false ≡ true = e in (cc))
+
+pub judged_stopped : (plan : CallPlan) (a : Attempts) (number : ℕ) (alone : Bool) (end : RowEnd) (above : Bool) (word : ℕ) → a.stopped ≡ true
+    → (judged plan a number alone end above word).attempts.stopped ≡ true
+judged_stopped plans.None a number alone end above word e = e
+judged_stopped (plans.Retry policy) a number alone end above word e = e
+judged_stopped (plans.Hedge policy) a number alone end above word e = or_true a.stopped (stops policy end above) e
+
+pub free : (row : LiveRow) (end : RowEnd) (moment word : ℕ) (s : Stepped) → Leaves s (step.counted_free row end moment word s)
 free row end moment word s =
     let after = step.judged_of row end word s.call s.tokens in
     let t : Stepped = step.row_ended row.place (record end { word = after.word }) s in
     let u : Stepped = step.with_judged row end after s in
     let same : after.attempts.sent ≡ s.call.attempts.sent = judged_sent (call_plan s.call) s.call.attempts row.number (has_none s.call.live) end (is_above s.tokens) word in
     leaves_on s u (step.closed_if after.closes row.place moment u)
-    (leaves_on s t u (row_ended row.place (record end { word = after.word }) s) (with_attempts (parts.lasted_attempts row.place after.attempts) t same))
+    (leaves_on s t u (row_ended row.place (record end { word = after.word }) s) (with_attempts (parts.lasted_attempts row.place after.attempts) t same
+    (judged_stopped (call_plan s.call) s.call.attempts row.number (has_none s.call.live) end (is_above s.tokens) word)))
     (closed_if after.closes row.place moment u)
 
-counted : (row : LiveRow) (told : EndNews) (moment word : ℕ) (s : Stepped) → Leaves s (step.counted row told moment word s)
+pub counted : (row : LiveRow) (told : EndNews) (moment word : ℕ) (s : Stepped) → Leaves s (step.counted row told moment word s)
 counted row told moment word s =
     let end : RowEnd = parts.row_end told s.ledger.entry moment (count_of s.tokens) in
     let t : Stepped = step.row_ended row.place end s in
     leaves_if (is_some s.call.attempts.committed) s (step.ended_as ends.Row moment t) (step.counted_free row end moment word s)
     (leaves_on s t (step.ended_as ends.Row moment t) (row_ended row.place end s) (leaves_ended ends.Row moment t)) (free row end moment word s)
 
-settled : (told : EndNews) (s : Stepped) → Leaves s (step.settled told s)
-settled told s = record { rows = refl; within = λ n w. w; chosen = refl; sent = refl }
+pub settled : (told : EndNews) (s : Stepped) → Leaves s (step.settled told s)
+settled told s = record { rows = refl; within = λ n w. w; chosen = refl; sent = refl; waiting = less_self (waiting s.ledger.rows); stopped = λ e. e }
 
 pub counts : (row : LiveRow) (told : EndNews) (moment word : ℕ) (s : Stepped) → Leaves s (step.counted row told moment word (step.settled told (step.left_live row.place s)))
 counts row told moment word s =
@@ -237,6 +368,8 @@ module _ (s : Stepped) (row : LiveRow) (found : (n : ℕ) → list_all (is_there
     };
     chosen = refl;
     sent = refl;
+    waiting = placed_less at s.ledger.rows row.place;
+    stopped = λ e. e;
   }
 
 placed_if : (o : Option LiveRow) (row : ℕ) (at : Placed) (s : Stepped) → find_live row s.call.live ≡ o → Leaves s (step.placed_if_live o at s)
@@ -253,11 +386,11 @@ leaves_placed row at s = placed_if (find_live row s.call.live) row at s refl
 last_if : (b : Bool) (last moment : ℕ) (s : Stepped) → Leaves s (if b then step.ended_by_row last moment s else s)
 last_if b last moment s = leaves_if b s (step.ended_by_row last moment s) s (by_row last moment s) (leaves_same s)
 
-by_last : (o : Option ℕ) (moment : ℕ) (s : Stepped) → Leaves s (step.ended_by_last o moment s)
+pub by_last : (o : Option ℕ) (moment : ℕ) (s : Stepped) → Leaves s (step.ended_by_last o moment s)
 by_last None moment s = leaves_same s
 by_last (Some last) moment s = last_if (has_none s.call.live) last moment s
 
 pub leaves_refused : (moment : ℕ) (s : Stepped) → Leaves s (step.refused_due moment s)
 leaves_refused moment s =
     let t : Stepped = step.with_attempts (parts.stopped_attempts s.call.attempts) s in
-    leaves_on s t (step.refused_due moment s) (with_attempts (parts.stopped_attempts s.call.attempts) s refl) (by_last s.call.attempts.last moment t)
+    leaves_on s t (step.refused_due moment s) (with_attempts (parts.stopped_attempts s.call.attempts) s refl (λ e. refl)) (by_last s.call.attempts.last moment t)
