@@ -68,7 +68,7 @@ next_open call due e = plan_open (call_plan call) call.attempts due e
 
 -- it is made, or withheld
 waiting_more : (rows : List Row) (r : Row) → waiting (rows ++ r ∷ []) ≡ waiting rows + one_if (waits_in r)
-waiting_more [] r = let one : one_if (waits_in r) + 0 ≡ one_if (waits_in r) = omega arith in one
+waiting_more [] r = let one : one_if (waits_in r) + 0 ≡ 0 + one_if (waits_in r) = omega arith in one
 waiting_more (x ∷ rows) r =
     let more : waiting (rows ++ r ∷ []) ≡ waiting rows + one_if (waits_in r) = waiting_more rows r in
     let first : waiting (x ∷ (rows ++ r ∷ [])) ≡ one_if (waits_in x) + waiting (rows ++ r ∷ []) = refl in
