@@ -1,3 +1,5 @@
+pub mod Calm
 pub mod Lists
 pub mod Made
 pub mod Making
+pub mod Step

@@ -104,7 +104,7 @@ use Rattle.session_actions.specs.declared.seen.Seen.{Seen}
 use Rattle.session_order.proofs.Limits.{response_same}
 
 -- an attempt that is due is no transparent retry
-due_kind : (p : CallPlan) (b : Bool) → is_transparent (unwrap_or (if b then Some kind.First else later_kind p) kind.First) ≡ false
+pub due_kind : (p : CallPlan) (b : Bool) → is_transparent (unwrap_or (if b then Some kind.First else later_kind p) kind.First) ≡ false
 due_kind plan.None true = refl
 due_kind plan.None false = refl
 due_kind (plan.Retry p) true = refl

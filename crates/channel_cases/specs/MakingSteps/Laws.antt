@@ -3,7 +3,7 @@
 -- Example: the calls 1 and 2 got their configs in this settling. AttemptMade of call 1, and then of call 2; each waits for a pick.
 -- The laws, in the order of this file:
 -- 1. One attempt is made: what channel and session are after it.
--- 2. What is asked of one call that is due (`OneMakes`), and of a round (`RoundsMake`).
+-- 2. What is asked of one call that is due (`OneMakes`), and of a round (`RoundsMake`). It is so of a call whose attempt is made (`OneIsMade`).
 use Rattle.std.specs.Prelude.{None, Some, ℕ, ◌≡◌}
 use Rattle.attempt_ledger.specs.declared.row.RowKind.{RowKind}
 use Rattle.channel_actions.specs.Agrees.{Agrees}
@@ -65,3 +65,9 @@ OneMakes =
 
 abbrev pub RoundsMake : Type 0
 RoundsMake = OneMakes → MakingSteps
+
+-- so it is where it is made
+abbrev pub OneIsMade : Type 0
+OneIsMade =
+    (number nth due : ℕ) (why : RowKind) (x : StateSeen) (o : OpenEntry) (s : Seen) → Agrees x s → IsSound x s → IsAt stage.Settling o s → IsTended o s
+    → (k : DueNext number s) → k.does ≡ action.AttemptMade number nth why due → Leads (made_one number x) o s (IsDueDone number)
