@@ -3,3 +3,4 @@ pub mod Lists
 pub mod Made
 pub mod Making
 pub mod Step
+pub mod Withheld

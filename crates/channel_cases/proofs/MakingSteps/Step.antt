@@ -88,9 +88,19 @@ none_at f xs zero x e got = absurd (let bad : None ≡ Some x = got in (cc))
 none_at f xs (suc i) x e got = get_none f xs i x e got
 
 -- of a call whose next attempt was just made none is due
-none_forced : (b : Bool) → (if b then None {A = ℕ} else None) ≡ None
+abbrev no_moment : Option ℕ
+no_moment = None
+
+none_forced : (b : Bool) → (if b then no_moment else no_moment) ≡ no_moment
 none_forced true = refl
 none_forced false = refl
+
+abbrev no_action : Option Action
+no_action = None
+
+none_given : (b : Bool) → (if b then no_action else no_action) ≡ no_action
+none_given true = refl
+none_given false = refl
 
 none_hedge : (p : HedgePolicy) (place : ℕ) (a : Attempts) (b : Bool)
     → (if b then parts.next_forced p.max (made_attempts place a) else hedging.next_due p (parts.hedge_of (made_attempts place a))) ≡ None
@@ -191,6 +201,7 @@ module _ (exact : CalmIsExact) (stir : AttemptsStir) (clocks : ClockChanges) (re
     y = with_attempt due c.number own.slot x
 
     agrees : Agrees y t
+    unfolding make
     agrees = subst (Agrees y) made_is (rows frames c.number x o s make own)
 
     own_now : numbered t.calls c.number ≡ Some (noted c)
@@ -270,11 +281,7 @@ module _ (exact : CalmIsExact) (stir : AttemptsStir) (clocks : ClockChanges) (re
 
     none_due : due_action t (noted c) ≡ None
     none_due =
-        ap (λ (q : Option ℕ). if is_open_call (noted c) then option_and_then (due_if_past (noted c) t) q else None) none_next ∙ none_either (is_open_call (noted c))
-      where
-        none_either : (b : Bool) → (if b then None {A = Action} else None) ≡ None
-        none_either true = refl
-        none_either false = refl
+        ap (λ (q : Option ℕ). if is_open_call (noted c) then option_and_then (due_if_past (noted c) t) q else None) none_next ∙ none_given (is_open_call (noted c))
 
     none_now : (d : Call) → numbered t.calls c.number ≡ Some d → due_action t d ≡ None
     none_now d e =

@@ -1,6 +1,7 @@
 -- Nobody has to believe this: what the channel is once one attempt that is due was made, as a call with its row, its place in the queue and its timers.
 use Rattle.std.specs.BTreeSet.{insert_key}
 use Rattle.std.specs.Prelude.{None, Some, [], if◌then◌else◌, slice_set, ℕ, ◌-◌}
+use Rattle.call_core.specs.Parts.{stopped_attempts}
 use Rattle.call_core.specs.Steps.{Stepped, lent, made, next_place, waits}
 use Rattle.channel_cases.specs.ConfiguredCalls.Steps.{timed}
 use Rattle.channel_core.specs.Books.{deadline_of, due_at}
@@ -28,4 +29,15 @@ with_attempt due number slot x = record x {
     calls = slice_set x.book.calls (number - 1) (timed (made_slot due slot x));
     ledger = (made_step due slot x).ledger;
   };
+}
+
+-- its next hedge is withheld, while others of it go on
+abbrev pub withheld_slot : CallSlot → CallSlot
+withheld_slot slot = with_call (record slot.call { attempts = stopped_attempts slot.call.attempts }) slot
+
+abbrev pub with_withheld : ℕ → CallSlot → StateSeen → StateSeen
+with_withheld number slot x = record x {
+  dues = timer_moved number slot.due (due_at (Some (withheld_slot slot))) x.dues;
+  deadlines = timer_moved number slot.deadline (deadline_of (Some (withheld_slot slot))) x.deadlines;
+  book = record x.book { calls = slice_set x.book.calls (number - 1) (timed (withheld_slot slot)) };
 }
