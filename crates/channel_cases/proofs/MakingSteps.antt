@@ -4,3 +4,4 @@ pub mod Made
 pub mod Making
 pub mod Step
 pub mod Withheld
+pub mod Withholding

@@ -3,8 +3,9 @@
 -- Example: the calls 1 and 2 got their configs in this settling. AttemptMade of call 1, and then of call 2; each waits for a pick.
 -- The laws, in the order of this file:
 -- 1. One attempt is made: what channel and session are after it.
--- 2. What is asked of one call that is due (`OneMakes`), and of a round (`RoundsMake`). It is so of a call whose attempt is made (`OneIsMade`).
-use Rattle.std.specs.Prelude.{None, Some, ℕ, ◌≡◌}
+-- 2. What is asked of one call that is due (`OneMakes`), and of a round (`RoundsMake`). It is so of a call whose attempt is made (`OneIsMade`),
+--    and of one whose hedge is withheld while others go on (`OneIsWithheld`); what is left is `LastIsWithheld`.
+use Rattle.std.specs.Prelude.{Bool, None, Some, false, true, ℕ, ◌≡◌}
 use Rattle.attempt_ledger.specs.declared.row.RowKind.{RowKind}
 use Rattle.channel_actions.specs.Agrees.{Agrees}
 use Rattle.channel_actions.specs.Calls.{HasSlot}
@@ -12,6 +13,7 @@ use Rattle.channel_actions.specs.Calm.{IsAt}
 use Rattle.channel_core.specs.States.{StateSeen}
 use Rattle.channel_core.specs.Steps.{made_one}
 use Rattle.session_actions.specs.Actions.{following}
+use Rattle.session_actions.specs.DueAttempts.{has_going}
 use Rattle.session_actions.specs.Making.{attempt_made, due_action, next_due_attempt, next_transparent}
 use Rattle.session_actions.specs.Words.{numbered}
 use Rattle.session_actions.specs.declared.action.Action.{Action}
@@ -71,3 +73,19 @@ abbrev pub OneIsMade : Type 0
 OneIsMade =
     (number nth due : ℕ) (why : RowKind) (x : StateSeen) (o : OpenEntry) (s : Seen) → Agrees x s → IsSound x s → IsAt stage.Settling o s → IsTended o s
     → (k : DueNext number s) → k.does ≡ action.AttemptMade number nth why due → Leads (made_one number x) o s (IsDueDone number)
+
+-- or where its hedge is withheld, since too few tokens are left, while others of its call go on ("Throttling Retry Attempts and Hedged RPCs")
+abbrev pub WithheldOf : Bool → Type 0
+WithheldOf going =
+    (number : ℕ) (x : StateSeen) (o : OpenEntry) (s : Seen) → Agrees x s → IsSound x s → IsAt stage.Settling o s → IsTended o s → (k : DueNext number s)
+    → k.does ≡ action.HedgeWithheld number → has_going k.call s ≡ going → Leads (made_one number x) o s (IsDueDone number)
+
+abbrev pub OneIsWithheld : Type 0
+OneIsWithheld = WithheldOf true
+
+-- where none goes on, the call is committed to the attempt whose end counted last, and ends by it; with that these are all cases
+abbrev pub LastIsWithheld : Type 0
+LastIsWithheld = WithheldOf false
+
+abbrev pub MakesByCases : Type 0
+MakesByCases = LastIsWithheld → OneMakes
