@@ -13,6 +13,7 @@ pub mod DrainedCalls
 pub mod FirstShutdowns
 pub mod FullSends
 pub mod LongSends
+pub mod MakingSteps
 pub mod NetChains
 pub mod NetResults
 pub mod NetSettlings
@@ -21,7 +22,9 @@ pub mod OneCallEnds
 pub mod OverdueCalls
 pub mod PassActions
 pub mod ResultEvents
+pub mod RoundSteps
 pub mod SendsEnd
 pub mod SettlingActions
+pub mod SettlingKeeps
 pub mod SoundBuffers
 pub mod StreamedCalls

@@ -14,13 +14,16 @@ pub mod EndedCalls
 pub mod FirstShutdowns
 pub mod FullSends
 pub mod LongSends
+pub mod MakingSteps
 pub mod NetChains
 pub mod NetResults
 pub mod NetSettlings
 pub mod NetSteps
 pub mod PassActions
 pub mod ResultEvents
+pub mod RoundSteps
 pub mod SendsEnd
 pub mod SettlingActions
+pub mod SettlingKeeps
 pub mod SoundBuffers
 pub mod StreamedCalls
