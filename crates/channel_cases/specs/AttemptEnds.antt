@@ -1,0 +1,3 @@
+pub mod Ahead
+pub mod Ends
+pub mod Laws
