@@ -25,6 +25,7 @@ pub mod Hedged
 pub mod Judging
 pub mod LastEnds
 pub mod LastHedge
+pub mod LastOnes
 pub mod Lists
 pub mod Made
 pub mod PlacedFrames

@@ -16,6 +16,7 @@ pub mod EndsFollow
 pub mod GoingCalls
 pub mod KeptCalls
 pub mod KeptSessions
+pub mod Known
 pub mod Laws
 pub mod LinkEnds
 pub mod LinkFrames

@@ -20,7 +20,7 @@ use Rattle.call_actions.proofs.EndTokens.{bucket_now, more_ends, run_now}
 use Rattle.call_actions.proofs.Ending.{after, base, channel_is, d, due_then, e, ends, is_ended, its_call, its_end, its_place, judges, last_then, lent_then, like_then, marks_then, order_then, runs, t, tokens_same, told}
 use Rattle.call_actions.proofs.Final.{ClosesNow}
 use Rattle.call_actions.proofs.Frames as frames
-use Rattle.call_actions.proofs.LastEnds.{closes_now, not_licensed}
+use Rattle.call_actions.proofs.LastOnes.{closes_now, not_licensed}
 use Rattle.call_actions.proofs.Lists.{changed_here, numbered_not}
 use Rattle.call_actions.proofs.Ranks.{all_so, numbered_map}
 use Rattle.call_actions.specs.Laws.{IsCounting, IsEnding, news_of}
