@@ -13,6 +13,7 @@ use Rattle.channel_actions.specs.EndsFollow.Laws.{is_late}
 use Rattle.channel_actions.specs.GoingCalls.Going.{CallsGoOn}
 use Rattle.channel_actions.specs.Points.{IsSameEntry}
 use Rattle.channel_cases.specs.AttemptEnds.Ahead.{AgreesAhead, AgreesOffLinks, LinksAhead}
+use Rattle.channel_cases.specs.AttemptEnds.Runs.{RunsRise}
 use Rattle.channel_core.specs.States.{StateSeen}
 use Rattle.channel_core.specs.Steps.{left_behind, stamped_gone, told, unqueued}
 use Rattle.session_actions.specs.Actions.{following}
@@ -68,6 +69,7 @@ pub record EndNext (waits : Line → Bool) (also : List ℕ) (a : Attempt) (out 
   pub books : AgreesOffLinks (gone_with a.row.placed x) s
   pub links : LinksAhead also x (attempt_ended a.place (end_of a out s) s)
   pub unreset : AreUnreset s
+  pub rising : RunsRise s
   -- of the channel alone (`going_calls`)
   pub going : CallsGoOn x
 
