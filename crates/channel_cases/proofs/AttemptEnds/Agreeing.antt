@@ -44,7 +44,7 @@ use Rattle.channel_actions.specs.KeptSessions.Kept.{IsKept}
 use Rattle.channel_actions.specs.OtherCalls.Laws.{SetsApart}
 use Rattle.channel_actions.specs.OtherCalls.Others.{AreOfCall, BooksApart, GoesApart, IsBooked}
 use Rattle.channel_cases.proofs.AttemptEnds.After.{attempt_at, d, d_here, end, entry_is, in_out, put, put_ended, put_placed, runs, t_is, u}
-use Rattle.channel_cases.proofs.AttemptEnds.Base.{books, c, call_is, e, has, here, moment_is, news, off_form, off_is, placed, r, row_is, sees, slot, slot_there, x1, x2, z}
+use Rattle.channel_cases.proofs.AttemptEnds.Base.{books, c, call_is, e, has, here, moment_is, news, off_is, out_off, queue_off, row_is, sees, slot, slot_there, x1, x2, z}
 use Rattle.channel_cases.proofs.AttemptEnds.Buckets.{buckets_set}
 use Rattle.channel_cases.proofs.AttemptEnds.GoesOn.{after, call, called, order, order_then, r_is, sees_then, then_, turn}
 use Rattle.channel_cases.proofs.AttemptEnds.Own.{own_call}
@@ -60,6 +60,7 @@ use Rattle.channel_core.specs.Books.{drew_by, has_drawn}
 use Rattle.channel_core.specs.States.{StateSeen}
 use Rattle.channel_core.specs.Steps.{told, with_ledger_links}
 use Rattle.channel_core.specs.Tables.{BucketsSeen, tokens_in, with_tokens}
+use Rattle.channel_core.specs.Timing.{timer_moved}
 use Rattle.channel_core.specs.declared.state.slots.CallSlot.{CallSlot}
 use Rattle.link_actions.proofs.Ended.{noted_call, now_same}
 use Rattle.net_actions.proofs.NetFrames.Left.{net_stays}
@@ -294,7 +295,16 @@ module _ (waits : Line → Bool) (also : List ℕ) (a : Attempt) (out : Outcome)
   others : SetsApart n s v
   others = sets_stay n (x1 waits also a out x o s is) s v apart (books waits also a out x o s is).calls
 
-  abbrev moved : SetsAgree _ v
+  abbrev its_sets : StateSeen
+  its_sets = record x {
+    queue = queue_off a.row.call a.place p x.queue;
+    patient = queue_off a.row.call a.place p x.patient;
+    outstanding = out_off a.place p x.outstanding;
+    dues = timer_moved n was.due own_slot.due x.dues;
+    deadlines = timer_moved n was.deadline own_slot.deadline x.deadlines;
+  }
+
+  abbrev moved : SetsAgree its_sets v
   moved = sets_then waits also a out x o s is case.counting.goes_on case.free others own_slot own.due own.deadline_is
 
   sets_now : SetsAgree w v

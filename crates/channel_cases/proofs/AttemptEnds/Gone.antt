@@ -1,5 +1,5 @@
 -- Which links are gone once an attempt has ended: the channel stamps the link of the attempt, and the session notes the same links as gone.
-use Rattle.std.proofs.Common.{◌≡◌, ◌&&◌, ◌||◌, ◌==◌, ◌+◌, ap, refl, subst, sym, ◌∙◌, Bool, true, false, List, [], Option, None, Some, ℕ, zero, suc, not, if◌then◌else◌, is_none, is_some, map, slice_get}
+use Rattle.std.proofs.Common.{◌≡◌, ◌&&◌, ◌||◌, ◌==◌, ◌+◌, ◌∷◌, ap, refl, subst, sym, ◌∙◌, Bool, true, false, List, [], Option, None, Some, ℕ, zero, suc, not, if◌then◌else◌, is_none, is_some, map, slice_get}
 use Rattle.std.proofs.lemmas.Bool.{and_right, eqb-false, eqb-true}
 use Rattle.std.specs.List.{list_any}
 use Rattle.std.specs.Option.{option_map}

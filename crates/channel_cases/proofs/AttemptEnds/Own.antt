@@ -5,6 +5,7 @@ use Rattle.std.specs.List.{AllByRecursion}
 use Rattle.std.specs.Option.{option_map_or}
 use Rattle.attempt_buffer.specs.Buffers.{Buffered, closed, taken_by, text_of}
 use Rattle.attempt_ledger.specs.declared.ledger.CallEnd.{CallEnd}
+use Rattle.attempt_ledger.specs.declared.ledger.CallSeen.{CallSeen}
 use Rattle.attempt_ledger.specs.declared.row.RowEnd.{RowEnd}
 use Rattle.call_actions.proofs.TakeActions.Deadlines.{deadline_is}
 use Rattle.call_actions.specs.Laws.{AttemptsAreDue}
@@ -115,7 +116,7 @@ module _ (due : AttemptsAreDue) (waits : Line → Bool) (also : List ℕ) (a : A
       tokens = sees.tokens ∙ tokens;
       entry_is = sees.entry_is ∙ sym entry_same;
       rows = sees.rows ∙ sym rows_same;
-      call_is = sees.call_is ∙ ap (λ (l : List _). numbered l called.number) (sym calls_same);
+      call_is = ap (λ (l : List CallSeen). numbered l called.number) calls_same ∙ sees.call_is;
     }
 
     came_same : came called then_ ≡ came call s

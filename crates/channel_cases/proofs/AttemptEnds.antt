@@ -1,0 +1,11 @@
+pub mod After
+pub mod Agreeing
+pub mod Base
+pub mod Buckets
+pub mod Buffers
+pub mod GoesOn
+pub mod Gone
+pub mod Noted
+pub mod Own
+pub mod Sets
+pub mod Told
