@@ -188,7 +188,7 @@ module _ (waits : Line → Bool) (also : List ℕ) (a : Attempt) (out : Outcome)
     pub over_after : (q : Attempt) → (q.row.call == cc0.number) ≡ true → is_over (put q) u ≡ false
     over_after q mine = over_at u d (put q) d_here (ap (λ (n : ℕ). n == cc0.number) (put_call q) ∙ mine) open_now free_then
 
-    waits_one : (q : Attempt) (b : Bool) → (q.row.call == cc0.number) ≡ b
+    pub waits_one : (q : Attempt) (b : Bool) → (q.row.call == cc0.number) ≡ b
         → ((q.row.call == cc0.number) && is_queued (put q) u) ≡ (((q.row.call == cc0.number) && is_queued q s) && not (q.place == a.place))
     waits_one q false mine = ap (λ (b : Bool). b && is_queued (put q) u) mine ∙ sym (ap (λ (b : Bool). (b && is_queued q s) && not (q.place == a.place)) mine)
     waits_one q true mine =

@@ -83,7 +83,7 @@ use Rattle.session_order.specs.Calm.{IsStill}
 use Rattle.session_order.specs.declared.line.Line.{Line}
 use Rattle.session_order.specs.declared.line.Line.TheVariants as line
 
-early_by : (w l : Bool) → (w ≡ true → l ≡ true) → l ≡ false → w ≡ false
+pub early_by : (w l : Bool) → (w ≡ true → l ≡ true) → l ≡ false → w ≡ false
 early_by false l turn e = refl
 early_by true l turn e = absurd (let both : true ≡ false = sym (turn refl) ∙ e in (cc))
 
@@ -180,7 +180,7 @@ module _ (waits : Line → Bool) (also : List ℕ) (a : Attempt) (out : Outcome)
       subst (λ (g : Call). IsInTurn v g) same steady.steady.turn
 
   -- what the channel is
-  abbrev y1 : StateSeen
+  abbrev pub y1 : StateSeen
   y1 = told_form a.place n aft was (z waits also a out x o s is)
 
   abbrev p : Option Placed
@@ -235,7 +235,7 @@ module _ (waits : Line → Bool) (also : List ℕ) (a : Attempt) (out : Outcome)
   }
 
   -- the tokens
-  runs_are : v.runs ≡ runs_now a.place k s
+  pub runs_are : v.runs ≡ runs_now a.place k s
   runs_are =
       ap (λ (q : Seen). q.runs)
       (sym (t_is waits also a out x o s is)
@@ -307,7 +307,7 @@ module _ (waits : Line → Bool) (also : List ℕ) (a : Attempt) (out : Outcome)
   abbrev moved : SetsAgree its_sets v
   moved = sets_then waits also a out x o s is case.counting.goes_on case.free others own_slot own.due own.deadline_is
 
-  sets_now : SetsAgree w v
+  pub sets_now : SetsAgree w v
   sets_now = record {
     queue = moved.queue;
     patient = moved.patient;
