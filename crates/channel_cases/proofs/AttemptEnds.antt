@@ -13,4 +13,5 @@ pub mod Own
 pub mod Picks
 pub mod Sets
 pub mod Told
+pub mod Unowed
 pub mod Whole

@@ -5,7 +5,8 @@ use Rattle.call_actions.proofs.CallsApart.Moves.{all_changed}
 use Rattle.channel_actions.specs.EndsFollow.Cuts.{AreUnreset, is_unreset}
 use Rattle.channel_actions.specs.EndsFollow.Laws.{is_late}
 use Rattle.channel_actions.specs.Points.{IsSameEntry}
-use Rattle.channel_cases.proofs.AttemptEnds.After.{end}
+use Rattle.channel_actions.specs.Sets.{is_in_outstanding}
+use Rattle.channel_cases.proofs.AttemptEnds.After.{end, in_out}
 use Rattle.channel_cases.proofs.AttemptEnds.Agreeing.{act, books_then, current_then, does, early_by, ended_is, entry_then, kept_then, links_then, sets_now, y1}
 use Rattle.channel_cases.proofs.AttemptEnds.Base.{c, e, news}
 use Rattle.channel_cases.proofs.AttemptEnds.Finals.{unfinal}
@@ -26,6 +27,10 @@ use Rattle.session_order.specs.Calm.{IsStill}
 use Rattle.session_order.specs.Stirs.{stirs}
 use Rattle.session_order.specs.declared.line.Line.{Line}
 use Rattle.session_order.specs.declared.line.Line.TheVariants as line
+
+fewer_by : (p q : Bool) → (p && q) ≡ true → p ≡ true
+fewer_by true q e = refl
+fewer_by false q e = absurd (cc)
 
 module _ (waits : Line → Bool) (also : List ℕ) (a : Attempt) (out : Outcome) (x : StateSeen) (o : OpenEntry) (s : Seen) (is : EndNext waits also a out x o s)
     (case : GoesOnAfter s (c waits also a out x o s is) a out) where
@@ -107,6 +112,7 @@ module _ (waits : Line → Bool) (also : List ℕ) (a : Attempt) (out : Outcome)
     current = current_then waits also a out x o s is case;
     still = still_then;
     late = late_then;
+    fewer = λ link row e. fewer_by (is_in_outstanding s link row) (not (row == a.place)) (sym (in_out waits also a out x o s is link row) ∙ e);
     agrees = agrees_then;
   }
 

@@ -12,6 +12,7 @@ use Rattle.channel_actions.specs.EndsFollow.Cuts.{AreUnreset}
 use Rattle.channel_actions.specs.EndsFollow.Laws.{is_late}
 use Rattle.channel_actions.specs.GoingCalls.Going.{CallsGoOn}
 use Rattle.channel_actions.specs.Points.{IsSameEntry}
+use Rattle.channel_actions.specs.Sets.{is_in_outstanding}
 use Rattle.channel_cases.specs.AttemptEnds.Ahead.{AgreesAhead, AgreesOffLinks, LinksAhead}
 use Rattle.channel_cases.specs.AttemptEnds.Runs.{RunsRise}
 use Rattle.channel_core.specs.States.{StateSeen}
@@ -87,4 +88,6 @@ pub record HasEnded (waits : Line → Bool) (also : List ℕ) (a : Attempt) (out
   pub current : seen.current ≡ Some entry
   pub still : (l : Line) → may_wait l ≡ false → IsStill l entry seen
   pub late : (l : Line) → is_late l ≡ true → waits l ≡ false → IsStill l entry seen
+  -- no attempt is outstanding that was not
+  pub fewer : (link row : ℕ) → is_in_outstanding seen link row ≡ true → is_in_outstanding s link row ≡ true
   pub agrees : AgreesAhead also (ended_in a (news_of a out s) x) seen

@@ -13,6 +13,7 @@ use Rattle.call_actions.specs.Sees.{is_live}
 use Rattle.channel_actions.specs.Agrees.{Agrees}
 use Rattle.channel_actions.specs.EndsFollow.Cuts.{AreUnreset}
 use Rattle.channel_actions.specs.EndsFollow.Laws.{is_late}
+use Rattle.channel_actions.specs.Sets.{is_in_outstanding}
 use Rattle.channel_cases.specs.AttemptEnds.Ahead.{AgreesAhead}
 use Rattle.channel_cases.specs.AttemptEnds.Ends.{EndNext, HasEnded}
 use Rattle.channel_core.specs.States.{StateSeen}
@@ -34,7 +35,7 @@ use Rattle.session_actions.specs.declared.call.Call.{Call}
 use Rattle.session_actions.specs.declared.entry.OpenEntry.{OpenEntry}
 use Rattle.session_actions.specs.declared.response.Outcome.{Outcome}
 use Rattle.session_actions.specs.declared.seen.Seen.{Seen}
-use Rattle.session_order.specs.Calm.{IsStill}
+use Rattle.session_order.specs.Calm.{IsStill, is_to_reset}
 use Rattle.session_order.specs.Lines.{is_line}
 use Rattle.session_order.specs.declared.line.Line.{Line}
 use Rattle.session_order.specs.declared.line.Line.TheVariants as line
@@ -119,8 +120,13 @@ pub record HasReset (waits : Line → Bool) (also : List ℕ) (x : StateSeen) (o
   pub setup : seen.setup ≡ s.setup
   pub current : seen.current ≡ Some o
   pub still : (l : Line) → waits l ≡ false → IsStill l o seen
+  pub fewer : (link row : ℕ) → is_in_outstanding seen link row ≡ true → is_in_outstanding s link row ≡ true
   pub unreset : AreUnreset seen
   pub agrees : Agrees (all_sealed also x) seen
 
 abbrev pub ResetsCatchUp : Type 0
 ResetsCatchUp = (waits : Line → Bool) (also : List ℕ) (x : StateSeen) (o : OpenEntry) (s : Seen) → ResetsNext waits also x o s → HasReset waits also x o s
+
+-- where none is owed there is nothing to do: all agrees at once
+abbrev pub NoneIsOwed : Type 0
+NoneIsOwed = (x : StateSeen) (s : Seen) → AgreesAhead [] x s → list_any (is_to_reset s) s.attempts ≡ false → x.resets ≡ [] → Agrees x s
