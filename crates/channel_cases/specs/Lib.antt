@@ -1,3 +1,4 @@
+pub mod AttemptEnds
 pub mod BareEnds
 pub mod BeginActions
 pub mod CallCommits

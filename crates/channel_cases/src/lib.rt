@@ -1,6 +1,7 @@
 // Each event of a channel, and each part of a settling, is the actions of a session, in their order; nothing runs.
 #![tactic(auto)]
 
+pub mod attempt_ends;
 pub mod bare_ends;
 pub mod begin_actions;
 pub mod call_commits;
