@@ -1,8 +1,11 @@
+pub mod AttemptEnds
 pub mod BareEnds
 pub mod BeginActions
+pub mod CallCommits
 pub mod CallEnds
 pub mod CallPosts
 pub mod CallSends
+pub mod CommitsFollow
 pub mod ConfigActions
 pub mod ConfiguredCalls
 pub mod DialEvents
@@ -11,6 +14,7 @@ pub mod DrainedCalls
 pub mod FirstShutdowns
 pub mod FullSends
 pub mod LongSends
+pub mod MakingSteps
 pub mod NetChains
 pub mod NetResults
 pub mod NetSettlings
@@ -19,6 +23,9 @@ pub mod OneCallEnds
 pub mod OverdueCalls
 pub mod PassActions
 pub mod ResultEvents
+pub mod RoundSteps
 pub mod SendsEnd
 pub mod SettlingActions
+pub mod SettlingKeeps
+pub mod SoundBuffers
 pub mod StreamedCalls
