@@ -17,7 +17,7 @@ one_more : (b : Bool) → (if b then 1 else 0) ≤ 1
 one_more true = omega arith
 one_more false = omega arith
 
-few_calls : (x : StateSeen) (s : Seen) → IsKnown x s → IsReached s → length s.calls ≤ 4294967295
+pub few_calls : (x : StateSeen) (s : Seen) → IsKnown x s → IsReached s → length s.calls ≤ 4294967295
 few_calls x s known reached =
     let a : length s.calls ≤ entry s = calls_are_few reached.setup reached.actions s reached.does in
     let b : length s.entries < 1048576 = below (length s.entries) 1048576 known.few in
