@@ -20,6 +20,10 @@ pub trait Clock: Send + Sync + Drop {
 
     /// Lets the time of a pause pass; a clock that is not the system's only lets other threads run.
     fn pause(&self, pause: Pause);
+
+    /// Says that there is news for those that wait for links of the same world (`Dialer::wait`): for all of them, or for those that have
+    /// links, as far as any has one. It ends a wait that is under way, or else the next one.
+    fn wake(&self, _everyone: bool) {}
 }
 
 /// A clock that gives the moments of a list one after another, and then the last one again and again.

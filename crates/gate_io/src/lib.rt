@@ -13,6 +13,7 @@ mod memory_dialer;
 mod memory_link;
 mod patience;
 mod setup;
+mod sleepers;
 mod standard;
 mod std_clock;
 mod steady;

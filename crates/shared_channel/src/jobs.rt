@@ -2,6 +2,7 @@
 ghost use Rattle.std.specs.Prelude.{◌≡◌, ◌≤◌, Err, option_map};
 ghost use Rattle.grpc_base.specs.Limits.{moment_limit};
 
+use crate::bell::Bell;
 use crate::reading::Reading;
 use crate::shared::Shared;
 use attempt_ledger::Ledger;
@@ -20,11 +21,14 @@ pub fn moment_of(nanos: u64) -> Moment
 
 /// One step. The event is taken by the turn.
 #[derive(Drop)]
-pub struct Step {
+pub struct Step<'b> {
     pub stamped: Stamped,
+    /// Where it is rung, if the event may bring something to another thread's call.
+    pub bell: &'b Bell,
+    pub is_news: bool,
 }
 
-impl<P: Balancer> Job<Shared<P>> for Step {
+impl<P: Balancer> Job<Shared<P>> for Step<'_> {
     ghost use Rattle.shared_channel.specs.Turns.{StepGives};
 
     type Answer = Result<Reply, PostError>;
@@ -33,11 +37,13 @@ impl<P: Balancer> Job<Shared<P>> for Step {
 
     fn run(&mut self, state: &mut Shared<P>) -> Result<Reply, PostError> {
         let event = mem::replace(&mut self.stamped.event, Event::Tick);
-        state.watched.step(Stamped {
+        let result = state.watched.step(Stamped {
             moment: self.stamped.moment,
             word: self.stamped.word,
             event,
-        })
+        });
+        self.bell.ring_if(self.is_news, state.watched.core());
+        result
     }
 }
 

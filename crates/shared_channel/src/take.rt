@@ -47,6 +47,7 @@ impl<P: Balancer, W, C: Clock, D: Draws> Future for TakeFuture<'_, '_, P, W, C, 
         ensures quiet { OnPending result (self.new.seat.now.tally ≡ self.old.seat.now.tally) }
     {
         let seat = &mut *self.seat;
+        seat.owed = seat.owed.settled(seat.clock);
         let mut take = TakeStep {
             moment: moment_of(seat.clock.now()),
             word: seat.next,
