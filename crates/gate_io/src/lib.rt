@@ -24,7 +24,7 @@ mod whole;
 mod wire;
 mod world;
 
-pub use clock::{Clock, ListClock};
+pub use clock::{Clock, ListClock, Woken};
 pub use draws::{Draws, PcgDraws};
 pub use given_up::GivenUp;
 pub use link::{Dialed, Dialer, LinkIn, LinkOut, LinkRead, Listener};

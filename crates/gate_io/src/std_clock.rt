@@ -4,7 +4,7 @@ ghost use Rattle.std.specs.Bool.{⊤};
 ghost use Rattle.grpc_base.specs.Limits.{moment_limit};
 
 use crate::sleepers::Sleeper;
-use crate::{Clock, Pause};
+use crate::{Clock, Pause, Woken};
 use grpc_base::Moment;
 use std::sync::Arc;
 use std::thread::sleep;
@@ -62,9 +62,14 @@ impl<R: time::Clock + Send + Sync + Drop> Clock for StdClock<R> {
         }
     }
 
-    fn wake(&self, everyone: bool) {
-        if let Some(sleepers) = &self.sleepers {
-            wake_some(sleepers, everyone || !any_has_links(sleepers));
+    fn wake(&self, whom: Woken) {
+        let Some(sleepers) = &self.sleepers else {
+            return;
+        };
+        match whom {
+            Woken::Nobody => {}
+            Woken::Linked => wake_some(sleepers, !any_has_links(sleepers)),
+            Woken::All => wake_some(sleepers, true),
         }
     }
 }

@@ -123,7 +123,7 @@ fn longest(pause: Pause) -> u64 {
         Pause::None => 0,
         Pause::Brief => 1_000_000,
         Pause::Short => 5_000_000,
-        Pause::Long => 20_000_000,
+        Pause::Long => 50_000_000,
     }
 }
 

@@ -1,6 +1,6 @@
 // Where threads wait for something to come for a call, and what wakes them.
 use channel_core::ChannelCore;
-use gate_io::{Clock, Pause};
+use gate_io::Pause;
 use grpc_base::{Event, NoMemory};
 use lb_policy::Balancer;
 use std::alloc::Global;
@@ -9,7 +9,7 @@ use std::sync::atomic::{AtomicBool, AtomicU64, Ordering};
 use std::time::Duration;
 
 /// How many milliseconds a sleep takes that no ring ends: whoever waits looks again as often as that.
-const SLEEP: u64 = 20;
+const SLEEP: u64 = 50;
 
 /// How many threads wait at once with a place of their own. Further ones look again and again.
 const PLACES: usize = 32;
@@ -108,10 +108,7 @@ impl Bell {
     }
 
     /// In a turn, behind a step: rings for those for whose calls something has come. Those that wait for room all look again.
-    pub(crate) fn ring_if<P: Balancer>(&self, is_news: bool, core: &ChannelCore<P>) {
-        if !is_news {
-            return;
-        }
+    pub(crate) fn ring<P: Balancer>(&self, core: &ChannelCore<P>) {
         for place in self.places.iter() {
             let word = place.call.load(Ordering::SeqCst);
             if word != 0 && (word >= FOR_ROOM || has_come(core, word)) {
@@ -121,10 +118,7 @@ impl Bell {
     }
 
     /// Behind a turn: wakes those that were rung for.
-    pub(crate) fn wake_if(&self, is_news: bool) {
-        if !is_news {
-            return;
-        }
+    pub(crate) fn wake(&self) {
         for place in self.places.iter() {
             place.wake();
         }
@@ -154,8 +148,9 @@ impl Waiter<'_> {
         }
     }
 
-    /// Sleeps until it is rung for, unless it was since it had so many rings; without a place, for a short pause.
-    pub(crate) fn sleep<W: Wait, C: Clock>(&self, rt: &W, clock: &C, rings: u32) {
+    /// Sleeps until it is rung for, unless it was since it had so many rings, and gives the pause that is left to be made: a short one where
+    /// it has no place.
+    pub(crate) fn sleep<W: Wait>(&self, rt: &W, rings: u32) -> Pause {
         match self.place {
             Some(place) => {
                 place.is_asleep.store(true, Ordering::SeqCst);
@@ -163,8 +158,9 @@ impl Waiter<'_> {
                     .rings
                     .park_timeout(rt, rings, Duration::from_millis(SLEEP));
                 place.is_asleep.store(false, Ordering::SeqCst);
+                Pause::None
             }
-            None => clock.pause(Pause::Short),
+            None => Pause::Short,
         }
     }
 

@@ -150,6 +150,8 @@ impl<P: Balancer> SharedChannel<P> {
         seat: &'b mut ChannelSeat<'a, P, W, C, D>,
         call: u32,
     ) -> TakeFuture<'b, 'a, P, W, C, D> {
+        seat.clock.wake(seat.owed.at_wait());
+        seat.owed = Owed::Nothing;
         TakeFuture { seat, call }
     }
 }

@@ -117,8 +117,9 @@ impl<P: Balancer, W: Wait, C: Clock, D: Draws> Post for ChannelSeat<'_, P, W, C,
         };
         self.next = self.draws.word();
         let result = self.lock.turn(self.rt, &mut self.seat, &mut step);
-        self.bell.wake_if(is_news);
-        self.owed = owed.told(self.clock);
+        self.bell.wake();
+        self.clock.wake(owed.now());
+        self.owed = owed.left();
         self.tally.posted(&result);
         result
     }
@@ -163,7 +164,8 @@ impl<P: Balancer, W: Wait, C: Clock, D: Draws> Glance for ChannelSeat<'_, P, W, 
         ensures share { share_of self.new.seat ≡ share_of self.old.seat }
         ensures told { Looks (CanTake call result) self.old.seat self.new.seat }
     {
-        self.owed = self.owed.settled(self.clock);
+        self.clock.wake(self.owed.at_wait());
+        self.owed = Owed::Nothing;
         let answer = self
             .lock
             .turn(self.rt, &mut self.seat, &mut AtTake { call });
@@ -178,7 +180,8 @@ impl<P: Balancer, W: Wait, C: Clock, D: Draws> Glance for ChannelSeat<'_, P, W, 
         ensures share { share_of self.new.seat ≡ share_of self.old.seat }
         ensures told { Looks (CanSend call len result) self.old.seat self.new.seat }
     {
-        self.owed = self.owed.settled(self.clock);
+        self.clock.wake(self.owed.at_wait());
+        self.owed = Owed::Nothing;
         let answer = self
             .lock
             .turn(self.rt, &mut self.seat, &mut AtSend { call, len });
@@ -189,7 +192,7 @@ impl<P: Balancer, W: Wait, C: Clock, D: Draws> Glance for ChannelSeat<'_, P, W, 
 
 impl<P: Balancer, W: Wait, C: Clock, D: Draws> Caller for ChannelSeat<'_, P, W, C, D> {
     /// One Take, as soon as something has come for the call: it looks, and again when another thread's event has brought something for it,
-    /// and every 20 ms. Where nothing has come, and a look finds that nothing more happens in the channel, the answer is NoMemory, and all is
+    /// and every 50 ms. Where nothing has come, and a look finds that nothing more happens in the channel, the answer is NoMemory, and all is
     /// as before.
     /// The clock is read at each look, and the entry has the last of these moments and the next random word.
     fn await_take(&mut self, call: u32) -> Result<Reply, PostError>
@@ -209,15 +212,19 @@ impl<P: Balancer, W: Wait, C: Clock, D: Draws> Caller for ChannelSeat<'_, P, W, 
                 moment: moment_of(self.clock.now()),
                 word: self.next,
                 call,
+                bell,
             };
             if let Some(result) = self.lock.turn(self.rt, &mut self.seat, &mut take) {
                 waiter.leave();
+                bell.wake();
                 self.next = self.draws.word();
                 self.tally.posted(&result);
                 return result;
             }
-            self.owed = self.owed.settled(self.clock);
-            waiter.sleep(self.rt, self.clock, rings);
+            self.clock.wake(self.owed.at_wait());
+            self.owed = Owed::Nothing;
+            let left = waiter.sleep(self.rt, rings);
+            self.clock.pause(left);
         }
         unreachable!()
     }
@@ -238,6 +245,7 @@ impl<P: Balancer, W: Wait, C: Clock, D: Draws> Caller for ChannelSeat<'_, P, W, 
             word: self.next,
             call,
             message,
+            bell: self.bell,
         };
         let bell = self.bell;
         let waiter = bell.wait_for_room(call);
@@ -246,13 +254,18 @@ impl<P: Balancer, W: Wait, C: Clock, D: Draws> Caller for ChannelSeat<'_, P, W, 
             send.moment = moment_of(self.clock.now());
             if let Some(result) = self.lock.turn(self.rt, &mut self.seat, &mut send) {
                 waiter.leave();
+                bell.wake();
                 self.next = self.draws.word();
                 self.tally.posted(&result);
-                self.owed = self.owed.behind_send().told(self.clock);
+                let owed = self.owed.behind_send();
+                self.clock.wake(owed.now());
+                self.owed = owed.left();
                 return result;
             }
-            self.owed = self.owed.settled(self.clock);
-            waiter.sleep(self.rt, self.clock, rings);
+            self.clock.wake(self.owed.at_wait());
+            self.owed = Owed::Nothing;
+            let left = waiter.sleep(self.rt, rings);
+            self.clock.pause(left);
         }
         unreachable!()
     }

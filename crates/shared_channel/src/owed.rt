@@ -1,5 +1,5 @@
 // What those that keep links open are still to be told of a handle's posts.
-use gate_io::Clock;
+use gate_io::Woken;
 use grpc_base::Event;
 
 /// What a handle posted that may give them something to send, and of which they were not told. A call that is sent whole at once goes out in
@@ -40,22 +40,29 @@ impl Owed {
         }
     }
 
-    /// Tells what is to be told now, and gives what is owed still.
-    pub(crate) fn told<C: Clock>(self, clock: &C) -> Owed {
+    /// Who is to be told now.
+    pub(crate) fn now(self) -> Woken {
         match self {
-            Owed::Nothing | Owed::Call | Owed::Message => self,
-            Owed::News | Owed::End => {
-                clock.wake(self == Owed::End);
-                Owed::Nothing
-            }
+            Owed::Nothing | Owed::Call | Owed::Message => Woken::Nobody,
+            Owed::News => Woken::Linked,
+            Owed::End => Woken::All,
         }
     }
 
-    /// Tells all that is owed, as the handle is to wait.
-    pub(crate) fn settled<C: Clock>(self, clock: &C) -> Owed {
-        if self != Owed::Nothing {
-            clock.wake(self == Owed::End);
+    /// What is owed still once these were told.
+    pub(crate) fn left(self) -> Owed {
+        match self {
+            Owed::Call | Owed::Message => self,
+            _ => Owed::Nothing,
         }
-        Owed::Nothing
+    }
+
+    /// Who is to be told as the handle is to wait.
+    pub(crate) fn at_wait(self) -> Woken {
+        match self {
+            Owed::Nothing => Woken::Nobody,
+            Owed::Call | Owed::Message | Owed::News => Woken::Linked,
+            Owed::End => Woken::All,
+        }
     }
 }

@@ -47,14 +47,15 @@ impl<P: Balancer, W, C: Clock, D: Draws> Future for TakeFuture<'_, '_, P, W, C, 
         ensures quiet { OnPending result (self.new.seat.now.tally ≡ self.old.seat.now.tally) }
     {
         let seat = &mut *self.seat;
-        seat.owed = seat.owed.settled(seat.clock);
         let mut take = TakeStep {
             moment: moment_of(seat.clock.now()),
             word: seat.next,
             call: self.call,
+            bell: seat.bell,
         };
         match seat.lock.try_turn(&mut seat.seat, &mut take) {
             Ok(Some(result)) => {
+                seat.bell.wake();
                 seat.next = seat.draws.word();
                 seat.tally.posted(&result);
                 Poll::Ready(result)
