@@ -1,9 +1,9 @@
 -- The number that an option was given.
-use Rattle.std.proofs.Common.{◌≡◌, ◌≢◌, ◌∙◌, ◌<◌, ◌≤◌, ℕ, List, Option, Some, None, sym, subst, arith, refl}
-use Rattle.std.specs.Prelude.{Result, Ok, Err, IfNone, IfSome, IsSomeAnd, codes, ◌^◌}
-use Rattle.std.specs.Str.Parse.{ExplainsUnsignedError, HasUnsignedDigitsIfOk, IsNumeral, ParsesUnsigned, digits_value, without_leading_plus}
+use Rattle.std.proofs.Common.{◌≡◌, ◌∙◌, ◌≤◌, ℕ, List, Option, Some, None, sym, subst, arith, refl}
+use Rattle.std.specs.Prelude.{Result, Ok, Err, IfNone, IfSome, IsSomeAnd, codes}
+use Rattle.std.specs.Str.Parse.{ExplainsUnsignedError, HasUnsignedDigitsIfOk, ParsesUnsigned}
 use Rattle.std.specs.declared.num.ParseIntError.{ParseIntError}
-use Rattle.clap.specs.Words.{ReadsOne, Row, one_of, rows_of}
+use Rattle.clap.specs.Words.{ReadsOne, Row, rows_of}
 use Rattle.clap.specs.Matches.{one_text}
 use Rattle.clap.specs.declared.parser.matches.Found.{Found}
 use Rattle.clap.proofs.WalkLemmas.{one_text-rows}

@@ -1,4 +1,4 @@
-use Rattle.channel_top.proofs.OptionLaws.{no_relay_links, no_relay_port, option_below}
+use Rattle.channel_top.proofs.OptionLaws.{no_relay_links, no_relay_port}
 use Rattle.channel_top.proofs.words.place_of.Goals as goal
 
 pub returns-in-None-clause-none : goal.returns-in-None-clause-none

@@ -1,4 +1,4 @@
-use Rattle.channel_top.proofs.WordFaults.{live_none, live_some, load_none, load_some, plain_none, plain_some, relay_none, relay_some, serve_none, serve_some}
+use Rattle.channel_top.proofs.WordFaults.{live_none, live_some, load_none, load_some, relay_none, relay_some, serve_none, serve_some}
 use Rattle.channel_top.proofs.words.taken_mode.Goals as goal
 
 pub returns-in-Serve-clause-some : goal.returns-in-Serve-clause-some

@@ -1,0 +1,26 @@
+-- The step of configs, whether one is held or not.
+use Rattle.std.proofs.Common.{◌≡◌, refl, Option, None, Some}
+use Rattle.channel_actions.specs.Agrees.{Agrees}
+use Rattle.channel_actions.specs.Calm.{IsAt}
+use Rattle.channel_core.specs.States.{StateSeen}
+use Rattle.channel_core.specs.Steps.{bare_served}
+use Rattle.channel_cases.specs.ConfigActions.Ends.{BareCallsEnd}
+use Rattle.channel_cases.specs.ConfigActions.Laws.{ConfigsAreStep, IsAllowed, ServedCallsGetConfigs, UnservedCallsEnd}
+use Rattle.service_config.specs.declared.config.Config.{Config}
+use Rattle.session_actions.specs.declared.entry.OpenEntry.{OpenEntry}
+use Rattle.session_actions.specs.declared.entry.Stage.TheVariants as stage
+use Rattle.session_actions.specs.declared.seen.Seen.{Seen}
+use Rattle.channel_cases.specs.SettlingActions.Sound.{IsSound}
+use Rattle.channel_cases.specs.SettlingActions.Steps.{IsJoined, IsTended, Leads}
+
+module _ (served : ServedCallsGetConfigs) (unserved : UnservedCallsEnd) (ends : BareCallsEnd) (x : StateSeen) (o : OpenEntry) (s : Seen) (h : Agrees x s) (sound : IsSound x s)
+    (at : IsAt stage.Settling o s) (joined : IsJoined o s) (allowed : (config : Config) → x.held ≡ Some config → IsAllowed config x) where
+  by_held : (c : Option Config) → x.held ≡ c → Leads (bare_served x) o s IsTended
+  by_held None e = unserved ends x o s h sound at joined e
+  by_held (Some config) e = served config x o s h sound at joined e (allowed config e)
+
+  pub either : Leads (bare_served x) o s IsTended
+  either = by_held x.held refl
+
+pub configs_are_step : ServedCallsGetConfigs → UnservedCallsEnd → ConfigsAreStep
+configs_are_step served unserved ends x o s h sound at joined allowed = either served unserved ends x o s h sound at joined allowed
