@@ -33,8 +33,8 @@ def begun(octets, stream=1, ends=False):
 
 class Exchange(NamedTuple):
     """What a client sends after preface and SETTINGS; what comes on each of its streams, the lowest first, in hex, but for windows; what
-    the report has of its calls but takes, and how the takes of the first one were answered; what the server answers; the config; and
-    whether the relay closes the connection."""
+    the report has of its calls but takes, and how the takes of the first one were answered; what the server answers; the config;
+    whether the relay closes the connection; and whether the client cuts it by a reset of TCP."""
 
     name: str
     sends: bytes
@@ -44,6 +44,7 @@ class Exchange(NamedTuple):
     answers: str = "answer /a.B/C 1 h,m6f6b,s0\n"
     config: str = None
     is_closed: bool = False
+    resets: bool = False
 
 
 EXCHANGES = [
@@ -62,6 +63,8 @@ EXCHANGES = [
     Exchange("a compressed message", begun(b"\1\0\0\0\1x"), THIRTEEN, [CALL, CANCEL]),
     Exchange("a message above the limit", begun(bytes.fromhex("0000400001")), EIGHT, [CALL, CANCEL]),
     Exchange("a reset", request(ends=False) + frame(RST_STREAM, 0, 1, b"\0\0\0\x08"), "", [CALL, CANCEL]),
+    Exchange("a client that goes", request(ends=False), "", [CALL, CANCEL]),
+    Exchange("a client that is cut off", request(ends=False), "", [CALL, CANCEL], resets=True),
     Exchange("DATA on a stream that is idle", begun(HI, stream=5), "", [CALL, CANCEL], is_closed=True),
     Exchange(
         "two calls, the second of which is answered first",
