@@ -57,9 +57,9 @@ fn say_fault(out: &mut Said, fault: RelayFault) -> Result<(), Wrong> {
 /// What is asked for bytes.
 fn arrive(alloc: Global, core: &mut RelayCore, input: &str, out: &mut Said) -> Result<(), Wrong> {
     let bytes = bytes_of_hex(alloc, input)?;
-    match core.arrived(&bytes) {
+    match core.arrived(bytes.as_slice()) {
         Ok(asks) => {
-            say_asks(out, &asks);
+            say_asks(out, asks.as_slice());
             Ok(())
         }
         Err(fault) => say_fault(out, fault),

@@ -21,13 +21,15 @@ pub enum Item {
 impl Item {
     /// The item that these words say.
     pub fn of(alloc: Global, words: &str) -> Result<Item, Wrong> {
-        match words.split_once(' ') {
-            Some(("message", text)) => {
+        let (word, text) = words.split_once(' ').unwrap_or((words, ""));
+        match word {
+            "head" => Ok(Item::Head),
+            "message" => {
                 let bytes = bytes_of(alloc, text)?;
                 Ok(Item::Message(Octets::of_vec(bytes)?))
             }
-            Some(("end", text)) => Ok(Item::End(Code::new(number(text)?).ok_or(Wrong::Form)?)),
-            _ => Ok(Item::Head),
+            "end" => Ok(Item::End(Code::new(number(text)?).ok_or(Wrong::Form)?)),
+            _ => Err(Wrong::Form),
         }
     }
 

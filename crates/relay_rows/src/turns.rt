@@ -17,7 +17,7 @@ fn say_came(at: &mut Connected, turn: RelayTurn, out: &mut Said) -> Result<(), W
 /// One turn with these bytes.
 pub fn turn(alloc: Global, at: &mut Connected, input: &str, out: &mut Said) -> Result<(), Wrong> {
     let bytes = bytes_of_hex(alloc, input)?;
-    let turn = relay_turn(&mut at.channel, &mut at.core, &bytes);
+    let turn = relay_turn(&mut at.channel, &mut at.core, bytes.as_slice());
     say_came(at, turn, out)
 }
 
