@@ -118,12 +118,14 @@ fn turn_link<P: Post + Glance, O: LinkOut>(
     drain_out(core, patience, output)
 }
 
-/// How long a read may wait. Without a call nothing is to come but bytes of the client, and they end each wait of a read.
+/// How long a read may wait: not at all after a round in which something came or went out, since more may go out at once. Without a call
+/// nothing else is to come but bytes of the client, and they end each wait of a read.
 fn pause_of(core: &RelayCore, patience: &Patience) -> Pause {
-    if core.count() == 0 {
+    let pause = patience.pause();
+    if pause != Pause::None && core.count() == 0 {
         return Pause::Long;
     }
-    patience.pause()
+    pause
 }
 
 /// Reads once, and says how many bytes came; None where the link gave its end or the read failed.
