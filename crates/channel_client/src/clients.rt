@@ -104,9 +104,17 @@ fn take_in_clients<P: Balancer, R, C: Clock, D: Draws, J: Drop>(
     while let Some(job) = jobs.pop() {
         let ClientJob { post, work } = job;
         closer.take_in(post.into_seat());
-        is_whole = keep(done, work) && is_whole;
+        let is_kept = keep(done, work);
+        is_whole = both(is_whole, is_kept);
     }
     is_whole
+}
+
+/// Whether both are so.
+fn both(one: bool, other: bool) -> bool
+    ensures { result ≡ true → (one ≡ true) × (other ≡ true) }
+{
+    one && other
 }
 
 /// Keeps work that was done. There is room for it, since it stood there before.

@@ -12,7 +12,7 @@ mod work;
 
 pub use client_calls::{
     CallError, Received, Response, Status, StatusSource, UnaryResponse, begin, cancel, exchange,
-    finish, next, send, unary,
+    finish, next, send, send_all, unary,
 };
 pub use live_channel::NETS;
 pub use options::{ChannelOptions, Ended};

@@ -3,12 +3,14 @@
 
 mod calls;
 mod error;
+mod open_call;
 mod response;
 mod status;
 mod whole;
 
 pub use calls::{Received, begin, cancel, finish, next, send};
 pub use error::CallError;
+pub use open_call::OpenCall;
 pub use response::{Response, UnaryResponse};
 pub use status::{Status, StatusSource};
-pub use whole::{exchange, unary};
+pub use whole::{exchange, send_all, unary};

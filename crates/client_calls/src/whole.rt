@@ -47,9 +47,9 @@ fn send_one<P: Caller>(post: &mut P, call: u32, message: &Octets) -> Result<(), 
     unless_refused(send(post, call, message))
 }
 
-/// Sends each message, in order.
+/// Sends each message, in order. A refusal is passed over.
 #[tactic(auto, using(crate::proofs::ExchangeLaws::sends_done))]
-fn send_all<P: Caller>(post: &mut P, call: u32, messages: &[Octets]) -> Result<(), CallError>
+pub fn send_all<P: Caller>(post: &mut P, call: u32, messages: &[Octets]) -> Result<(), CallError>
     ensures sent { OnOk result (Sends call messages.now (P.made post.old) (P.made post.new)) }
     ensures failed { FailsSome (P.errors post.old) (P.errors post.new) result }
     ensures others { others_in (P.made post.new) ≡ others_in (P.made post.old) }
