@@ -1,6 +1,6 @@
 -- What the events of a call leave of a handle's other entries.
-use Rattle.std.proofs.Common.{◌≡◌, true, false, Result, Ok, Err, List, [], ◌∷◌, ◌++◌, refl, sym, ap, ◌∙◌, append-nil}
-use Rattle.std.specs.Prelude.{Bool, not, filter}
+use Rattle.std.proofs.Common.{◌≡◌, true, Result, Ok, Err, List, [], ◌∷◌, ◌++◌, refl, ap, ◌∙◌, append-nil}
+use Rattle.std.specs.Prelude.{not}
 use Rattle.std.proofs.lemmas.List.Elements.{filter-append}
 use Rattle.grpc_base.specs.Posts.{AddsEntry, Posts}
 use Rattle.grpc_base.specs.declared.event.Entry.{Entry}

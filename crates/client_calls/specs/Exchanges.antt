@@ -1,16 +1,13 @@
 -- A whole call in the entries of a handle, and the response that it gives.
-use Rattle.std.specs.Prelude.{◌≡◌, ◌⊎◌, ℕ, Bool, true, false, Option, Some, None, Result, Ok, Err, List, [], ◌∷◌, ◌++◌, All, length}
+use Rattle.std.specs.Prelude.{◌≡◌, ℕ, Option, Some, None, List, [], ◌∷◌, ◌++◌, All}
 use Rattle.std.specs.Option.{option_or}
-use Rattle.grpc_base.specs.Posts.{AddsEntry, Posts}
+use Rattle.grpc_base.specs.Posts.{AddsEntry}
 use Rattle.grpc_base.specs.Requests.{RequestSeen}
-use Rattle.grpc_base.specs.declared.code.Code.TheVariants as codes_of
 use Rattle.grpc_base.specs.declared.event.Entry.{Entry}
 use Rattle.grpc_base.specs.declared.event.Event.TheVariants as event
-use Rattle.grpc_base.specs.declared.event.Refusal.{Refusal}
 use Rattle.grpc_base.specs.declared.event.Reply.{Reply}
 use Rattle.grpc_base.specs.declared.event.Reply.TheVariants as reply
 use Rattle.grpc_base.specs.declared.fields.Field.{Field}
-use Rattle.grpc_base.specs.declared.post.PostError.{PostError}
 use Rattle.client_calls.specs.Answers.{reply_of}
 use Rattle.client_calls.specs.declared.calls.Received.{Received}
 use Rattle.client_calls.specs.declared.calls.Received.TheVariants as received
