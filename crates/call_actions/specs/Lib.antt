@@ -1,3 +1,10 @@
+pub mod CallsApart
+pub mod CallsInTurn
+pub mod EndsInOrder
+pub mod LastEnds
 pub mod Laws
 pub mod Order
+pub mod ReadsInOrder
 pub mod Sees
+pub mod TakeActions
+pub mod TakesApart

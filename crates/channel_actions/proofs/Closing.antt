@@ -14,8 +14,8 @@ use Rattle.channel_actions.proofs.Stamps.{all_mapped, counted_at, map_same, map_
 use Rattle.channel_actions.specs.Agrees.{Agrees}
 use Rattle.channel_actions.specs.Calm.{AreCalm, IsAt}
 use Rattle.channel_actions.specs.Columns.{links_noted}
-use Rattle.kept_sessions.proofs.Beside.{kept_moved}
-use Rattle.kept_sessions.specs.Kept.{AreCounted}
+use Rattle.channel_actions.proofs.KeptSessions.Beside.{kept_moved}
+use Rattle.channel_actions.specs.KeptSessions.Kept.{AreCounted}
 use Rattle.channel_actions.specs.Links.{HasLink, lines_in}
 use Rattle.channel_actions.specs.Points.{Rests}
 use Rattle.channel_actions.specs.Readers.{attempt_on}

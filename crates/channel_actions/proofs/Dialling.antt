@@ -22,7 +22,7 @@ use Rattle.grpc_base.specs.declared.event.Refusal.{Refusal}
 use Rattle.grpc_base.specs.declared.event.Refusal.TheVariants as refusal
 use Rattle.grpc_base.specs.declared.event.Reply.{Reply}
 use Rattle.grpc_base.specs.declared.event.Reply.TheVariants as reply
-use Rattle.kept_sessions.proofs.Beside.{kept_moved}
+use Rattle.channel_actions.proofs.KeptSessions.Beside.{kept_moved}
 use Rattle.net_actions.proofs.Dialling.{dialling_same}
 use Rattle.net_actions.specs.Laws.{NoneToDial}
 use Rattle.net_actions.specs.Sees.{AreSubs}

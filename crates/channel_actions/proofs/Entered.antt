@@ -1,11 +1,20 @@
 -- One event: from a point between two entries channel and session go on to the next, by the stages of the entry.
 use Rattle.std.proofs.Common.{◌≡◌, ◌++◌, ◌+◌, ◌&&◌, ◌∷◌, ap, refl, subst, sym, ◌∙◌, true, List, [], Option, Some, ℕ, is_none, length}
 use Rattle.std.proofs.Math.Nat.{max_comm}
-use Rattle.std.specs.Prelude.{max, unwrap_or}
+use Rattle.std.proofs.lemmas.Bool.{and_parts}
+use Rattle.std.specs.Prelude.{max, nat_lt, unwrap_or}
 use Rattle.channel_actions.proofs.Does.{does_on, none_on}
 use Rattle.channel_actions.proofs.Settles.{Settles, begins}
 use Rattle.channel_actions.proofs.States.{states_agree}
 use Rattle.channel_actions.specs.Agrees.{Agrees}
+use Rattle.channel_actions.specs.GoingCalls.Going.{CallsGoOn}
+use Rattle.channel_actions.specs.GoingCalls.Laws.{AnswersGoOn, DeadlinesGoOn, SettlingsGoOn}
+use Rattle.channel_actions.specs.KeptCalls.Early.{IsEarlyKept}
+use Rattle.channel_actions.specs.KeptCalls.Laws.{EarlyAlong}
+use Rattle.channel_actions.specs.KeptSessions.Kept.{IsKept}
+use Rattle.channel_actions.specs.Known.{IsKnown}
+use Rattle.channel_actions.specs.OwnLinks.Laws.{OwnAlong}
+use Rattle.channel_actions.specs.OwnLinks.Own.{AreOwnLinks}
 use Rattle.channel_actions.specs.Points.{IsSameEntry, Rests}
 use Rattle.channel_actions.specs.Stages.{Closings, Deadlines, Events, IsAnswered, IsSettled, IsTimely, Openings, Settlings}
 use Rattle.channel_core.specs.Applying.{AnswersBy, Stepped, begun_at, conn_of, refusal_of}
@@ -32,6 +41,20 @@ use Rattle.session_actions.specs.declared.seen.Seen.{Seen}
 abbrev pub entry_as : ℕ → ℕ → Event → Reply → Conn → Entry
 entry_as moment word e r state = record { moment = moment; word = word; event = e; reply = r; state = state }
 
+-- what is known between two entries, but that the journal is below its limit
+pub record IsCarried (x : StateSeen) (s : Seen) : Type 0 where
+  pub going : CallsGoOn x
+  pub early : IsEarlyKept s
+  pub own : AreOwnLinks s
+
+-- what keeps it: each stage of the channel, and each action
+pub record Carrying : Type 0 where
+  pub deadlines : DeadlinesGoOn
+  pub answers : AnswersGoOn
+  pub settlings : SettlingsGoOn
+  pub early : EarlyAlong
+  pub own : OwnAlong
+
 -- the session goes on to the point behind an entry
 pub record Enters (y : StateSeen) (s : Seen) (e : Stamped) (r : Reply) : Type 0 where
   pub actions : List Action
@@ -39,6 +62,7 @@ pub record Enters (y : StateSeen) (s : Seen) (e : Stamped) (r : Reply) : Type 0 
   pub does : Does actions s seen
   pub posted : posted_in actions ≡ e ∷ []
   pub rests : Rests y seen
+  pub kept_on : IsCarried y seen
   pub journal : seen.entries ≡ s.entries ++ entry_as (max e.moment (last_moment s)) e.word e.event r (conn_of y) ∷ []
   pub setup : seen.setup ≡ s.setup
 
@@ -52,7 +76,7 @@ same_on o s p t q u a b = record {
 }
 
 module _ (states : StatesAreSame) (openings : Openings) (deadlines : Deadlines) (events : Events) (settlings : Settlings) (closings : Closings)
-    (x y : StateSeen) (s : Seen) (e : Stamped) (r : Reply) (h : Rests x s) (room : has_room e.event s ≡ true)
+    (carrying : Carrying) (x y : StateSeen) (s : Seen) (e : Stamped) (r : Reply) (h : Rests x s) (c : IsCarried x s) (room : has_room e.event s ≡ true)
     (step : Stepped (length s.entries + 1) (max e.moment (last_moment s)) e.word e.event x y r) where
   abbrev begun : StateSeen
   begun = begun_at (length s.entries + 1) (max (last_moment s) e.moment) e.word x
@@ -63,10 +87,43 @@ module _ (states : StatesAreSame) (openings : Openings) (deadlines : Deadlines) 
   abbrev first : Seen
   first = opened e.moment e.word e.event s
 
+  may : may_open e.event s ≡ true
+  may = ap (λ (c : Option OpenEntry). is_none c && has_room e.event s) h.between ∙ room
+
+  opens_to : after (action.EntryOpens e.moment e.word e.event) s ≡ first
+  opens_to = ap (λ (c : Option OpenEntry). after_if c (action.EntryOpens e.moment e.word e.event) s) h.between
+
+  agrees_first : Agrees begun first
+  agrees_first = openings x s e.moment e.word e.event h
+
+  -- what is carried, after actions from a session that is kept
+  carried_on : (actions : List Action) (z : StateSeen) (t u : Seen) → IsKept t → IsEarlyKept t → AreOwnLinks t → Does actions t u → CallsGoOn z → IsCarried z u
+  carried_on actions z t u kept early own does going =
+      record { going = going; early = carrying.early actions t u kept early does; own = carrying.own actions t u kept own does }
+
+  -- and so it is known, while no entry was made
+  known_of : (z : StateSeen) (u : Seen) → IsCarried z u → u.entries ≡ s.entries → IsKnown z u
+  known_of z u k same = record {
+    going = k.going;
+    early = k.early;
+    own = k.own;
+    few = ap (λ (l : List Entry). nat_lt (length l) 1048576) same ∙ (and_parts (nat_lt (length s.entries) 1048576) _ room).0;
+  }
+
+  carried_first : IsCarried begun first
+  carried_first =
+      carried_on (action.EntryOpens e.moment e.word e.event ∷ []) begun s first h.agrees.kept c.early c.own (may, sym opens_to)
+      (record { calls = c.going.calls; allows = c.going.allows })
+
   timely : IsTimely begun start first
   timely =
-      deadlines begun start first (openings x s e.moment e.word e.event h)
-      (record { current = refl; stage_is = refl; calm = h.calm e.moment e.word e.event }) tt
+      deadlines begun start first agrees_first (record { current = refl; stage_is = refl; calm = h.calm e.moment e.word e.event })
+      (known_of begun first carried_first refl)
+
+  carried_timely : IsCarried (overdue_ended begun) timely.reaches.seen
+  carried_timely =
+      carried_on timely.reaches.actions (overdue_ended begun) first timely.reaches.seen agrees_first.kept carried_first.early carried_first.own timely.reaches.does
+      (carrying.deadlines begun carried_first.going)
 
   answers : AnswersBy (refusal_of timely.reaches.entry.event (overdue_ended begun)) timely.reaches.entry.event (overdue_ended begun) step.answered r
   answers =
@@ -77,15 +134,27 @@ module _ (states : StatesAreSame) (openings : Openings) (deadlines : Deadlines) 
 
   answered : IsAnswered step.answered r timely.reaches.entry timely.reaches.seen
   answered =
-      events (overdue_ended begun) step.answered r timely.reaches.entry timely.reaches.seen timely.reaches.agrees timely.reaches.at timely.fresh timely.none tt answers
+      events (overdue_ended begun) step.answered r timely.reaches.entry timely.reaches.seen timely.reaches.agrees timely.reaches.at timely.fresh timely.none
+      (known_of (overdue_ended begun) timely.reaches.seen carried_timely timely.reaches.same.entries) answers
+
+  carried_answered : IsCarried step.answered answered.reaches.seen
+  carried_answered =
+      carried_on answered.reaches.actions step.answered timely.reaches.seen answered.reaches.seen timely.reaches.agrees.kept carried_timely.early carried_timely.own
+      answered.reaches.does (carrying.answers _ timely.reaches.entry.event (overdue_ended begun) step.answered r answers carried_timely.going)
 
   settling_begins : Settles step.answered answered.reaches.entry answered.reaches.seen
   settling_begins = begins step.answered answered.reaches.entry answered.reaches.seen answered.reaches.agrees answered.reaches.at answered.none
 
+  carried_begins : IsCarried step.answered settling_begins.reaches.seen
+  carried_begins =
+      carried_on settling_begins.reaches.actions step.answered answered.reaches.seen settling_begins.reaches.seen answered.reaches.agrees.kept
+      carried_answered.early carried_answered.own settling_begins.reaches.does carried_answered.going
+
   done : IsSettled step.answered settling_begins.reaches.entry settling_begins.reaches.seen
   done =
       settlings step.answered settling_begins.reaches.entry settling_begins.reaches.seen settling_begins.reaches.agrees settling_begins.reaches.at
-      (settling_begins.turn ∙ answered.fresh) tt
+      (settling_begins.turn ∙ answered.fresh)
+      (known_of step.answered settling_begins.reaches.seen carried_begins (settling_begins.reaches.same.entries ∙ answered.reaches.same.entries ∙ timely.reaches.same.entries))
 
   abbrev last_entry : OpenEntry
   last_entry = done.reaches.entry
@@ -136,11 +205,15 @@ module _ (states : StatesAreSame) (openings : Openings) (deadlines : Deadlines) 
       none_on timely.reaches.actions _ timely.reaches.posts
       (none_on answered.reaches.actions _ answered.reaches.posts (none_on settling_begins.reaches.actions done.reaches.actions settling_begins.reaches.posts done.reaches.posts))
 
-  opens_to : after (action.EntryOpens e.moment e.word e.event) s ≡ first
-  opens_to = ap (λ (c : Option OpenEntry). after_if c (action.EntryOpens e.moment e.word e.event) s) h.between
+  carried_done : IsCarried y last_seen
+  carried_done =
+      carried_on done.reaches.actions y settling_begins.reaches.seen last_seen settling_begins.reaches.agrees.kept carried_begins.early carried_begins.own
+      done.reaches.does (subst CallsGoOn (sym step.settles) (carrying.settlings step.answered carried_begins.going))
 
-  may : may_open e.event s ≡ true
-  may = ap (λ (c : Option OpenEntry). is_none c && has_room e.event s) h.between ∙ room
+  carried_last : IsCarried y (entry_made last_entry last_seen)
+  carried_last =
+      carried_on (action.EntryCloses ∷ []) y last_seen (entry_made last_entry last_seen) agrees_last.kept carried_done.early carried_done.own
+      (done.closes, sym after_last) carried_done.going
 
   pub entered : Enters y s e r
   entered = record {
@@ -153,6 +226,7 @@ module _ (states : StatesAreSame) (openings : Openings) (deadlines : Deadlines) 
     );
     posted = ap (λ (l : List Stamped). e ∷ l) (none_on inner (action.EntryCloses ∷ []) inner_posts refl);
     rests = rests_last;
+    kept_on = carried_last;
     journal = ap (λ (l : List Entry). l ++ made_entry last_entry last_seen ∷ []) same_last.entries ∙ ap (λ (m : Entry). s.entries ++ m ∷ []) made_last;
     setup = same_last.setup;
   }

@@ -10,7 +10,7 @@ use Rattle.channel_actions.specs.Points.{Rests}
 use Rattle.channel_actions.specs.Sets.{is_patient}
 use Rattle.channel_core.specs.Applying.{new_state}
 use Rattle.channel_core.specs.States.{StateSeen}
-use Rattle.kept_sessions.proofs.Along.{kept_begins}
+use Rattle.channel_actions.proofs.KeptSessions.Along.{kept_begins}
 use Rattle.lb_policy.specs.Table.{PolicySeen}
 use Rattle.net_actions.specs.Laws.{NewOnesAgree}
 use Rattle.net_actions.specs.Sees.{AreKinds}

@@ -3,7 +3,7 @@ use Rattle.std.proofs.Common.{◌≡◌, ◌+◌, ◌∷◌, ap, arith, refl, su
 use Rattle.std.specs.List.{AllByRecursion}
 use Rattle.std.specs.Option.{option_map_or}
 use Rattle.std.specs.Prelude.{map}
-use Rattle.kept_sessions.specs.Kept.{AreCounted}
+use Rattle.channel_actions.specs.KeptSessions.Kept.{AreCounted}
 use Rattle.channel_actions.specs.Links.{line_of, lines_in, no_line}
 use Rattle.grpc_base.specs.declared.event.Entry.{Entry}
 use Rattle.h2_link.specs.Feeds.{Line}
@@ -19,7 +19,7 @@ use Rattle.session_actions.specs.declared.call.Call.{Call}
 use Rattle.session_actions.specs.declared.entry.OpenEntry.{OpenEntry}
 use Rattle.session_actions.specs.declared.link.Link.{Link}
 use Rattle.session_actions.specs.declared.seen.Seen.{Seen}
-use Rattle.stream_actions.specs.Sees.{AreHeard, SeesStreams}
+use Rattle.link_actions.specs.StreamActions.Sees.{AreHeard, SeesStreams}
 
 -- each attempt stands at its place
 abbrev pub AtPlace : List Attempt → Attempt → Type 0

@@ -18,7 +18,7 @@ use Rattle.channel_core.specs.States.{StateSeen}
 use Rattle.grpc_base.specs.declared.event.Entry.{Entry}
 use Rattle.grpc_link.specs.Links.{reader_in}
 use Rattle.grpc_link.specs.Readers.{ReaderSeen}
-use Rattle.kept_sessions.specs.Kept.{IsKept}
+use Rattle.channel_actions.specs.KeptSessions.Kept.{IsKept}
 use Rattle.session_actions.specs.Entries.{entry}
 use Rattle.session_actions.specs.declared.attempt.Attempt.{Attempt}
 use Rattle.session_actions.specs.declared.call.Call.{Call}
@@ -26,7 +26,7 @@ use Rattle.session_actions.specs.declared.due.DueState.{DueState}
 use Rattle.session_actions.specs.declared.entry.OpenEntry.{OpenEntry}
 use Rattle.session_actions.specs.declared.link.Link.{Link}
 use Rattle.session_actions.specs.declared.seen.Seen.{Seen}
-use Rattle.take_actions.specs.Serves.{Holds, Serves}
+use Rattle.call_actions.specs.TakeActions.Serves.{Holds, Serves}
 
 -- a channel at another entry, moment and word, and with another answer of the resolver
 abbrev pub at_entry : ℕ → ℕ → ℕ → ℕ → Bool → Bool → StateSeen → StateSeen

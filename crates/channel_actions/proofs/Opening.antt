@@ -11,7 +11,7 @@ use Rattle.channel_actions.specs.Stages.{Openings}
 use Rattle.channel_core.specs.Applying.{begun_at}
 use Rattle.channel_core.specs.States.{StateSeen}
 use Rattle.grpc_base.specs.declared.event.Event.{Event}
-use Rattle.kept_sessions.proofs.Beside.{kept_opened}
+use Rattle.channel_actions.proofs.KeptSessions.Beside.{kept_opened}
 use Rattle.session_actions.specs.Closing.{noted_gone}
 use Rattle.session_actions.specs.Entries.{entry, last_moment, opened, opened_entry}
 use Rattle.session_actions.specs.Refusals.{is_gone}

@@ -16,8 +16,8 @@ use Rattle.channel_actions.specs.Agrees.{Agrees}
 use Rattle.channel_actions.specs.Calm.{IsAt}
 use Rattle.channel_actions.specs.Cases.{IsPing, PingsStayCalm}
 use Rattle.channel_actions.specs.Columns.{links_noted}
-use Rattle.kept_sessions.proofs.Lists as lists
-use Rattle.kept_sessions.specs.Kept.{AreCounted}
+use Rattle.channel_actions.proofs.KeptSessions.Lists as lists
+use Rattle.channel_actions.specs.KeptSessions.Kept.{AreCounted}
 use Rattle.channel_actions.specs.Links.{HasLink, IsGoing, lines_in}
 use Rattle.channel_actions.specs.Readers.{attempt_on}
 use Rattle.channel_actions.specs.Stages.{EventsAnswered, IsAnswered}
@@ -59,7 +59,7 @@ use Rattle.session_actions.specs.declared.entry.OpenEntry.{OpenEntry}
 use Rattle.session_actions.specs.declared.entry.Stage.TheVariants as stage
 use Rattle.session_actions.specs.declared.link.Link.{Link}
 use Rattle.session_actions.specs.declared.seen.Seen.{Seen}
-use Rattle.stream_actions.specs.Sees.{SeesStreams}
+use Rattle.link_actions.specs.StreamActions.Sees.{SeesStreams}
 
 -- what a change of one thing leaves
 map_put : {X Y : Type 0} (F : X → Y) (xs : List X) (i : ℕ) (x z : X) → slice_get xs i ≡ Some x → F z ≡ F x → map F (slice_set xs i z) ≡ map F xs

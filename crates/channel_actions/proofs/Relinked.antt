@@ -14,8 +14,8 @@ use Rattle.channel_actions.specs.Agrees.{Agrees}
 use Rattle.channel_actions.specs.Calls.{HasSlot, lent_to}
 use Rattle.channel_actions.specs.Clock.{DrawsAlike}
 use Rattle.channel_actions.specs.Columns.{links_noted}
-use Rattle.kept_sessions.proofs.Beside.{kept_linked}
-use Rattle.kept_sessions.specs.Kept.{AreCounted}
+use Rattle.channel_actions.proofs.KeptSessions.Beside.{kept_linked}
+use Rattle.channel_actions.specs.KeptSessions.Kept.{AreCounted}
 use Rattle.channel_actions.specs.Links.{SeesLinks}
 use Rattle.channel_core.specs.States.{StateSeen}
 use Rattle.channel_core.specs.declared.state.links.LinkSlot.{LinkSlot}
@@ -45,9 +45,9 @@ use Rattle.session_actions.specs.declared.link.Link.{Link}
 use Rattle.session_actions.specs.declared.response.Response.{Response}
 use Rattle.session_actions.specs.declared.seen.Seen.{Seen}
 use Rattle.session_order.proofs.Lists.{some_map}
-use Rattle.stream_actions.specs.Sees.{AreHeard, SeesStreams}
-use Rattle.take_actions.specs.Serves as serves
-use Rattle.take_actions.specs.Serves.{Holds, IsAt, IsLeft, Serves, came, drained_so_far, passed}
+use Rattle.link_actions.specs.StreamActions.Sees.{AreHeard, SeesStreams}
+use Rattle.call_actions.specs.TakeActions.Serves as serves
+use Rattle.call_actions.specs.TakeActions.Serves.{Holds, IsAt, IsLeft, Serves, came, drained_so_far, passed}
 
 all_map : {X : Type 0} (P Q : X → Type 0) → ((x : X) → P x → Q x) → (xs : List X) → AllByRecursion P xs → AllByRecursion Q xs
 all_map P Q f [] h = tt

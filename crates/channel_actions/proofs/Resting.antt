@@ -9,7 +9,7 @@ use Rattle.channel_actions.proofs.Answering.{replied_is}
 use Rattle.channel_actions.proofs.Gone.{all_numbered}
 use Rattle.channel_actions.specs.Calm.{IsAt, IsCalm}
 use Rattle.channel_actions.specs.Cases.{PingsStayCalm, answered_done}
-use Rattle.kept_sessions.specs.Kept.{IsKept}
+use Rattle.channel_actions.specs.KeptSessions.Kept.{IsKept}
 use Rattle.channel_actions.specs.Stages.{ClosingsAreCalm}
 use Rattle.grpc_base.specs.declared.event.Event.{Event}
 use Rattle.grpc_base.specs.declared.event.Reply.TheVariants as reply

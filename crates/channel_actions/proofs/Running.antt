@@ -10,9 +10,13 @@ use Rattle.attempt_ledger.specs.declared.ledger.Ledger.{Ledger}
 use Rattle.attempt_ledger.specs.declared.ledger.LinkSeen.{LinkSeen}
 use Rattle.attempt_ledger.specs.declared.row.Row.{Row}
 use Rattle.channel_actions.proofs.Does.{does_on, posted_on}
-use Rattle.channel_actions.proofs.Entered.{Enters, entered, entry_as}
+use Rattle.channel_actions.proofs.Entered.{Carrying, Enters, IsCarried, entered, entry_as}
 use Rattle.channel_actions.proofs.Opening.{noted_is}
 use Rattle.channel_actions.proofs.Splitting.{deadlines_split, events_split, settlings_split}
+use Rattle.channel_actions.specs.GoingCalls.Going.{CallsGoOn}
+use Rattle.channel_actions.specs.GoingCalls.Laws.{NewCallsGoOn}
+use Rattle.channel_actions.specs.KeptCalls.Laws.{EarlyBegins}
+use Rattle.channel_actions.specs.OwnLinks.Laws.{OwnBegins}
 use Rattle.channel_actions.specs.Laws.{HadRoom, NewChannelsAgree, RunsAreSessions, is_room}
 use Rattle.channel_actions.specs.Points.{Rests}
 use Rattle.channel_actions.specs.Stages.{Closings, Deadlines, Events, Openings, Settlings}
@@ -65,11 +69,13 @@ record Ran (core : CoreSeen) (s : Seen) (events : List Stamped) : Type 0 where
   does : Does actions s seen
   posted : posted_in actions ≡ events
   rests : Rests core.state seen
+  kept_on : IsCarried core.state seen
   journal : seen.entries ≡ core.journal.entries
   setup : seen.setup ≡ s.setup
 
-module _ (states : StatesAreSame) (openings : Openings) (deadlines : Deadlines) (events_ : Events) (settlings : Settlings) (closings : Closings) where
-  module _ (old next core : CoreSeen) (e : Stamped) (r : Reply) (events : List Stamped) (s : Seen) (h : Rests old.state s) (j : s.entries ≡ old.journal.entries)
+module _ (states : StatesAreSame) (openings : Openings) (deadlines : Deadlines) (events_ : Events) (settlings : Settlings) (closings : Closings)
+    (carrying : Carrying) where
+  module _ (old next core : CoreSeen) (e : Stamped) (r : Reply) (events : List Stamped) (s : Seen) (h : Rests old.state s) (c : IsCarried old.state s) (j : s.entries ≡ old.journal.entries)
       (step : Steps old next e r) (rest : Runs next events core) (room : HadRoom [] core.journal.entries) where
     abbrev made : Entry
     made = entry_as (max e.moment (last_moment old.journal.entries)) e.word e.event r (conn_of next.state)
@@ -91,7 +97,7 @@ module _ (states : StatesAreSame) (openings : Openings) (deadlines : Deadlines) 
         (ap (λ (l : List Entry). length l + 1) (sym j)) step.by)
 
     pub one : Enters next.state s e r
-    one = entered states openings deadlines events_ settlings closings old.state next.state s e r h room_here stepped
+    one = entered states openings deadlines events_ settlings closings carrying old.state next.state s e r h c room_here stepped
 
     pub one_journal : one.seen.entries ≡ next.journal.entries
     one_journal =
@@ -99,26 +105,28 @@ module _ (states : StatesAreSame) (openings : Openings) (deadlines : Deadlines) 
         ∙ ap (λ (m : ℕ). s.entries ++ entry_as (max e.moment m) e.word e.event r (conn_of next.state) ∷ []) (sym (last_same s old.journal.entries j))
         ∙ ap (λ (l : List Entry). l ++ made ∷ []) j ∙ sym step.journal
 
-  run : (events : List Stamped) (old core : CoreSeen) (s : Seen) → Rests old.state s → s.entries ≡ old.journal.entries → Runs old events core
+  run : (events : List Stamped) (old core : CoreSeen) (s : Seen) → Rests old.state s → IsCarried old.state s → s.entries ≡ old.journal.entries → Runs old events core
       → HadRoom [] core.journal.entries → Ran core s events
-  run [] old core s h j r room = record {
+  run [] old core s h c j r room = record {
     actions = [];
     seen = s;
     does = refl;
     posted = refl;
     rests = subst (λ (c : CoreSeen). Rests c.state s) (sym r) h;
+    kept_on = subst (λ (c : CoreSeen). IsCarried c.state s) (sym r) c;
     journal = j ∙ ap (λ (c : CoreSeen). c.journal.entries) (sym r);
     setup = refl;
   }
-  run (e ∷ events) old core s h j r room =
-      let first = one old r.0 core e r.1 events s h j r.2 r.3 room in
-      let further = run events r.0 core first.seen first.rests (one_journal old r.0 core e r.1 events s h j r.2 r.3 room) r.3 room in
+  run (e ∷ events) old core s h c j r room =
+      let first = one old r.0 core e r.1 events s h c j r.2 r.3 room in
+      let further = run events r.0 core first.seen first.rests first.kept_on (one_journal old r.0 core e r.1 events s h c j r.2 r.3 room) r.3 room in
       record {
         actions = first.actions ++ further.actions;
         seen = further.seen;
         does = does_on first.actions further.actions s first.seen further.seen first.does further.does;
         posted = posted_on first.actions further.actions ∙ ap (λ (l : List Stamped). l ++ posted_in further.actions) first.posted ∙ ap (λ (l : List Stamped). e ∷ l) further.posted;
         rests = further.rests;
+        kept_on = further.kept_on;
         journal = further.journal;
         setup = further.setup ∙ first.setup;
       }
@@ -141,10 +149,16 @@ recorded x s h =
     ∙ ap (λ (z : List LinkSeen). made l.rows l.calls l.asks l.generations z (length s.entries)) links
     ∙ ap (made l.rows l.calls l.asks l.generations l.links) number
 
-pub runs_are_sessions : StatesAreSame → NoneToDial → ClockChanges → TakeOversAreSame → WishesConnect → NewChannelsAgree → Openings → Closings → RunsAreSessions
-runs_are_sessions states none_to_dial clocks overs wishes news openings closings overdue does due setup policies alloc events new core kinds ready is_new runs room =
+pub runs_are_sessions : StatesAreSame → NoneToDial → ClockChanges → TakeOversAreSame → WishesConnect → NewChannelsAgree → Openings → Closings → Carrying
+    → NewCallsGoOn → EarlyBegins → OwnBegins → RunsAreSessions
+runs_are_sessions states none_to_dial clocks overs wishes news openings closings carrying new_calls new_early new_own overdue does due setup policies alloc events new core kinds ready is_new runs room =
     let begins : Rests new.state (new_session setup) = subst (λ (x : StateSeen). Rests x (new_session setup)) (sym is_new.state) (news setup policies alloc kinds ready) in
-    let ran = run states openings (deadlines_split overdue) (events_split none_to_dial does) (settlings_split clocks overs wishes states due) closings events new core (new_session setup) begins (sym is_new.journal) runs room in
+    let carried : IsCarried new.state (new_session setup) = record {
+      going = subst CallsGoOn (sym is_new.state) (new_calls alloc setup.authority policies);
+      early = new_early setup;
+      own = new_own setup;
+    } in
+    let ran = run states openings (deadlines_split overdue) (events_split none_to_dial does) (settlings_split clocks overs wishes states due) closings carrying events new core (new_session setup) begins carried (sym is_new.journal) runs room in
     record {
       consistent = record {
         actions = ran.actions;

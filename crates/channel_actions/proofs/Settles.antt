@@ -16,7 +16,7 @@ use Rattle.grpc_base.specs.declared.event.Event.{Event}
 use Rattle.grpc_base.specs.declared.event.Event.TheVariants as event
 use Rattle.grpc_base.specs.declared.event.Reply.{Reply}
 use Rattle.grpc_base.specs.declared.kind.Kind.{Kind}
-use Rattle.kept_sessions.proofs.Beside.{kept_moved}
+use Rattle.channel_actions.proofs.KeptSessions.Beside.{kept_moved}
 use Rattle.session_actions.specs.Actions.{after, after_if, first_action, following, following_in, of_calls, of_links, of_policies, of_stage}
 use Rattle.session_actions.specs.CallEnds.{cancels, has_long_request, has_long_response, is_after_event, is_cancelled, is_over_by_row, is_shut_down, next_ended, sends_too_long}
 use Rattle.session_actions.specs.Calls.{is_open_call}

@@ -7,6 +7,7 @@ use Rattle.channel_actions.proofs.Timely.{in_time}
 use Rattle.channel_actions.specs.Agrees.{Agrees}
 use Rattle.channel_actions.specs.Calm.{IsAt}
 use Rattle.channel_actions.specs.Cases.{DoesSomething, HasDue, HasOverdue, does_something, has_due}
+use Rattle.channel_actions.specs.Known.{IsKnown}
 use Rattle.channel_actions.specs.Stages.{Deadlines, DeadlinesOf, Events, EventsAnswered, IsAnswered, IsSettled, IsTimely, Settlings, SettlingsOf}
 use Rattle.channel_core.specs.Applying as channel
 use Rattle.channel_core.specs.Applying.{AnswersBy}
@@ -31,18 +32,18 @@ use Rattle.subchannel.specs.Boards.{first_number, numbered}
 use Rattle.subchannel.specs.Records.{is_dialable}
 
 -- deadlines: none, or some
-deadline_by : DeadlinesOf HasOverdue → (x : StateSeen) (o : OpenEntry) (s : Seen) → Agrees x s → IsAt stage.Event o s → (a : Option Action) → next_deadline s ≡ a → IsTimely x o s
-deadline_by overdue x o s h at None e = in_time x o s h at e
-deadline_by overdue x o s h at (Some a) e = overdue x o s h at (ap (λ (z : Option Action). is_some z) e)
+deadline_by : DeadlinesOf (λ x s. HasOverdue x s × IsKnown x s) → (x : StateSeen) (o : OpenEntry) (s : Seen) → Agrees x s → IsAt stage.Event o s → IsKnown x s → (a : Option Action) → next_deadline s ≡ a → IsTimely x o s
+deadline_by overdue x o s h at known None e = in_time x o s h at e
+deadline_by overdue x o s h at known (Some a) e = overdue x o s h at (ap (λ (z : Option Action). is_some z) e, known)
 
-pub deadlines_split : DeadlinesOf HasOverdue → Deadlines
-deadlines_split overdue x o s h at every = deadline_by overdue x o s h at (next_deadline s) refl
+pub deadlines_split : DeadlinesOf (λ x s. HasOverdue x s × IsKnown x s) → Deadlines
+deadlines_split overdue x o s h at known = deadline_by overdue x o s h at known (next_deadline s) refl
 
 -- events: refused, or answered with nothing done, or the rest
-module _ (none_to_dial : NoneToDial) (rest : EventsAnswered DoesSomething) (x y : StateSeen) (r : Reply) (o : OpenEntry) (s : Seen) (h : Agrees x s)
-    (at : IsAt stage.Event o s) (fresh : o.turn ≡ None) (timely : next_deadline s ≡ None) (answers : AnswersBy (channel.refusal_of o.event x) o.event x y r) where
+module _ (none_to_dial : NoneToDial) (rest : EventsAnswered (λ e x s. DoesSomething e x s × IsKnown x s)) (x y : StateSeen) (r : Reply) (o : OpenEntry) (s : Seen) (h : Agrees x s)
+    (at : IsAt stage.Event o s) (fresh : o.turn ≡ None) (timely : next_deadline s ≡ None) (known : IsKnown x s) (answers : AnswersBy (channel.refusal_of o.event x) o.event x y r) where
   does_more : channel.refusal_of o.event x ≡ None → does_something o.event x ≡ true → IsAnswered y r o s
-  does_more kept does = rest x y r o s h at fresh timely (record { kept = kept; does = does }) answers
+  does_more kept does = rest x y r o s h at fresh timely (record { kept = kept; does = does }, known) answers
 
   dial_by : (d : Option ℕ) → first_number is_dialable x.net.board ≡ d → channel.refusal_of o.event x ≡ None → o.event ≡ event.TakeDial → IsAnswered y r o s
   dial_by None e kept is = no_dials none_to_dial x y r o s h at fresh timely (record { event_is = is; kept = kept; none = e }) answers
@@ -74,8 +75,8 @@ module _ (none_to_dial : NoneToDial) (rest : EventsAnswered DoesSomething) (x y 
   pub event_answered : IsAnswered y r o s
   event_answered = refusal_by (channel.refusal_of o.event x) refl
 
-pub events_split : NoneToDial → EventsAnswered DoesSomething → Events
-events_split none_to_dial rest x y r o s h at fresh timely every answers = event_answered none_to_dial rest x y r o s h at fresh timely answers
+pub events_split : NoneToDial → EventsAnswered (λ e x s. DoesSomething e x s × IsKnown x s) → Events
+events_split none_to_dial rest x y r o s h at fresh timely known answers = event_answered none_to_dial rest x y r o s h at fresh timely known answers
 
 -- settlings: nothing is due, or something
 none_by : {X : Type 0} (o : Option X) → is_some o ≡ false → o ≡ None
@@ -86,10 +87,10 @@ or_none : (a b : Bool) → (a || b) ≡ false → (a ≡ false) × (b ≡ false)
 or_none true b e = absurd (cc)
 or_none false b e = (refl, e)
 
-module _ (clocks : ClockChanges) (overs : TakeOversAreSame) (wishes : WishesConnect) (states : StatesAreSame) (rest : SettlingsOf HasDue) (x : StateSeen) (o : OpenEntry)
-    (s : Seen) (h : Agrees x s) (at : IsAt stage.Settling o s) (fresh : o.turn ≡ None) where
+module _ (clocks : ClockChanges) (overs : TakeOversAreSame) (wishes : WishesConnect) (states : StatesAreSame) (rest : SettlingsOf (λ x s. HasDue x s × IsKnown x s)) (x : StateSeen) (o : OpenEntry)
+    (s : Seen) (h : Agrees x s) (at : IsAt stage.Settling o s) (fresh : o.turn ≡ None) (known : IsKnown x s) where
   settled_by : (b : Bool) → has_due s ≡ b → IsSettled x o s
-  settled_by true e = rest x o s h at fresh e
+  settled_by true e = rest x o s h at fresh (e, known)
   settled_by false e =
       let one = or_none (is_some (next_of_clock s)) _ e in
       let two = or_none (is_some (next_take_over s)) _ one.1 in
@@ -105,5 +106,5 @@ module _ (clocks : ClockChanges) (overs : TakeOversAreSame) (wishes : WishesConn
         queue = none_by (next_of_queue s) five.1;
       })
 
-pub settlings_split : ClockChanges → TakeOversAreSame → WishesConnect → StatesAreSame → SettlingsOf HasDue → Settlings
-settlings_split clocks overs wishes states rest x o s h at fresh every = settled_by clocks overs wishes states rest x o s h at fresh (has_due s) refl
+pub settlings_split : ClockChanges → TakeOversAreSame → WishesConnect → StatesAreSame → SettlingsOf (λ x s. HasDue x s × IsKnown x s) → Settlings
+settlings_split clocks overs wishes states rest x o s h at fresh known = settled_by clocks overs wishes states rest x o s h at fresh known (has_due s) refl

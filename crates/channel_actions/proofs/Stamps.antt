@@ -5,7 +5,7 @@ use Rattle.std.specs.List.{list_all}
 use Rattle.std.specs.Option.{option_map}
 use Rattle.std.specs.Prelude.{map}
 use Rattle.channel_actions.proofs.Opening.{stamp}
-use Rattle.kept_sessions.specs.Kept.{AreCounted}
+use Rattle.channel_actions.specs.KeptSessions.Kept.{AreCounted}
 use Rattle.session_actions.specs.Words.{numbered}
 use Rattle.session_actions.specs.declared.link.Link.{Link}
 

@@ -6,7 +6,7 @@ use Rattle.channel_actions.specs.Calls.{SeesCalls}
 use Rattle.channel_actions.specs.Clock.{SeesClock}
 use Rattle.channel_actions.specs.Columns.{SeesColumns}
 use Rattle.channel_actions.specs.Configs.{SeesBuckets, SeesConfigs}
-use Rattle.kept_sessions.specs.Kept.{IsKept}
+use Rattle.channel_actions.specs.KeptSessions.Kept.{IsKept}
 use Rattle.channel_actions.specs.Links.{SeesLinks}
 use Rattle.channel_actions.specs.Sets.{SeesSets}
 use Rattle.channel_core.specs.States.{StateSeen}

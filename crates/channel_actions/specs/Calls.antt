@@ -17,7 +17,7 @@ use Rattle.session_actions.specs.Sessions.{link_seen}
 use Rattle.session_actions.specs.Words.{numbered}
 use Rattle.session_actions.specs.declared.call.Call.{Call}
 use Rattle.session_actions.specs.declared.seen.Seen.{Seen}
-use Rattle.take_actions.specs.Serves.{Serves}
+use Rattle.call_actions.specs.TakeActions.Serves.{Serves}
 
 -- the moments for which an open call waits
 abbrev pub due_of : Seen → Call → Option ℕ

@@ -4,6 +4,7 @@
 use Rattle.std.specs.Prelude.{List, [], length, nat_le, nat_lt, true, ◌&&◌, ◌++◌, ◌+◌, ◌∷◌, ◌≡◌, Bool}
 use Rattle.std.specs.Global.{Global}
 use Rattle.channel_actions.specs.Cases.{DoesSomething, HasDue, HasOverdue, IsIdle, IsInTime, IsNoDial, IsPing, IsRefused, IsRefusedDial, IsTick, IsUnresolved}
+use Rattle.channel_actions.specs.Known.{IsKnown}
 use Rattle.channel_actions.specs.Points.{Rests}
 use Rattle.channel_actions.specs.Stages.{DeadlinesOf, EventsAnswered, SettlingsOf}
 use Rattle.channel_core.specs.Applying.{new_state}
@@ -39,10 +40,10 @@ pub record IsSession (setup : Setup) (events : List Stamped) (core : CoreSeen) :
   pub consistent : IsConsistent setup core.journal.entries (ledger_in core)
   pub posted : posted_in consistent.actions ≡ events
 
--- (the premises are what is left of the stages; the rest of each is proved below)
+-- (the premises are what is left of the stages, where all is known that runs keep; the rest of each is proved below)
 abbrev pub RunsAreSessions : Type 0
 RunsAreSessions =
-    DeadlinesOf HasOverdue → EventsAnswered DoesSomething → SettlingsOf HasDue
+    DeadlinesOf (λ x s. HasOverdue x s × IsKnown x s) → EventsAnswered (λ e x s. DoesSomething e x s × IsKnown x s) → SettlingsOf (λ x s. HasDue x s × IsKnown x s)
     → (setup : Setup) (policies : List PolicySeen) (alloc : Global) (events : List Stamped) (new core : CoreSeen)
     → AreKinds setup.policies policies → are_ready policies ≡ true → IsNewBy alloc setup.authority policies new → Runs new events core
     → HadRoom [] core.journal.entries → IsSession setup events core

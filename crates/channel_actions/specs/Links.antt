@@ -18,7 +18,7 @@ use Rattle.session_actions.specs.declared.attempt.Attempt.{Attempt}
 use Rattle.session_actions.specs.declared.call.Call.{Call}
 use Rattle.session_actions.specs.declared.link.Link.{Link}
 use Rattle.session_actions.specs.declared.seen.Seen.{Seen}
-use Rattle.stream_actions.specs.Sees.{SeesStreams}
+use Rattle.link_actions.specs.StreamActions.Sees.{SeesStreams}
 
 -- what an attempt on a link is fed with, by the session: the header list of its request, and the bytes of the accepted messages that were not written.
 -- (The book lends the same until the deadline of its call has come. Past it the header list has no timeout that may be sent; such a call ends before

@@ -5,7 +5,8 @@
 use Rattle.std.specs.Prelude.{None, Some, ℕ, length, max, ◌+◌, ◌≡◌}
 use Rattle.channel_actions.specs.Agrees.{Agrees}
 use Rattle.channel_actions.specs.Calm.{AreCalm, IsAt}
-use Rattle.kept_sessions.specs.Kept.{IsKept}
+use Rattle.channel_actions.specs.KeptSessions.Kept.{IsKept}
+use Rattle.channel_actions.specs.Known.{IsKnown}
 use Rattle.channel_actions.specs.Points.{Reaches, Rests}
 use Rattle.channel_core.specs.Applying.{AnswersBy, begun_at, refusal_of}
 use Rattle.channel_core.specs.Settling.{settled}
@@ -39,7 +40,7 @@ abbrev pub DeadlinesOf : (StateSeen → Seen → Type 0) → Type 0
 DeadlinesOf Case = (x : StateSeen) (o : OpenEntry) (s : Seen) → Agrees x s → IsAt stage.Event o s → Case x s → IsTimely x o s
 
 abbrev pub Deadlines : Type 0
-Deadlines = DeadlinesOf (λ x s. Unit {0})
+Deadlines = DeadlinesOf IsKnown
 
 -- the event is answered, or refused; and of a piece each whole frame is read, of a drain each frame that fits is written
 pub record IsAnswered (y : StateSeen) (r : Reply) (o : OpenEntry) (s : Seen) : Type 0 where
@@ -54,7 +55,7 @@ EventsAnswered Case =
     → Case o.event x s → AnswersBy (refusal_of o.event x) o.event x y r → IsAnswered y r o s
 
 abbrev pub Events : Type 0
-Events = EventsAnswered (λ e x s. Unit {0})
+Events = EventsAnswered (λ e x s. IsKnown x s)
 
 -- what is due by now is done, until nothing is left but to close the entry
 pub record IsSettled (x : StateSeen) (o : OpenEntry) (s : Seen) : Type 0 where
@@ -67,7 +68,7 @@ SettlingsOf Case =
     (x : StateSeen) (o : OpenEntry) (s : Seen) → Agrees x s → IsAt stage.Settling o s → o.turn ≡ None → Case x s → IsSettled x o s
 
 abbrev pub Settlings : Type 0
-Settlings = SettlingsOf (λ x s. Unit {0})
+Settlings = SettlingsOf IsKnown
 
 -- the entry is made, with the links that are gone stamped
 abbrev pub Closings : Type 0

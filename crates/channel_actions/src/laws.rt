@@ -2,6 +2,9 @@
 ghost use Rattle.channel_actions.specs.Laws.{DeadlinesAreAhead, FailedResolutionsAreAnswered, NewChannelsAgree, NoDialsAreAnswered, NothingIsDue, PingsAreQueued, RefusalsAreAnswered, RefusedDialsAreAnswered, RunsAreSessions, TicksAreAnswered};
 ghost use Rattle.channel_actions.specs.Stages.{Closings, Openings};
 
+use crate::going_calls::calls_of_channels_go_on;
+use crate::kept_calls::calls_are_kept;
+use crate::own_links::links_are_own;
 use link_actions::pings_are_actions;
 use net_actions::{
     new_nets_are_new_sessions, policy_steps_are_actions, subchannel_steps_are_actions,
@@ -63,4 +66,7 @@ pub fn runs_are_sessions()
     entries_open_and_close();
     policy_steps_are_actions();
     subchannel_steps_are_actions();
+    calls_of_channels_go_on();
+    calls_are_kept();
+    links_are_own();
 }

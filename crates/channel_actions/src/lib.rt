@@ -7,3 +7,22 @@ pub use laws::{
     entries_open_and_close, new_channels_are_new_sessions, nothing_due_stays, pings_are_queued,
     plain_events_are_answered, runs_are_sessions,
 };
+
+pub mod actions_fit;
+pub mod acts_followed;
+pub mod board_actions;
+pub mod drain_books;
+pub mod drain_calls;
+pub mod drain_lends;
+pub mod drain_writes;
+pub mod ends_follow;
+pub mod going_calls;
+pub mod kept_calls;
+pub mod kept_sessions;
+pub mod link_ends;
+pub mod link_frames;
+pub mod other_calls;
+pub mod own_links;
+pub mod reset_calls;
+pub mod set_frames;
+pub mod streams_opened;

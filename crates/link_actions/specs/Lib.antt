@@ -1,2 +1,9 @@
-pub mod Sees
 pub mod Laws
+pub mod LossActions
+pub mod LossOrder
+pub mod ReaderActions
+pub mod ResetActions
+pub mod ResponseActions
+pub mod Sees
+pub mod SteadyLinks
+pub mod StreamActions

@@ -7,6 +7,7 @@ use Rattle.grpc_base.specs.declared.event.Reply.{Reply}
 use Rattle.grpc_base.specs.declared.event.Reply.TheVariants as reply
 use Rattle.grpc_base.specs.declared.post.PostError.{PostError}
 use Rattle.gate_io.specs.Links.{TakesLink}
+use Rattle.live_pump.specs.declared.dial.Dial.{Dial}
 use Rattle.live_pump.specs.declared.dial.DialTurn.{DialTurn}
 use Rattle.live_pump.specs.declared.dial.DialTurn.TheVariants as turn
 use Rattle.live_pump.specs.Pumps.{HandleSeen, PostsNothing, PostsOne}
@@ -80,6 +81,11 @@ Dials sub dialer_before dialer_after before after answer =
 abbrev pub sub_of : Result Reply PostError → Option ℕ
 sub_of (Ok (reply.Dial sub address until)) = Some sub
 sub_of _ = None
+
+-- the dial that a TakeDial gave: for which subchannel, to which address, and when to give up
+abbrev pub given_dial : Result Reply PostError → Option Dial
+given_dial (Ok (reply.Dial sub address until)) = Some (record { sub = sub; address = address; until = until })
+given_dial _ = None
 
 -- a dial that a TakeDial gave is made; where it gave none, nothing is done
 abbrev pub AfterTakeDial : Option ℕ → Result Reply PostError → DialerSeen → DialerSeen → HandleSeen → HandleSeen → TurnSeen → Type 0

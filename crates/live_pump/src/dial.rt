@@ -6,7 +6,7 @@ ghost use Rattle.grpc_base.specs.declared.event.Reply.{Reply};
 ghost use Rattle.grpc_base.specs.declared.post.Look.TheVariants as look;
 ghost use Rattle.grpc_base.specs.declared.post.PostError.{PostError};
 ghost use Rattle.grpc_base.specs.declared.post.View.{View};
-ghost use Rattle.live_pump.specs.Dials.{DialerSeen, Dials, DialsIf, down_answer, idle_answer, is_link, sub_of, turn_of, up_answer};
+ghost use Rattle.live_pump.specs.Dials.{DialerSeen, Dials, DialsIf, down_answer, given_dial, idle_answer, is_link, sub_of, turn_of, up_answer};
 ghost use Rattle.live_pump.specs.Pumps.{HandleSeen, PostsOne};
 ghost use Rattle.live_pump.specs.declared.dial.Dial.{Dial};
 
@@ -96,7 +96,8 @@ struct Dial {
 
 /// The dial that a TakeDial gave.
 fn dial_of(came: &Result<Reply, PostError>) -> Option<Dial>
-    ensures { option_map (λ (d : Dial). d.sub) result ≡ sub_of came.now }
+    ensures sub { option_map (λ (d : Dial). d.sub) result ≡ sub_of came.now }
+    ensures dial { result ≡ given_dial came.now }
 {
     match came {
         Ok(

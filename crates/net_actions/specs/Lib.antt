@@ -1,3 +1,4 @@
 pub mod Laws
+pub mod NetFrames
 pub mod Runs
 pub mod Sees

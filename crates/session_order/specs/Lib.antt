@@ -1,7 +1,9 @@
 pub mod Calm
+pub mod ConfigStirs
 pub mod Laws
 pub mod Lines
+pub mod Order
+pub mod Rests
+pub mod SessionLaws
 pub mod Stirs
 pub mod Waits
-pub mod Rests
-pub mod Order

@@ -10,3 +10,6 @@ pub use laws::{
     queues_stir, sessions_are_in_place,
 };
 pub use line::Line;
+
+pub mod config_stirs;
+pub mod session_laws;

@@ -1,4 +1,4 @@
-use Rattle.call_actions.proofs.LastEnds.{final_ends_close}
+use Rattle.call_actions.proofs.LastOnes.{final_ends_close}
 use Rattle.call_actions.proofs.LastHedge.{last_hedges_close}
 use Rattle.call_actions.proofs.laws.final_ends_close_calls.Goals as goal
 

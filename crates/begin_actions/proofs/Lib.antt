@@ -1,7 +1,0 @@
-mod Agreeing
-mod Answered
-mod Links
-mod New
-mod Sets
-mod Slot
-mod Table

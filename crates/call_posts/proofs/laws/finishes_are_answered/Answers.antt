@@ -1,6 +1,0 @@
-use Rattle.call_posts.proofs.Finishing.{finishes}
-use Rattle.kept_sessions.proofs.Along.{kept_along}
-use Rattle.call_posts.proofs.laws.finishes_are_answered.Goals as goal
-
-pub returns : goal.returns
-returns c = finishes kept_along

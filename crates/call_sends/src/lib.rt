@@ -1,6 +1,0 @@
-// Every Send of a call that is there.
-#![tactic(auto)]
-
-mod laws;
-
-pub use laws::sends_are_all_answered;

@@ -1,8 +1,0 @@
-use Rattle.calls_apart.proofs.Books.{tokens_are_shared, tokens_stay}
-use Rattle.calls_apart.proofs.laws.calls_share_tokens_alone.Goals as goal
-
-pub returns-clause-stay : goal.returns-clause-stay
-returns-clause-stay c = tokens_stay
-
-pub returns-clause-shared : goal.returns-clause-shared
-returns-clause-shared c = tokens_are_shared

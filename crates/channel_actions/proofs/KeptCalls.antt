@@ -1,0 +1,6 @@
+pub mod Along
+pub mod Fits
+pub mod Fresh
+pub mod Lines
+pub mod Parts
+pub mod Steps

@@ -1,0 +1,10 @@
+pub mod Acts
+pub mod Along
+pub mod Beside
+pub mod Lines
+pub mod Lists
+pub mod Picks
+pub mod Sound
+pub mod Steps
+pub mod Whole
+pub mod Written

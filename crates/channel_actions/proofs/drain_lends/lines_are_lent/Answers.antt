@@ -1,0 +1,5 @@
+use Rattle.channel_actions.proofs.DrainLends.Lends as lends
+use Rattle.channel_actions.proofs.drain_lends.lines_are_lent.Goals as goal
+
+pub returns : goal.returns
+returns c = lends.lines_are_lent

@@ -1,0 +1,18 @@
+use Rattle.channel_actions.proofs.KeptCalls.Along.{calls_are_bare, early_along, early_begins, early_stays}
+use Rattle.channel_actions.proofs.KeptCalls.Fresh.{frames_are_fresh}
+use Rattle.channel_actions.proofs.kept_calls.calls_are_kept.Goals as goal
+
+pub returns-clause-begins : goal.returns-clause-begins
+returns-clause-begins c = early_begins
+
+pub returns-clause-stays : goal.returns-clause-stays
+returns-clause-stays c = early_stays
+
+pub returns-clause-along : goal.returns-clause-along
+returns-clause-along c = early_along
+
+pub returns-clause-bare : goal.returns-clause-bare
+returns-clause-bare c = calls_are_bare
+
+pub returns-clause-fresh : goal.returns-clause-fresh
+returns-clause-fresh c = frames_are_fresh

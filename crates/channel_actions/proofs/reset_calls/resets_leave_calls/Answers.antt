@@ -1,0 +1,5 @@
+use Rattle.channel_actions.proofs.ResetCalls.Leaves.{resets_leave_calls}
+use Rattle.channel_actions.proofs.reset_calls.resets_leave_calls.Goals as goal
+
+pub returns : goal.returns
+returns c = resets_leave_calls

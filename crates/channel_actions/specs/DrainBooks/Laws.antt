@@ -1,0 +1,41 @@
+-- What a drain leaves as it was, beside links and buffers: the sets that a channel keeps in order, the tokens of its buckets, and its ledger but for the rows.
+-- Example: HEADERS are written for attempt 1 of call 1. No attempt is queued, due or outstanding that was not before, no tokens are taken, and no link is gone by it.
+use Rattle.std.specs.Prelude.{List, is_some, map, ℕ, ◌≡◌}
+use Rattle.channel_actions.specs.Columns.{links_noted}
+use Rattle.channel_actions.specs.Configs.{SeesBuckets}
+use Rattle.channel_actions.specs.Sets.{SeesSets}
+use Rattle.channel_core.specs.States.{StateSeen}
+use Rattle.channel_core.specs.Tables.{BucketsSeen}
+use Rattle.call_actions.specs.Order.{AreNumbered}
+use Rattle.channel_actions.specs.DrainCalls.Laws.{IsOnlyStreamed}
+use Rattle.channel_actions.specs.DrainWrites.Laws.{with_all_sent}
+use Rattle.session_actions.specs.Sessions.{call_seen}
+use Rattle.session_actions.specs.Words.{changed}
+use Rattle.session_actions.specs.declared.link.Sent.{Sent}
+use Rattle.session_actions.specs.declared.seen.Seen.{Seen}
+
+-- the sets of two channels are the same
+pub record AreSameSets (x y : StateSeen) : Type 0 where
+  pub queue : y.queue ≡ x.queue
+  pub patient : y.patient ≡ x.patient
+  pub dues : y.dues ≡ x.dues
+  pub deadlines : y.deadlines ≡ x.deadlines
+  pub bare : y.bare ≡ x.bare
+  pub impatient : y.impatient ≡ x.impatient
+  pub outstanding : y.outstanding ≡ x.outstanding
+  pub resets : y.resets ≡ x.resets
+
+abbrev pub SetsStay : Type 0
+SetsStay = (x y : StateSeen) (s t : Seen) → AreNumbered 1 s.attempts → IsOnlyStreamed s t → AreSameSets x y → SeesSets x s → SeesSets y t
+
+abbrev pub BucketsStay : Type 0
+BucketsStay = (b : BucketsSeen) (s t : Seen) → AreNumbered 1 s.attempts → IsOnlyStreamed s t → SeesBuckets b s → SeesBuckets b t
+
+-- of the ledger: the calls, and the links, also those that are gone
+abbrev pub CallColumnsStay : Type 0
+CallColumnsStay = (s t : Seen) → AreNumbered 1 s.attempts → IsOnlyStreamed s t → map (call_seen t) t.calls ≡ map (call_seen s) s.calls
+
+abbrev pub LinkColumnsStay : Type 0
+LinkColumnsStay =
+    (s t : Seen) (sent : List Sent) (link : ℕ) → AreNumbered 1 s.attempts → IsOnlyStreamed s t → t.links ≡ changed (with_all_sent sent) link s.links
+    → is_some t.current ≡ is_some s.current → links_noted t ≡ links_noted s

@@ -1,8 +1,0 @@
-// A drain of a link is a list of actions of a session; nothing runs.
-ghost use Rattle.drain_writes.specs.Laws.{DrainsAreActions};
-
-/// Each frame that a drain writes is the next action of the session, nothing else comes between two, and at its end no further frame fits; link and session agree
-/// then.
-pub fn drains_are_actions()
-    ensures { DrainsAreActions }
-{}

@@ -1,8 +1,0 @@
-use Rattle.link_frames.proofs.Frame as frame
-use Rattle.link_frames.proofs.laws.links_stay.Goals as goal
-
-pub returns-clause-others : goal.returns-clause-others
-returns-clause-others c = frame.others_agree
-
-pub returns-clause-all : goal.returns-clause-all
-returns-clause-all c = frame.links_stay

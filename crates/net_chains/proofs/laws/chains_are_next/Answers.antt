@@ -1,5 +1,0 @@
-use Rattle.net_chains.proofs.Chained.{chains_are_next}
-use Rattle.net_chains.proofs.laws.chains_are_next.Goals as goal
-
-pub returns : goal.returns
-returns c = chains_are_next c.boards_stir.ensures c.policies_stir_apart.ensures c.calm_is_exact.ensures.lines

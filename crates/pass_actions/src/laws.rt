@@ -1,7 +1,0 @@
-// A pass over the queue, attempt by attempt; nothing runs.
-ghost use Rattle.pass_actions.specs.Laws.{PassesAreServes};
-
-/// A pass over the queue is what is done to each attempt that it serves.
-pub fn passes_are_serves()
-    ensures { PassesAreServes }
-{}

@@ -1,6 +1,0 @@
-// Calls that are to end, end alike.
-#![tactic(auto)]
-
-mod laws;
-
-pub use laws::calls_end_alike;

@@ -1,8 +1,0 @@
-use Rattle.session_laws.proofs.Deadlines.{deadlines_end_calls, events_follow_deadlines}
-use Rattle.session_laws.proofs.laws.deadlines_come_first.Goals as goal
-
-pub returns-clause-event : goal.returns-clause-event
-returns-clause-event c = events_follow_deadlines
-
-pub returns-clause-calls : goal.returns-clause-calls
-returns-clause-calls c = deadlines_end_calls
