@@ -1,8 +1,8 @@
 -- What the work of a program did, by its handles.
-use Rattle.std.proofs.Common.{◌≡◌, ◌∙◌, ◌<◌, ◌+◌, ℕ, zero, suc, Bool, true, false, Option, Some, List, [], ◌∷◌, ◌++◌, ap, append_assoc, append-nil, arith, length, length-append, map, refl, slice_index_or, sym, subst}
+use Rattle.std.proofs.Common.{◌≡◌, ◌∙◌, ◌<◌, ◌+◌, ℕ, suc, Bool, true, false, Option, Some, List, [], ◌∷◌, ◌++◌, ap, append_assoc, append-nil, arith, length, length-append, map, refl, slice_index_or, sym, subst}
 use Rattle.std.specs.List.{AllByRecursion, AllZip}
 use Rattle.std.specs.Option.{option_to_list}
-use Rattle.std.specs.Prelude.{Result, Ok, Err, IfOk, filter, not}
+use Rattle.std.specs.Prelude.{Result, Ok, Err, IfOk}
 use Rattle.grpc_base.specs.declared.event.Entry.{Entry}
 use Rattle.grpc_base.specs.declared.event.Event.{Event}
 use Rattle.grpc_base.specs.declared.event.Event.TheVariants as event

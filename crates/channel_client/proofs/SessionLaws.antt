@@ -1,6 +1,5 @@
 -- The one channel of a run: what is promised of its work and of its report.
-use Rattle.std.proofs.Common.{◌≡◌, ◌∙◌, ℕ, Option, List, [], ◌∷◌, ap, refl, subst}
-use Rattle.std.specs.List.{AllByRecursion}
+use Rattle.std.proofs.Common.{◌≡◌, ◌∙◌, ℕ, Option, List, ap, refl, subst}
 use Rattle.grpc_base.specs.declared.event.Entry.{Entry}
 use Rattle.resolver_core.specs.AnyTargets.{authority_of}
 use Rattle.resolver_core.specs.declared.any_target.Target.{Target}

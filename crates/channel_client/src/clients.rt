@@ -1,5 +1,5 @@
 // All work of a program, and the handle through which the channel is shut down behind it.
-ghost use Rattle.std.specs.Prelude.{◌≡◌, ◌<◌, ◌++◌, ℕ, length, map, slice_index_or, true};
+ghost use Rattle.std.specs.Prelude.{◌≡◌, ◌<◌, ◌++◌, ◌∷◌, [], ℕ, length, map, slice_index_or, true};
 ghost use Rattle.std.specs.List.{AllByRecursion};
 ghost use Rattle.live_channel.specs.Handles.{IsFresh, IsOne, TakesIn, owns_of};
 ghost use Rattle.turn_lock.specs.History.{LockId};

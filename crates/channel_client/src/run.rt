@@ -1,5 +1,5 @@
 // The run of a program's work beside the workers that keep links.
-ghost use Rattle.std.specs.Prelude.{◌≡◌, ◌≤◌, ◌+◌, IfOk, OnOk, length, map};
+ghost use Rattle.std.specs.Prelude.{◌≡◌, ◌≤◌, ◌+◌, [], IfOk, OnOk, length, map};
 ghost use Rattle.grpc_base.specs.declared.event.Entry.{Entry};
 ghost use Rattle.live_channel.specs.Handles.{IsStarted, Splits, seats_in};
 ghost use Rattle.turn_lock.specs.History.{SeatSeen, StartsWith};

@@ -17,8 +17,8 @@ loop-job-preserved g c =
       takes = both.1;
       works = λ whole.
           let kept = c.both-is_whole.ensures whole in
-          works_kept c.args.jobs.now.items c.loop-job.jobs.items c.pop.new.self.items c.pop.result c.in-Some.job c.args.done.now.items c.loop-job.done.items c.keep.new.done.items
-          c.pop.ensures.items c.in-Some.is (c.loop-job.invariant.works kept.0) (c.keep.ensures kept.1);
+          works_kept c.args.jobs.now.items c.loop-job.jobs.items c.pop.new.self.items c.pop.result c.in-Some.job c.args.done.now.items c.loop-job.done.items c.keep-is_kept.new.done.items
+          c.pop.ensures.items c.in-Some.is (c.loop-job.invariant.works kept.0) (c.keep-is_kept.ensures kept.1);
     }
 
 pub returns-clause-taken : goal.returns-clause-taken

@@ -1,4 +1,4 @@
-use Rattle.std.proofs.Common.{◌∙◌, ap, rules}
+use Rattle.std.proofs.Common.{◌≡◌, ◌∙◌, ap, rules, sym, true}
 use Rattle.grpc_base.specs.declared.event.Entry.{Entry}
 use Rattle.turn_lock.specs.History.{SeatSeen}
 use Rattle.live_channel.proofs.SeatLaws.{fresh_at, map_length}
@@ -15,8 +15,9 @@ close_links-seat-requires-clause-kept g c κs within = kept_beside (λ h. h.seat
 
 pub returns-clause-left : goal.returns-clause-left
 returns-clause-left g c =
+    let whole : c.work_beside.new.clients.is_whole ≡ true = search rules in
     left_clients (λ h. h.seat) _ _ _ _ _ _ _ _ c.args.seat c.client_jobs.new.seat _ c.requires.started c.in_ok-jobs.ensures.splits c.handle.ensures.seat
-    (map_length (λ j. j.post.seat) c.in_ok-jobs.jobs.items) (c.work_beside.ensures.links.count ∙ seats_length c.args.links.items (λ h. h.seat)) (search rules) c.in_ok-jobs.ensures.works c.work_beside.ensures.clients
+    (sym (map_length (λ j. j.post.seat) c.in_ok-jobs.jobs.items)) (c.work_beside.ensures.links.count ∙ seats_length c.args.links.items (λ h. h.seat)) whole c.in_ok-jobs.ensures.works c.work_beside.ensures.clients
     c.close_links-seat.ensures.lock c.close_links-seat.ensures.parts c.close_links-seat.ensures.leaves
 
 pub returns-clause-sees : goal.returns-clause-sees
