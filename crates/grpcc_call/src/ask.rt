@@ -19,6 +19,9 @@ use std::rt::Files;
 /// How many threads keep links open.
 const NETS: u32 = 2;
 
+/// How many calls are made over one channel, at most: its session has room for twice as many small ones.
+pub const CALLS_OF_A_CHANNEL: u64 = 50_000;
+
 /// What is called, and how often.
 #[derive(Drop)]
 pub struct Plan {
@@ -34,9 +37,10 @@ pub struct Plan {
 /// What the words ask for.
 #[derive(Drop)]
 pub struct Asked {
-    pub options: ChannelOptions,
     /// The target with its scheme.
     pub target: Text,
+    /// The service config as JSON.
+    pub config: Option<Octets>,
     pub plan: Plan,
     /// The file for the report of the session.
     pub record: Option<String>,
@@ -80,8 +84,11 @@ fn asked_of<R: Files<File = File> + AllocGlobal>(
     alloc: Global,
     matches: &ArgMatches<'_>,
 ) -> Result<Asked> {
-    let name = with_scheme(alloc, given(matches, "TARGET")?)?;
-    let options = options_of(rt, alloc, name.as_slice(), matches.get_str("config"))?;
+    let target = with_scheme(alloc, given(matches, "TARGET")?)?;
+    let config = match matches.get_str("config") {
+        Some(path) => Some(file(rt, path)?),
+        None => None,
+    };
     let plan = Plan {
         request: request_of(alloc, matches)?,
         messages: messages_of(rt, alloc, matches)?,
@@ -94,12 +101,20 @@ fn asked_of<R: Files<File = File> + AllocGlobal>(
         Some(path) => Some(String::from_str(alloc, path)?),
         None => None,
     };
-    Ok(Asked {
-        options,
-        target: name,
+    let asked = Asked {
+        target,
+        config,
         plan,
         record,
-    })
+    };
+    if asked.record.is_some() && asked.plan.count > CALLS_OF_A_CHANNEL {
+        bail!(
+            "--record keeps the report of one channel, over which at most {CALLS_OF_A_CHANNEL} calls are made"
+        );
+    }
+    // (a target that is none is told before anything is called)
+    options_of(alloc, &asked)?;
+    Ok(asked)
 }
 
 /// The target with its scheme: as it is, or a list of addresses where it can be read as one, or else a name.
@@ -117,20 +132,15 @@ fn with_scheme(alloc: Global, target: &str) -> Result<Text> {
     Ok(text)
 }
 
-/// What the channel is opened with.
-fn options_of<R: Files<File = File> + AllocGlobal>(
-    rt: &R,
-    alloc: Global,
-    name: &[u8],
-    config: Option<&str>,
-) -> Result<ChannelOptions>
+/// What a channel for these calls is opened with.
+pub fn options_of(alloc: Global, asked: &Asked) -> Result<ChannelOptions>
     ensures { IfOk result (λ o. IsTarget o.target) }
 {
-    let config = match config {
-        Some(path) => Some(file(rt, path)?),
+    let config = match &asked.config {
+        Some(config) => Some(config.share()?),
         None => None,
     };
-    match read_any_target(alloc, name) {
+    match read_any_target(alloc, asked.target.as_slice()) {
         Ok(target) => Ok(ChannelOptions {
             target,
             config,

@@ -120,31 +120,50 @@ fn shared(alloc: Global, messages: &[Octets]) -> Result<Vec<Octets>, NoMemory> {
     Ok(all)
 }
 
-/// The work of each thread, which share the calls out.
-pub fn calls_of<R: Copy>(rt: R, alloc: Global, plan: &Plan) -> Result<Vec<Calls<R>>>
+/// The work of one thread, which makes so many calls of this plan.
+fn work_of<R>(rt: R, alloc: Global, plan: &Plan, count: u64) -> Result<Calls<R>>
 where
     R: Drop,
+{
+    let request = plan.request.copy()?;
+    let messages = shared(alloc, plan.messages.as_slice())?;
+    Ok(Calls {
+        shown: Shown {
+            rt,
+            alloc,
+            is_hex: plan.is_hex,
+            is_verbose: plan.is_verbose,
+            is_broken: false,
+        },
+        request,
+        messages,
+        count,
+        is_alone: plan.count == 1,
+        end: None,
+        tally: Tally::new(Vec::new(alloc)),
+    })
+}
+
+/// How many of these calls the worker of this place makes.
+fn share_of(count: u64, workers: u64, place: u64) -> u64 {
+    match (count.checked_div(workers), count.checked_rem(workers)) {
+        (Some(each), Some(rest)) if place < rest => each.saturating_add(1),
+        (Some(each), _) => each,
+        _ => count,
+    }
+}
+
+/// The work of each thread, which share so many calls of this plan out.
+pub fn calls_of<R>(rt: R, alloc: Global, plan: &Plan, count: u64) -> Result<Vec<Calls<R>>>
+where
+    R: Copy + Drop,
     ensures { IfOk result (λ works. length works.items ≤ 1024) }
 {
-    let workers = plan.workers.min(plan.count).min(1024).max(1);
+    let workers = plan.workers.min(count).min(1024);
     let mut works = Vec::new(alloc);
-    for worker in 0..workers {
-        let count = plan.count / workers + u64::from(worker < plan.count % workers);
-        works.push(Calls {
-            shown: Shown {
-                rt,
-                alloc,
-                is_hex: plan.is_hex,
-                is_verbose: plan.is_verbose,
-                is_broken: false,
-            },
-            request: plan.request.copy()?,
-            messages: shared(alloc, plan.messages.as_slice())?,
-            count,
-            is_alone: plan.count == 1,
-            end: None,
-            tally: Tally::new(Vec::new(alloc)),
-        })?;
+    while works.len() < workers as usize {
+        let share = share_of(count, workers, works.len() as u64);
+        works.push(work_of(rt, alloc, plan, share)?)?;
     }
     Ok(works)
 }

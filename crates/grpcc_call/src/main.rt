@@ -2,7 +2,7 @@
 // is opened for the target, and the calls are the work that is handed to it.
 #![tactic(auto)]
 
-ghost use Rattle.std.specs.Prelude.{◌≡◌, ◌≤◌, length, map, true};
+ghost use Rattle.std.specs.Prelude.{◌≡◌, map, true};
 ghost use Rattle.lb_policy.specs.declared.policy.Policy.{seen};
 ghost use Rattle.policy_rack.specs.Kinds.{are_ready};
 
@@ -14,8 +14,8 @@ mod said;
 mod tally;
 mod units;
 
-use crate::ask::{Asked, Words, read_words};
-use crate::calls::calls_of;
+use crate::ask::{Asked, CALLS_OF_A_CHANNEL, Words, options_of, read_words};
+use crate::calls::{Calls, calls_of};
 use crate::said::{status_of, sum_up};
 use anyhow::{Result, bail};
 use channel_client::{record_clients, run_clients};
@@ -37,55 +37,85 @@ use std::time;
 /// How many addresses a tier of the policy `priority` has.
 const TIER_WIDTH: u32 = 8;
 
-/// Makes the calls over a channel with these policies, says how they ended, and gives the status.
-fn call_service<R>(rt: &R, asked: Asked, policies: Vec<Box<dyn Policy>>) -> Result<u8>
+/// Makes so many calls over one channel with these policies, and gives the work back with how they ended.
+fn call_service<R>(
+    rt: &R,
+    asked: &Asked,
+    count: u64,
+    policies: Vec<Box<dyn Policy>>,
+) -> Result<Vec<Calls<R>>>
 where
     R: Threads + Wait + Net<Stream = TcpStream, Listener = TcpListener> + time::Clock,
     R: Print + Eprint + Files<File = File> + AllocGlobal + Copy + Send + Sync + Drop,
     requires { are_ready (map (λ b. seen b) policies.items) ≡ true }
 {
     let alloc = rt.alloc();
-    let clock = StdClock::new(*rt);
-    let Asked {
-        options,
-        target,
-        plan,
-        record,
-    } = asked;
     let world = TcpNamedWorld::new(*rt, alloc)?;
-    let works = calls_of(*rt, alloc, &plan)?;
-    let begun = clock.now();
-    let works = match record {
-        None => run_clients(rt, alloc, options, policies, world, works)?.0,
-        Some(path) => {
-            let mut report = StdSink::new(fs::create(rt, path.as_str())?);
-            let (works, written) = record_clients(
-                rt,
-                alloc,
-                options,
-                policies,
-                world,
-                works,
-                &target,
-                &mut report,
-            )?;
-            if written.is_err() {
-                bail!("the report could not be written");
-            }
-            works
-        }
+    let works = calls_of(*rt, alloc, &asked.plan, count)?;
+    let options = options_of(alloc, asked)?;
+    let Some(path) = &asked.record else {
+        let (works, _ended) = run_clients(rt, alloc, options, policies, world, works)?;
+        return Ok(works);
     };
-    sum_up(
+    let mut report = StdSink::new(fs::create(rt, path.as_str())?);
+    let name = &asked.target;
+    let (works, written) = record_clients(
         rt,
         alloc,
-        &plan,
-        works.as_slice(),
-        clock.now().saturating_sub(begun),
+        options,
+        policies,
+        world,
+        works,
+        name,
+        &mut report,
     )?;
+    match written {
+        Ok(_) => Ok(works),
+        Err(_) => bail!("the report could not be written"),
+    }
+}
+
+/// Makes so many calls over a channel with one policy of each kind.
+fn call_once_more<R>(rt: &R, asked: &Asked, count: u64) -> Result<Vec<Calls<R>>>
+where
+    R: Threads + Wait + Net<Stream = TcpStream, Listener = TcpListener> + time::Clock,
+    R: Print + Eprint + Files<File = File> + AllocGlobal + Copy + Send + Sync + Drop,
+{
+    let alloc = rt.alloc();
+    let mut policies: Vec<Box<dyn Policy>> = Vec::new(alloc);
+    policies.push(Box::new(alloc, PickFirst::new())?)?;
+    policies.push(Box::new(alloc, RoundRobin::new())?)?;
+    policies.push(Box::new(alloc, Priority::new(TIER_WIDTH).unwrap())?)?;
+    if !boxes_ready(&policies) {
+        bail!("a channel takes no such policies");
+    }
+    call_service(rt, asked, count, policies)
+}
+
+/// Makes all calls, so many over one channel and then over the next, says how they ended, and gives the status.
+fn call_all<R>(rt: &R, asked: &Asked) -> Result<u8>
+where
+    R: Threads + Wait + Net<Stream = TcpStream, Listener = TcpListener> + time::Clock,
+    R: Print + Eprint + Files<File = File> + AllocGlobal + Copy + Send + Sync + Drop,
+{
+    let alloc = rt.alloc();
+    let clock = StdClock::new(*rt);
+    let begun = clock.now();
+    let mut works: Vec<Calls<R>> = Vec::new(alloc);
+    let mut left = asked.plan.count;
+    while left > 0 {
+        let count = left.min(CALLS_OF_A_CHANNEL);
+        left -= count;
+        for work in call_once_more(rt, asked, count)? {
+            works.push(work)?;
+        }
+    }
+    let nanos = clock.now().saturating_sub(begun);
+    sum_up(rt, alloc, &asked.plan, works.as_slice(), nanos)?;
     Ok(status_of(works.as_slice()))
 }
 
-/// Reads the words, makes one policy of each kind, and makes the calls.
+/// Reads the words, and makes the calls.
 fn run<R>(rt: &R) -> Result<u8>
 where
     R: Threads + Wait + Net<Stream = TcpStream, Listener = TcpListener> + time::Clock,
@@ -103,14 +133,7 @@ where
             return Ok(0);
         }
     };
-    let mut policies: Vec<Box<dyn Policy>> = Vec::new(alloc);
-    policies.push(Box::new(alloc, PickFirst::new())?)?;
-    policies.push(Box::new(alloc, RoundRobin::new())?)?;
-    policies.push(Box::new(alloc, Priority::new(TIER_WIDTH).unwrap())?)?;
-    if !boxes_ready(&policies) {
-        bail!("a channel takes no such policies");
-    }
-    call_service(rt, asked, policies)
+    call_all(rt, &asked)
 }
 
 fn main(rt: HostRuntime) -> ExitCode {
