@@ -88,7 +88,7 @@ early_by false l turn e = refl
 early_by true l turn e = absurd (let both : true ≡ false = sym (turn refl) ∙ e in (cc))
 
 -- no attempt that waits to be followed is of one call
-none_of : (p q : Attempt → Bool) (xs : List Attempt) → list_any q xs ≡ false → list_any (λ (a : Attempt). p a && q a) xs ≡ false
+pub none_of : (p q : Attempt → Bool) (xs : List Attempt) → list_any q xs ≡ false → list_any (λ (a : Attempt). p a && q a) xs ≡ false
 none_of p q [] e = refl
 none_of p q (a ∷ xs) e = none_by (p a) (q a) (list_any q xs) (list_any (λ (b : Attempt). p b && q b) xs) e (none_of p q xs)
   where
@@ -98,7 +98,7 @@ none_of p q (a ∷ xs) e = none_by (p a) (q a) (list_any q xs) (list_any (λ (b 
     none_by false true rest other e turn = absurd (cc)
     none_by false false rest other e turn = turn e
 
-run_away : (place k : ℕ) (q : Option ℕ) (xs : List ThrottleRun) → is_number k q ≡ false → numbered (runs_after place q xs) k ≡ numbered xs k
+pub run_away : (place k : ℕ) (q : Option ℕ) (xs : List ThrottleRun) → is_number k q ≡ false → numbered (runs_after place q xs) k ≡ numbered xs k
 run_away place k None xs e = refl
 run_away place k (Some m) xs e = changed_away _ m k xs (λ same. (let both : false ≡ true = sym e ∙ eq-eqb m k (sym same) in absurd (cc)))
 

@@ -60,16 +60,16 @@ less true p false turn e = refl
 less false p q turn e = refl
 
 -- one of a list that is mapped
-record IsFrom {X : Type 0} (f : X → X) (xs : List X) (i : ℕ) (y : X) : Type 0 where
-  one : X
-  there : slice_get xs i ≡ Some one
-  is : y ≡ f one
+pub record IsFrom {X : Type 0} (f : X → X) (xs : List X) (i : ℕ) (y : X) : Type 0 where
+  pub one : X
+  pub there : slice_get xs i ≡ Some one
+  pub is : y ≡ f one
 
 from_by : {X : Type 0} (f : X → X) (xs : List X) (i : ℕ) (y : X) (r : Option X) → slice_get xs i ≡ r → option_map f r ≡ Some y → IsFrom f xs i y
 from_by f xs i y None at e = absurd (cc)
 from_by f xs i y (Some x) at e = record { one = x; there = at; is = (let same : y ≡ f x = (cc) in same) }
 
-from_map : {X : Type 0} (f : X → X) (xs : List X) (i : ℕ) (y : X) → slice_get (map f xs) i ≡ Some y → IsFrom f xs i y
+pub from_map : {X : Type 0} (f : X → X) (xs : List X) (i : ℕ) (y : X) → slice_get (map f xs) i ≡ Some y → IsFrom f xs i y
 from_map f xs i y e = from_by f xs i y (slice_get xs i) refl (sym (slice_get-map f xs i) ∙ e)
 
 some_off : {X : Type 0} (q : Option X) → is_some q ≡ true → is_none q ≡ false

@@ -32,19 +32,19 @@ use Rattle.session_actions.specs.declared.seen.Seen.{Seen}
 use Rattle.session_order.specs.declared.line.Line.{Line}
 
 -- pairs
-own_pair : (n row other : ℕ) → is_same (n, row) (n, other) ≡ (other == row)
+pub own_pair : (n row other : ℕ) → is_same (n, row) (n, other) ≡ (other == row)
 own_pair n row other = grind (arith, nat_tests)
 
-away_pair : (n row k other : ℕ) → (k == n) ≡ false → is_same (n, row) (k, other) ≡ false
+pub away_pair : (n row k other : ℕ) → (k == n) ≡ false → is_same (n, row) (k, other) ≡ false
 away_pair n row k other e = grind (arith, nat_tests, e)
 
-other_pair : (link row k other : ℕ) → (other == row) ≡ false → is_same (link, row) (k, other) ≡ false
+pub other_pair : (link row k other : ℕ) → (other == row) ≡ false → is_same (link, row) (k, other) ≡ false
 other_pair link row k other e = grind (arith, nat_tests, e)
 
-here_pair : (link row k : ℕ) → is_same (link, row) (k, row) ≡ (link == k)
+pub here_pair : (link row k : ℕ) → is_same (link, row) (k, row) ≡ (link == k)
 here_pair link row k = grind (arith, nat_tests)
 
-and_on : (b : Bool) → (b && true) ≡ b
+pub and_on : (b : Bool) → (b && true) ≡ b
 and_on true = refl
 and_on false = refl
 
