@@ -1,5 +1,6 @@
 pub mod After
 pub mod Agreeing
+pub mod AheadCommits
 pub mod AheadStays
 pub mod Base
 pub mod Buckets
