@@ -1,6 +1,7 @@
 -- One event: from a point between two entries channel and session go on to the next, by the stages of the entry.
 use Rattle.std.proofs.Common.{◌≡◌, ◌++◌, ◌+◌, ◌&&◌, ◌∷◌, ap, refl, subst, sym, ◌∙◌, true, List, [], Option, Some, ℕ, is_none, length}
 use Rattle.std.proofs.Math.Nat.{max_comm}
+use Rattle.std.proofs.lemmas.Bool.{and_parts}
 use Rattle.std.specs.Prelude.{max, nat_lt, unwrap_or}
 use Rattle.channel_actions.proofs.Does.{does_on, none_on}
 use Rattle.channel_actions.proofs.Settles.{Settles, begins}
