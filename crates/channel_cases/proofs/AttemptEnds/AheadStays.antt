@@ -1,8 +1,6 @@
 -- The end of a call leaves each link as far ahead as it was.
-use Rattle.std.proofs.Common.{◌≡◌, ◌&&◌, ◌||◌, ◌==◌, ◌++◌, ◌∷◌, not, ap, refl, subst, sym, ◌∙◌, Bool, true, false, List, [], Option, None, Some, ℕ, cond, filter, if◌then◌else◌, is_some, length, map, option_map}
-use Rattle.std.specs.Option.{option_map_or}
+use Rattle.std.proofs.Common.{◌≡◌, ◌&&◌, ◌||◌, ◌==◌, ◌++◌, ◌∷◌, not, ap, refl, subst, sym, ◌∙◌, List, [], Option, None, Some, ℕ, filter, if◌then◌else◌, is_some, length, map}
 use Rattle.std.specs.Prelude.{option_and_then, unwrap_or}
-use Rattle.attempt_ledger.specs.declared.ledger.CallEnd.{CallEnd}
 use Rattle.attempt_ledger.specs.declared.row.RowEnd.{RowEnd}
 use Rattle.channel_actions.proofs.EndsFollow.Codes.{response_by_limit}
 use Rattle.channel_actions.proofs.LinkEnds.Behind.{of_readers, readers_of}
@@ -27,8 +25,7 @@ use Rattle.session_actions.specs.Calls.{marked, with_call}
 use Rattle.session_actions.specs.Configs.{chosen_of}
 use Rattle.session_actions.specs.Entries.{entry, now}
 use Rattle.session_actions.specs.Links.{has_written_end, link_number, link_of, stream_number}
-use Rattle.session_actions.specs.Responses.{limit_of_attempt, response}
-use Rattle.session_actions.specs.Words.{numbered}
+use Rattle.session_actions.specs.Responses.{limit_of_attempt}
 use Rattle.session_actions.specs.declared.attempt.Attempt.{Attempt}
 use Rattle.session_actions.specs.declared.call.Call.{Call}
 use Rattle.session_actions.specs.declared.call.MarkKind.TheVariants as mark

@@ -1,107 +1,61 @@
 -- The attempt to which its call is committed ends, and its call by it: channel and session agree after it.
-use Rattle.std.proofs.Common.{◌≡◌, ◌&&◌, ◌||◌, ◌==◌, ◌+◌, ◌-◌, ◌%◌, ◌^◌, ◌++◌, ◌∷◌, not, ap, refl, subst, sym, ◌∙◌, Bool, true, false, List, [], Option, None, Some, ℕ, suc, if◌then◌else◌, is_none, is_some, length, map, option_map}
-use Rattle.std.proofs.lemmas.Bool.{and_right, eq-eqb, eqb-false, eqb-true}
+use Rattle.std.proofs.Common.{◌≡◌, ◌&&◌, ◌==◌, ◌+◌, ◌++◌, ◌∷◌, not, ap, refl, subst, sym, ◌∙◌, Bool, true, false, List, [], Option, None, Some, ℕ, suc, if◌then◌else◌, is_none, is_some, map, option_map}
+use Rattle.std.proofs.lemmas.Bool.{eq-eqb}
 use Rattle.std.specs.List.{list_all, list_any}
 use Rattle.std.specs.Option.{option_map_or}
-use Rattle.std.specs.Prelude.{filter, option_and_then}
-use Rattle.attempt_ledger.specs.Ends.{is_cut}
+use Rattle.std.specs.Prelude.{option_and_then}
 use Rattle.attempt_ledger.specs.declared.ledger.CallEnd.{CallEnd}
-use Rattle.attempt_ledger.specs.declared.ledger.CallSeen.{CallSeen}
-use Rattle.attempt_ledger.specs.declared.ledger.LinkSeen.{LinkSeen}
-use Rattle.attempt_ledger.specs.declared.news.News.TheVariants as news_of_link
 use Rattle.attempt_ledger.specs.declared.row.Placed.{Placed}
-use Rattle.attempt_ledger.specs.declared.row.Row.{Row}
 use Rattle.attempt_ledger.specs.declared.row.RowEnd.{RowEnd}
-use Rattle.call_actions.proofs.CallsApart.Books.{tokens_stay}
-use Rattle.call_actions.proofs.CallsApart.Fair.{lines_are_fair}
 use Rattle.call_actions.proofs.CallsInTurn.Rows.{ending_keeps}
 use Rattle.call_actions.proofs.CommittedEnd.{committed_ends_close}
-use Rattle.call_actions.proofs.Dues.{attempts_are_due}
-use Rattle.call_actions.proofs.EndTokens.{runs_after, runs_now}
 use Rattle.call_actions.proofs.Ending as ending
-use Rattle.call_actions.proofs.Lists.{changed_away, changed_here, filter_none}
-use Rattle.call_actions.proofs.TakeActions.Deadlines.{deadline_is}
+use Rattle.call_actions.proofs.Lists.{changed_here, filter_none}
 use Rattle.call_actions.proofs.TakeActions.EndSees.{traffic_all}
-use Rattle.call_actions.specs.CallsApart.Apart.{IsBook, counts_in, has_config, run_counting, run_number}
-use Rattle.call_actions.specs.CallsApart.Laws.{tokens_in_run}
-use Rattle.call_actions.specs.CallsInTurn.Laws.{IsOwn}
+use Rattle.call_actions.specs.CallsApart.Apart.{IsBook}
 use Rattle.call_actions.specs.CallsInTurn.Turns.{StaysSteady, waits as waits_to_follow}
 use Rattle.call_actions.specs.Order.{AreNumbered, IsInOrder, IsInTurn, Keeps}
-use Rattle.call_actions.specs.Sees.{Sees, bucket_of, is_live, live_row}
-use Rattle.call_actions.specs.TakeActions.Serves.{ArePlaced, IsLeft, Serves, came}
+use Rattle.call_actions.specs.Sees.{Sees, is_live, live_row}
+use Rattle.call_actions.specs.TakeActions.Serves.{ArePlaced, IsLeft, came}
 use Rattle.call_core.specs.Laws as channel_laws
-use Rattle.call_core.specs.Parts.{count_of, stopped_attempts, without}
+use Rattle.call_core.specs.Parts.{count_of, stopped_attempts}
 use Rattle.call_core.specs.Steps as steps
 use Rattle.call_core.specs.Steps.{Stepped, cut_all, end_stamped, ended_as, ended_at, fresh_buffer, row_ended, told_all}
-use Rattle.call_core.specs.declared.act.CallAct.{CallAct}
 use Rattle.call_core.specs.declared.act.CallAct.TheVariants as act_of
 use Rattle.call_core.specs.declared.live.LiveRow.{LiveRow}
 use Rattle.channel_actions.proofs.Gone.{all_numbered}
 use Rattle.channel_actions.proofs.KeptSessions.Along.{kept_along}
-use Rattle.channel_actions.proofs.OtherCalls.Buckets.{buckets_are_of_runs}
-use Rattle.channel_actions.proofs.OtherCalls.Rows.{columns_stay}
-use Rattle.channel_actions.proofs.OtherCalls.Sets.{sets_stay}
-use Rattle.channel_actions.proofs.OtherCalls.Slots.{all_calls_stay}
-use Rattle.channel_actions.proofs.SetFrames.Slots.{put_away}
-use Rattle.channel_actions.proofs.Stamps.{numbered_map}
-use Rattle.channel_actions.specs.Calls.{HasSlot, SeesCall, SeesCalls, deadline_of, due_of, lent_to}
-use Rattle.channel_actions.specs.Clock.{DrawsAlike, SeesClock}
-use Rattle.channel_actions.specs.Columns.{SeesColumns, links_noted}
-use Rattle.channel_actions.specs.Configs.{SeesBuckets, SeesConfigs, bucket_in, bucket_place}
 use Rattle.channel_actions.specs.KeptSessions.Kept.{IsKept}
-use Rattle.channel_actions.specs.OtherCalls.Laws.{SetsApart}
-use Rattle.channel_actions.specs.OtherCalls.Others.{BooksApart, GoesApart, IsBooked}
-use Rattle.channel_cases.proofs.AttemptEnds.After.{attempt_at, commitment_is, d, d_here, end, entry_is, in_out, put, put_ended, runs, t_is, u}
-use Rattle.channel_cases.proofs.AttemptEnds.Agreeing.{early_by, none_of, run_away}
-use Rattle.channel_cases.proofs.AttemptEnds.AheadStays.{calls_end_ahead}
-use Rattle.channel_cases.proofs.AttemptEnds.Base.{books, c, call_is, e, has, here, moment_is, news, off_is, out_off, queue_off, r, row_is, sees, slot, slot_there, step_is, x1, x2, z}
-use Rattle.channel_cases.proofs.AttemptEnds.Buckets.{buckets_set}
+use Rattle.channel_cases.proofs.AttemptEnds.After.{commitment_is, d, d_here, put, t_is, u}
+use Rattle.channel_cases.proofs.AttemptEnds.Agreeing.{early_by, none_of}
+use Rattle.channel_cases.proofs.AttemptEnds.Base.{books, c, call_is, e, has, here, news, r, sees, slot, step_is, x2}
 use Rattle.channel_cases.proofs.AttemptEnds.Committed.{alone, one_is}
-use Rattle.channel_cases.proofs.AttemptEnds.Told.{gone_form, slot_after, told_form}
-use Rattle.channel_cases.proofs.AttemptEnds.ToldEnd.{closed_form, told_end}
-use Rattle.channel_cases.proofs.ConfiguredCalls.Lists.{changed_length, same_numbered, same_words, set_length}
-use Rattle.channel_cases.proofs.DialEvents.Words.{draw_by}
-use Rattle.channel_cases.specs.AttemptEnds.Ahead.{AgreesOffLinks, HasLinkAhead, LinksAhead, SetsAgree}
-use Rattle.channel_cases.specs.AttemptEnds.Ends.{EndNext, ended_in, gone_with, may_wait}
+use Rattle.channel_cases.specs.AttemptEnds.Ends.{EndNext, may_wait}
 use Rattle.channel_cases.specs.AttemptEnds.Laws.{IsCommittedEnd}
-use Rattle.channel_core.proofs.BookLaws.{number_other}
-use Rattle.channel_core.proofs.Places.{put_there}
-use Rattle.channel_core.specs.Books.{drew_by, has_drawn}
 use Rattle.channel_core.specs.States.{StateSeen}
-use Rattle.channel_core.specs.Steps.{told, with_ledger_links}
-use Rattle.channel_core.specs.Tables.{tokens_in, with_tokens}
-use Rattle.channel_core.specs.Timing.{timer_moved}
 use Rattle.channel_core.specs.declared.state.slots.CallSlot.{CallSlot}
 use Rattle.grpc_base.specs.Limits.{message_limit}
 use Rattle.grpc_base.specs.declared.event.EndCause.{EndCause}
 use Rattle.grpc_base.specs.declared.event.EndCause.TheVariants as ending_cause
 use Rattle.grpc_base.specs.declared.event.Reply.{Reply}
-use Rattle.ledger_stamps.specs.Steps.{ended_call}
-use Rattle.link_actions.proofs.Ended.{noted_call, now_same}
-use Rattle.net_actions.proofs.NetFrames.Left.{net_stays_along}
-use Rattle.net_actions.specs.Sees.{Sees as SeesNet}
-use Rattle.session_actions.specs.Actions.{after as after_action, after_if, following}
-use Rattle.session_actions.specs.AttemptEnds.{attempt_ended, with_end}
-use Rattle.session_actions.specs.Attempts.{call_of, commitment, is_commitment, is_of, is_to_follow, wants_follower}
+use Rattle.session_actions.specs.Actions.{after as after_action, after_if}
+use Rattle.session_actions.specs.AttemptEnds.{with_end}
+use Rattle.session_actions.specs.Attempts.{commitment, is_of, wants_follower}
 use Rattle.session_actions.specs.CallEnds.{call_ended}
-use Rattle.session_actions.specs.Configs.{chosen_of, deadline}
+use Rattle.session_actions.specs.Configs.{chosen_of}
 use Rattle.session_actions.specs.Deliveries.{response_items}
-use Rattle.session_actions.specs.DueAttempts as session
 use Rattle.session_actions.specs.Entries.{entry, next_word, now}
 use Rattle.session_actions.specs.Links.{link_of, read_bytes}
 use Rattle.session_actions.specs.Responses.{is_read_by, limit_of_attempt, no_response, response, response_by, response_in, traffic_by, traffic_of}
-use Rattle.session_actions.specs.Sessions.{Does, call_seen}
-use Rattle.session_actions.specs.Words.{is_number, numbered}
+use Rattle.session_actions.specs.Sessions.{Does}
+use Rattle.session_actions.specs.Words.{numbered}
 use Rattle.session_actions.specs.declared.action.Action.{Action}
 use Rattle.session_actions.specs.declared.action.Action.TheVariants as action
 use Rattle.session_actions.specs.declared.attempt.Attempt.{Attempt}
 use Rattle.session_actions.specs.declared.call.Call.{Call}
-use Rattle.session_actions.specs.declared.call.Mark.{Mark}
 use Rattle.session_actions.specs.declared.call.MarkKind.TheVariants as mark
-use Rattle.session_actions.specs.declared.config.ThrottleRun.{ThrottleRun}
 use Rattle.session_actions.specs.declared.entry.OpenEntry.{OpenEntry}
 use Rattle.session_actions.specs.declared.link.Link.{Link}
-use Rattle.session_actions.specs.declared.link.Traffic.{Traffic}
 use Rattle.session_actions.specs.declared.response.Outcome.{Outcome}
 use Rattle.session_actions.specs.declared.seen.Seen.{Seen}
 use Rattle.session_order.specs.declared.line.Line.{Line}

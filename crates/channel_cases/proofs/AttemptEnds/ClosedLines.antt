@@ -1,13 +1,11 @@
 -- The attempt to which its call is committed ends, and its call by it: the end of the call is the next action, and then nothing follows at once from it.
-use Rattle.std.proofs.Common.{◌≡◌, ◌&&◌, ◌||◌, ◌==◌, ◌∷◌, not, ap, arith, refl, subst, sym, ◌∙◌, Bool, true, false, List, [], Option, None, Some, ℕ, zero, suc, cond, find, if◌then◌else◌, is_none, is_some, map, nat_lt, option_map, slice_get}
-use Rattle.std.proofs.lemmas.Bool.{and_right, eq-eqb, eqb-true}
+use Rattle.std.proofs.Common.{◌≡◌, ◌&&◌, ◌||◌, ◌==◌, ◌∷◌, not, ap, arith, refl, subst, sym, ◌∙◌, Bool, true, false, List, [], Option, Some, ℕ, zero, suc, cond, find, is_none, nat_lt, option_map, slice_get}
+use Rattle.std.proofs.lemmas.Bool.{eq-eqb, eqb-true}
 use Rattle.std.proofs.lemmas.Bool.Decides.{nat_tests}
-use Rattle.std.specs.List.{list_any}
 use Rattle.std.specs.Option.{option_map_or}
 use Rattle.attempt_ledger.specs.declared.ledger.CallEnd.{CallEnd}
 use Rattle.call_actions.proofs.CallsApart.Moves.{all_changed}
 use Rattle.call_actions.proofs.Lists.{numbered_not}
-use Rattle.call_actions.proofs.Places.{place_is}
 use Rattle.call_actions.specs.CallsInTurn.Turns.{waits as waits_to_follow}
 use Rattle.call_actions.specs.Sees.{is_live}
 use Rattle.channel_actions.proofs.OtherCalls.Rows.{number_at}
@@ -16,10 +14,10 @@ use Rattle.channel_actions.specs.EndsFollow.Laws.{is_late}
 use Rattle.channel_actions.specs.KeptSessions.Kept.{IsKept}
 use Rattle.channel_actions.specs.OtherCalls.Others.{GoesApart, IsBooked}
 use Rattle.channel_actions.specs.Sets.{is_in_outstanding}
-use Rattle.channel_cases.proofs.AttemptEnds.After.{attempts_are, d, d_here, end, in_out, numbers, put, put_call, put_out, t_is, u}
+use Rattle.channel_cases.proofs.AttemptEnds.After.{attempts_are, d_here, end, in_out, put, put_call, put_out, t_is}
 use Rattle.channel_cases.proofs.AttemptEnds.Agreeing.{early_by}
-use Rattle.channel_cases.proofs.AttemptEnds.Base.{books, c, call_is, e, has, here, news, x1}
-use Rattle.channel_cases.proofs.AttemptEnds.Closed.{act, after_is, committed_then, current_mid, dk, does_one, e_here, ek, end_, entry_then, k, kept, kept_mid, n, none_else, steady, then_ends, v, w}
+use Rattle.channel_cases.proofs.AttemptEnds.Base.{books, c, call_is, e, news, x1}
+use Rattle.channel_cases.proofs.AttemptEnds.Closed.{act, committed_then, current_mid, dk, does_one, e_here, ek, entry_then, k, kept, kept_mid, none_else, steady, then_ends, v, w}
 use Rattle.channel_cases.proofs.AttemptEnds.ClosedAgree as agree
 use Rattle.channel_cases.proofs.AttemptEnds.Committed.{counted_then}
 use Rattle.channel_cases.proofs.AttemptEnds.Finals.{IsFrom, from_map}
@@ -34,7 +32,6 @@ use Rattle.session_actions.specs.Actions.{following}
 use Rattle.session_actions.specs.AttemptEnds.{with_end}
 use Rattle.session_actions.specs.Attempts.{commitment, is_counted, is_of, is_outstanding, is_over, is_queued, wants_follower}
 use Rattle.session_actions.specs.CallEnds.{ending_call, is_over_by_row}
-use Rattle.session_actions.specs.Calls.{is_open_call}
 use Rattle.session_actions.specs.Commitments.{is_final_end, is_final_in}
 use Rattle.session_actions.specs.Events.{is_loss}
 use Rattle.session_actions.specs.Words.{holds, numbered}

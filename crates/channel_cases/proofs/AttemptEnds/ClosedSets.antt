@@ -1,11 +1,9 @@
 -- The sets of the channel, once an attempt has ended and its call by it: nothing of the call is in them any more.
-use Rattle.std.proofs.Common.{◌≡◌, ◌&&◌, ◌||◌, ◌==◌, ◌∷◌, not, ap, arith, refl, subst, sym, ◌∙◌, Bool, true, false, List, Option, None, Some, ℕ, zero, suc, if◌then◌else◌, is_none, is_some, option_map}
+use Rattle.std.proofs.Common.{◌≡◌, ◌&&◌, ◌||◌, ◌==◌, not, ap, arith, refl, subst, sym, ◌∙◌, Bool, true, false, List, Option, None, Some, ℕ, is_none, is_some}
 use Rattle.std.proofs.lemmas.Bool.{and_right, eq-eqb, eqb-true}
 use Rattle.std.proofs.lemmas.Bool.Decides.{nat_tests}
-use Rattle.std.specs.List.{list_any}
 use Rattle.std.specs.Option.{option_map_or}
 use Rattle.std.specs.Set.{remove_key}
-use Rattle.attempt_ledger.specs.declared.ledger.CallEnd.{CallEnd}
 use Rattle.attempt_ledger.specs.declared.row.Placed.{Placed}
 use Rattle.call_actions.proofs.Lists.{numbered_not}
 use Rattle.call_actions.proofs.Places.{place_is}
@@ -15,7 +13,7 @@ use Rattle.channel_actions.proofs.SetFrames.Timers.{other_key, own_key, timers_e
 use Rattle.channel_actions.specs.Calls.{deadline_of, due_of}
 use Rattle.channel_actions.specs.OtherCalls.Laws.{SetsApart}
 use Rattle.channel_actions.specs.Sets.{AreExactly, is_in_bare, is_in_deadlines, is_in_dues, is_in_impatient, is_in_outstanding, is_in_patient, is_in_queue, is_patient, is_waiting}
-use Rattle.channel_cases.proofs.AttemptEnds.After.{attempt_at, in_out, numbers, put, put_call, put_ended, put_placed, u}
+use Rattle.channel_cases.proofs.AttemptEnds.After.{in_out, numbers}
 use Rattle.channel_cases.proofs.AttemptEnds.Base.{books, c, call_is, has, here, out_off, queue_off, slot}
 use Rattle.channel_cases.proofs.AttemptEnds.Closed.{e_here, ek, n, none_else, w}
 use Rattle.channel_cases.proofs.AttemptEnds.Sets.{and_on, away_pair, here_pair, other_pair, own_pair}
@@ -26,7 +24,7 @@ use Rattle.channel_core.specs.States.{StateSeen}
 use Rattle.channel_core.specs.Timing.{timer_moved}
 use Rattle.channel_core.specs.declared.state.slots.CallSlot.{CallSlot}
 use Rattle.picker_gate.specs.Pairs.{is_same}
-use Rattle.session_actions.specs.Attempts.{call_of, is_of, is_outstanding, is_over, is_over_in, is_queued}
+use Rattle.session_actions.specs.Attempts.{is_of, is_outstanding, is_over, is_over_in, is_queued}
 use Rattle.session_actions.specs.Calls.{is_open_call}
 use Rattle.session_actions.specs.Links.{link_number}
 use Rattle.session_actions.specs.Words.{holds, is_number, numbered}

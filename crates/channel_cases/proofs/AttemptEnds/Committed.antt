@@ -1,18 +1,16 @@
 -- The attempt to which its call is committed ends: it is the one that has the call, and no other attempt of the call goes on.
-use Rattle.std.proofs.Common.{◌≡◌, ◌&&◌, ◌||◌, ◌==◌, ◌≤◌, ◌++◌, ◌∷◌, not, ap, arith, refl, subst, sym, ◌∙◌, Bool, true, false, List, [], Option, None, Some, ℕ, zero, suc, if◌then◌else◌, is_none, is_some, nat_lt, option_map, slice_get}
+use Rattle.std.proofs.Common.{◌≡◌, ◌&&◌, ◌||◌, ◌==◌, ◌≤◌, ◌++◌, ◌∷◌, not, ap, arith, refl, sym, ◌∙◌, Bool, true, false, List, [], Option, None, Some, ℕ, zero, suc, if◌then◌else◌, is_none, is_some, nat_lt, slice_get}
 use Rattle.std.proofs.lemmas.Bool.{and_parts, eq-eqb, eqb-true}
 use Rattle.std.proofs.lemmas.Bool.Decides.{nat_tests}
 use Rattle.std.specs.List.{list_any}
 use Rattle.std.specs.Option.{option_or}
 use Rattle.attempt_ledger.specs.declared.ledger.CallEnd.{CallEnd}
-use Rattle.attempt_ledger.specs.declared.row.Placed.{Placed}
 use Rattle.attempt_ledger.specs.declared.row.RowEnd.{RowEnd}
 use Rattle.call_actions.proofs.CallsInTurn.Changes.{some_last}
 use Rattle.call_actions.proofs.EndRows as rows
 use Rattle.call_actions.proofs.Ending as ending
 use Rattle.call_actions.proofs.Frames as frames
 use Rattle.call_actions.proofs.Lists.{numbered_not}
-use Rattle.call_actions.proofs.Places.{place_is}
 use Rattle.call_actions.proofs.TakeActions.Lists.{found_at}
 use Rattle.call_actions.specs.Laws.{IsCounting}
 use Rattle.call_actions.specs.Order.{AreNumbered, IsInOrder, IsInTurn, goes_on_followed}
@@ -20,7 +18,7 @@ use Rattle.call_actions.specs.Sees.{Sees, is_live}
 use Rattle.call_core.specs.Steps.{Stepped}
 use Rattle.channel_actions.proofs.EndsFollow.Apart.{last_passes}
 use Rattle.channel_actions.proofs.Outstanding.{any_of}
-use Rattle.channel_cases.proofs.AttemptEnds.After.{commitment_is, d, put, t_is, u}
+use Rattle.channel_cases.proofs.AttemptEnds.After.{t_is, u}
 use Rattle.channel_cases.proofs.AttemptEnds.Agreeing.{early_by}
 use Rattle.channel_cases.proofs.AttemptEnds.Base.{c, e, has, here, sees, x2}
 use Rattle.channel_cases.proofs.AttemptEnds.Others.{none_at}
@@ -28,8 +26,6 @@ use Rattle.channel_cases.specs.AttemptEnds.Ends.{EndNext, may_wait}
 use Rattle.channel_core.specs.States.{StateSeen}
 use Rattle.session_actions.specs.AttemptEnds.{with_end}
 use Rattle.session_actions.specs.Attempts.{commitment, counts_by, is_commitment, is_counted, is_followed, is_later_of, is_of, is_outstanding, is_over, is_over_in, is_queued}
-use Rattle.session_actions.specs.CallEnds.{is_over_by_row}
-use Rattle.session_actions.specs.Calls.{is_open_call}
 use Rattle.session_actions.specs.Commitments.{is_inherited, is_inherited_by, is_inherited_in}
 use Rattle.session_actions.specs.Words.{find_last, holds, numbered}
 use Rattle.session_actions.specs.declared.attempt.Attempt.{Attempt}

@@ -1,9 +1,8 @@
 -- What is done to one call brings nothing about for another one: no attempt of another call waits for its follower then, no other call ends by its attempt, and no end
 -- of another call's attempt is final, that was not so before.
-use Rattle.std.proofs.Common.{◌≡◌, ◌==◌, ◌&&◌, ◌||◌, ◌∷◌, ap, refl, subst, sym, ◌∙◌, Bool, true, false, List, [], Option, None, Some, ℕ, zero, suc, is_some, slice_get}
+use Rattle.std.proofs.Common.{◌≡◌, ◌==◌, ◌&&◌, ◌∷◌, ap, refl, sym, ◌∙◌, Bool, true, false, List, [], Option, None, Some, ℕ, zero, suc, is_some, slice_get}
 use Rattle.std.proofs.lemmas.Bool.{eq-eqb, or_from}
 use Rattle.std.specs.List.{list_any}
-use Rattle.attempt_ledger.specs.declared.row.RowEnd.{RowEnd}
 use Rattle.call_actions.proofs.CallsApart.Kept.{over_same, wants_same}
 use Rattle.call_actions.proofs.Lists.{numbered_not}
 use Rattle.call_actions.specs.CallsApart.Apart.{IsApart}

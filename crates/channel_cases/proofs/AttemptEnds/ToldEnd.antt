@@ -1,5 +1,5 @@
 -- A call of the channel hears that one of its attempts ended, and ends by it: the book, the timers and the draws change, and the call waits for no config.
-use Rattle.std.proofs.Common.{◌≡◌, ◌-◌, ◌∷◌, ap, refl, sym, ◌∙◌, List, [], Option, None, Some, ℕ, slice_set}
+use Rattle.std.proofs.Common.{◌≡◌, ◌-◌, ◌∷◌, ap, ◌∙◌, List, [], Option, Some, ℕ}
 use Rattle.std.specs.Set.{remove_key}
 use Rattle.attempt_ledger.specs.declared.news.EndNews.{EndNews}
 use Rattle.attempt_ledger.specs.declared.news.News.TheVariants as news
@@ -8,7 +8,7 @@ use Rattle.call_core.specs.Steps.{Stepped, heard_news}
 use Rattle.call_core.specs.declared.act.CallAct.{CallAct}
 use Rattle.call_core.specs.declared.act.CallAct.TheVariants as act
 use Rattle.channel_actions.proofs.SetFrames.Slots.{acted_is, changed_slot_is, set_twice}
-use Rattle.channel_cases.proofs.AttemptEnds.Told.{book_with, lent_of, slot_after, step_of, told_form}
+use Rattle.channel_cases.proofs.AttemptEnds.Told.{book_with, slot_after, step_of, told_form}
 use Rattle.channel_core.proofs.Places.{put_there}
 use Rattle.channel_core.specs.Books.{BookActs, acted_in, book_acted, book_after, bucket_at, call_of, deadline_of, due_at, has_drawn, row_at, slot_at}
 use Rattle.channel_core.specs.States.{StateSeen}
