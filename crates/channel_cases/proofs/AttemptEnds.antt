@@ -1,8 +1,15 @@
 pub mod After
 pub mod Agreeing
+pub mod AheadCommits
+pub mod AheadStays
 pub mod Base
 pub mod Buckets
 pub mod Buffers
+pub mod Closed
+pub mod ClosedAgree
+pub mod ClosedLines
+pub mod ClosedSets
+pub mod Committed
 pub mod Finals
 pub mod GoesOn
 pub mod Gone
@@ -13,5 +20,6 @@ pub mod Own
 pub mod Picks
 pub mod Sets
 pub mod Told
+pub mod ToldEnd
 pub mod Unowed
 pub mod Whole

@@ -1,5 +1,5 @@
 // One attempt that ends; nothing runs.
-ghost use Rattle.channel_cases.specs.AttemptEnds.Laws.{CallsGoOnAfterEnds, NoneIsOwed};
+ghost use Rattle.channel_cases.specs.AttemptEnds.Laws.{CallsGoOnAfterEnds, CommittedEndsClose, NoneIsOwed};
 
 /// Where an attempt ends, by its pick or by the wire, and its call goes on, since a retry is licensed, or another attempt of the hedged call goes on or is due,
 /// the end is the next action, nothing follows at once from it but resets, and channel and session agree, with the tokens and the moment of the next attempt
@@ -7,4 +7,10 @@ ghost use Rattle.channel_cases.specs.AttemptEnds.Laws.{CallsGoOnAfterEnds, NoneI
 pub fn calls_go_on_after_ends()
     ensures goes { CallsGoOnAfterEnds }
     ensures unowed { NoneIsOwed }
+{}
+
+/// Where the attempt ends to which its call is committed, and no transparent retry follows it, the end of the call is the next action; then nothing follows at once
+/// but resets, and channel and session agree (gRPC, "Core concepts": RPC life cycle; gRFC A6, "When Retries are Valid").
+pub fn committed_ends_close()
+    ensures { CommittedEndsClose }
 {}

@@ -1,10 +1,9 @@
 -- An attempt ends, and its call goes on: all but the links agree after it, and the links are ahead as they were.
-use Rattle.std.proofs.Common.{◌≡◌, ◌&&◌, ◌==◌, ◌||◌, ◌+◌, ◌-◌, ◌%◌, ◌^◌, ◌∷◌, ◌++◌, not, ap, refl, subst, sym, ◌∙◌, Bool, true, false, List, [], Option, None, Some, ℕ, if◌then◌else◌, is_none, is_some, length, map, option_map, slice_set}
+use Rattle.std.proofs.Common.{◌≡◌, ◌&&◌, ◌==◌, ◌||◌, ◌+◌, ◌-◌, ◌%◌, ◌^◌, ◌∷◌, not, ap, refl, subst, sym, ◌∙◌, Bool, true, false, List, [], Option, None, Some, ℕ, if◌then◌else◌, is_none, is_some, length, map, option_map}
 use Rattle.std.proofs.lemmas.Bool.{eqb-true, eq-eqb}
-use Rattle.std.specs.List.{list_all, list_any}
+use Rattle.std.specs.List.{list_any}
 use Rattle.std.specs.Option.{option_map_or}
 use Rattle.std.specs.Prelude.{option_and_then}
-use Rattle.a6_numbers.specs.Throttling.{Bucket}
 use Rattle.attempt_ledger.specs.Ends.{is_cut}
 use Rattle.attempt_ledger.specs.declared.ledger.CallSeen.{CallSeen}
 use Rattle.attempt_ledger.specs.declared.ledger.LinkSeen.{LinkSeen}
@@ -19,13 +18,11 @@ use Rattle.call_actions.proofs.Dues.{attempts_are_due}
 use Rattle.call_actions.proofs.EndTokens.{runs_after, runs_now}
 use Rattle.call_actions.proofs.Ending as ending
 use Rattle.call_actions.proofs.Lists.{changed_away}
-use Rattle.call_actions.proofs.Ranks.{any_map_all}
 use Rattle.call_actions.specs.CallsApart.Apart.{IsBook, counts_in, has_config, run_counting, run_number}
 use Rattle.call_actions.specs.CallsApart.Laws.{tokens_in_run}
-use Rattle.call_actions.specs.CallsInTurn.Laws.{IsOwn}
-use Rattle.call_actions.specs.CallsInTurn.Turns.{IsSteady, StaysSteady, waits as waits_to_follow}
+use Rattle.call_actions.specs.CallsInTurn.Turns.{StaysSteady, waits as waits_to_follow}
 use Rattle.call_actions.specs.Order.{IsInTurn}
-use Rattle.call_actions.specs.Sees.{Sees, bucket_of}
+use Rattle.call_actions.specs.Sees.{bucket_of}
 use Rattle.call_core.specs.Steps.{Stepped}
 use Rattle.channel_actions.proofs.Gone.{all_numbered}
 use Rattle.channel_actions.proofs.KeptSessions.Along.{kept_along}
@@ -35,31 +32,30 @@ use Rattle.channel_actions.proofs.OtherCalls.Sets.{sets_stay}
 use Rattle.channel_actions.proofs.OtherCalls.Slots.{all_calls_stay}
 use Rattle.channel_actions.proofs.SetFrames.Slots.{put_away}
 use Rattle.channel_actions.proofs.Stamps.{numbered_map}
-use Rattle.channel_actions.specs.Calls.{HasSlot, SeesCall, SeesCalls, lent_to}
+use Rattle.channel_actions.specs.Calls.{HasSlot, SeesCall, SeesCalls}
 use Rattle.channel_actions.specs.Clock.{DrawsAlike, SeesClock}
 use Rattle.channel_actions.specs.Columns.{SeesColumns, links_noted}
 use Rattle.channel_actions.specs.Configs.{SeesBuckets, SeesConfigs, bucket_in, bucket_place}
-use Rattle.channel_actions.specs.EndsFollow.Laws.{is_late}
 use Rattle.channel_actions.specs.KeptSessions.Kept.{IsKept}
 use Rattle.channel_actions.specs.OtherCalls.Laws.{SetsApart}
-use Rattle.channel_actions.specs.OtherCalls.Others.{AreOfCall, BooksApart, GoesApart, IsBooked}
-use Rattle.channel_cases.proofs.AttemptEnds.After.{attempt_at, d, d_here, end, entry_is, in_out, put, put_ended, put_placed, runs, t_is, u}
+use Rattle.channel_actions.specs.OtherCalls.Others.{BooksApart, GoesApart, IsBooked}
+use Rattle.channel_cases.proofs.AttemptEnds.After.{attempt_at, d_here, end, entry_is, put, put_ended, runs, t_is}
 use Rattle.channel_cases.proofs.AttemptEnds.Base.{books, c, call_is, e, has, here, moment_is, news, off_is, out_off, queue_off, row_is, sees, slot, slot_there, x1, x2, z}
 use Rattle.channel_cases.proofs.AttemptEnds.Buckets.{buckets_set}
 use Rattle.channel_cases.proofs.AttemptEnds.GoesOn.{after, call, called, order, order_then, r_is, sees_then, then_, turn}
 use Rattle.channel_cases.proofs.AttemptEnds.Own.{own_call}
 use Rattle.channel_cases.proofs.AttemptEnds.Sets.{sets_then}
 use Rattle.channel_cases.proofs.AttemptEnds.Told.{gone_form, slot_after, told_form, told_is}
-use Rattle.channel_cases.proofs.ConfiguredCalls.Lists.{changed_length, same_numbered, same_words, set_length}
+use Rattle.channel_cases.proofs.ConfiguredCalls.Lists.{changed_length, same_numbered, set_length}
 use Rattle.channel_cases.proofs.DialEvents.Words.{draw_by}
 use Rattle.channel_cases.specs.AttemptEnds.Ahead.{AgreesOffLinks, HasLinkAhead, LinksAhead, SetsAgree}
-use Rattle.channel_cases.specs.AttemptEnds.Ends.{EndNext, ended_in, gone_with, may_wait, taken_off}
+use Rattle.channel_cases.specs.AttemptEnds.Ends.{EndNext, ended_in, gone_with, may_wait}
 use Rattle.channel_cases.specs.AttemptEnds.Laws.{GoesOnAfter}
 use Rattle.channel_core.proofs.Places.{put_there}
 use Rattle.channel_core.specs.Books.{drew_by, has_drawn}
 use Rattle.channel_core.specs.States.{StateSeen}
 use Rattle.channel_core.specs.Steps.{told, with_ledger_links}
-use Rattle.channel_core.specs.Tables.{BucketsSeen, tokens_in, with_tokens}
+use Rattle.channel_core.specs.Tables.{tokens_in, with_tokens}
 use Rattle.channel_core.specs.Timing.{timer_moved}
 use Rattle.channel_core.specs.declared.state.slots.CallSlot.{CallSlot}
 use Rattle.link_actions.proofs.Ended.{noted_call, now_same}
@@ -67,9 +63,9 @@ use Rattle.net_actions.proofs.NetFrames.Left.{net_stays}
 use Rattle.net_actions.specs.Sees.{Sees as SeesNet}
 use Rattle.session_actions.specs.Actions.{after as after_action, after_if}
 use Rattle.session_actions.specs.Attempts.{is_of, is_to_follow, wants_follower}
-use Rattle.session_actions.specs.Entries.{entry, now}
+use Rattle.session_actions.specs.Entries.{now}
 use Rattle.session_actions.specs.Sessions.{Does, call_seen}
-use Rattle.session_actions.specs.Words.{changed, is_number, numbered}
+use Rattle.session_actions.specs.Words.{is_number, numbered}
 use Rattle.session_actions.specs.declared.action.Action.{Action}
 use Rattle.session_actions.specs.declared.action.Action.TheVariants as action
 use Rattle.session_actions.specs.declared.attempt.Attempt.{Attempt}
@@ -79,7 +75,6 @@ use Rattle.session_actions.specs.declared.config.ThrottleRun.{ThrottleRun}
 use Rattle.session_actions.specs.declared.entry.OpenEntry.{OpenEntry}
 use Rattle.session_actions.specs.declared.response.Outcome.{Outcome}
 use Rattle.session_actions.specs.declared.seen.Seen.{Seen}
-use Rattle.session_order.specs.Calm.{IsStill}
 use Rattle.session_order.specs.declared.line.Line.{Line}
 use Rattle.session_order.specs.declared.line.Line.TheVariants as line
 
@@ -88,7 +83,7 @@ early_by false l turn e = refl
 early_by true l turn e = absurd (let both : true ≡ false = sym (turn refl) ∙ e in (cc))
 
 -- no attempt that waits to be followed is of one call
-none_of : (p q : Attempt → Bool) (xs : List Attempt) → list_any q xs ≡ false → list_any (λ (a : Attempt). p a && q a) xs ≡ false
+pub none_of : (p q : Attempt → Bool) (xs : List Attempt) → list_any q xs ≡ false → list_any (λ (a : Attempt). p a && q a) xs ≡ false
 none_of p q [] e = refl
 none_of p q (a ∷ xs) e = none_by (p a) (q a) (list_any q xs) (list_any (λ (b : Attempt). p b && q b) xs) e (none_of p q xs)
   where
@@ -98,7 +93,7 @@ none_of p q (a ∷ xs) e = none_by (p a) (q a) (list_any q xs) (list_any (λ (b 
     none_by false true rest other e turn = absurd (cc)
     none_by false false rest other e turn = turn e
 
-run_away : (place k : ℕ) (q : Option ℕ) (xs : List ThrottleRun) → is_number k q ≡ false → numbered (runs_after place q xs) k ≡ numbered xs k
+pub run_away : (place k : ℕ) (q : Option ℕ) (xs : List ThrottleRun) → is_number k q ≡ false → numbered (runs_after place q xs) k ≡ numbered xs k
 run_away place k None xs e = refl
 run_away place k (Some m) xs e = changed_away _ m k xs (λ same. (let both : false ≡ true = sym e ∙ eq-eqb m k (sym same) in absurd (cc)))
 

@@ -1,5 +1,5 @@
 -- One attempt ends: the call, what it is lent, and what the channel takes off first.
-use Rattle.std.proofs.Common.{◌≡◌, ◌==◌, ap, refl, subst, sym, ◌∙◌, Bool, true, List, [], Option, None, Some, ℕ, option_map}
+use Rattle.std.proofs.Common.{◌≡◌, ap, refl, subst, sym, ◌∙◌, Bool, List, Option, None, Some, ℕ, option_map}
 use Rattle.std.proofs.lemmas.Bool.{eqb-true}
 use Rattle.std.specs.Set.{remove_key}
 use Rattle.attempt_ledger.specs.declared.ledger.LinkSeen.{LinkSeen}

@@ -1,8 +1,8 @@
 -- The tokens of one call's run change in the channel as in the session: its bucket is that of its run, and of no other.
-use Rattle.std.proofs.Common.{◌≡◌, ◌∙◌, ◌&&◌, ◌==◌, ◌<◌, ◌∷◌, Bool, true, false, List, [], Option, None, Some, ℕ, zero, suc, ap, arith, refl, sym, subst, if◌then◌else◌, is_some, length, map, take, slice_get, slice_set}
+use Rattle.std.proofs.Common.{◌≡◌, ◌∙◌, ◌==◌, ◌∷◌, Bool, true, false, List, [], Option, None, Some, ℕ, zero, suc, ap, arith, refl, sym, subst, if◌then◌else◌, is_some, length, map, take, slice_get, slice_set}
 use Rattle.std.proofs.lemmas.Bool.{and_parts, eqb-true}
 use Rattle.std.proofs.lemmas.Bool.Decides.{nat_tests}
-use Rattle.std.specs.Option.{option_map, option_map_or}
+use Rattle.std.specs.Option.{option_map_or}
 use Rattle.std.specs.Prelude.{nat_lt, option_and_then}
 use Rattle.a6_numbers.specs.Throttling.{Bucket}
 use Rattle.call_actions.specs.CallsApart.Apart.{has_config, run_number}
@@ -10,7 +10,6 @@ use Rattle.channel_actions.proofs.SetFrames.Slots.{set_twice}
 use Rattle.channel_actions.specs.Configs.{SeesBuckets, bucket_in, bucket_place, is_same_run, runs_after, runs_in_turn}
 use Rattle.channel_cases.specs.AttemptEnds.Runs.{RunsRise, rise}
 use Rattle.channel_core.specs.Tables.{BucketsSeen, with_tokens}
-use Rattle.grpc_base.specs.declared.plan.Throttle.{Throttle}
 use Rattle.session_actions.specs.Words.{is_number, last_of, numbered}
 use Rattle.session_actions.specs.declared.call.Call.{Call}
 use Rattle.session_actions.specs.declared.config.HeldConfig.{HeldConfig}

@@ -1,14 +1,11 @@
 -- An attempt ends, and its call goes on: no end of an attempt of the call is final then.
-use Rattle.std.proofs.Common.{◌≡◌, ◌==◌, ◌&&◌, ◌||◌, ◌++◌, ◌∷◌, not, ap, arith, refl, subst, sym, ◌∙◌, Bool, true, false, List, [], Option, None, Some, ℕ, zero, suc, if◌then◌else◌, is_none, is_some, map, option_map, slice_get}
-use Rattle.std.proofs.lemmas.Bool.{and_parts, and_right, eq-eqb, eqb-true, or_parts}
+use Rattle.std.proofs.Common.{◌≡◌, ◌==◌, ◌&&◌, ◌||◌, ◌++◌, ◌∷◌, not, ap, arith, refl, subst, sym, ◌∙◌, Bool, true, false, List, [], Option, None, Some, ℕ, suc, if◌then◌else◌, is_none, is_some, map, option_map, slice_get}
+use Rattle.std.proofs.lemmas.Bool.{and_parts, and_right, eqb-true}
 use Rattle.std.proofs.lemmas.Bool.Decides.{nat_tests}
 use Rattle.std.proofs.lemmas.Option.{slice_get-map}
 use Rattle.std.specs.List.{list_any}
-use Rattle.std.specs.Option.{option_map_or}
 use Rattle.std.specs.Prelude.{option_and_then}
 use Rattle.attempt_ledger.specs.Ends.{is_above}
-use Rattle.attempt_ledger.specs.declared.ledger.CallEnd.{CallEnd}
-use Rattle.attempt_ledger.specs.declared.row.Placed.{Placed}
 use Rattle.attempt_ledger.specs.declared.row.RowEnd.{RowEnd}
 use Rattle.call_actions.proofs.EndFrames as ending_frames
 use Rattle.call_actions.proofs.EndFrames.{with_end_at}
@@ -21,9 +18,9 @@ use Rattle.call_actions.proofs.Places.{place_is}
 use Rattle.call_actions.proofs.Ranks.{any_map_all}
 use Rattle.call_actions.specs.Sees.{Sees, is_live}
 use Rattle.call_core.specs.Steps.{Stepped}
-use Rattle.channel_cases.proofs.AttemptEnds.After.{attempts_are, d, d_here, end, free_then, in_wait, numbers, over_after, over_before, put, put_call, put_ended, put_out, put_placed, t_is, u, waits_one}
-use Rattle.channel_cases.proofs.AttemptEnds.Agreeing.{act, apart, current_then, entry_then, kept_then, n, runs_are}
-use Rattle.channel_cases.proofs.AttemptEnds.Base.{books, c, call_is, e, has, here, sees, t, x1, x2}
+use Rattle.channel_cases.proofs.AttemptEnds.After.{attempts_are, d_here, free_then, numbers, put, put_call, put_out, t_is, waits_one}
+use Rattle.channel_cases.proofs.AttemptEnds.Agreeing.{apart, entry_then, kept_then, n, runs_are}
+use Rattle.channel_cases.proofs.AttemptEnds.Base.{books, c, e, here, sees, t, x1, x2}
 use Rattle.channel_cases.proofs.AttemptEnds.GoesOn.{call, called, order, then_, turn}
 use Rattle.channel_cases.proofs.AttemptEnds.Lines.{was_still}
 use Rattle.channel_cases.proofs.AttemptEnds.Others.{final_none, none_at}
@@ -33,15 +30,13 @@ use Rattle.channel_core.specs.States.{StateSeen}
 use Rattle.grpc_base.specs.Codes.{has_code}
 use Rattle.grpc_base.specs.declared.plan.CallPlan.{CallPlan}
 use Rattle.grpc_base.specs.declared.plan.CallPlan.TheVariants as plan
-use Rattle.grpc_base.specs.declared.plan.HedgePolicy.{HedgePolicy}
-use Rattle.grpc_base.specs.declared.plan.RetryPolicy.{RetryPolicy}
 use Rattle.grpc_base.specs.declared.plan.Throttle.{Throttle}
 use Rattle.session_actions.specs.AttemptEnds.{with_end}
-use Rattle.session_actions.specs.Attempts.{call_of, commitment, counts_by, is_counted, is_of, is_outstanding, is_queued}
+use Rattle.session_actions.specs.Attempts.{counts_by, is_counted, is_of, is_outstanding, is_queued}
 use Rattle.session_actions.specs.Commitments.{is_final_end, is_final_in, is_free_call}
 use Rattle.session_actions.specs.Configs.{plan_of}
-use Rattle.session_actions.specs.DueAttempts.{has_going, is_final, is_final_by, is_licensed, is_licensed_by, last_counted, next_due}
-use Rattle.session_actions.specs.Tokens.{allows_attempt, run_of}
+use Rattle.session_actions.specs.DueAttempts.{has_going, is_final_by, is_licensed, is_licensed_by, last_counted, next_due}
+use Rattle.session_actions.specs.Tokens.{run_of}
 use Rattle.session_actions.specs.Words.{holds, is_number, numbered}
 use Rattle.session_actions.specs.declared.attempt.Attempt.{Attempt}
 use Rattle.session_actions.specs.declared.call.Call.{Call}
@@ -60,16 +55,16 @@ less true p false turn e = refl
 less false p q turn e = refl
 
 -- one of a list that is mapped
-record IsFrom {X : Type 0} (f : X → X) (xs : List X) (i : ℕ) (y : X) : Type 0 where
-  one : X
-  there : slice_get xs i ≡ Some one
-  is : y ≡ f one
+pub record IsFrom {X : Type 0} (f : X → X) (xs : List X) (i : ℕ) (y : X) : Type 0 where
+  pub one : X
+  pub there : slice_get xs i ≡ Some one
+  pub is : y ≡ f one
 
 from_by : {X : Type 0} (f : X → X) (xs : List X) (i : ℕ) (y : X) (r : Option X) → slice_get xs i ≡ r → option_map f r ≡ Some y → IsFrom f xs i y
 from_by f xs i y None at e = absurd (cc)
 from_by f xs i y (Some x) at e = record { one = x; there = at; is = (let same : y ≡ f x = (cc) in same) }
 
-from_map : {X : Type 0} (f : X → X) (xs : List X) (i : ℕ) (y : X) → slice_get (map f xs) i ≡ Some y → IsFrom f xs i y
+pub from_map : {X : Type 0} (f : X → X) (xs : List X) (i : ℕ) (y : X) → slice_get (map f xs) i ≡ Some y → IsFrom f xs i y
 from_map f xs i y e = from_by f xs i y (slice_get xs i) refl (sym (slice_get-map f xs i) ∙ e)
 
 some_off : {X : Type 0} (q : Option X) → is_some q ≡ true → is_none q ≡ false

@@ -1,28 +1,17 @@
 -- An attempt ends, and its call goes on: a retry is licensed, or another attempt of the hedged call goes on or is due. Channel and session agree after it.
-use Rattle.std.proofs.Common.{◌≡◌, ◌&&◌, ◌==◌, ◌||◌, ◌+◌, ◌-◌, ◌%◌, ◌^◌, ◌∷◌, ◌++◌, not, ap, refl, subst, sym, ◌∙◌, Bool, true, false, List, [], Option, None, Some, ℕ, if◌then◌else◌, inl, inr, is_none, is_some, length, map, option_map}
-use Rattle.std.proofs.lemmas.Bool.{and_parts, eqb-false, eqb-true, eq-eqb}
-use Rattle.std.specs.List.{list_all, list_any}
-use Rattle.std.specs.Option.{option_map_or}
-use Rattle.std.specs.Prelude.{option_and_then}
-use Rattle.a6_numbers.specs.Throttling.{Bucket}
-use Rattle.attempt_ledger.specs.Ends.{is_cut}
+use Rattle.std.proofs.Common.{◌≡◌, ◌&&◌, ◌==◌, ◌||◌, not, ap, refl, subst, sym, ◌∙◌, Bool, true, false, List, Option, None, Some, ℕ, option_map}
+use Rattle.std.proofs.lemmas.Bool.{and_parts}
+use Rattle.std.specs.List.{list_any}
 use Rattle.attempt_ledger.specs.declared.ledger.CallEnd.{CallEnd}
-use Rattle.attempt_ledger.specs.declared.ledger.CallSeen.{CallSeen}
-use Rattle.attempt_ledger.specs.declared.news.News.TheVariants as news
-use Rattle.attempt_ledger.specs.declared.row.Row.{Row}
-use Rattle.attempt_ledger.specs.declared.row.RowEnd.{RowEnd}
-use Rattle.call_actions.proofs.Dues.{attempts_are_due}
 use Rattle.call_actions.proofs.Ending as ending
 use Rattle.call_actions.proofs.Hedged.{hedges_go_on}
 use Rattle.call_actions.proofs.LastEnds.Going.{due_hedges_go_on}
 use Rattle.call_actions.proofs.Retried.{retries_are_set}
-use Rattle.call_actions.specs.Laws.{IsCounting}
 use Rattle.call_actions.specs.Order.{IsInOrder, IsInTurn, Keeps}
 use Rattle.call_actions.specs.Sees.{Sees, is_live}
-use Rattle.call_core.specs.Steps as steps
 use Rattle.call_core.specs.Steps.{Stepped, closed_if, ended_at}
-use Rattle.channel_cases.proofs.AttemptEnds.After.{commitment_is, d, d_here, u, t_is}
-use Rattle.channel_cases.proofs.AttemptEnds.Base.{c, e, has, here, news, r, sees, slot, step_is, t, x2}
+use Rattle.channel_cases.proofs.AttemptEnds.After.{d, d_here, u, t_is}
+use Rattle.channel_cases.proofs.AttemptEnds.Base.{c, e, has, news, r, sees, step_is, t, x2}
 use Rattle.channel_cases.specs.AttemptEnds.Ends.{EndNext}
 use Rattle.channel_cases.specs.AttemptEnds.Laws.{GoesOnAfter, goes_on_after}
 use Rattle.channel_core.specs.States.{StateSeen}
@@ -31,10 +20,7 @@ use Rattle.grpc_base.specs.declared.event.EndCause.{EndCause}
 use Rattle.grpc_base.specs.declared.event.EndCause.TheVariants as endcause
 use Rattle.grpc_base.specs.declared.plan.CallPlan.{CallPlan}
 use Rattle.grpc_base.specs.declared.plan.CallPlan.TheVariants as plan
-use Rattle.session_actions.specs.AttemptEnds.{attempt_ended}
-use Rattle.session_actions.specs.Attempts.{commitment}
 use Rattle.session_actions.specs.Configs.{plan_of}
-use Rattle.session_actions.specs.DueAttempts.{next_due}
 use Rattle.session_actions.specs.Entries.{next_word, now}
 use Rattle.session_actions.specs.Words.{numbered}
 use Rattle.session_actions.specs.declared.attempt.Attempt.{Attempt}

@@ -1,17 +1,15 @@
 -- Which links are gone once an attempt has ended: the channel stamps the link of the attempt, and the session notes the same links as gone.
-use Rattle.std.proofs.Common.{◌≡◌, ◌&&◌, ◌||◌, ◌==◌, ◌+◌, ◌∷◌, ap, refl, subst, sym, ◌∙◌, Bool, true, false, List, [], Option, None, Some, ℕ, zero, suc, not, if◌then◌else◌, is_none, is_some, map, slice_get}
-use Rattle.std.proofs.lemmas.Bool.{and_right, eqb-false, eqb-true}
+use Rattle.std.proofs.Common.{◌≡◌, ◌&&◌, ◌||◌, ◌==◌, ◌+◌, ◌∷◌, ap, refl, subst, sym, ◌∙◌, Bool, true, false, List, [], Option, None, Some, ℕ, zero, suc, not, if◌then◌else◌, is_none, is_some, slice_get}
+use Rattle.std.proofs.lemmas.Bool.{and_right, eqb-false}
 use Rattle.std.specs.List.{list_any}
 use Rattle.std.specs.Option.{option_map}
 use Rattle.attempt_ledger.specs.declared.ledger.LinkSeen.{LinkSeen}
 use Rattle.attempt_ledger.specs.declared.row.Placed.{Placed}
 use Rattle.channel_actions.proofs.Gone.{all_numbered}
 use Rattle.channel_actions.proofs.Outstanding.{outstanding_same}
-use Rattle.channel_actions.proofs.Stamps.{counted_at, numbered_map}
-use Rattle.channel_actions.specs.Columns.{links_noted}
+use Rattle.channel_actions.proofs.Stamps.{counted_at}
 use Rattle.channel_actions.specs.KeptSessions.Kept.{IsKept}
 use Rattle.channel_actions.specs.Sets.{AreExactly, is_in_outstanding}
-use Rattle.channel_cases.proofs.ConfiguredCalls.Lists.{same_numbered}
 use Rattle.channel_cases.specs.AttemptEnds.Ends.{gone_with}
 use Rattle.channel_core.proofs.BookLaws.{number_changed, number_other}
 use Rattle.channel_core.specs.Books.{link_at}

@@ -1,24 +1,17 @@
 -- An attempt ends, and its call goes on: nothing follows at once from that.
-use Rattle.std.proofs.Common.{◌≡◌, ◌==◌, ◌&&◌, ◌||◌, ◌∷◌, not, ap, refl, subst, sym, ◌∙◌, Bool, true, false, List, [], Option, None, Some, ℕ, zero, suc, if◌then◌else◌, is_none, is_some, map, option_map, slice_get}
-use Rattle.std.proofs.lemmas.Bool.{and_parts, and_right, eq-eqb, eqb-true, or_parts}
-use Rattle.std.specs.List.{list_any}
-use Rattle.std.specs.Option.{option_map_or}
-use Rattle.std.specs.Prelude.{option_and_then}
-use Rattle.attempt_ledger.specs.declared.row.RowEnd.{RowEnd}
-use Rattle.call_actions.proofs.EndFrames as frames
-use Rattle.call_actions.proofs.Ending as ending
+use Rattle.std.proofs.Common.{◌≡◌, ◌==◌, ◌&&◌, ap, refl, subst, sym, ◌∙◌, Bool, true, false, List, Option, Some, ℕ, suc, slice_get}
+use Rattle.std.proofs.lemmas.Bool.{and_right, eqb-true}
 use Rattle.call_actions.proofs.Lists.{numbered_not}
 use Rattle.call_actions.specs.CallsInTurn.Turns.{waits as waits_to_follow}
-use Rattle.channel_actions.proofs.OtherCalls.Rows.{number_at}
-use Rattle.channel_cases.proofs.AttemptEnds.After.{attempts_are, d, d_here, free_then, put, put_call, t_is, u}
+use Rattle.channel_cases.proofs.AttemptEnds.After.{d_here, free_then, t_is}
 use Rattle.channel_cases.proofs.AttemptEnds.Agreeing.{act, apart, current_then, early_by, entry_then, kept_then, n, steady}
-use Rattle.channel_cases.proofs.AttemptEnds.Base.{books, c, e, has, here, sees, x1, x2}
-use Rattle.channel_cases.proofs.AttemptEnds.GoesOn.{call, called, order, then_, turn}
-use Rattle.channel_cases.proofs.AttemptEnds.Others.{final_none, none_at, row_none, wants_none}
+use Rattle.channel_cases.proofs.AttemptEnds.Base.{books, c, e, x1}
+use Rattle.channel_cases.proofs.AttemptEnds.GoesOn.{called, then_}
+use Rattle.channel_cases.proofs.AttemptEnds.Others.{none_at, row_none, wants_none}
 use Rattle.channel_cases.specs.AttemptEnds.Ends.{EndNext, is_of_ends, may_wait}
 use Rattle.channel_cases.specs.AttemptEnds.Laws.{GoesOnAfter}
 use Rattle.channel_core.specs.States.{StateSeen}
-use Rattle.session_actions.specs.Attempts.{commitment, is_of, wants_follower}
+use Rattle.session_actions.specs.Attempts.{is_of, wants_follower}
 use Rattle.session_actions.specs.CallEnds.{is_over_by_row}
 use Rattle.session_actions.specs.Calls.{is_open_call}
 use Rattle.session_actions.specs.Attempts.{is_counted}

@@ -1,12 +1,11 @@
 -- The links that are gone, once an attempt has ended: the session notes those that the channel has stamped.
-use Rattle.std.proofs.Common.{◌≡◌, ◌&&◌, ◌||◌, ◌==◌, ◌∷◌, not, ap, refl, subst, sym, ◌∙◌, Bool, true, false, arith, List, [], Option, None, Some, ℕ, zero, suc, if◌then◌else◌, is_none, is_some, map, option_map}
+use Rattle.std.proofs.Common.{◌≡◌, ◌&&◌, ◌||◌, ◌==◌, not, ap, refl, subst, sym, ◌∙◌, Bool, true, false, arith, List, Option, None, Some, ℕ, zero, suc, if◌then◌else◌, is_none, is_some, option_map}
 use Rattle.std.proofs.lemmas.Bool.{and_right, eq-eqb, eqb-true}
 use Rattle.std.proofs.lemmas.Bool.Decides.{nat_tests}
-use Rattle.std.specs.List.{list_all, list_any}
+use Rattle.std.specs.List.{list_any}
 use Rattle.std.specs.Option.{option_map_or}
 use Rattle.attempt_ledger.specs.declared.ledger.LinkSeen.{LinkSeen}
 use Rattle.attempt_ledger.specs.declared.row.Placed.{Placed}
-use Rattle.attempt_ledger.specs.declared.row.RowEnd.{RowEnd}
 use Rattle.call_actions.proofs.CallsInTurn.Changes.{any_keep}
 use Rattle.channel_actions.proofs.Gone.{all_numbered}
 use Rattle.channel_actions.proofs.Outstanding.{any_of}
@@ -15,8 +14,8 @@ use Rattle.channel_actions.specs.Columns.{links_noted}
 use Rattle.channel_actions.specs.KeptSessions.Kept.{IsKept, came_up, is_on_link}
 use Rattle.channel_actions.specs.Sets.{AreExactly, is_in_outstanding}
 use Rattle.channel_cases.proofs.AttemptEnds.After.{end, entry_is, t_is, u}
-use Rattle.channel_cases.proofs.AttemptEnds.Base.{books, c}
-use Rattle.channel_cases.proofs.AttemptEnds.Gone.{Knows, going_gone, gone_is, one_noted, stamp_away, stamp_here}
+use Rattle.channel_cases.proofs.AttemptEnds.Base.{books}
+use Rattle.channel_cases.proofs.AttemptEnds.Gone.{going_gone, gone_is, one_noted, stamp_away, stamp_here}
 use Rattle.channel_cases.proofs.ConfiguredCalls.Lists.{same_numbered}
 use Rattle.channel_cases.specs.AttemptEnds.Ahead.{HasLinkAhead, LinksAhead}
 use Rattle.channel_cases.specs.AttemptEnds.Ends.{EndNext, gone_with}

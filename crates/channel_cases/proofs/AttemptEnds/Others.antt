@@ -1,10 +1,9 @@
 -- What is done to one call brings nothing about for another one: no attempt of another call waits for its follower then, no other call ends by its attempt, and no end
 -- of another call's attempt is final, that was not so before.
-use Rattle.std.proofs.Common.{◌≡◌, ◌==◌, ◌&&◌, ◌||◌, ◌∷◌, ap, refl, subst, sym, ◌∙◌, Bool, true, false, List, [], Option, None, Some, ℕ, zero, suc, is_some, slice_get}
+use Rattle.std.proofs.Common.{◌≡◌, ◌==◌, ◌&&◌, ◌∷◌, ap, refl, sym, ◌∙◌, Bool, true, false, List, [], Option, None, Some, ℕ, zero, suc, is_some, slice_get}
 use Rattle.std.proofs.lemmas.Bool.{eq-eqb, or_from}
 use Rattle.std.specs.List.{list_any}
-use Rattle.attempt_ledger.specs.declared.row.RowEnd.{RowEnd}
-use Rattle.call_actions.proofs.CallsApart.Kept.{wants_same}
+use Rattle.call_actions.proofs.CallsApart.Kept.{over_same, wants_same}
 use Rattle.call_actions.proofs.Lists.{numbered_not}
 use Rattle.call_actions.specs.CallsApart.Apart.{IsApart}
 use Rattle.channel_actions.proofs.EndsFollow.Apart.{final_in_same, holds_at, row_same}
@@ -15,13 +14,14 @@ use Rattle.channel_actions.specs.Calls.{SeesCalls}
 use Rattle.channel_actions.specs.KeptSessions.Kept.{IsKept}
 use Rattle.channel_actions.specs.OtherCalls.Others.{GoesApart}
 use Rattle.channel_core.specs.States.{StateSeen}
-use Rattle.session_actions.specs.Attempts.{call_of, is_of, wants_follower, wants_follower_by}
+use Rattle.session_actions.specs.Attempts.{call_of, is_of, is_outstanding, wants_follower, wants_follower_by}
 use Rattle.session_actions.specs.CallEnds.{is_over_by_row}
 use Rattle.session_actions.specs.Commitments.{is_final_end, is_final_in}
 use Rattle.session_actions.specs.Words.{holds, numbered}
 use Rattle.session_actions.specs.declared.attempt.Attempt.{Attempt}
 use Rattle.session_actions.specs.declared.call.Call.{Call}
 use Rattle.session_actions.specs.declared.seen.Seen.{Seen}
+use Rattle.session_order.specs.Calm.{is_to_cut}
 
 -- none passes, where each does not
 pub none_at : {X : Type 0} (test : X → Bool) (xs : List X) → ((i : ℕ) (x : X) → slice_get xs i ≡ Some x → test x ≡ false) → list_any test xs ≡ false
@@ -84,3 +84,15 @@ module _ (n : ℕ) (x : StateSeen) (s v : Seen) (apart : GoesApart n s v) (calls
   row_none m g off at none =
       let is : IsOther g = other m g off at in
       row_same s v g is.still is.own (calls.each g.number g is.own).sees.order.marks ∙ numbered_not (is_over_by_row s) s.calls g.number g none is.own
+
+  -- and no attempt of another call is to be cut off
+  module _ (i : ℕ) (q : Attempt) (at : slice_get v.attempts i ≡ Some q) (off : (q.row.call == n) ≡ false) where
+    over_by : (o : Option Call) → numbered v.calls q.row.call ≡ o → is_some o ≡ true → list_any (is_to_cut s) s.attempts ≡ false → is_to_cut v q ≡ false
+    over_by None here some none = absurd (cc)
+    over_by (Some g) here some none =
+        let is : IsOther g = other q.row.call g off here in
+        let mine : is_of g q ≡ true = eq-eqb q.row.call g.number (sym (number_at v.calls q.row.call g kept_then.book.calls here)) in
+        ap (λ (b : Bool). is_outstanding q && b) (over_same s v g is.still is.own q mine) ∙ numbered_not (is_to_cut s) s.attempts (suc i) q none (before i q at off)
+
+    pub cut_none : list_any (is_to_cut s) s.attempts ≡ false → is_to_cut v q ≡ false
+    cut_none none = over_by (numbered v.calls q.row.call) refl (owned i q at off) none

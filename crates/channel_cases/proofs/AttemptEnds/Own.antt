@@ -1,5 +1,5 @@
 -- The call of the attempt, where it goes on and is not committed: the channel holds of it what the session has.
-use Rattle.std.proofs.Common.{◌≡◌, ◌&&◌, ◌==◌, ◌++◌, ◌∷◌, not, ap, refl, subst, sym, ◌∙◌, Bool, true, false, List, [], Option, None, Some, ℕ, suc, cond, filter, if◌then◌else◌, is_none, is_some, map, option_map}
+use Rattle.std.proofs.Common.{◌≡◌, ◌==◌, ◌++◌, ◌∷◌, ap, refl, subst, sym, ◌∙◌, Bool, true, false, List, [], Option, None, Some, ℕ, suc, cond, filter, if◌then◌else◌, is_none, is_some, map, option_map}
 use Rattle.std.proofs.lemmas.Bool.{and_right, eqb-true}
 use Rattle.std.specs.List.{AllByRecursion}
 use Rattle.std.specs.Option.{option_map_or}
@@ -13,21 +13,20 @@ use Rattle.call_actions.specs.Order.{AreNumbered, IsInOrder, IsInTurn}
 use Rattle.call_actions.specs.Sees.{Sees}
 use Rattle.call_actions.specs.TakeActions.Serves.{AreFed, ArePlaced, Holds, IsAt, IsFed, IsLeft, Serves, came, drained_so_far, passed}
 use Rattle.call_core.specs.Laws as channel_laws
-use Rattle.call_core.specs.Steps.{Stepped, deadline_at, next_due}
+use Rattle.call_core.specs.Steps.{Stepped}
 use Rattle.call_core.specs.declared.inbox.Inbox.{Inbox}
 use Rattle.channel_actions.specs.Calls.{SeesCall, deadline_of, due_of, lent_to}
 use Rattle.channel_cases.proofs.AttemptEnds.After.{attempts_are, d, end, free_then, put, put_call, u}
-use Rattle.channel_cases.proofs.AttemptEnds.Base.{c, has, here, slot, x1}
+use Rattle.channel_cases.proofs.AttemptEnds.Base.{c, has, slot, x1}
 use Rattle.channel_cases.proofs.AttemptEnds.Buffers.{closed_is, taken_gone, taken_kept, without}
 use Rattle.channel_cases.proofs.AttemptEnds.Told.{slot_after}
 use Rattle.channel_cases.specs.AttemptEnds.Ends.{EndNext}
 use Rattle.channel_core.specs.States.{StateSeen}
-use Rattle.channel_core.specs.Tables.{tokens_in, with_call}
+use Rattle.channel_core.specs.Tables.{tokens_in}
 use Rattle.channel_core.specs.declared.state.slots.CallSlot.{CallSlot}
 use Rattle.grpc_base.specs.declared.event.EndCause.{EndCause}
 use Rattle.grpc_base.specs.declared.event.Reply.{Reply}
 use Rattle.grpc_frame.specs.Messages.{framed_all}
-use Rattle.link_actions.proofs.Ended.{noted_call}
 use Rattle.session_actions.specs.AttemptEnds.{with_end}
 use Rattle.session_actions.specs.Attempts.{commitment, is_of, is_outstanding}
 use Rattle.session_actions.specs.Configs.{deadline}

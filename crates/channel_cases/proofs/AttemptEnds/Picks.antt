@@ -1,18 +1,14 @@
 -- An attempt ends by its pick, or by the wire: no answer of a pick request is left that is to be acted on.
-use Rattle.std.proofs.Common.{◌≡◌, ◌==◌, ◌&&◌, ◌∷◌, not, ap, refl, subst, sym, ◌∙◌, Bool, true, false, List, [], Option, None, Some, ℕ, if◌then◌else◌, is_none, is_some, nat_lt, option_map}
-use Rattle.std.proofs.lemmas.Bool.{and_parts, and_right, eqb-false, eqb-true}
+use Rattle.std.proofs.Common.{◌≡◌, ◌==◌, ◌&&◌, ap, refl, sym, ◌∙◌, Bool, true, false, List, Option, None, Some, ℕ, if◌then◌else◌, is_none, is_some, nat_lt, option_map}
+use Rattle.std.proofs.lemmas.Bool.{and_parts, and_right, eqb-false}
 use Rattle.std.specs.Prelude.{option_and_then}
 use Rattle.attempt_ledger.specs.declared.ledger.Ask.{Ask}
-use Rattle.attempt_ledger.specs.declared.row.Placed.{Placed}
-use Rattle.attempt_ledger.specs.declared.row.RowEnd.{RowEnd}
-use Rattle.call_actions.proofs.Places.{place_is}
-use Rattle.channel_cases.proofs.AttemptEnds.After.{attempt_at, end, entry_is, numbers, put, put_ended, u}
+use Rattle.channel_cases.proofs.AttemptEnds.After.{attempt_at, end, entry_is, put, u}
 use Rattle.channel_cases.proofs.AttemptEnds.Agreeing.{early_by}
 use Rattle.channel_cases.specs.AttemptEnds.Ends.{EndNext, is_of_ends, may_wait}
 use Rattle.channel_core.specs.States.{StateSeen}
 use Rattle.grpc_base.specs.declared.kind.Pick.{Pick}
 use Rattle.grpc_base.specs.declared.kind.Pick.TheVariants as pick
-use Rattle.session_actions.specs.Actions.{following}
 use Rattle.session_actions.specs.AttemptEnds.{end_of, pick_end, with_end}
 use Rattle.session_actions.specs.Entries.{entry}
 use Rattle.session_actions.specs.Policies.{follow_ask, follow_pick, is_unfollowed, next_of_pick, placed_on}

@@ -1,11 +1,10 @@
 -- The sets of the channel, once an attempt has ended and its call goes on: the attempt is out of one of them, and the timers of its call move.
-use Rattle.std.proofs.Common.{◌≡◌, ◌&&◌, ◌==◌, not, ap, arith, refl, subst, sym, ◌∙◌, Bool, true, false, List, Option, None, Some, ℕ, if◌then◌else◌, is_none, is_some}
+use Rattle.std.proofs.Common.{◌≡◌, ◌&&◌, ◌==◌, not, ap, arith, refl, subst, sym, ◌∙◌, Bool, true, false, List, Option, None, Some, ℕ, is_none, is_some}
 use Rattle.std.proofs.lemmas.Bool.{and_parts, and_right, eq-eqb, eqb-true}
 use Rattle.std.proofs.lemmas.Bool.Decides.{nat_tests}
 use Rattle.std.specs.Option.{option_map_or}
 use Rattle.std.specs.Set.{remove_key}
 use Rattle.attempt_ledger.specs.declared.row.Placed.{Placed}
-use Rattle.attempt_ledger.specs.declared.row.RowEnd.{RowEnd}
 use Rattle.channel_actions.proofs.SetFrames.Pairs.{exactly_by, exactly_remove}
 use Rattle.channel_actions.proofs.SetFrames.Timers.{timers_exactly}
 use Rattle.channel_actions.specs.Calls.{deadline_of, due_of}
@@ -23,7 +22,7 @@ use Rattle.session_actions.specs.Attempts.{commitment, is_outstanding, is_over, 
 use Rattle.session_actions.specs.Calls.{is_open_call}
 use Rattle.session_actions.specs.Configs.{waits_for_ready}
 use Rattle.session_actions.specs.Links.{link_number}
-use Rattle.session_actions.specs.Words.{holds, is_number, numbered}
+use Rattle.session_actions.specs.Words.{holds, is_number}
 use Rattle.session_actions.specs.declared.attempt.Attempt.{Attempt}
 use Rattle.session_actions.specs.declared.call.Call.{Call}
 use Rattle.session_actions.specs.declared.entry.OpenEntry.{OpenEntry}
@@ -32,19 +31,19 @@ use Rattle.session_actions.specs.declared.seen.Seen.{Seen}
 use Rattle.session_order.specs.declared.line.Line.{Line}
 
 -- pairs
-own_pair : (n row other : ℕ) → is_same (n, row) (n, other) ≡ (other == row)
+pub own_pair : (n row other : ℕ) → is_same (n, row) (n, other) ≡ (other == row)
 own_pair n row other = grind (arith, nat_tests)
 
-away_pair : (n row k other : ℕ) → (k == n) ≡ false → is_same (n, row) (k, other) ≡ false
+pub away_pair : (n row k other : ℕ) → (k == n) ≡ false → is_same (n, row) (k, other) ≡ false
 away_pair n row k other e = grind (arith, nat_tests, e)
 
-other_pair : (link row k other : ℕ) → (other == row) ≡ false → is_same (link, row) (k, other) ≡ false
+pub other_pair : (link row k other : ℕ) → (other == row) ≡ false → is_same (link, row) (k, other) ≡ false
 other_pair link row k other e = grind (arith, nat_tests, e)
 
-here_pair : (link row k : ℕ) → is_same (link, row) (k, row) ≡ (link == k)
+pub here_pair : (link row k : ℕ) → is_same (link, row) (k, row) ≡ (link == k)
 here_pair link row k = grind (arith, nat_tests)
 
-and_on : (b : Bool) → (b && true) ≡ b
+pub and_on : (b : Bool) → (b && true) ≡ b
 and_on true = refl
 and_on false = refl
 

@@ -1,5 +1,5 @@
 -- A call of the channel hears that one of its attempts ended, and asks for nothing: the book, the timers and the draws change, and nothing else.
-use Rattle.std.proofs.Common.{◌≡◌, ◌-◌, ◌+◌, ◌%◌, ◌^◌, ap, refl, sym, ◌∙◌, Bool, true, false, List, [], Option, None, Some, ℕ, if◌then◌else◌, slice_set}
+use Rattle.std.proofs.Common.{◌≡◌, ◌-◌, ap, refl, ◌∙◌, Bool, true, false, List, [], Option, None, Some, ℕ, if◌then◌else◌, slice_set}
 use Rattle.attempt_ledger.specs.declared.ledger.LinkSeen.{LinkSeen}
 use Rattle.attempt_ledger.specs.declared.news.EndNews.{EndNews}
 use Rattle.attempt_ledger.specs.declared.news.News.TheVariants as news
@@ -13,7 +13,7 @@ use Rattle.channel_core.proofs.Places.{put_there}
 use Rattle.channel_core.specs.Books.{BookActs, acted_in, book_acted, book_after, bucket_at, call_of, deadline_of, due_at, has_drawn, row_at, slot_at}
 use Rattle.channel_core.specs.States.{StateSeen}
 use Rattle.channel_core.specs.Steps.{drawn_if, is_gone, next_word, timers_moved_to, told, told_acts, told_to, with_ledger_links}
-use Rattle.channel_core.specs.Tables.{Acted, acted_as, numbered, tokens_in, with_call, with_timers, with_tokens}
+use Rattle.channel_core.specs.Tables.{Acted, numbered, tokens_in, with_call, with_timers, with_tokens}
 use Rattle.channel_core.specs.Timing.{timer_moved}
 use Rattle.channel_core.specs.declared.state.book.Book.{Book}
 use Rattle.channel_core.specs.declared.state.slots.CallSlot.{CallSlot}

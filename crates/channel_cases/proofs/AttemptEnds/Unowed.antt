@@ -1,19 +1,17 @@
 -- No reset is owed: what agrees ahead agrees.
-use Rattle.std.proofs.Common.{◌≡◌, ◌&&◌, ◌==◌, ◌∷◌, ap, refl, subst, sym, ◌∙◌, Bool, true, false, List, [], Option, None, Some, ℕ, filter, is_some, length, map}
+use Rattle.std.proofs.Common.{◌≡◌, ◌&&◌, ◌==◌, ap, subst, ◌∙◌, Bool, false, List, [], ℕ, length, map}
 use Rattle.std.specs.List.{list_any}
 use Rattle.call_actions.proofs.Lists.{filter_none}
 use Rattle.channel_actions.specs.Agrees.{Agrees}
-use Rattle.channel_actions.specs.Links.{HasLink, IsGoing, SeesLinks, lines_in}
-use Rattle.channel_cases.specs.AttemptEnds.Ahead.{AgreesAhead, AgreesOffLinks, HasLinkAhead, IsAhead, is_owed_on, owed_reset, resets_owed}
+use Rattle.channel_actions.specs.Links.{HasLink, IsGoing, lines_in}
+use Rattle.channel_cases.specs.AttemptEnds.Ahead.{AgreesAhead, HasLinkAhead, IsAhead, is_owed_on, owed_reset, resets_owed}
 use Rattle.channel_cases.specs.AttemptEnds.Laws.{NoneIsOwed}
 use Rattle.channel_core.specs.States.{StateSeen}
 use Rattle.channel_core.specs.declared.state.links.LinkSlot.{LinkSlot}
 use Rattle.link_actions.proofs.ResetActions.Cuts.{none_is_left}
 use Rattle.link_actions.specs.ResetActions.Ahead.{SeesAhead}
 use Rattle.link_actions.specs.Sees.{by_stream}
-use Rattle.session_actions.specs.AttemptEnds.{reset_code_of}
 use Rattle.session_actions.specs.Links.{link_number}
-use Rattle.session_actions.specs.Words.{numbered}
 use Rattle.session_actions.specs.declared.attempt.Attempt.{Attempt}
 use Rattle.session_actions.specs.declared.link.Link.{Link}
 use Rattle.session_actions.specs.declared.seen.Seen.{Seen}

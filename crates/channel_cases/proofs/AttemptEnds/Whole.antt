@@ -1,13 +1,11 @@
 -- An attempt ends, and its call goes on: put together.
-use Rattle.std.proofs.Common.{◌≡◌, ◌==◌, ◌&&◌, ◌||◌, ◌∷◌, not, ap, refl, subst, sym, ◌∙◌, Bool, true, false, List, [], Option, None, Some, ℕ, if◌then◌else◌, is_none, is_some, map, option_map}
-use Rattle.std.specs.List.{list_all}
+use Rattle.std.proofs.Common.{◌≡◌, ◌==◌, ◌&&◌, not, refl, subst, sym, ◌∙◌, Bool, true, false, List, [], ℕ}
 use Rattle.call_actions.proofs.CallsApart.Moves.{all_changed}
 use Rattle.channel_actions.specs.EndsFollow.Cuts.{AreUnreset, is_unreset}
 use Rattle.channel_actions.specs.EndsFollow.Laws.{is_late}
-use Rattle.channel_actions.specs.Points.{IsSameEntry}
 use Rattle.channel_actions.specs.Sets.{is_in_outstanding}
 use Rattle.channel_cases.proofs.AttemptEnds.After.{end, in_out}
-use Rattle.channel_cases.proofs.AttemptEnds.Agreeing.{act, books_then, current_then, does, early_by, ended_is, entry_then, kept_then, links_then, sets_now, y1}
+use Rattle.channel_cases.proofs.AttemptEnds.Agreeing.{books_then, current_then, does, ended_is, entry_then, kept_then, links_then, sets_now, y1}
 use Rattle.channel_cases.proofs.AttemptEnds.Base.{c, e, news}
 use Rattle.channel_cases.proofs.AttemptEnds.Finals.{unfinal}
 use Rattle.channel_cases.proofs.AttemptEnds.GoesOn.{then_}
@@ -15,7 +13,7 @@ use Rattle.channel_cases.proofs.AttemptEnds.Lines.{plain, unended, unfollowed, w
 use Rattle.channel_cases.proofs.AttemptEnds.Noted.{noted_then}
 use Rattle.channel_cases.proofs.AttemptEnds.Picks.{unpicked}
 use Rattle.channel_cases.specs.AttemptEnds.Ahead.{AgreesAhead}
-use Rattle.channel_cases.specs.AttemptEnds.Ends.{EndNext, HasEnded, ended_in, is_of_ends, may_wait}
+use Rattle.channel_cases.specs.AttemptEnds.Ends.{EndNext, HasEnded, ended_in, may_wait}
 use Rattle.channel_cases.specs.AttemptEnds.Laws.{CallsGoOnAfterEnds, GoesOnAfter}
 use Rattle.channel_core.specs.States.{StateSeen}
 use Rattle.session_actions.specs.AttemptEnds.{with_end}
@@ -24,7 +22,6 @@ use Rattle.session_actions.specs.declared.entry.OpenEntry.{OpenEntry}
 use Rattle.session_actions.specs.declared.response.Outcome.{Outcome}
 use Rattle.session_actions.specs.declared.seen.Seen.{Seen}
 use Rattle.session_order.specs.Calm.{IsStill}
-use Rattle.session_order.specs.Stirs.{stirs}
 use Rattle.session_order.specs.declared.line.Line.{Line}
 use Rattle.session_order.specs.declared.line.Line.TheVariants as line
 

@@ -3,7 +3,7 @@
 -- "When Retries are Valid" and "Hedging Policy").
 -- Example: link 1 is lost, with attempt 1 of call 1 on it, whose plan is to retry. AttemptEnds 1; a retry is due after its wait; nothing follows. The channel's
 -- ledger has the end of row 1, its bucket a token less, and call 1 its moment among those that are due.
-use Rattle.std.specs.Prelude.{Bool, List, None, Option, Some, [], false, if◌then◌else◌, true, ℕ, ◌∷◌, ◌≡◌, ◌||◌}
+use Rattle.std.specs.Prelude.{Bool, List, None, Option, Some, [], false, true, ℕ, ◌∷◌, ◌≡◌}
 use Rattle.attempt_ledger.specs.declared.news.EndNews.{EndNews}
 use Rattle.attempt_ledger.specs.declared.news.News.TheVariants as news
 use Rattle.attempt_ledger.specs.declared.row.Placed.{Placed}

@@ -83,6 +83,14 @@ pub record IsLastEnd (s : Seen) (c : Call) (a : Attempt) (out : Outcome) : Type 
 abbrev pub LastEndsClose : Type 0
 LastEndsClose = AttemptEndsOf IsLastEnd
 
+-- so it is where no other attempt of the call goes on: there is none to cut off
+pub record IsLoneLastEnd (s : Seen) (c : Call) (a : Attempt) (out : Outcome) : Type 0 where
+  pub last : IsLastEnd s c a out
+  pub alone : list_any (λ q. is_live s c q && not (q.place == a.place)) s.attempts ≡ false
+
+abbrev pub LoneLastEndsClose : Type 0
+LoneLastEndsClose = AttemptEndsOf IsLoneLastEnd
+
 -- the call is committed to it, and ends by it
 pub record IsCommittedEnd (s : Seen) (c : Call) (a : Attempt) (out : Outcome) : Type 0 where
   pub counting : IsCounting s c out

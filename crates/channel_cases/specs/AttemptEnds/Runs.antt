@@ -1,5 +1,5 @@
 -- The runs of equal throttle settings rise as the configs come: a config joins the run of the one before, or begins the next run (gRFC A6, "Throttling Retry
--- Attempts and Hedged RPCs"). So of the buckets of a channel none but the first, and those of configs without throttling, is that of two runs. Every session keeps this.
+-- Attempts and Hedged RPCs"). So of the buckets of a channel each that has tokens is that of one run. It is asked of the session.
 -- Example: the configs are of the runs 1, 1, none and 2; in turn they are 1, none and 2.
 use Rattle.std.specs.Prelude.{Bool, List, None, Option, Some, [], nat_lt, true, ℕ, ◌&&◌, ◌∷◌, ◌≡◌}
 use Rattle.channel_actions.specs.Configs.{runs_in_turn}

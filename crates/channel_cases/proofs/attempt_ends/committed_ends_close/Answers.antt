@@ -1,0 +1,5 @@
+use Rattle.channel_cases.proofs.AttemptEnds.ClosedLines.{committed_ends_close}
+use Rattle.channel_cases.proofs.attempt_ends.committed_ends_close.Goals as goal
+
+pub returns : goal.returns
+returns c = committed_ends_close
