@@ -1,5 +1,5 @@
 -- A hedge is withheld while others of its call go on: the session goes on to a point of the same settling, where none of its call is due any more.
-use Rattle.std.proofs.Common.{◌≡◌, ◌≤◌, ◌∙◌, ◌==◌, ◌&&◌, ◌||◌, ◌+◌, ◌++◌, ◌∷◌, Bool, true, false, not, List, [], Option, None, Some, ℕ, ap, arith, refl, subst, sym, if◌then◌else◌, is_none, is_some, length, map, nat_le, nat_lt, slice_set, cond, filter, ◌-◌, ◌⊎◌, inl, inr}
+use Rattle.std.proofs.Common.{◌≡◌, ◌≤◌, ◌∙◌, ◌==◌, ◌&&◌, ◌||◌, ◌+◌, ◌++◌, ◌∷◌, Bool, true, false, not, List, [], Option, None, Some, ℕ, suc, ap, arith, refl, subst, sym, if◌then◌else◌, is_none, is_some, length, map, nat_le, nat_lt, slice_set, cond, filter, ◌-◌, ◌⊎◌, inl, inr}
 use Rattle.std.proofs.lemmas.Bool.{and_parts, eqb-false}
 use Rattle.std.proofs.lemmas.Bool.Decides.{nat_tests}
 use Rattle.std.specs.List.{list_any}
@@ -147,12 +147,12 @@ any_live p (a ∷ xs) = by_test (p a) (any_live p xs)
     by_test true e = refl
     by_test false e = e
 
+none_next : (n : ℕ) → (suc n == 0) ≡ false
+none_next n = grind (arith, nat_tests)
+
 has_some : (rows : List LiveRow) → some_row rows ≡ true → parts.has_none rows ≡ false
 has_some [] e = absurd (let bad : false ≡ true = e in (cc))
 has_some (r ∷ rows) e = none_next (length rows)
-  where
-    none_next : (n : ℕ) → (n + 1 == 0) ≡ false
-    none_next n = grind (arith, nat_tests)
 
 -- where none may be made any more none is due
 stopped_hedge : (p : HedgePolicy) (a : Attempts) (b : Bool)

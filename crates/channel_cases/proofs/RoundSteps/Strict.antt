@@ -95,7 +95,7 @@ due_by : (moment : ℕ) (t : ℕ × ℕ) (ts : List (ℕ × ℕ)) (key : ℕ) (b
 due_by moment t ts key true past rest is = due_head moment t ts key (t.1 == key) refl past rest is
 due_by moment t ts key false past rest is = absurd (let bad : false ≡ true = is in (cc))
 
-due_from : (moment : ℕ) (pairs : List (ℕ × ℕ)) (key : ℕ) → is_key (due_keys moment pairs) key ≡ true → DuePair moment pairs key
+pub due_from : (moment : ℕ) (pairs : List (ℕ × ℕ)) (key : ℕ) → is_key (due_keys moment pairs) key ≡ true → DuePair moment pairs key
 due_from moment [] key is = absurd (let bad : false ≡ true = is in (cc))
 due_from moment (t ∷ ts) key is = due_by moment t ts key (nat_le t.0 moment) refl (due_from moment ts key) is
 

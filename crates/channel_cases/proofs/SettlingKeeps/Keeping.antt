@@ -49,7 +49,7 @@ reached_on s t actions k does = record {
   does = does_on k.actions actions (new_session k.setup) s t k.does does;
 }
 
-stays_by : (step : StateSeen → StateSeen) → ((x : StateSeen) → Settles x (step x)) → EarlyAlong → SoundStays step
+pub stays_by : (step : StateSeen → StateSeen) → ((x : StateSeen) → Settles x (step x)) → EarlyAlong → SoundStays step
 stays_by step settles along x s t actions h sound does after =
     let r : Settled x (step x) = settles x (sound_of x sound.calls) in
     let before : length s.calls ≡ length x.book.calls = h.calls.count in
