@@ -19,6 +19,7 @@ pub mod PassActions
 pub mod ResultEvents
 pub mod RoundSteps
 pub mod SendsEnd
+pub mod ServeSteps
 pub mod SettlingActions
 pub mod SettlingKeeps
 pub mod StreamedCalls

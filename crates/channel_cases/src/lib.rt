@@ -22,6 +22,7 @@ pub mod pass_actions;
 pub mod result_events;
 pub mod round_steps;
 pub mod sends_end;
+pub mod serve_steps;
 pub mod settling_actions;
 pub mod settling_keeps;
 pub mod streamed_calls;

@@ -98,13 +98,13 @@ pub none_due : (s : Seen) (c : Call) → (is_open_call c ≡ true → (m : ℕ) 
 none_due s c late = none_open s c (is_open_call c) refl late
 
 -- and one of which none is given
-late_by : (s : Seen) (c : Call) (m : ℕ) (b : Bool) → nat_le m (now s) ≡ b → (if b then Some (due_attempt c s m) else None) ≡ None → b ≡ false
-late_by s c m true e off = absurd (let bad : Some (due_attempt c s m) ≡ None = off in (cc))
-late_by s c m false e off = refl
+late_test : (s : Seen) (c : Call) (m : ℕ) (b : Bool) → nat_le m (now s) ≡ b → (if b then Some (due_attempt c s m) else None) ≡ None → b ≡ false
+late_test s c m true e off = absurd (let bad : Some (due_attempt c s m) ≡ None = off in (cc))
+late_test s c m false e off = refl
 
 pub late_after : (s : Seen) (c : Call) (m : ℕ) → is_open_call c ≡ true → next_due c s ≡ Some m → due_action s c ≡ None → nat_le m (now s) ≡ false
 late_after s c m is_open next off =
-    late_by s c m (nat_le m (now s)) refl
+    late_test s c m (nat_le m (now s)) refl
     (sym (ap (λ (b : Bool). if b then option_and_then (due_if_past c s) (next_due c s) else None) is_open ∙ ap (option_and_then (due_if_past c s)) next) ∙ off)
 
 -- a slot whose timer was taken out, or not
@@ -220,13 +220,13 @@ module _ (one : OneMakes) (laws : CallLaws) (along : EarlyAlong) (n : ℕ) (rest
   is_first : is_key (n ∷ rest) n ≡ true
   is_first = ap (λ (b : Bool). b || is_key rest n) (self_equal n)
 
-  b : IsDueBy s y.book.moment n
+  pub b : IsDueBy s y.book.moment n
   b = l.due n is_first
 
-  d : DueCall s b.at n
+  pub d : DueCall s b.at n
   d = due_call s b.at n b.in_dues
 
-  own : HasSlot y s d.call n
+  pub own : HasSlot y s d.call n
   own = l.agrees.calls.each n d.call d.there
 
   not_rest : is_key rest n ≡ false
@@ -270,7 +270,7 @@ module _ (one : OneMakes) (laws : CallLaws) (along : EarlyAlong) (n : ℕ) (rest
     first = first_numbered (due_action s) s.calls n d.call does_it d.there gives below_late;
   }
 
-  lead : Leads (made_one n y) o s (IsDueDone n)
+  pub lead : Leads (made_one n y) o s (IsDueDone n)
   lead = one n y o s l.agrees l.sound l.at l.tended due_next
 
   abbrev y1 : StateSeen

@@ -147,12 +147,12 @@ any_live p (a ∷ xs) = by_test (p a) (any_live p xs)
     by_test true e = refl
     by_test false e = e
 
-none_next : (n : ℕ) → (suc n == 0) ≡ false
-none_next n = grind (arith, nat_tests)
+never_zero : (n : ℕ) → (suc n == 0) ≡ false
+never_zero n = grind (arith, nat_tests)
 
 has_some : (rows : List LiveRow) → some_row rows ≡ true → parts.has_none rows ≡ false
 has_some [] e = absurd (let bad : false ≡ true = e in (cc))
-has_some (r ∷ rows) e = none_next (length rows)
+has_some (r ∷ rows) e = never_zero (length rows)
 
 -- where none may be made any more none is due
 stopped_hedge : (p : HedgePolicy) (a : Attempts) (b : Bool)
