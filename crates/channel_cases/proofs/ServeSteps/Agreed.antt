@@ -16,10 +16,10 @@ use Rattle.channel_actions.specs.Links.{SeesLinks}
 use Rattle.channel_actions.specs.OtherCalls.Laws.{AllCallsStay, SetsApart, SetsStay}
 use Rattle.channel_actions.specs.OtherCalls.Others.{BooksApart, GoesApart, IsBooked}
 use Rattle.channel_actions.specs.Sets.{SeesSets, is_in_dues}
-use Rattle.channel_cases.proofs.NetSettlings.Clocked.{one_call_more}
+use Rattle.channel_cases.proofs.DialEvents.Nets.{one_call_more}
 use Rattle.channel_cases.specs.ServeSteps.Laws.{AskNext, AsksAgree, HasAsked, MayAsk, answer_for, asked_for}
 use Rattle.channel_core.specs.States.{StateSeen}
-use Rattle.channel_net.specs.Runs.NetCall.TheVariants as net_call
+use Rattle.channel_net.specs.Runs as net_calls
 use Rattle.channel_net.specs.Steps.{NetSeen, net_answer, net_asked}
 use Rattle.lb_policy.specs.Table.{PolicySeen}
 use Rattle.net_actions.specs.Laws.{AsksAreAnswered, IsBeside}
@@ -154,7 +154,7 @@ module _ (calls_stay : AllCallsStay) (sets_stay : SetsStay) (links_stay : LinksS
         calls = calls;
         links = links;
         net = both.1;
-        orderly = one_call_more net_call.Ask x.net h.orderly;
+        orderly = one_call_more net_calls.Ask x.net h.orderly;
         sets = sets_now;
         kept = kept;
       };
