@@ -1,3 +1,5 @@
 pub mod Agreed
 pub mod Asking
 pub mod Order
+pub mod Serving
+pub mod Standing

@@ -1,10 +1,15 @@
 // The attempts that a pass serves, as actions of a session; nothing runs.
+ghost use Rattle.channel_cases.specs.ServeSteps.Follows.{AsksStand, ServesByAnswers};
 ghost use Rattle.channel_cases.specs.ServeSteps.Laws.{AsksAgree, AsksFollow};
 
+use crate::settling_keeps::early_goes_on;
+use call_core::{calls_are_kept, calls_go_on, takes_leave_rows};
 use channel_actions::kept_sessions::sessions_are_kept;
 use channel_actions::link_frames::{actions_are_untold, links_stay};
 use channel_actions::other_calls::{calls_stay, sets_stay};
+use lb_policy::laws_of_the_table;
 use net_actions::policy_steps_are_actions;
+use session_order::{calm_is_exact, queues_stir};
 
 /// The attempt that the channel serves next is the one that asks next, of the current policy (gRPC, "Load Balancing in gRPC"; "gRPC Wait for Ready Semantics").
 pub fn asks_follow()
@@ -23,4 +28,26 @@ pub fn asks_agree()
     policy_steps_are_actions();
     sessions_are_kept();
     sets_stay();
+}
+
+/// After it nothing follows but what its answer says, and the pass stands behind the attempt.
+pub fn asks_stand()
+    ensures { AsksStand }
+{
+    calm_is_exact();
+    queues_stir();
+}
+
+/// So an attempt that waits is served, where its answer is followed (gRPC, "Load Balancing in gRPC"; "gRPC Wait for Ready Semantics").
+pub fn serves_by_answers()
+    ensures { ServesByAnswers }
+{
+    asks_agree();
+    asks_follow();
+    asks_stand();
+    calls_are_kept();
+    calls_go_on();
+    early_goes_on();
+    laws_of_the_table();
+    takes_leave_rows();
 }

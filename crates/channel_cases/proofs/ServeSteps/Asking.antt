@@ -300,6 +300,7 @@ module _ (state : StatesAreSame) (last p : ℕ × ℕ) (x : StateSeen) (o : Open
     attempt = b;
     there = (found state last p x s h e).1.there;
     call = (found state last p x s h e).1.call;
+    served = sym (ap (holds (λ (k : PolicyUse). is_served_by (policy_state k s) b s)) (policy state last p x s h e).1) ∙ served state last p x s h e;
     next = follows;
   }
 

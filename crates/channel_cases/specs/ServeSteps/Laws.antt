@@ -11,7 +11,7 @@ use Rattle.channel_net.specs.Steps.{net_answer}
 use Rattle.grpc_base.specs.declared.kind.Pick.{Pick}
 use Rattle.lb_policy.specs.Table.{pick_of}
 use Rattle.session_actions.specs.Actions.{following}
-use Rattle.session_actions.specs.Policies.{current_policy, pick_requested, policy_of}
+use Rattle.session_actions.specs.Policies.{current_policy, is_served_by, pick_requested, policy_of, policy_state}
 use Rattle.session_actions.specs.Words.{numbered}
 use Rattle.session_actions.specs.declared.action.Action.TheVariants as action
 use Rattle.session_actions.specs.declared.attempt.Attempt.{Attempt}
@@ -32,6 +32,8 @@ pub record AskNext (p : ℕ × ℕ) (s : Seen) : Type 0 where
   pub attempt : Attempt
   pub there : numbered s.attempts p.1 ≡ Some attempt
   pub call : attempt.row.call ≡ p.0
+  -- its policy is READY, or in TRANSIENT_FAILURE where its call does not wait for ready
+  pub served : is_served_by (policy_state policy s) attempt s ≡ true
   pub next : following s ≡ Some (action.PickRequested p.1 policy.number (answer_for policy s))
 
 -- whom the channel serves next asks next
