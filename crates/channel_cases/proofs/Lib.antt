@@ -1,13 +1,17 @@
+pub mod AttemptEnds
 pub mod BareEnds
 pub mod BeginActions
+pub mod CallCommits
 pub mod CallEnds
 pub mod CallPosts
 pub mod CallSends
+pub mod CommitsFollow
 pub mod ConfigActions
 pub mod ConfiguredCalls
 pub mod DialEvents
 pub mod DrainEvents
 pub mod DrainedCalls
+pub mod FirstShutdowns
 pub mod FullSends
 pub mod LongSends
 pub mod MakingSteps
@@ -15,6 +19,8 @@ pub mod NetChains
 pub mod NetResults
 pub mod NetSettlings
 pub mod NetSteps
+pub mod OneCallEnds
+pub mod OverdueCalls
 pub mod PassActions
 pub mod ResultEvents
 pub mod RoundSteps
@@ -22,4 +28,5 @@ pub mod SendsEnd
 pub mod ServeSteps
 pub mod SettlingActions
 pub mod SettlingKeeps
+pub mod SoundBuffers
 pub mod StreamedCalls

@@ -1,13 +1,18 @@
+pub mod AttemptEnds
 pub mod BareEnds
 pub mod BeginActions
+pub mod CallCommits
 pub mod CallEnds
 pub mod CallPosts
 pub mod CallSends
+pub mod CommitsFollow
 pub mod ConfigActions
 pub mod ConfiguredCalls
 pub mod DialEvents
 pub mod DrainEvents
 pub mod DrainedCalls
+pub mod EndedCalls
+pub mod FirstShutdowns
 pub mod FullSends
 pub mod LongSends
 pub mod MakingSteps
@@ -22,4 +27,5 @@ pub mod SendsEnd
 pub mod ServeSteps
 pub mod SettlingActions
 pub mod SettlingKeeps
+pub mod SoundBuffers
 pub mod StreamedCalls

@@ -160,7 +160,7 @@ module _ (moment : ℕ) (tokens : Option ℕ) where
   entry_stays (r ∷ live) ledger = entry_stays live (cut_row moment tokens r.place ledger r.link) ∙ entry_cut r.place r.link ledger
 
 -- a property of all that pass, by their places
-all_passing : (P : LiveRow → Type 0) (p : Attempt → Bool) (xs : List Attempt) → ((i : ℕ) (a : Attempt) → slice_get xs i ≡ Some a → P (live_row a)) → AllByRecursion P (map live_row (filter p xs))
+pub all_passing : (P : LiveRow → Type 0) (p : Attempt → Bool) (xs : List Attempt) → ((i : ℕ) (a : Attempt) → slice_get xs i ≡ Some a → P (live_row a)) → AllByRecursion P (map live_row (filter p xs))
 all_passing P p [] each = tt
 all_passing P p (a ∷ xs) each = passing_by P a (filter p xs) (p a) (each 0 a refl) (all_passing P p xs (λ i b at. each (suc i) b at))
   where
@@ -176,42 +176,42 @@ module _ (waits : Line → Bool) (n : ℕ) (why : EndCause) (x : StateSeen) (o :
   abbrev pub has : HasSlot x s is.call n
   has = is.agrees.calls.each n is.call is.there
 
-  abbrev slot : CallSlot
+  abbrev pub slot : CallSlot
   slot = has.slot
 
-  own : is.call.number ≡ n
+  pub own : is.call.number ≡ n
   own = call_number n s.calls is.call is.agrees.kept.book.calls is.there
 
-  going : slot.call.ended ≡ None
+  pub going : slot.call.ended ≡ None
   going = none_cause is.call.end slot.call.ended has.sees.serves.sees.ended is.going
 
-  abbrev tokens : Option ℕ
+  abbrev pub tokens : Option ℕ
   tokens = count_of (tokens_in x.book.buckets slot.bucket)
 
-  closed_now : call_closed why x slot ≡ ended_as why x.book.moment (call_lent x slot)
+  pub closed_now : call_closed why x slot ≡ ended_as why x.book.moment (call_lent x slot)
   closed_now = ap (λ (q : Option EndCause). if not (is_some q) then ended_as why x.book.moment (call_lent x slot) else call_lent x slot) going
 
-  link_same : (k : ℕ) → link_of (numbered (call_closed why x slot).ledger.rows k) ≡ link_of (numbered x.book.ledger.rows k)
+  pub link_same : (k : ℕ) → link_of (numbered (call_closed why x slot).ledger.rows k) ≡ link_of (numbered x.book.ledger.rows k)
   link_same k = ap (λ (z : Stepped). link_of (numbered z.ledger.rows k)) closed_now ∙ links_stay x.book.moment tokens slot.call.live x.book.ledger k
 
-  entry_same : (call_closed why x slot).ledger.entry ≡ x.book.ledger.entry
+  pub entry_same : (call_closed why x slot).ledger.entry ≡ x.book.ledger.entry
   entry_same = ap (λ (z : Stepped). z.ledger.entry) closed_now ∙ entry_stays x.book.moment tokens slot.call.live x.book.ledger
 
-  row_link : (i : ℕ) (a : Attempt) → slice_get s.attempts i ≡ Some a → link_of (numbered x.book.ledger.rows a.place) ≡ link_of_placed a.row.placed
+  pub row_link : (i : ℕ) (a : Attempt) → slice_get s.attempts i ≡ Some a → link_of (numbered x.book.ledger.rows a.place) ≡ link_of_placed a.row.placed
   row_link i a at =
       let place : a.place ≡ suc i = place_suc i s.attempts a is.agrees.kept.book.places at in
       ap (λ (rows : List Row). link_of (numbered rows a.place)) (sym is.agrees.columns.rows)
       ∙ ap link_of (numbered_map (λ (b : Attempt). b.row) s.attempts a.place ∙ ap (option_map (λ (b : Attempt). b.row)) (ap (numbered s.attempts) place ∙ at))
 
-  linked_by : (place : ℕ) (p : Option Placed) → link_of (numbered (call_closed why x slot).ledger.rows place) ≡ link_of_placed p
+  pub linked_by : (place : ℕ) (p : Option Placed) → link_of (numbered (call_closed why x slot).ledger.rows place) ≡ link_of_placed p
       → LinkIs x why slot place (option_map (λ (at : Placed). at.link) p)
   linked_by place None e = tt
   linked_by place (Some at) e = e
 
-  live_is : map live_row (filter (is_live s is.call) s.attempts) ≡ slot.call.live
+  pub live_is : map live_row (filter (is_live s is.call) s.attempts) ≡ slot.call.live
   live_is = has.sees.serves.sees.live
 
-  abbrev can : CanEnd why n x
+  abbrev pub can : CanEnd why n x
   can = record {
     slot = slot;
     there = has.there;
@@ -225,16 +225,16 @@ module _ (waits : Line → Bool) (n : ℕ) (why : EndCause) (x : StateSeen) (o :
   abbrev pub y : StateSeen
   y = closed why n x
 
-  abbrev w : StateSeen
+  abbrev pub w : StateSeen
   w = followed_by_end why n x slot y.book.ledger
 
-  whole : y ≡ w
+  pub whole : y ≡ w
   whole = ends_are_followed why n x can
 
   abbrev pub on : EndsOn waits n why x o s
   on = goes_on waits n why x o s is
 
-  abbrev u : Seen
+  abbrev pub u : Seen
   u = on.seen
 
   links_are : w.links ≡ (with_cuts on.cuts x).links
@@ -244,7 +244,7 @@ module _ (waits : Line → Bool) (n : ℕ) (why : EndCause) (x : StateSeen) (o :
       ∙ closed_same s is.call n own s.attempts (links_cut (filter (is_out_of n) s.attempts) x.links)
       ∙ ap (λ (cuts : List Attempt). links_closed cuts (links_cut cuts x.links)) (sym on.all)
 
-  links_on : SeesLinks w u
+  pub links_on : SeesLinks w u
   links_on = record {
     count = on.links.count ∙ ap (λ (ls : List LinkSlot). length ls) (sym links_are);
     each = λ number l at. let h : HasLink (with_cuts on.cuts x) u l number = on.links.each number l at in
@@ -264,7 +264,7 @@ module _ (waits : Line → Bool) (n : ℕ) (why : EndCause) (x : StateSeen) (o :
   draws_by (Some p) None e k = absurd (cc)
   draws_by (Some p) (Some q) e k = let same : p ≡ q = (cc) in (ap (λ (z : OpenEntry). z.word) same ∙ k.0, k.1 ∙ ap (λ (z : OpenEntry). z.drawn % 2 ^ 64) (sym same))
 
-  clock_on : SeesClock w u
+  pub clock_on : SeesClock w u
   clock_on = record {
     entry_is = entry_on ∙ is.agrees.clock.entry_is ∙ sym entry_same;
     moment = ap (λ (q : Option OpenEntry). option_map_or (λ (p : OpenEntry). p.moment) q (last_moment u)) current_same
@@ -273,7 +273,7 @@ module _ (waits : Line → Bool) (n : ℕ) (why : EndCause) (x : StateSeen) (o :
     draws = draws_by u.current s.current current_same is.agrees.clock.draws;
   }
 
-  configs_on : SeesConfigs w u
+  pub configs_on : SeesConfigs w u
   configs_on = record {
     authority = ap (λ (z : Setup). z.authority) on.rest.setup ∙ is.agrees.configs.authority;
     shut = on.rest.shut ∙ is.agrees.configs.shut;
@@ -282,7 +282,7 @@ module _ (waits : Line → Bool) (n : ℕ) (why : EndCause) (x : StateSeen) (o :
     policy = λ some going. ap (λ (ps : List PolicyUse). is_some (find is_current ps)) on.rest.policies ∙ is.agrees.configs.policy some (sym on.rest.shut ∙ going);
   }
 
-  timers_on : TimersAgree w u
+  pub timers_on : TimersAgree w u
   timers_on =
       let k = timers_agree waits n why x o s is on.kept in
       record { dues = k.dues; deadlines = k.deadlines; bare = k.bare; impatient = k.impatient }

@@ -70,7 +70,7 @@ resets_unposted [] s t are = refl
 resets_unposted (act ∷ acts) s t are =
     ap (λ (o : Option Stamped). option_to_list o ++ posted_in acts) (reset_unposted s _ act are.0) ∙ resets_unposted acts (after act s) t are.1
 
-early_by : (w l : Bool) → (w ≡ true → l ≡ true) → l ≡ false → w ≡ false
+pub early_by : (w l : Bool) → (w ≡ true → l ≡ true) → l ≡ false → w ≡ false
 early_by false l turn e = refl
 early_by true l turn e = absurd (both_ways l e (turn refl))
 

@@ -71,7 +71,7 @@ module _ (waits : Line → Bool) (n : ℕ) (why : EndCause) (x : StateSeen) (o :
   abbrev pub has : HasSlot x s is.call n
   has = is.agrees.calls.each n is.call is.there
 
-  done : IsDone n u
+  pub done : IsDone n u
   done =
       (reset_walk waits is.late n o (call_ended n why s) (base waits n why o s (next waits n why x o s is)) (resets waits n why x o s is).actions (t waits n why x o s is) u
       (has_cut waits n why x o s is).reset (resets waits n why x o s is).resets).reset.left.done
@@ -80,7 +80,7 @@ module _ (waits : Line → Bool) (n : ℕ) (why : EndCause) (x : StateSeen) (o :
   closed = closed_by_end done.call.end done.ended
 
   module _ (kept : IsKept u) where
-    apart : SetsApart n s u
+    pub apart : SetsApart n s u
     apart = sets_stay n x s u (goes_apart waits n why x o s is kept) is.agrees.calls
 
     none_due : (m : ℕ) → is_in_dues u m n ≡ false

@@ -1,9 +1,8 @@
--- Calls that end: one, for whatever cause; and the cases of events and of deadlines that stand on it.
+-- Calls that end: one, for whatever cause; and the cases of events that stand on it.
 -- Example: Cancel of call 1, which is open: EventAnswered Done, then call 1 ends. Cancel of it again is refused with CallEnded.
 use Rattle.std.specs.Prelude.{Bool, None, Some, is_some, true, ℕ, ◌≡◌}
 use Rattle.channel_cases.specs.CallEnds.Ends.{EndsApart, EndsNext, EndsOn, HasEnded}
-use Rattle.channel_actions.specs.Cases.{HasOverdue}
-use Rattle.channel_actions.specs.Stages.{DeadlinesOf, EventsAnswered}
+use Rattle.channel_actions.specs.Stages.{EventsAnswered}
 use Rattle.channel_core.specs.Applying as channel
 use Rattle.channel_core.specs.States.{StateSeen}
 use Rattle.grpc_base.specs.declared.event.EndCause.{EndCause}
@@ -59,11 +58,3 @@ OpenCancels = EventsAnswered IsOpenCancel
 -- it stands on the end of one call
 abbrev pub CancelsStand : Type 0
 CancelsStand = OneCallEnds → OpenCancels
-
--- calls end whose deadline has come
-pub record IsOverdue (x : StateSeen) (s : Seen) : Type 0 where
-  pub overdue : HasOverdue x s
-  pub unreset : AreUnreset s
-
-abbrev pub OverdueCalls : Type 0
-OverdueCalls = DeadlinesOf IsOverdue

@@ -1,0 +1,16 @@
+pub mod Accepting
+pub mod Alone
+pub mod Along
+pub mod Calm
+pub mod Followed
+pub mod Given
+pub mod Gone
+pub mod InOrder
+pub mod Linked
+pub mod On
+pub mod Own
+pub mod Rows
+pub mod Sends
+pub mod Small
+pub mod Timers
+pub mod Whole

@@ -1,0 +1,5 @@
+pub mod Begun
+pub mod Cuts
+pub mod Follow
+pub mod Stays
+pub mod Steps

@@ -1,0 +1,10 @@
+pub mod Along
+pub mod Gone
+pub mod Left
+pub mod Noted
+pub mod Own
+pub mod Relent
+pub mod Resets
+pub mod Rows
+pub mod Stamps
+pub mod Whole

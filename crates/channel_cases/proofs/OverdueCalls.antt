@@ -1,0 +1,4 @@
+pub mod Apart
+pub mod Foremost
+pub mod Loop
+pub mod Next
