@@ -30,7 +30,7 @@ pub fn asks_agree()
     sets_stay();
 }
 
-/// After it nothing follows but what its answer says, and the pass stands behind the attempt.
+/// After it nothing follows but what its answer says, and the pass goes on after the attempt.
 pub fn asks_stand()
     ensures { AsksStand }
 {
