@@ -1,4 +1,5 @@
 pub mod Agreed
+pub mod Answering
 pub mod Asking
 pub mod Order
 pub mod Serving

@@ -1,5 +1,5 @@
 // The attempts that a pass serves, as actions of a session; nothing runs.
-ghost use Rattle.channel_cases.specs.ServeSteps.Follows.{AsksStand, ServesByAnswers};
+ghost use Rattle.channel_cases.specs.ServeSteps.Follows.{AnswersAreNext, AsksStand, ServesByAnswers};
 ghost use Rattle.channel_cases.specs.ServeSteps.Laws.{AsksAgree, AsksFollow};
 
 use crate::settling_keeps::early_goes_on;
@@ -36,6 +36,14 @@ pub fn asks_stand()
 {
     calm_is_exact();
     queues_stir();
+}
+
+/// What its answer says is next: the attempt is placed on the link of the subchannel that was picked, which takes attempts in both; or it ends (gRPC, "Load
+/// Balancing in gRPC").
+pub fn answers_are_next()
+    ensures { AnswersAreNext }
+{
+    calm_is_exact();
 }
 
 /// So an attempt that waits is served, where its answer is followed (gRPC, "Load Balancing in gRPC"; "gRPC Wait for Ready Semantics").

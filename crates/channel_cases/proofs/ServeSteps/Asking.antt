@@ -299,7 +299,9 @@ module _ (state : StatesAreSame) (last p : ℕ × ℕ) (x : StateSeen) (o : Open
     current = (policy state last p x s h e).1;
     attempt = b;
     there = (found state last p x s h e).1.there;
+    place = place state last p x s h e;
     call = (found state last p x s h e).1.call;
+    queued = (found state last p x s h e).1.queued;
     served = sym (ap (holds (λ (k : PolicyUse). is_served_by (policy_state k s) b s)) (policy state last p x s h e).1) ∙ served state last p x s h e;
     next = follows;
   }

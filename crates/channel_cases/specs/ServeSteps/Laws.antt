@@ -1,4 +1,4 @@
--- One attempt of a pass asks for a pick (gRPC, "Load Balancing in gRPC"; "gRPC Wait for Ready Semantics"). The channel serves the first attempt behind the last one that
+-- One attempt of a pass asks for a pick (gRPC, "Load Balancing in gRPC"; "gRPC Wait for Ready Semantics"). The channel serves the first attempt after the last one that
 -- waits and can be served; that is the one of the session that asks next, of the same policy, and gets the same answer; and channel and session agree after it.
 -- Example: the attempts 1 of call 1 and 2 of call 2 wait, the policy is READY, and 1 was served. PickRequested 2, which is answered Place 1.
 use Rattle.std.specs.Prelude.{Some, nat_lt, true, ℕ, ◌≡◌}
@@ -11,6 +11,7 @@ use Rattle.channel_net.specs.Steps.{net_answer}
 use Rattle.grpc_base.specs.declared.kind.Pick.{Pick}
 use Rattle.lb_policy.specs.Table.{pick_of}
 use Rattle.session_actions.specs.Actions.{following}
+use Rattle.session_actions.specs.Attempts.{is_queued}
 use Rattle.session_actions.specs.Policies.{current_policy, is_served_by, pick_requested, policy_of, policy_state}
 use Rattle.session_actions.specs.Words.{numbered}
 use Rattle.session_actions.specs.declared.action.Action.TheVariants as action
@@ -31,7 +32,9 @@ pub record AskNext (p : ℕ × ℕ) (s : Seen) : Type 0 where
   pub current : current_policy s ≡ Some policy
   pub attempt : Attempt
   pub there : numbered s.attempts p.1 ≡ Some attempt
+  pub place : attempt.place ≡ p.1
   pub call : attempt.row.call ≡ p.0
+  pub queued : is_queued attempt s ≡ true
   -- its policy is READY, or in TRANSIENT_FAILURE where its call does not wait for ready
   pub served : is_served_by (policy_state policy s) attempt s ≡ true
   pub next : following s ≡ Some (action.PickRequested p.1 policy.number (answer_for policy s))
