@@ -27,5 +27,6 @@ pub mod SendsEnd
 pub mod ServeSteps
 pub mod SettlingActions
 pub mod SettlingKeeps
+pub mod SettlingParts
 pub mod SoundBuffers
 pub mod StreamedCalls

@@ -31,5 +31,6 @@ pub mod sends_end;
 pub mod serve_steps;
 pub mod settling_actions;
 pub mod settling_keeps;
+pub mod settling_parts;
 pub mod sound_buffers;
 pub mod streamed_calls;

@@ -1,5 +1,5 @@
 // The attempts that a pass serves, as actions of a session; nothing runs.
-ghost use Rattle.channel_cases.specs.ServeSteps.Follows.{AnswersAreNext, AsksStand, ServesByAnswers};
+ghost use Rattle.channel_cases.specs.ServeSteps.Follows.{AnswersAreNext, AsksStand, PlacesByAgreement, ServesByAnswers};
 ghost use Rattle.channel_cases.specs.ServeSteps.Laws.{AsksAgree, AsksFollow};
 
 use crate::settling_keeps::early_goes_on;
@@ -9,7 +9,7 @@ use channel_actions::link_frames::{actions_are_untold, links_stay};
 use channel_actions::other_calls::{calls_stay, sets_stay};
 use lb_policy::laws_of_the_table;
 use net_actions::policy_steps_are_actions;
-use session_order::{calm_is_exact, queues_stir};
+use session_order::{attempts_stir, calm_is_exact, queues_stir};
 
 /// The attempt that the channel serves next is the one that asks next, of the current policy (gRPC, "Load Balancing in gRPC"; "gRPC Wait for Ready Semantics").
 pub fn asks_follow()
@@ -43,6 +43,15 @@ pub fn asks_stand()
 pub fn answers_are_next()
     ensures { AnswersAreNext }
 {
+    calm_is_exact();
+}
+
+/// Where it is placed, and the placing leaves channel and session in agreement, nothing follows from it, and the pass goes on after it.
+pub fn places_by_agreement()
+    ensures { PlacesByAgreement }
+{
+    answers_are_next();
+    attempts_stir();
     calm_is_exact();
 }
 

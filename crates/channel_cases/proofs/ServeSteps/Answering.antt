@@ -4,7 +4,7 @@ use Rattle.std.proofs.lemmas.Bool.{and_from, and_parts}
 use Rattle.std.proofs.lemmas.Bool.Decides.{nat_tests}
 use Rattle.std.specs.List.{list_any}
 use Rattle.std.specs.Option.{option_map, option_map_or}
-use Rattle.std.specs.Prelude.{option_and_then}
+use Rattle.std.specs.Prelude.{option_and_then, unwrap_or}
 use Rattle.attempt_ledger.specs.declared.ledger.Ask.{Ask}
 use Rattle.attempt_ledger.specs.declared.row.Placed.{Placed}
 use Rattle.channel_actions.proofs.Gone.{all_numbered}
@@ -23,11 +23,13 @@ use Rattle.channel_net.specs.Lists.{link_of}
 use Rattle.channel_net.specs.declared.links.OwnLink.{OwnLink}
 use Rattle.grpc_base.specs.declared.kind.Pick.{Pick}
 use Rattle.grpc_base.specs.declared.kind.Pick.TheVariants as pick
+use Rattle.lb_policy.specs.Table.{is_ready}
 use Rattle.net_actions.specs.Sees.{AreSubs}
 use Rattle.session_actions.specs.Actions.{following}
 use Rattle.session_actions.specs.AttemptEnds.{end_of, pick_end}
 use Rattle.session_actions.specs.Attempts.{is_over}
 use Rattle.session_actions.specs.Entries.{entry}
+use Rattle.session_actions.specs.Events.{is_loss}
 use Rattle.session_actions.specs.Links.{is_retiring}
 use Rattle.session_actions.specs.Policies.{follow_ask, follow_pick, is_unfollowed, next_of_pick, placed_on}
 use Rattle.session_actions.specs.Subchannels.{is_going_down, is_to_be_ready, is_to_go_down, link_of_sub}
@@ -59,7 +61,7 @@ get_more : {X : Type 0} (xs : List X) (a : X) → slice_get (xs ++ a ∷ []) (le
 get_more [] a = refl
 get_more (x ∷ xs) a = get_more xs a
 
-last_more : {X : Type 0} (xs : List X) (a : X) → last_of (xs ++ a ∷ []) ≡ Some a
+pub last_more : {X : Type 0} (xs : List X) (a : X) → last_of (xs ++ a ∷ []) ≡ Some a
 last_more xs a = ap (numbered (xs ++ a ∷ [])) (long_more xs a) ∙ get_more xs a
 
 -- no one passes a test that none passes
@@ -158,10 +160,7 @@ module _ (first : FirstLineGives) (p : ℕ × ℕ) (x : StateSeen) (o : OpenEntr
     last_is = last_more s.asks ask
 
     unfollowed : is_unfollowed k.attempt ≡ true
-    unfollowed =
-        let one = and_parts (is_none k.attempt.row.placed) (is_none k.attempt.row.ended && not (is_over k.attempt s)) k.queued in
-        let two = and_parts (is_none k.attempt.row.ended) (not (is_over k.attempt s)) one.1 in
-        and_from (is_none k.attempt.row.placed) (is_none k.attempt.row.ended) one.0 two.0
+    unfollowed = (and_parts (is_none k.attempt.row.placed && is_none k.attempt.row.ended) (not (is_over k.attempt s)) k.queued).0
 
     now_asked : (is_unfollowed k.attempt && (ask.entry == entry t)) ≡ true
     now_asked = and_from (is_unfollowed k.attempt) (entry s == entry s) unfollowed (self_equal (entry s))
@@ -173,7 +172,7 @@ module _ (first : FirstLineGives) (p : ℕ × ℕ) (x : StateSeen) (o : OpenEntr
         ∙ ap (λ (b : Bool). if b then follow_pick ask t k.attempt (answer_for g s) else None) now_asked
 
     follows_pick : (a : Action) → next_of_pick t ≡ Some a → following t ≡ Some a
-    follows_pick a e = first line.Pick a (passed_by p o) t after.current (λ m before. after.calm m (other_line _ m before)) e
+    follows_pick a e = first line.Pick a (passed_by p o) t after.current (λ m before. after.calm m (other_line (is_loss o.event) m before)) e
 
     pub fails_next : answer_for g s ≡ pick.Fail → following t ≡ Some (action.AttemptEnds p.1 (end_of k.attempt pick_end t))
     fails_next is =
@@ -200,7 +199,7 @@ module _ (first : FirstLineGives) (p : ℕ × ℕ) (x : StateSeen) (o : OpenEntr
       up_sub = all_numbered (is_sound_sub t) t.subs sub on.b on.there h.kept.boards
 
       came : came_up t on.link ≡ true
-      came = sym (ap (λ (q : Option ℕ). option_map_or (came_up t) q _) on.has) ∙ up_sub
+      came = sym (ap (λ (q : Option ℕ). option_map_or (came_up t) q (not (is_ready on.b.state))) on.has) ∙ up_sub
 
       linked : (l : Link) × (numbered t.links on.link ≡ Some l)
       linked = link_there t on.link (numbered t.links on.link) refl came
@@ -237,7 +236,7 @@ module _ (first : FirstLineGives) (p : ℕ × ℕ) (x : StateSeen) (o : OpenEntr
           ap (λ (n : ℕ). record (placed_on ask t on.b) { entry = n }) h.clock.entry_is
           ∙ ap (λ (n : ℕ). record (placed_on ask t on.b) { entry = y.book.ledger.entry; moment = n }) h.clock.moment
           ∙ ap (λ (n : ℕ). record (placed_on ask t on.b) { entry = y.book.ledger.entry; moment = y.book.moment; sub = n }) number_is
-          ∙ ap (λ (q : Option ℕ). record at { link = option_map_or (λ (n : ℕ). n) q 0 }) on.has
+          ∙ ap (λ (q : Option ℕ). record at { link = unwrap_or q 0 }) on.has
 
       next : following t ≡ Some (action.AttemptPlaced p.1 at)
       next =

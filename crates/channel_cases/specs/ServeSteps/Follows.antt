@@ -7,6 +7,7 @@
 -- 3. What is asked of either answer, Place and Fail. (A policy that is asked is READY or in TRANSIENT_FAILURE, so its answer is never Wait.)
 -- 4. With that, and while the net may ask, an attempt that waits is served.
 use Rattle.std.specs.Prelude.{None, Some, false, true, ℕ, ◌≡◌}
+use Rattle.attempt_ledger.specs.declared.row.Placed.{Placed}
 use Rattle.channel_actions.specs.Agrees.{Agrees}
 use Rattle.channel_actions.specs.Calm.{IsAt}
 use Rattle.channel_core.specs.Books.{limit_at, slot_at}
@@ -17,10 +18,12 @@ use Rattle.grpc_base.specs.declared.kind.Pick.{Pick}
 use Rattle.grpc_base.specs.declared.kind.Pick.TheVariants as pick
 use Rattle.session_actions.specs.Actions.{config_action, following}
 use Rattle.session_actions.specs.AttemptEnds.{end_of, pick_end}
-use Rattle.session_actions.specs.Policies.{next_take_over, pick_requested}
+use Rattle.session_actions.specs.Attempts.{is_queued}
+use Rattle.session_actions.specs.Policies.{attempt_placed, next_take_over, pick_requested}
 use Rattle.session_actions.specs.Subchannels.{is_going_down, next_connected, next_of_clock}
 use Rattle.session_actions.specs.Words.{first_of, numbered}
 use Rattle.session_actions.specs.declared.action.Action.TheVariants as action
+use Rattle.session_actions.specs.declared.attempt.Attempt.{Attempt}
 use Rattle.session_actions.specs.declared.entry.OpenEntry.{OpenEntry}
 use Rattle.session_actions.specs.declared.entry.Stage.TheVariants as stage
 use Rattle.session_actions.specs.declared.link.Link.{Link}
@@ -28,11 +31,12 @@ use Rattle.session_actions.specs.declared.policy.PolicyUse.{PolicyUse}
 use Rattle.session_actions.specs.declared.seen.Seen.{Seen}
 use Rattle.session_order.specs.Calm.{IsStill}
 use Rattle.session_order.specs.Lines.{is_line}
+use Rattle.session_order.specs.Stirs.{IsPlaceable}
 use Rattle.session_order.specs.declared.line.Line.{Line}
 use Rattle.session_order.specs.declared.line.Line.TheVariants as line
 use Rattle.channel_cases.specs.PassActions.Serves.{IsPassing, ServeSteps, turn_of}
 use Rattle.channel_cases.specs.ServeSteps.Laws.{AskNext, MayAsk, answer_for, asked_for}
-use Rattle.channel_cases.specs.SettlingActions.Sound.{IsSound}
+use Rattle.channel_cases.specs.SettlingActions.Sound.{AreSoundCalls, IsSound}
 use Rattle.channel_cases.specs.SettlingActions.Steps.{Leads}
 
 -- the open entry, whose pass goes on after this attempt
@@ -100,6 +104,21 @@ PlacesFollow = FollowsOf IsPlace
 
 abbrev pub FailsFollow : Type 0
 FailsFollow = FollowsOf IsFailed
+
+-- so it is where the placing itself leaves them in agreement: of the call, its link, the ledger and the queue
+pub record GoesOut (p : ℕ × ℕ) (at : Placed) (y : StateSeen) (o : OpenEntry) (s : Seen) : Type 0 where
+  pub fits : IsPlaceable p.1 at s
+  pub agrees : Agrees y (attempt_placed p.1 at s)
+  pub final : IsStill line.Final o (attempt_placed p.1 at s)
+
+abbrev pub PlacedOnesAgree : Type 0
+PlacedOnesAgree =
+    (p : ℕ × ℕ) (g : PolicyUse) (sub : ℕ) (a : Attempt) (x : StateSeen) (o : OpenEntry) (s : Seen) → Agrees x s → AreSoundCalls x → IsAsked p o s
+    → numbered s.attempts p.1 ≡ Some a → a.row.call ≡ p.0 → is_queued a s ≡ true → (k : PlaceNext p g sub x s)
+    → GoesOut p (place_at g.number sub k.link x) (placed p.0 p.1 g.number sub x).state o s
+
+abbrev pub PlacesByAgreement : Type 0
+PlacesByAgreement = PlacedOnesAgree → PlacesFollow
 
 -- while the channel settles its net may ask
 abbrev pub NetsMayAsk : Type 0
