@@ -31,7 +31,7 @@ use Rattle.session_actions.specs.Attempts.{is_over}
 use Rattle.session_actions.specs.Entries.{entry}
 use Rattle.session_actions.specs.Events.{is_loss}
 use Rattle.session_actions.specs.Links.{is_retiring}
-use Rattle.session_actions.specs.Policies.{follow_ask, follow_pick, is_unfollowed, next_of_pick, placed_on}
+use Rattle.session_actions.specs.Policies.{follow_ask, follow_pick, is_unfollowed, next_of_pick, placed_on, turn_at}
 use Rattle.session_actions.specs.Subchannels.{is_going_down, is_to_be_ready, is_to_go_down, link_of_sub}
 use Rattle.session_actions.specs.Words.{holds, last_of, numbered}
 use Rattle.session_actions.specs.declared.action.Action.{Action}
@@ -48,6 +48,10 @@ use Rattle.session_order.specs.Lines.{is_before, is_line, rank}
 use Rattle.session_order.specs.declared.line.Line.{Line}
 use Rattle.session_order.specs.declared.line.Line.TheVariants as line
 use Rattle.subchannel.specs.Records.{SubRecord}
+
+mapped_some : {X Y : Type 0} (f : X → Y) (o : Option X) → is_some (option_map f o) ≡ is_some o
+mapped_some f None = refl
+mapped_some f (Some x) = refl
 
 self_equal : (n : ℕ) → (n == n) ≡ true
 self_equal n = grind (arith, nat_tests)
@@ -162,8 +166,12 @@ module _ (first : FirstLineGives) (p : ℕ × ℕ) (x : StateSeen) (o : OpenEntr
     unfollowed : is_unfollowed k.attempt ≡ true
     unfollowed = (and_parts (is_none k.attempt.row.placed && is_none k.attempt.row.ended) (not (is_over k.attempt s)) k.queued).0
 
+    entry_same : entry t ≡ entry s
+    entry_same =
+        ap (λ (b : Bool). length s.entries + (if b then 1 else 0)) (mapped_some (λ (e : OpenEntry). record e { turn = turn_at p.1 s }) s.current)
+
     now_asked : (is_unfollowed k.attempt && (ask.entry == entry t)) ≡ true
-    now_asked = and_from (is_unfollowed k.attempt) (entry s == entry s) unfollowed (self_equal (entry s))
+    now_asked = and_from (is_unfollowed k.attempt) (entry s == entry t) unfollowed (ap (λ (n : ℕ). entry s == n) entry_same ∙ self_equal (entry s))
 
     pick_is : next_of_pick t ≡ follow_pick ask t k.attempt (answer_for g s)
     pick_is =
