@@ -11,6 +11,7 @@ pub mod ConfiguredCalls
 pub mod DialEvents
 pub mod DrainEvents
 pub mod DrainedCalls
+pub mod FewCalls
 pub mod FirstShutdowns
 pub mod FullSends
 pub mod LongSends

@@ -12,6 +12,7 @@ pub mod DialEvents
 pub mod DrainEvents
 pub mod DrainedCalls
 pub mod EndedCalls
+pub mod FewCalls
 pub mod FirstShutdowns
 pub mod FullSends
 pub mod LongSends

@@ -1,7 +1,7 @@
 // What stands on the end of one call; nothing runs.
 ghost use Rattle.channel_cases.specs.CallEnds.Laws.{OpenCancels};
 ghost use Rattle.channel_cases.specs.ConfigActions.Ends.{BareCallsEnd};
-ghost use Rattle.channel_cases.specs.EndedCalls.Laws.{CallsGetConfigsOrEnd, DeadlinesAreMet, LongSendsEnd, SendsAreAnsweredToo};
+ghost use Rattle.channel_cases.specs.EndedCalls.Laws.{CallsGetConfigsOrEnd, DeadlinesAreMet, LongSendsEnd};
 ghost use Rattle.channel_cases.specs.LongSends.Laws.{CallsEndAlike};
 ghost use Rattle.channel_cases.specs.SettlingActions.Steps.{ConfigSteps};
 
@@ -29,11 +29,6 @@ pub fn calls_to_end_end()
 /// A message that the call's config does not allow is answered, and ends its call (gRPC, "Service Config in gRPC": maxRequestMessageBytes).
 pub fn long_sends_end()
     ensures { LongSendsEnd }
-{}
-
-/// Every Send of a call that is there is answered alike, where a call that is to be committed is committed alike.
-pub fn sends_are_answered_too()
-    ensures { SendsAreAnsweredToo }
 {}
 
 /// A call without an attempt ends alike in channel and session ("gRPC Wait for Ready Semantics").

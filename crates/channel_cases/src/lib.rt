@@ -15,6 +15,7 @@ pub mod dial_events;
 pub mod drain_events;
 pub mod drained_calls;
 pub mod ended_calls;
+pub mod few_calls;
 pub mod first_shutdowns;
 pub mod full_sends;
 pub mod long_sends;

@@ -30,7 +30,7 @@ use Rattle.channel_cases.proofs.NetSteps.Stepped.{net_steps_keep}
 use Rattle.channel_cases.proofs.NetSteps.Subbed.{subbed_links}
 use Rattle.channel_cases.specs.FirstShutdowns.Cases.{IsFirstShutdown}
 use Rattle.channel_cases.specs.FirstShutdowns.Laws.{AreStamped, CallsAreOver, FirstShutdownsAreAnswered, ShutsAreStamped, without_calls}
-use Rattle.channel_cases.specs.NetChains.Chains.{IsApartCalm, IsChained, IsPickThere}
+use Rattle.channel_cases.specs.NetChains.Chains.{IsChained, IsPickThere}
 use Rattle.channel_cases.specs.NetChains.Laws.{ChainsAreNext}
 use Rattle.channel_core.specs.Applying.{AnswersBy, net_closed, refusal_of, shut_off}
 use Rattle.channel_core.specs.States.{StateSeen}
@@ -56,7 +56,6 @@ use Rattle.session_actions.specs.Words.{last_of}
 use Rattle.session_actions.specs.declared.action.Action.TheVariants as action
 use Rattle.session_actions.specs.declared.action.Action.{Action}
 use Rattle.session_actions.specs.declared.entry.OpenEntry.{OpenEntry}
-use Rattle.session_actions.specs.declared.link.Link.{Link}
 use Rattle.session_actions.specs.declared.entry.Stage.TheVariants as stage
 use Rattle.session_actions.specs.declared.call.Call.{Call}
 use Rattle.session_actions.specs.declared.policy.PolicyUse.{PolicyUse}

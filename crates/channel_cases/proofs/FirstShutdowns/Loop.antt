@@ -23,7 +23,7 @@ use Rattle.channel_core.specs.Tables.{tokens_in}
 use Rattle.channel_core.specs.Timing.{number_of}
 use Rattle.grpc_base.specs.declared.event.EndCause.TheVariants as ending
 use Rattle.session_actions.specs.Actions.{following}
-use Rattle.session_actions.specs.CallEnds.{call_ended, ending_call, is_shut_down}
+use Rattle.session_actions.specs.CallEnds.{ending_call, is_shut_down}
 use Rattle.session_actions.specs.Events.{is_loss}
 use Rattle.session_actions.specs.Laws.{posted_in}
 use Rattle.session_actions.specs.Sessions.{Does}
@@ -36,7 +36,7 @@ use Rattle.session_actions.specs.declared.seen.Seen.{Seen}
 use Rattle.session_order.proofs.Calms.{first_line_gives}
 use Rattle.session_order.proofs.Ended.{ended_leaves}
 use Rattle.session_order.specs.Calm.{IsStill}
-use Rattle.session_order.specs.Lines.{is_before, is_line, rank}
+use Rattle.session_order.specs.Lines.{is_line, rank}
 use Rattle.session_order.specs.declared.line.Line.{Line}
 use Rattle.session_order.specs.declared.line.Line.TheVariants as line
 

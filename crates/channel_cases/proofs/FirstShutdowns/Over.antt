@@ -1,5 +1,5 @@
 -- A channel is shut down, and its calls end, in both.
-use Rattle.std.proofs.Common.{◌≡◌, ◌≤◌, ◌++◌, ◌&&◌, ◌∷◌, ap, arith, refl, subst, sym, ◌∙◌, Bool, true, false, cond, List, [], None, Option, Some, ℕ, zero, suc, find, is_none, is_some, length, slice_get}
+use Rattle.std.proofs.Common.{◌≡◌, ◌≤◌, ◌&&◌, ◌∷◌, ap, arith, refl, subst, sym, Bool, true, false, cond, List, [], None, Option, Some, ℕ, zero, suc, find, is_none, is_some, length, slice_get}
 use Rattle.std.specs.Option.{option_map}
 use Rattle.attempt_ledger.specs.declared.ledger.CallEnd.{CallEnd}
 use Rattle.channel_actions.proofs.Answering.{event_next}
@@ -12,10 +12,9 @@ use Rattle.channel_cases.proofs.FirstShutdowns.Shut.{shut_agrees, shut_now, shut
 use Rattle.channel_cases.specs.FirstShutdowns.Cases.{IsFirstShutdown}
 use Rattle.channel_cases.specs.FirstShutdowns.Laws.{CallsAreOver, ShutdownsEndCalls}
 use Rattle.channel_actions.specs.Cases.{answered_done}
-use Rattle.channel_core.specs.Applying.{all_closed, calls_closed}
+use Rattle.channel_core.specs.Applying.{calls_closed}
 use Rattle.channel_core.specs.States.{StateSeen}
 use Rattle.grpc_base.specs.declared.event.EndCause.TheVariants as ending
-use Rattle.grpc_base.specs.declared.event.Event.TheVariants as event
 use Rattle.grpc_base.specs.declared.event.Event.{Event}
 use Rattle.net_actions.specs.Runs.{NoneIsToEnd}
 use Rattle.session_actions.specs.Actions.{following}
@@ -23,7 +22,6 @@ use Rattle.session_actions.specs.CallEnds.{ending_call, is_shut_down, next_deadl
 use Rattle.session_actions.specs.Events.{event_action}
 use Rattle.session_actions.specs.Words.{numbered}
 use Rattle.session_actions.specs.declared.action.Action.TheVariants as action
-use Rattle.session_actions.specs.declared.call.Call.{Call}
 use Rattle.session_actions.specs.declared.entry.OpenEntry.{OpenEntry}
 use Rattle.session_actions.specs.declared.entry.Stage.TheVariants as stage
 use Rattle.session_actions.specs.declared.seen.Seen.{Seen}

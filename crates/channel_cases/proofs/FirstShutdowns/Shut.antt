@@ -1,5 +1,5 @@
 -- The channel is shut down: all that channel and session have is as before, and only calls and policies may follow.
-use Rattle.std.proofs.Common.{◌≡◌, ◌==◌, ◌∷◌, ap, arith, refl, subst, sym, ◌∙◌, Bool, true, false, List, [], None, Option, Some, ℕ, zero, suc, length}
+use Rattle.std.proofs.Common.{◌≡◌, ◌==◌, ◌∷◌, arith, refl, sym, ◌∙◌, true, false, [], None, Some, ℕ, zero, suc}
 use Rattle.std.proofs.lemmas.Bool.Decides.{nat_tests}
 use Rattle.channel_actions.proofs.KeptSessions.Along.{kept_along}
 use Rattle.channel_actions.proofs.LinkFrames.Frame.{links_stay}

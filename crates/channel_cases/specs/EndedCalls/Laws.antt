@@ -6,7 +6,6 @@ use Rattle.channel_actions.specs.Agrees.{Agrees}
 use Rattle.channel_actions.specs.Calm.{IsAt}
 use Rattle.channel_actions.specs.EndsFollow.Cuts.{AreUnreset}
 use Rattle.channel_actions.specs.Stages.{DeadlinesOf, EventsAnswered}
-use Rattle.channel_cases.specs.CallSends.Laws.{CallsCommitAlike, IsSend}
 use Rattle.channel_cases.specs.LongSends.Laws.{IsLongSendThen}
 use Rattle.channel_cases.specs.SettlingActions.Sound.{IsSound}
 use Rattle.channel_cases.specs.SettlingActions.Steps.{IsJoined, IsTended, Leads}
@@ -20,10 +19,6 @@ use Rattle.std.specs.Prelude.{Some, length, ◌≡◌, ◌≤◌}
 
 abbrev pub LongSendsEnd : Type 0
 LongSendsEnd = EventsAnswered IsLongSendThen
-
--- every Send, where a call that is to be committed is committed alike
-abbrev pub SendsAreAnsweredToo : Type 0
-SendsAreAnsweredToo = CallsCommitAlike → EventsAnswered IsSend
 
 -- calls whose deadline has come end one after the other, the earliest first, until none is left; also where none has come. (Asked is of the session that no stream was
 -- reset of an attempt that goes on, which `kept_calls` has of every session, and that numbers of calls do not end, which no session reaches.)

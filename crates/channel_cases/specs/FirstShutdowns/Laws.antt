@@ -1,5 +1,4 @@
 -- A Shutdown of an open channel: first all its calls end, in both; and then its policies are retired and its subchannels are shut.
-use Rattle.attempt_ledger.specs.declared.ledger.Generation.{Generation}
 use Rattle.channel_actions.specs.Agrees.{Agrees}
 use Rattle.channel_actions.specs.Calm.{IsAt}
 use Rattle.channel_actions.specs.Cases.{answered_done}
@@ -9,7 +8,6 @@ use Rattle.channel_actions.specs.Stages.{EventsAnswered}
 use Rattle.channel_cases.specs.FirstShutdowns.Cases.{IsFirstShutdown}
 use Rattle.channel_core.specs.Applying.{all_closed, net_closed}
 use Rattle.channel_core.specs.States.{StateSeen}
-use Rattle.grpc_base.specs.declared.event.Event.{Event}
 use Rattle.net_actions.specs.Runs.{DoesAll, NoneIsToEnd}
 use Rattle.session_actions.specs.CallEnds.{next_deadline}
 use Rattle.session_actions.specs.Laws.{posted_in}

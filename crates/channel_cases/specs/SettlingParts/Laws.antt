@@ -1,11 +1,11 @@
 -- A settling from its parts: what is proved of them, put together, and what is left of them as premises, each by its name.
--- Example: where the clock, the net and the configs of a settling keep channel and session in agreement, so does all of it, but for what follows an answer to a pick
+-- Example: where the clock and the net of a settling keep channel and session in agreement, so does all of it, but for what follows an answer to a pick
 -- request, and a hedge that is withheld when no other attempt of its call goes on.
 use Rattle.channel_actions.specs.Stages.{SettlingsOf}
 use Rattle.channel_cases.specs.MakingSteps.Laws.{LastIsWithheld}
 use Rattle.channel_cases.specs.ServeSteps.Follows.{FailsFollow, NetsMayAsk, PlacesFollow}
 use Rattle.channel_cases.specs.SettlingActions.Sound.{IsSound}
-use Rattle.channel_cases.specs.SettlingActions.Steps.{ClockSteps, ConfigSteps, MakingSteps, NetSteps, QueueSteps, RoundsEnd}
+use Rattle.channel_cases.specs.SettlingActions.Steps.{ClockSteps, MakingSteps, NetSteps, QueueSteps, RoundsEnd}
 
 -- the attempts of a round
 abbrev pub MakingStands : Type 0
@@ -21,4 +21,4 @@ RoundsStand = LastIsWithheld → NetsMayAsk → PlacesFollow → FailsFollow →
 
 -- the settling
 abbrev pub SettlingsStand : Type 0
-SettlingsStand = ClockSteps → NetSteps → ConfigSteps → LastIsWithheld → NetsMayAsk → PlacesFollow → FailsFollow → SettlingsOf IsSound
+SettlingsStand = ClockSteps → NetSteps → LastIsWithheld → NetsMayAsk → PlacesFollow → FailsFollow → SettlingsOf IsSound

@@ -16,5 +16,5 @@ pub returns-clause-settling : goal.returns-clause-settling
 returns-clause-settling c =
     let making = making_stands c.rounds_make.ensures c.makes_by_cases.ensures in
     let queue = queue_stands c.passes_are_serves.ensures c.passes_stop.ensures c.passes_are_short.ensures c.serves_by_answers.ensures in
-    settlings_stand c.settlings_keep.ensures.parts c.settlings_are_steps.ensures.settling making queue
+    settlings_stand c.settlings_keep.ensures.parts c.settlings_are_steps.ensures.settling c.config_steps_are_done.ensures making queue
     (rounds_stand c.settlings_keep.ensures.parts c.rounds_are_short.ensures making queue c.serves_by_answers.ensures)
