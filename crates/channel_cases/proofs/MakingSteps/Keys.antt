@@ -1,15 +1,12 @@
 -- The calls that are due, sorted: each of them once, the lowest number first; and the timers of the others.
-use Rattle.std.proofs.Common.{◌≡◌, ◌<◌, ◌∙◌, ◌==◌, ◌&&◌, ◌||◌, ◌∷◌, ap, arith, refl, sym, subst, Bool, true, false, not, List, [], Option, None, Some, ℕ, zero, suc, if◌then◌else◌, nat_le, length}
+use Rattle.std.proofs.Common.{◌≡◌, ◌<◌, ◌∙◌, ◌==◌, ◌&&◌, ◌||◌, ◌∷◌, ap, arith, refl, sym, subst, Bool, true, false, not, List, [], ℕ, if◌then◌else◌, nat_le}
 use Rattle.std.proofs.lemmas.Bool.{and_parts}
 use Rattle.std.proofs.lemmas.Bool.Decides.{nat_tests}
 use Rattle.std.specs.BTreeSet.{insert_key}
 use Rattle.std.specs.List.{list_all, list_any}
-use Rattle.std.specs.Option.{option_map}
-use Rattle.channel_actions.proofs.SetFrames.Pairs.{has_insert, none_behind, rising_insert, same_is, self_same}
-use Rattle.channel_actions.specs.Sets.{AreExactly, AreRising}
-use Rattle.channel_core.specs.Tables.{changed_slot, changed_slot_at, changed_slot_on, numbered, without_due}
-use Rattle.channel_core.specs.Timing.{due_keys, later, number_of, sorted_into}
-use Rattle.channel_core.specs.declared.state.slots.CallSlot.{CallSlot}
+use Rattle.channel_actions.proofs.SetFrames.Pairs.{has_insert, rising_insert, same_is, self_same}
+use Rattle.channel_actions.specs.Sets.{AreRising}
+use Rattle.channel_core.specs.Timing.{due_keys, later, sorted_into}
 use Rattle.picker_gate.specs.Pairs.{has, is_behind, is_same, pair_cmp}
 
 abbrev pub is_key : List ℕ → ℕ → Bool

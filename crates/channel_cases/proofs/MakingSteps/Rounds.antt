@@ -1,21 +1,20 @@
 -- The attempts of a round are those that are due, call by call.
-use Rattle.std.proofs.Common.{◌≡◌, ◌≤◌, ◌<◌, ◌∙◌, ◌==◌, ◌&&◌, ◌||◌, ◌+◌, ◌-◌, ◌++◌, ◌∷◌, ap, arith, refl, sym, subst, Bool, true, false, not, List, [], Option, None, Some, ℕ, zero, suc, if◌then◌else◌, is_none, is_some, length, nat_le, nat_lt, slice_get, slice_set}
+use Rattle.std.proofs.Common.{◌≡◌, ◌≤◌, ◌<◌, ◌∙◌, ◌==◌, ◌&&◌, ◌||◌, ◌-◌, ◌∷◌, ap, arith, refl, sym, subst, Bool, true, false, not, List, [], Option, None, Some, ℕ, zero, suc, if◌then◌else◌, length, nat_le, nat_lt, slice_get, slice_set}
 use Rattle.std.proofs.lemmas.Bool.{and_from, and_parts}
 use Rattle.std.proofs.lemmas.Bool.Decides.{nat_tests}
-use Rattle.std.specs.List.{list_any}
 use Rattle.std.specs.Option.{option_map}
 use Rattle.std.specs.Prelude.{option_and_then}
 use Rattle.call_actions.proofs.Places.{places_below}
 use Rattle.channel_actions.proofs.GoingCalls.Arms.{CallLaws}
 use Rattle.channel_actions.proofs.SetFrames.Firsts.{first_numbered, none_numbered}
-use Rattle.channel_actions.proofs.SetFrames.Slots.{changed_slot_is, put_away, set_length}
+use Rattle.channel_actions.proofs.SetFrames.Slots.{changed_slot_is, put_away}
 use Rattle.channel_actions.proofs.SetFrames.Timers.{timers_exactly}
 use Rattle.channel_actions.specs.Agrees.{Agrees}
 use Rattle.channel_actions.specs.Calls.{HasSlot, due_of}
 use Rattle.channel_actions.specs.Calm.{IsAt}
 use Rattle.channel_actions.specs.Clock.{DrawsAlike}
 use Rattle.channel_actions.specs.KeptCalls.Laws.{EarlyAlong}
-use Rattle.channel_actions.specs.Sets.{AreExactly, SeesSets, is_in_dues}
+use Rattle.channel_actions.specs.Sets.{AreExactly, is_in_dues}
 use Rattle.channel_cases.proofs.ConfiguredCalls.Lists.{equal_numbers, same_numbered, same_words}
 use Rattle.channel_cases.proofs.MakingSteps.Keys.{AreAscending, ArePlain, is_key, key_of, later_has, later_rising, plain_ascending, plain_keys, self_equal, sorted_has, sorted_rising}
 use Rattle.channel_cases.proofs.MakingSteps.Strips.{made_calls, made_dues, made_moment, made_too, slot_after, with_dues}
@@ -24,13 +23,12 @@ use Rattle.channel_cases.proofs.SettlingActions.Composed.{leads_on, stays_at}
 use Rattle.channel_cases.proofs.SettlingKeeps.Carried.{Settles, rests}
 use Rattle.channel_cases.proofs.SettlingKeeps.Keeping.{stays_by}
 use Rattle.channel_cases.specs.MakingSteps.Laws.{DueNext, IsDueDone, OneMakes, RoundsMake}
-use Rattle.channel_cases.specs.SettlingActions.Sound.{IsSound, SoundStays}
-use Rattle.channel_cases.specs.SettlingActions.Steps.{IsMade, IsTended, Leads, MakingSteps, round_made_state}
+use Rattle.channel_cases.specs.SettlingActions.Sound.{IsSound}
+use Rattle.channel_cases.specs.SettlingActions.Steps.{IsMade, IsTended, Leads, round_made_state}
 use Rattle.channel_core.proofs.Places.{put_there}
 use Rattle.channel_core.proofs.RestingSteps.{make_all}
-use Rattle.channel_core.specs.Books.{slot_at}
 use Rattle.channel_core.specs.States.{StateSeen}
-use Rattle.channel_core.specs.Steps.{all_made, dues_forgotten, dues_taken, made_one, round_made}
+use Rattle.channel_core.specs.Steps.{all_made, dues_forgotten, made_one}
 use Rattle.channel_core.specs.Tables.{changed_slot, changed_slot_at, changed_slot_on, numbered, without_due}
 use Rattle.channel_core.specs.Timing.{due_keys, later, number_of, sorted_into, timer_moved}
 use Rattle.channel_core.specs.declared.state.slots.CallSlot.{CallSlot}
@@ -38,7 +36,7 @@ use Rattle.picker_gate.specs.Pairs.{has}
 use Rattle.session_actions.specs.Calls.{is_open_call}
 use Rattle.session_actions.specs.DueAttempts.{next_due}
 use Rattle.session_actions.specs.Entries.{now}
-use Rattle.session_actions.specs.Making.{due_action, due_attempt, due_if_past, next_due_attempt}
+use Rattle.session_actions.specs.Making.{due_action, due_attempt, due_if_past}
 use Rattle.session_actions.specs.Words as words
 use Rattle.session_actions.specs.Words.{holds, is_number}
 use Rattle.session_actions.specs.declared.action.Action.{Action}

@@ -1,6 +1,6 @@
 -- The channel takes the timers of all calls that are due out before it makes the first attempt. What is done to one call does not look at the timers of the
 -- others: it is the same with them and without.
-use Rattle.std.proofs.Common.{◌≡◌, ◌∙◌, ◌==◌, ◌||◌, ◌-◌, ◌∷◌, Bool, true, false, List, [], Option, None, Some, ℕ, zero, suc, ap, refl, sym, if◌then◌else◌, length, slice_set}
+use Rattle.std.proofs.Common.{◌≡◌, ◌∙◌, ◌-◌, ◌∷◌, Bool, true, false, List, [], Option, None, Some, ℕ, ap, refl, sym, if◌then◌else◌, slice_set}
 use Rattle.std.specs.BTreeSet.{insert_key}
 use Rattle.attempt_ledger.specs.declared.ledger.LinkSeen.{LinkSeen}
 use Rattle.call_core.specs.Steps as call
@@ -9,11 +9,11 @@ use Rattle.call_core.specs.declared.act.CallAct.{CallAct}
 use Rattle.call_core.specs.declared.act.CallAct.TheVariants as act
 use Rattle.channel_actions.proofs.SetFrames.Slots.{asked_is, changed_slot_is, set_twice}
 use Rattle.channel_core.proofs.Places.{put_there}
-use Rattle.channel_core.specs.Books.{BookActs, deadline_of, due_at, link_of, placed_in_book, row_at, slot_at, waits_at}
+use Rattle.channel_core.specs.Books.{BookActs, deadline_of, due_at, link_of, row_at, slot_at, waits_at}
 use Rattle.channel_core.specs.States.{StateSeen}
 use Rattle.channel_core.specs.Steps as step
 use Rattle.channel_core.specs.Steps.{act_done, acts_done, call_asked, followed, is_gone, left_on, links_sealed, made_one, reset_on, resets_taken, sealed, sealed_one, stamped_gone, timers_moved, timers_moved_to, with_book, with_ledger_links}
-use Rattle.channel_core.specs.Tables.{acted_as, changed_slot, numbered, tokens_in, with_call, with_timers, without_due}
+use Rattle.channel_core.specs.Tables.{changed_slot, numbered, tokens_in, with_call, with_timers, without_due}
 use Rattle.channel_core.specs.Timing.{timer_moved}
 use Rattle.channel_core.specs.declared.state.slots.CallSlot.{CallSlot}
 use Rattle.ledger_stamps.specs.Steps.{changed_at, gone_link}

@@ -1,5 +1,5 @@
 -- An attempt asks for a pick: it gets the same answer in channel and session, and all agrees after it, since nothing changed but the requests themselves.
-use Rattle.std.proofs.Common.{◌≡◌, ◌==◌, ◌++◌, ◌∷◌, ap, arith, refl, subst, sym, ◌∙◌, true, false, List, [], Option, None, Some, ℕ, zero, suc, length}
+use Rattle.std.proofs.Common.{◌≡◌, ◌==◌, ◌++◌, ◌∷◌, ap, arith, refl, subst, sym, ◌∙◌, true, false, List, [], Option, None, Some, ℕ, zero, suc}
 use Rattle.std.proofs.lemmas.Bool.Decides.{nat_tests}
 use Rattle.std.specs.Option.{option_map}
 use Rattle.attempt_ledger.specs.declared.ledger.Ask.{Ask}
@@ -20,21 +20,19 @@ use Rattle.channel_cases.proofs.DialEvents.Nets.{one_call_more}
 use Rattle.channel_cases.specs.ServeSteps.Laws.{AskNext, AsksAgree, HasAsked, MayAsk, answer_for, asked_for}
 use Rattle.channel_core.specs.States.{StateSeen}
 use Rattle.channel_net.specs.Runs as net_calls
-use Rattle.channel_net.specs.Steps.{NetSeen, net_answer, net_asked}
+use Rattle.channel_net.specs.Steps.{net_answer, net_asked}
 use Rattle.lb_policy.specs.Table.{PolicySeen}
 use Rattle.net_actions.specs.Laws.{AsksAreAnswered, IsBeside}
 use Rattle.net_actions.specs.Sees.{IsUse, Sees}
 use Rattle.policy_rack.specs.declared.live.Live.{Live}
 use Rattle.grpc_base.specs.declared.address.Address.{Address}
 use Rattle.session_actions.specs.Entries.{entry}
-use Rattle.session_actions.specs.Policies.{current_policy, pick_requested, policy_of, turn_at}
+use Rattle.session_actions.specs.Policies.{current_policy, pick_requested, policy_of}
 use Rattle.session_actions.specs.Sessions.{Does}
-use Rattle.session_actions.specs.Words.{numbered}
 use Rattle.session_actions.specs.declared.action.Action.{Action}
 use Rattle.session_actions.specs.declared.action.Action.TheVariants as action
 use Rattle.session_actions.specs.declared.call.Call.{Call}
 use Rattle.session_actions.specs.declared.entry.OpenEntry.{OpenEntry}
-use Rattle.session_actions.specs.declared.link.Link.{Link}
 use Rattle.session_actions.specs.declared.policy.PolicyUse.{PolicyUse}
 use Rattle.session_actions.specs.declared.seen.Seen.{Seen}
 

@@ -1,5 +1,5 @@
 -- What follows a pick request by its answer: the attempt is placed on the link of the subchannel that was picked, or ends by the failed pick.
-use Rattle.std.proofs.Common.{◌≡◌, ◌&&◌, ◌||◌, ◌+◌, ◌++◌, ◌==◌, ◌∙◌, ◌∷◌, ap, arith, refl, sym, subst, Bool, true, false, List, [], None, Option, Some, ℕ, zero, suc, if◌then◌else◌, is_none, is_some, length, nat_lt, not, slice_get}
+use Rattle.std.proofs.Common.{◌≡◌, ◌&&◌, ◌||◌, ◌+◌, ◌++◌, ◌==◌, ◌∙◌, ◌∷◌, ap, arith, refl, sym, Bool, true, false, List, [], None, Option, Some, ℕ, zero, suc, if◌then◌else◌, is_none, is_some, length, nat_lt, not, slice_get}
 use Rattle.std.proofs.lemmas.Bool.{and_from, and_parts}
 use Rattle.std.proofs.lemmas.Bool.Decides.{nat_tests}
 use Rattle.std.specs.List.{list_any}
@@ -18,10 +18,8 @@ use Rattle.channel_core.specs.Books.{limit_at, slot_at}
 use Rattle.channel_core.specs.Settling.{moves, offered, place_at, placed, placed_if, placed_on as placed_on_link, settled_in}
 use Rattle.channel_core.specs.States.{StateSeen}
 use Rattle.channel_core.specs.Tables.{takes_rows, takes_rows_at}
-use Rattle.channel_core.specs.declared.state.links.LinkSlot.{LinkSlot}
 use Rattle.channel_net.specs.Lists.{link_of}
 use Rattle.channel_net.specs.declared.links.OwnLink.{OwnLink}
-use Rattle.grpc_base.specs.declared.kind.Pick.{Pick}
 use Rattle.grpc_base.specs.declared.kind.Pick.TheVariants as pick
 use Rattle.lb_policy.specs.Table.{is_ready}
 use Rattle.net_actions.specs.Sees.{AreSubs}
@@ -32,7 +30,7 @@ use Rattle.session_actions.specs.Entries.{entry}
 use Rattle.session_actions.specs.Events.{is_loss}
 use Rattle.session_actions.specs.Links.{is_retiring}
 use Rattle.session_actions.specs.Policies.{follow_ask, follow_pick, is_unfollowed, next_of_pick, placed_on, turn_at}
-use Rattle.session_actions.specs.Subchannels.{is_going_down, is_to_be_ready, is_to_go_down, link_of_sub}
+use Rattle.session_actions.specs.Subchannels.{is_going_down, is_to_be_ready, is_to_go_down}
 use Rattle.session_actions.specs.Words.{holds, last_of, numbered}
 use Rattle.session_actions.specs.declared.action.Action.{Action}
 use Rattle.session_actions.specs.declared.action.Action.TheVariants as action
@@ -44,7 +42,7 @@ use Rattle.session_actions.specs.declared.seen.Seen.{Seen}
 use Rattle.session_actions.specs.declared.subchannel.Subchannel.{Subchannel}
 use Rattle.session_order.specs.Calm.{is_link_new}
 use Rattle.session_order.specs.Laws.{FirstLineGives}
-use Rattle.session_order.specs.Lines.{is_before, is_line, rank}
+use Rattle.session_order.specs.Lines.{is_line, rank}
 use Rattle.session_order.specs.declared.line.Line.{Line}
 use Rattle.session_order.specs.declared.line.Line.TheVariants as line
 use Rattle.subchannel.specs.Records.{SubRecord}

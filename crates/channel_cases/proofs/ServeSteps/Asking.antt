@@ -1,5 +1,5 @@
 -- Whom the channel serves next asks next: of the attempts that wait behind the last one it is the foremost that can be served.
-use Rattle.std.proofs.Common.{◌≡◌, ◌&&◌, ◌||◌, ◌==◌, ◌∙◌, ◌∷◌, ◌⊎◌, inl, inr, ap, arith, refl, sym, subst, Bool, true, false, List, [], None, Option, Some, ℕ, zero, suc, filter, is_some, nat_lt, not, slice_get}
+use Rattle.std.proofs.Common.{◌≡◌, ◌&&◌, ◌||◌, ◌==◌, ◌∙◌, ◌∷◌, inl, inr, ap, arith, refl, sym, Bool, true, false, [], None, Option, Some, ℕ, zero, suc, filter, is_some, nat_lt, not, slice_get}
 use Rattle.std.proofs.lemmas.Bool.{and_from, and_parts}
 use Rattle.std.proofs.lemmas.Bool.Decides.{nat_tests}
 use Rattle.std.specs.Option.{option_map}
@@ -9,8 +9,7 @@ use Rattle.channel_actions.proofs.KeptSessions.Lists.{counted_places, own_number
 use Rattle.channel_actions.proofs.Settles.{follows_by}
 use Rattle.channel_actions.specs.Agrees.{Agrees}
 use Rattle.channel_actions.specs.Calm.{IsAt}
-use Rattle.channel_actions.specs.Sets.{is_in_patient, is_in_queue, is_patient, is_waiting}
-use Rattle.channel_cases.proofs.MakingSteps.Step.{first_six}
+use Rattle.channel_actions.specs.Sets.{is_in_queue, is_patient, is_waiting}
 use Rattle.channel_cases.proofs.PassActions.Queue.{Waits, first_found, next_waits, none_found}
 use Rattle.channel_cases.proofs.ServeSteps.Order.{IsForemost, IsOrder, foremost_is, least_found, left_least, none_left, right_least}
 use Rattle.channel_cases.specs.PassActions.Serves.{IsBeginning, IsPassing, turn_of}

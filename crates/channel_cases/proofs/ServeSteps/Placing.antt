@@ -1,9 +1,8 @@
 -- An attempt is placed: the pass goes on after it, where channel and session agree, and nothing follows.
-use Rattle.std.proofs.Common.{◌≡◌, ◌&&◌, ◌||◌, ◌++◌, ◌==◌, ◌∙◌, ◌∷◌, ap, arith, refl, sym, subst, inr, Bool, true, false, List, [], None, Option, Some, ℕ, is_none, is_some, not}
+use Rattle.std.proofs.Common.{◌≡◌, ◌&&◌, ◌++◌, ◌==◌, ◌∙◌, ◌∷◌, ap, arith, refl, sym, subst, inr, Bool, true, false, [], None, Option, Some, ℕ, is_some}
 use Rattle.std.proofs.lemmas.Bool.{eqb-false}
 use Rattle.std.proofs.lemmas.Bool.Decides.{nat_tests}
 use Rattle.std.specs.Option.{option_map_or}
-use Rattle.attempt_ledger.specs.declared.ledger.Ask.{Ask}
 use Rattle.attempt_ledger.specs.declared.row.Placed.{Placed}
 use Rattle.call_actions.proofs.Lists.{changed_away, changed_here}
 use Rattle.channel_actions.proofs.Gone.{all_numbered}
@@ -13,11 +12,10 @@ use Rattle.channel_actions.specs.Agrees.{Agrees}
 use Rattle.channel_actions.specs.Calm.{IsAt}
 use Rattle.channel_cases.proofs.MakingSteps.Step.{none_at}
 use Rattle.channel_cases.proofs.ServeSteps.Answering.{last_more}
-use Rattle.channel_cases.specs.PassActions.Serves.{IsPassing, turn_of}
+use Rattle.channel_cases.specs.PassActions.Serves.{IsPassing}
 use Rattle.channel_cases.specs.ServeSteps.Follows.{AnswersAreNext, GoesOut, IsAsked, IsFollowed, IsPlace, PlaceNext, PlacedOnesAgree, PlacesByAgreement, passed_by, request_made}
 use Rattle.channel_cases.specs.ServeSteps.Laws.{AskNext, answer_for, asked_for}
 use Rattle.channel_cases.specs.SettlingActions.Sound.{AreSoundCalls, IsSound}
-use Rattle.channel_cases.specs.SettlingActions.Steps.{Leads}
 use Rattle.channel_core.specs.Settling.{picked, place_at, placed}
 use Rattle.channel_core.specs.States.{StateSeen}
 use Rattle.channel_core.specs.Steps.{Moved}
@@ -28,7 +26,7 @@ use Rattle.session_actions.specs.Attempts.{call_of}
 use Rattle.session_actions.specs.Entries.{entry, now}
 use Rattle.session_actions.specs.Policies.{attempt_placed, is_unfollowed, with_placing}
 use Rattle.session_actions.specs.Sessions.{Does}
-use Rattle.session_actions.specs.Words.{changed, holds, last_of, numbered}
+use Rattle.session_actions.specs.Words.{changed, holds, numbered}
 use Rattle.session_actions.specs.declared.action.Action.{Action}
 use Rattle.session_actions.specs.declared.action.Action.TheVariants as action
 use Rattle.session_actions.specs.declared.attempt.Attempt.{Attempt}

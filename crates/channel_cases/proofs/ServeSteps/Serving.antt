@@ -1,5 +1,5 @@
 -- An attempt that waits is served: it asks, and its answer is followed.
-use Rattle.std.proofs.Common.{◌≡◌, ◌∷◌, ap, refl, subst, sym, ◌∙◌, true, false, Some, ℕ}
+use Rattle.std.proofs.Common.{◌≡◌, ◌∷◌, ap, refl, subst, sym, true, false, Some, ℕ}
 use Rattle.std.specs.Prelude.{Option}
 use Rattle.channel_actions.proofs.Settles.{is_with_open, with_open}
 use Rattle.channel_actions.specs.Agrees.{Agrees}

@@ -1,5 +1,5 @@
 -- After a pick request nothing follows but what its answer says, and the pass stands behind the attempt that asked.
-use Rattle.std.proofs.Common.{◌≡◌, ◌||◌, ◌∷◌, ap, refl, subst, sym, ◌∙◌, Bool, true, false, List, [], Option, None, Some, ℕ}
+use Rattle.std.proofs.Common.{◌≡◌, ◌||◌, ap, refl, subst, sym, ◌∙◌, Bool, false, Option, Some, ℕ}
 use Rattle.std.specs.Option.{option_map}
 use Rattle.channel_actions.proofs.Settles.{is_with_open, with_open}
 use Rattle.channel_actions.specs.Calm.{IsAt}
@@ -7,7 +7,6 @@ use Rattle.channel_cases.specs.PassActions.Serves.{IsPassing, turn_of}
 use Rattle.channel_cases.specs.ServeSteps.Follows.{AsksStand, IsAsked, passed_by, request_made}
 use Rattle.channel_cases.specs.ServeSteps.Laws.{AskNext, answer_for}
 use Rattle.session_actions.specs.Policies.{turn_at}
-use Rattle.session_actions.specs.Words.{numbered}
 use Rattle.session_actions.specs.declared.action.Action.{Action}
 use Rattle.session_actions.specs.declared.action.Action.TheVariants as action
 use Rattle.session_actions.specs.declared.attempt.Attempt.{Attempt}
@@ -19,7 +18,6 @@ use Rattle.session_order.specs.Calm as order
 use Rattle.session_order.specs.Calm.{IsStill}
 use Rattle.session_order.specs.Laws.{CalmIsExact, QueuesStir}
 use Rattle.session_order.specs.Lines.{is_line}
-use Rattle.session_order.specs.Stirs.{stirs}
 use Rattle.session_order.specs.declared.line.Line.{Line}
 use Rattle.session_order.specs.declared.line.Line.TheVariants as line
 
