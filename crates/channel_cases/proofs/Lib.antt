@@ -26,7 +26,9 @@ pub mod PassActions
 pub mod ResultEvents
 pub mod RoundSteps
 pub mod SendsEnd
+pub mod ServeSteps
 pub mod SettlingActions
 pub mod SettlingKeeps
+pub mod SettlingParts
 pub mod SoundBuffers
 pub mod StreamedCalls

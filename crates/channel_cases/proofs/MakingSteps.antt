@@ -1,7 +1,10 @@
 pub mod Calm
+pub mod Keys
 pub mod Lists
 pub mod Made
 pub mod Making
+pub mod Rounds
 pub mod Step
+pub mod Strips
 pub mod Withheld
 pub mod Withholding

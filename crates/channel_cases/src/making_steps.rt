@@ -1,9 +1,11 @@
 // The attempts of a round, as actions of a session; nothing runs.
-ghost use Rattle.channel_cases.specs.MakingSteps.Laws.{AttemptsGetRows, MakesByCases, OneIsMade, OneIsWithheld};
+ghost use Rattle.channel_cases.specs.MakingSteps.Laws.{AttemptsGetRows, MakesByCases, OneIsMade, OneIsWithheld, RoundsMake};
 
+use crate::settling_keeps::early_goes_on;
 use call_actions::calls_apart::{books_are_kept, calls_share_tokens_alone};
 use call_actions::calls_go_on_alike;
 use call_actions::calls_in_turn::{attempts_keep_turn, posts_keep_order};
+use call_core::{calls_are_kept, calls_go_on, takes_leave_rows};
 use channel_actions::kept_sessions::sessions_are_kept;
 use channel_actions::link_frames::{actions_are_untold, links_stay};
 use channel_actions::other_calls::{calls_stay, others_are_same, sets_stay};
@@ -68,4 +70,14 @@ pub fn makes_by_cases()
 {
     one_is_made();
     one_is_withheld();
+}
+
+/// The attempts of a round are those that are due, call by call.
+pub fn rounds_make()
+    ensures { RoundsMake }
+{
+    calls_are_kept();
+    calls_go_on();
+    early_goes_on();
+    takes_leave_rows();
 }

@@ -16,7 +16,7 @@ pub fn passes_stop()
     policy_steps_are_actions();
 }
 
-/// A pass ends before it served 2^64 - 1 attempts, since each stands behind the one before.
+/// A pass ends before it served 2^64 - 1 attempts, since each comes after the one before.
 pub fn passes_are_short()
     ensures { PassesAreShort }
 {}

@@ -1,5 +1,5 @@
 -- Once an attempt that is due was made, nothing follows at once: it has no commitment to take over, and no end is final that was not.
-use Rattle.std.proofs.Common.{◌≡◌, ◌≤◌, ◌∙◌, ◌==◌, ◌&&◌, ◌||◌, ◌+◌, ◌-◌, ◌++◌, ◌∷◌, Bool, true, false, not, List, [], Option, None, Some, ℕ, ap, arith, cond, refl, sym, subst, filter, if◌then◌else◌, is_none, is_some, length, map, nat_lt}
+use Rattle.std.proofs.Common.{◌≡◌, ◌≤◌, ◌∙◌, ◌==◌, ◌&&◌, ◌||◌, ◌+◌, ◌++◌, ◌∷◌, Bool, true, false, not, List, [], Option, None, Some, ℕ, ap, arith, cond, refl, sym, subst, filter, is_none, is_some, length, map, nat_lt}
 use Rattle.std.proofs.lemmas.Bool.{and_parts, eqb-false}
 use Rattle.std.proofs.lemmas.Bool.Decides.{nat_tests}
 use Rattle.std.proofs.lemmas.List.Folds.{list_any-append}
@@ -36,7 +36,7 @@ use Rattle.channel_core.specs.declared.state.slots.CallSlot.{CallSlot}
 use Rattle.grpc_base.specs.Codes.{has_code}
 use Rattle.grpc_base.specs.declared.plan.CallPlan.{CallPlan}
 use Rattle.grpc_base.specs.declared.plan.CallPlan.TheVariants as plan
-use Rattle.session_actions.specs.Attempts.{call_of, commitment, counts_by, is_commitment, is_counted, is_followed, is_later_of, is_of, is_to_follow, of_its_call, wants_follower_by, was_refused, was_retried_so}
+use Rattle.session_actions.specs.Attempts.{commitment, counts_by, is_commitment, is_counted, is_followed, is_later_of, is_of, is_to_follow, of_its_call, wants_follower_by, was_refused, was_retried_so}
 use Rattle.session_actions.specs.Commitments.{is_final_end, is_final_in, is_free_call, is_inherited, is_inherited_by, is_inherited_in}
 use Rattle.session_actions.specs.Configs.{plan_of}
 use Rattle.session_actions.specs.DueAttempts.{attempts_made, has_going, is_final, is_final_by, kind_of_next, last_counted, next_due}

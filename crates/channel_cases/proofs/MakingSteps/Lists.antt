@@ -1,8 +1,8 @@
 -- A list with one thing more at its end, and a table of calls of which one was changed in what is not read.
-use Rattle.std.proofs.Common.{◌≡◌, ◌∙◌, ◌+◌, ◌&&◌, ◌||◌, ◌==◌, ◌++◌, ◌∷◌, ap, arith, refl, subst, sym, eqb-true, Bool, true, false, not, List, [], Option, None, Some, ℕ, zero, suc, filter, length, slice_get}
+use Rattle.std.proofs.Common.{◌≡◌, ◌∙◌, ◌+◌, ◌&&◌, ◌||◌, ◌==◌, ◌++◌, ◌∷◌, ap, arith, refl, subst, sym, eqb-true, Bool, true, false, List, [], Option, None, Some, ℕ, zero, suc, length, slice_get}
 use Rattle.std.proofs.lemmas.Bool.{eqb-false}
 use Rattle.std.proofs.lemmas.Bool.Decides.{nat_tests}
-use Rattle.std.specs.List.{AllByRecursion, find, list_all, list_any}
+use Rattle.std.specs.List.{AllByRecursion}
 use Rattle.std.specs.Option.{option_map, option_map_or}
 use Rattle.call_actions.proofs.Lists.{changed_away, changed_map}
 use Rattle.picker_gate.specs.Pairs.{is_same}

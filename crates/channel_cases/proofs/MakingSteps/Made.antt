@@ -1,20 +1,19 @@
 -- One attempt that is due is made: channel and session agree after it.
 use Rattle.std.proofs.Common.{◌≡◌, ◌≤◌, ◌∙◌, ◌==◌, ◌&&◌, ◌||◌, ◌+◌, ◌-◌, ◌++◌, ◌∷◌, Bool, true, false, not, List, [], Option, None, Some, ℕ, ap, arith, refl, sym, subst, cond, if◌then◌else◌, is_none, is_some, length, map, nat_le, filter, find}
-use Rattle.std.proofs.lemmas.Bool.{and_parts, and_right}
+use Rattle.std.proofs.lemmas.Bool.{and_parts}
 use Rattle.std.proofs.lemmas.Bool.Decides.{nat_tests}
-use Rattle.std.proofs.lemmas.List.{length-append, length-map}
+use Rattle.std.proofs.lemmas.List.{length-map}
 use Rattle.std.proofs.lemmas.List.Elements.{filter-append}
 use Rattle.std.proofs.lemmas.List.Folds.{list_any-append}
 use Rattle.std.specs.BTreeSet.{insert_key}
-use Rattle.std.specs.List.{AllByRecursion, list_all, list_any}
+use Rattle.std.specs.List.{list_all, list_any}
 use Rattle.std.specs.Option.{option_map, option_map_or, option_or}
-use Rattle.std.specs.Prelude.{option_and_then, unwrap_or}
+use Rattle.std.specs.Prelude.{unwrap_or}
 use Rattle.a6_numbers.specs.Throttling.{Bucket}
-use Rattle.attempt_buffer.specs.Buffers.{Buffered, Committed, Cursor, taken_by, taken_from, taken_uncommitted, text_of}
+use Rattle.attempt_buffer.specs.Buffers.{Cursor, taken_by, taken_from, taken_uncommitted, text_of}
 use Rattle.attempt_ledger.specs.Numbering.{is_transparent, later_kind, most_attempts}
 use Rattle.attempt_ledger.specs.declared.ledger.CallEnd.{CallEnd}
 use Rattle.attempt_ledger.specs.declared.ledger.CallSeen.{CallSeen}
-use Rattle.attempt_ledger.specs.declared.ledger.LinkSeen.{LinkSeen}
 use Rattle.attempt_ledger.specs.declared.row.RowKind.{RowKind}
 use Rattle.attempt_ledger.specs.declared.row.RowKind.TheVariants as kind
 use Rattle.call_actions.proofs.Lists.{changed_here, numbered_last}
@@ -25,7 +24,7 @@ use Rattle.call_actions.proofs.TakeActions.Retold.{read_same}
 use Rattle.call_actions.specs.CallsApart.Apart.{IsBook}
 use Rattle.call_actions.specs.CallsApart.Laws.{LinesAreFair, TokensStay, tokens_in_run}
 use Rattle.call_actions.specs.CallsInTurn.Laws.{MakingKeeps}
-use Rattle.call_actions.specs.CallsInTurn.Turns.{IsSteady, StaysSteady, waits as waits_for}
+use Rattle.call_actions.specs.CallsInTurn.Turns.{IsSteady, StaysSteady}
 use Rattle.call_actions.specs.Laws.{AttemptsAreDue}
 use Rattle.call_actions.specs.Order.{AreNumbered, IsInOrder, IsInTurn, Keeps}
 use Rattle.call_actions.specs.Sees.{Sees, bucket_of}
@@ -42,8 +41,8 @@ use Rattle.channel_actions.proofs.SetFrames.Timers.{timers_exactly}
 use Rattle.channel_actions.proofs.Stamps.{map_same, numbered_map}
 use Rattle.channel_actions.specs.Agrees.{Agrees}
 use Rattle.channel_actions.specs.Calls.{HasSlot, SeesCall, deadline_of, due_of, lent_to}
-use Rattle.channel_actions.specs.Columns.{SeesColumns, links_noted}
-use Rattle.channel_actions.specs.Configs.{SeesBuckets, bucket_in, bucket_place, runs_in_turn}
+use Rattle.channel_actions.specs.Columns.{SeesColumns}
+use Rattle.channel_actions.specs.Configs.{SeesBuckets, bucket_in, runs_in_turn}
 use Rattle.channel_actions.specs.KeptSessions.Kept.{IsKept}
 use Rattle.channel_actions.specs.LinkFrames.Alike.{CannotTell}
 use Rattle.channel_actions.specs.LinkFrames.Bears.{bears_on}
@@ -52,10 +51,10 @@ use Rattle.channel_actions.specs.OtherCalls.Laws.{SetsApart}
 use Rattle.channel_actions.specs.OtherCalls.Others.{BooksApart, GoesApart, IsBooked}
 use Rattle.channel_actions.specs.Sets.{AreExactly, SeesSets, is_in_bare, is_in_deadlines, is_in_dues, is_in_impatient, is_in_outstanding, is_in_patient, is_in_queue, is_patient, is_waiting}
 use Rattle.channel_cases.proofs.ConfiguredCalls.Lists.{changed_length, equal_numbers, other_numbers, same_number, same_numbered, same_words}
-use Rattle.channel_cases.proofs.MakingSteps.Lists.{all_last, all_turned, holds_alike, holds_changed, in_out, in_with, more_away, none_next, or_alike, pair_away, pair_first, pair_here}
+use Rattle.channel_cases.proofs.MakingSteps.Lists.{all_last, holds_alike, holds_changed, in_out, in_with, more_away, none_next, or_alike, pair_away, pair_first, pair_here}
 use Rattle.channel_cases.specs.ConfiguredCalls.Laws.{Frames}
 use Rattle.channel_cases.specs.ConfiguredCalls.Steps.{timed}
-use Rattle.channel_cases.specs.MakingSteps.Made.{made_slot, made_step, with_attempt}
+use Rattle.channel_cases.specs.MakingSteps.Made.{made_slot, with_attempt}
 use Rattle.channel_cases.specs.SettlingActions.Sound.{IsSoundSlot}
 use Rattle.channel_core.proofs.BookLaws.{number_other}
 use Rattle.channel_core.proofs.Places.{put_there}
@@ -72,7 +71,7 @@ use Rattle.ledger_stamps.specs.Steps.{noted_call}
 use Rattle.net_actions.specs.Sees.{Sees as Sees_net}
 use Rattle.picker_gate.specs.Pairs.{is_same, pair_cmp}
 use Rattle.service_config.specs.Choice.{chosen_for}
-use Rattle.session_actions.specs.Actions.{after, following}
+use Rattle.session_actions.specs.Actions.{following}
 use Rattle.session_actions.specs.Attempts.{commitment, is_commitment, is_of, is_outstanding, is_over, is_over_in, is_queued, wants_follower}
 use Rattle.session_actions.specs.Calls.{is_open_call, marked}
 use Rattle.session_actions.specs.Closing.{noted_gone}
@@ -84,11 +83,11 @@ use Rattle.session_actions.specs.Entries.{entry, now}
 use Rattle.session_actions.specs.Links.{is_retiring, link_number}
 use Rattle.session_actions.specs.Making.{attempt_made, due_action, new_row, next_transparent, transparent_retry, with_row, without_turn_unless}
 use Rattle.session_actions.specs.Reading.{is_outstanding_on}
-use Rattle.session_actions.specs.Refusals.{is_gone, is_shutdown_sub}
+use Rattle.session_actions.specs.Refusals.{is_shutdown_sub}
 use Rattle.session_actions.specs.Responses.{limit_of_attempt, response}
 use Rattle.session_actions.specs.Sessions.{Does, call_seen, link_seen}
 use Rattle.session_actions.specs.Tokens.{run_of}
-use Rattle.session_actions.specs.Words.{changed, find_last, holds, is_number, numbered}
+use Rattle.session_actions.specs.Words.{changed, holds, is_number, numbered}
 use Rattle.session_actions.specs.Writing.{drained}
 use Rattle.session_actions.specs.declared.action.Action.{Action}
 use Rattle.session_actions.specs.declared.action.Action.TheVariants as action

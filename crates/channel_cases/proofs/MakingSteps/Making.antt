@@ -1,5 +1,5 @@
 -- What the line of due attempts says of an attempt that it makes; and the step of the channel that makes it.
-use Rattle.std.proofs.Common.{◌≡◌, ◌∙◌, ◌&&◌, ◌+◌, ◌-◌, ◌++◌, ◌∷◌, Bool, true, false, not, List, [], Option, None, Some, ℕ, ap, refl, subst, sym, if◌then◌else◌, is_none, nat_le, nat_lt, slice_set}
+use Rattle.std.proofs.Common.{◌≡◌, ◌∙◌, ◌&&◌, ◌+◌, ◌-◌, ◌∷◌, Bool, true, false, not, List, [], Option, None, Some, ℕ, ap, refl, subst, sym, if◌then◌else◌, is_none, nat_le, nat_lt, slice_set}
 use Rattle.std.specs.BTreeSet.{insert_key}
 use Rattle.std.specs.Prelude.{option_and_then}
 use Rattle.attempt_ledger.specs.Hedging.{is_hedge}
@@ -30,7 +30,6 @@ use Rattle.channel_core.specs.Books.{placed_in_book}
 use Rattle.channel_core.specs.declared.state.slots.CallSlot.{CallSlot}
 use Rattle.picker_gate.specs.Pairs.{pair_cmp}
 use Rattle.session_actions.specs.Actions.{following}
-use Rattle.session_actions.specs.Calls.{is_open_call}
 use Rattle.session_actions.specs.DueAttempts.{attempts_made, kind_of_next, next_due}
 use Rattle.session_actions.specs.Entries.{now}
 use Rattle.session_actions.specs.Making.{attempt_made, due_action, due_attempt, due_if_past, next_transparent}

@@ -1,11 +1,8 @@
 -- One attempt that is due is made: the session goes on to a point of the same settling, where none of its call is due any more.
-use Rattle.std.proofs.Common.{◌≡◌, ◌≤◌, ◌∙◌, ◌==◌, ◌&&◌, ◌||◌, ◌+◌, ◌++◌, ◌∷◌, Bool, true, false, not, List, [], Option, None, Some, ℕ, zero, suc, ap, arith, refl, subst, sym, if◌then◌else◌, is_none, is_some, length, nat_le, nat_lt, slice_get}
+use Rattle.std.proofs.Common.{◌≡◌, ◌∙◌, ◌==◌, ◌||◌, ◌+◌, ◌++◌, ◌∷◌, Bool, true, false, List, [], Option, None, Some, ℕ, zero, suc, ap, arith, refl, subst, sym, if◌then◌else◌, is_some, length, nat_le, nat_lt, slice_get}
 use Rattle.std.proofs.lemmas.Bool.{eqb-false}
 use Rattle.std.proofs.lemmas.Bool.Decides.{nat_tests}
-use Rattle.std.specs.List.{list_any}
-use Rattle.std.specs.Option.{option_map_or, option_or}
 use Rattle.std.specs.Prelude.{option_and_then}
-use Rattle.attempt_ledger.specs.declared.ledger.CallEnd.{CallEnd}
 use Rattle.attempt_ledger.specs.declared.row.RowKind.{RowKind}
 use Rattle.call_actions.proofs.Lists.{changed_away, changed_here}
 use Rattle.call_actions.specs.Laws.{AttemptsAreDue, HedgesAreTested}
@@ -40,7 +37,7 @@ use Rattle.grpc_base.specs.declared.plan.CallPlan.TheVariants as plans
 use Rattle.grpc_base.specs.declared.plan.HedgePolicy.{HedgePolicy}
 use Rattle.hedge_core.specs.DueMoments as hedging
 use Rattle.net_actions.specs.Laws.{ClockChanges, ClockRests, NoneConnects, TakeOversAreSame, WishesConnect}
-use Rattle.session_actions.specs.Actions.{config_action, first_action, following, following_in, of_calls, of_links, of_policies, of_stage}
+use Rattle.session_actions.specs.Actions.{config_action, first_action, following, of_calls, of_links, of_policies, of_stage}
 use Rattle.session_actions.specs.Attempts.{commitment}
 use Rattle.session_actions.specs.Calls.{is_open_call, marked}
 use Rattle.session_actions.specs.Configs.{plan_of}
@@ -56,7 +53,6 @@ use Rattle.session_actions.specs.declared.action.Action.TheVariants as action
 use Rattle.session_actions.specs.declared.attempt.Attempt.{Attempt}
 use Rattle.session_actions.specs.declared.call.Call.{Call}
 use Rattle.session_actions.specs.declared.call.MarkKind.TheVariants as mark
-use Rattle.session_actions.specs.declared.due.DueState.{DueState}
 use Rattle.session_actions.specs.declared.entry.OpenEntry.{OpenEntry}
 use Rattle.session_actions.specs.declared.entry.Stage.TheVariants as stage
 use Rattle.session_actions.specs.declared.seen.Seen.{Seen}

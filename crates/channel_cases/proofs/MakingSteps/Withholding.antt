@@ -1,11 +1,10 @@
 -- A hedge is withheld while others of its call go on: the session goes on to a point of the same settling, where none of its call is due any more.
-use Rattle.std.proofs.Common.{◌≡◌, ◌≤◌, ◌∙◌, ◌==◌, ◌&&◌, ◌||◌, ◌+◌, ◌++◌, ◌∷◌, Bool, true, false, not, List, [], Option, None, Some, ℕ, ap, arith, refl, subst, sym, if◌then◌else◌, is_none, is_some, length, map, nat_le, nat_lt, slice_set, cond, filter, ◌-◌, ◌⊎◌, inl, inr}
+use Rattle.std.proofs.Common.{◌≡◌, ◌∙◌, ◌==◌, ◌&&◌, ◌||◌, ◌+◌, ◌++◌, ◌∷◌, Bool, true, false, not, List, [], Option, None, Some, ℕ, suc, ap, arith, refl, subst, sym, if◌then◌else◌, is_none, length, map, nat_le, nat_lt, slice_set, cond, filter, ◌-◌, ◌⊎◌, inl, inr}
 use Rattle.std.proofs.lemmas.Bool.{and_parts, eqb-false}
 use Rattle.std.proofs.lemmas.Bool.Decides.{nat_tests}
 use Rattle.std.specs.List.{list_any}
-use Rattle.std.specs.Option.{option_map, option_map_or, option_or}
+use Rattle.std.specs.Option.{option_map}
 use Rattle.std.specs.Prelude.{option_and_then}
-use Rattle.attempt_ledger.specs.declared.ledger.CallEnd.{CallEnd}
 use Rattle.attempt_ledger.specs.declared.row.RowKind.{RowKind}
 use Rattle.call_actions.proofs.Lists.{changed_away, changed_here}
 use Rattle.call_actions.specs.CallsApart.Laws.{LinesAreFair, TokensStay}
@@ -48,18 +47,18 @@ use Rattle.grpc_base.specs.declared.plan.CallPlan.TheVariants as plans
 use Rattle.grpc_base.specs.declared.plan.HedgePolicy.{HedgePolicy}
 use Rattle.hedge_core.specs.DueMoments as hedging
 use Rattle.net_actions.specs.Laws.{ClockChanges, ClockRests, NoneConnects, TakeOversAreSame, WishesConnect}
-use Rattle.session_actions.specs.Actions.{config_action, first_action, following, following_in, of_calls, of_links, of_policies, of_stage}
+use Rattle.session_actions.specs.Actions.{config_action, following, of_calls, of_links, of_policies, of_stage}
 use Rattle.attempt_ledger.specs.Ends.{is_cut}
 use Rattle.attempt_ledger.specs.Hedging.{is_hedge}
 use Rattle.attempt_ledger.specs.declared.row.RowEnd.{RowEnd}
 use Rattle.grpc_base.specs.Codes.{has_code}
-use Rattle.session_actions.specs.Attempts.{commitment, counts_by, is_counted, is_followed, is_to_follow, wants_follower_by}
+use Rattle.session_actions.specs.Attempts.{commitment, counts_by, is_counted, is_followed, is_to_follow}
 use Rattle.session_actions.specs.Commitments.{is_final_end, is_final_in, is_free_call}
-use Rattle.session_actions.specs.Calls.{is_open_call, marked}
+use Rattle.session_actions.specs.Calls.{is_open_call}
 use Rattle.session_actions.specs.Configs.{plan_of}
 use Rattle.session_actions.specs.DueAttempts.{attempts_made, has_going, is_final, is_final_by, kind_of_next, last_counted, next_due}
-use Rattle.session_actions.specs.Entries.{entry, now}
-use Rattle.session_actions.specs.Making.{due_action, due_attempt, due_if_past, hedge_withheld, next_due_attempt, next_transparent}
+use Rattle.session_actions.specs.Entries.{now}
+use Rattle.session_actions.specs.Making.{due_action, due_attempt, due_if_past, next_due_attempt, next_transparent}
 use Rattle.session_actions.specs.Policies.{next_of_pass, next_of_queue, next_take_over}
 use Rattle.session_actions.specs.Sessions.{Does}
 use Rattle.session_actions.specs.Subchannels.{next_connected, next_of_clock}
@@ -70,14 +69,12 @@ use Rattle.session_actions.specs.declared.action.Action.TheVariants as action
 use Rattle.session_actions.specs.declared.attempt.Attempt.{Attempt}
 use Rattle.session_actions.specs.declared.call.Call.{Call}
 use Rattle.session_actions.specs.declared.call.MarkKind.TheVariants as mark
-use Rattle.session_actions.specs.declared.due.DueState.{DueState}
 use Rattle.session_actions.specs.declared.entry.OpenEntry.{OpenEntry}
 use Rattle.session_actions.specs.declared.entry.Stage.TheVariants as stage
 use Rattle.session_actions.specs.declared.seen.Seen.{Seen}
 use Rattle.session_order.specs.Calm as order
 use Rattle.session_order.specs.Calm.{IsStill}
 use Rattle.session_order.specs.Laws.{CalmIsExact, QueuesStir}
-use Rattle.session_order.specs.Lines.{is_line}
 use Rattle.session_order.specs.Stirs.{stirs}
 use Rattle.session_order.specs.declared.line.Line.{Line}
 use Rattle.session_order.specs.declared.line.Line.TheVariants as line
@@ -147,12 +144,12 @@ any_live p (a ∷ xs) = by_test (p a) (any_live p xs)
     by_test true e = refl
     by_test false e = e
 
+never_zero : (n : ℕ) → (suc n == 0) ≡ false
+never_zero n = grind (arith, nat_tests)
+
 has_some : (rows : List LiveRow) → some_row rows ≡ true → parts.has_none rows ≡ false
 has_some [] e = absurd (let bad : false ≡ true = e in (cc))
-has_some (r ∷ rows) e = none_next (length rows)
-  where
-    none_next : (n : ℕ) → (n + 1 == 0) ≡ false
-    none_next n = grind (arith, nat_tests)
+has_some (r ∷ rows) e = never_zero (length rows)
 
 -- where none may be made any more none is due
 stopped_hedge : (p : HedgePolicy) (a : Attempts) (b : Bool)

@@ -1,6 +1,6 @@
 -- Which attempt the channel serves next, by its sets: one of the session that waits, and stands behind the one before. And where it serves none, the session
 -- asks for none.
-use Rattle.std.proofs.Common.{◌≡◌, ◌≤◌, ◌<◌, ◌+◌, ◌*◌, ◌&&◌, ◌||◌, ◌==◌, ◌∙◌, ◌∷◌, ap, arith, cond, refl, sym, subst, Bool, true, false, List, [], None, Option, Some, ℕ, zero, suc, ◌⊎◌, inl, inr, filter, find, if◌then◌else◌, length, nat_lt, not, slice_get}
+use Rattle.std.proofs.Common.{◌≡◌, ◌&&◌, ◌||◌, ◌==◌, ◌∙◌, ◌∷◌, ap, arith, cond, refl, sym, Bool, true, false, List, [], None, Option, Some, ℕ, zero, suc, ◌⊎◌, inl, inr, filter, find, if◌then◌else◌, nat_lt, not, slice_get}
 use Rattle.std.proofs.lemmas.Bool.{and_from, and_parts}
 use Rattle.std.proofs.lemmas.Bool.Decides.{nat_tests}
 use Rattle.std.specs.Option.{option_map}
@@ -17,11 +17,10 @@ use Rattle.grpc_base.specs.declared.event.Conn.{Conn}
 use Rattle.grpc_base.specs.declared.event.Conn.TheVariants as conn
 use Rattle.net_actions.specs.Laws.{StatesAreSame}
 use Rattle.picker_gate.specs.Pairs.{has, is_behind, is_same, next_behind}
-use Rattle.session_actions.specs.Attempts.{call_of, is_queued, of_its_call}
+use Rattle.session_actions.specs.Attempts.{call_of, is_queued}
 use Rattle.session_actions.specs.Configs.{waits_for_ready}
 use Rattle.session_actions.specs.Policies.{asking, current_policy, is_queued_before, is_served, is_served_by, next_asked, policy_state}
 use Rattle.session_actions.specs.Words.{foremost, holds, numbered}
-use Rattle.session_actions.specs.declared.action.Action.{Action}
 use Rattle.session_actions.specs.declared.attempt.Attempt.{Attempt}
 use Rattle.session_actions.specs.declared.call.Call.{Call}
 use Rattle.session_actions.specs.declared.policy.PolicyUse.{PolicyUse}

@@ -1,5 +1,5 @@
 -- Where the channel serves none, a pass is over; and a pass comes to its end, since each attempt that it serves stands behind the one before.
-use Rattle.std.proofs.Common.{◌≡◌, ◌≤◌, ◌<◌, ◌+◌, ◌*◌, ◌&&◌, ◌||◌, ◌==◌, ◌∙◌, ap, arith, refl, sym, subst, Bool, true, false, None, Option, Some, ℕ, zero, suc, inl, inr, is_some, length, nat_lt, ◌⊎◌}
+use Rattle.std.proofs.Common.{◌≡◌, ◌≤◌, ◌+◌, ◌*◌, ◌&&◌, ◌||◌, ◌==◌, ◌∙◌, ap, arith, refl, sym, Bool, true, false, None, Option, Some, ℕ, zero, suc, inl, inr, is_some, length, nat_lt, ◌⊎◌}
 use Rattle.std.proofs.lemmas.Bool.Decides.{nat_tests}
 use Rattle.std.proofs.lemmas.List.{length-map}
 use Rattle.std.specs.Prelude.{option_and_then}
@@ -8,8 +8,8 @@ use Rattle.channel_actions.proofs.Gone.{all_numbered}
 use Rattle.channel_actions.specs.Agrees.{Agrees}
 use Rattle.channel_actions.specs.Calm.{IsAt}
 use Rattle.channel_cases.proofs.PassActions.Queue.{Waits, next_waits, none_asks}
-use Rattle.channel_cases.specs.PassActions.Serves.{IsBeginning, IsOver, IsPassing, IsServed, PassesEnd, PassesStop, ServeSteps, is_passed, is_passed_by, turn_of}
-use Rattle.channel_cases.specs.SettlingActions.Sound.{IsSound, all_attempts, to_come}
+use Rattle.channel_cases.specs.PassActions.Serves.{IsBeginning, IsPassing, IsServed, PassesEnd, PassesStop, ServeSteps, is_passed, is_passed_by, turn_of}
+use Rattle.channel_cases.specs.SettlingActions.Sound.{IsSound, to_come}
 use Rattle.channel_core.specs.Settling.{also, most, served, stays}
 use Rattle.channel_core.specs.States.{StateSeen}
 use Rattle.channel_core.specs.Steps.{Moved, next_served}
@@ -17,7 +17,6 @@ use Rattle.net_actions.specs.Laws.{StatesAreSame}
 use Rattle.picker_gate.specs.Pairs.{is_behind}
 use Rattle.session_actions.specs.Attempts.{call_of}
 use Rattle.session_actions.specs.Policies.{is_after, next_asked, next_of_pass, next_of_queue}
-use Rattle.session_actions.specs.Words.{numbered}
 use Rattle.session_actions.specs.declared.attempt.Attempt.{Attempt}
 use Rattle.session_actions.specs.declared.call.Call.{Call}
 use Rattle.session_actions.specs.declared.entry.OpenEntry.{OpenEntry}

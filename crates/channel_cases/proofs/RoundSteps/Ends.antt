@@ -1,8 +1,7 @@
 -- The rounds of a settling come to an end.
-use Rattle.std.proofs.Common.{◌≡◌, ◌≤◌, ◌+◌, ◌*◌, ◌-◌, ◌||◌, ◌∙◌, ◌∷◌, ℕ, zero, suc, Bool, true, false, List, [], Option, None, Some, inl, refl, ap, sym, subst, arith, length, if◌then◌else◌}
+use Rattle.std.proofs.Common.{◌≡◌, ◌≤◌, ◌+◌, ◌-◌, ◌||◌, ◌∷◌, ℕ, zero, suc, Bool, true, false, List, [], Option, None, Some, inl, refl, arith, length, if◌then◌else◌}
 use Rattle.attempt_ledger.specs.declared.row.Row.{Row}
 use Rattle.call_actions.specs.Laws.{AttemptsAreDue}
-use Rattle.call_core.specs.declared.state.CallState.{CallState}
 use Rattle.channel_actions.proofs.GoingCalls.Arms.{CallLaws}
 use Rattle.channel_actions.specs.Agrees.{Agrees}
 use Rattle.channel_actions.specs.Calm.{IsAt}
@@ -11,7 +10,7 @@ use Rattle.channel_cases.proofs.RoundSteps.Falls.{Falling, Falls, falling, load,
 use Rattle.channel_cases.proofs.RoundSteps.Loads.{may}
 use Rattle.channel_cases.proofs.RoundSteps.Strict.{made_low, served_low, waits_so}
 use Rattle.channel_cases.proofs.SettlingActions.Composed.{rounds_are_steps}
-use Rattle.channel_cases.proofs.SettlingKeeps.Carried.{AreSound, rests}
+use Rattle.channel_cases.proofs.SettlingKeeps.Carried.{AreSound}
 use Rattle.channel_cases.proofs.SettlingKeeps.Keeping.{sound_of}
 use Rattle.channel_cases.proofs.SettlingKeeps.Steps.{one_if, waiting, waits_in}
 use Rattle.channel_cases.specs.PassActions.Serves.{IsPassing, IsServed, ServeSteps}

@@ -1,5 +1,5 @@
 -- Of a whole channel: what it may still do for its calls is never more than before, in a round of a settling.
-use Rattle.std.proofs.Common.{◌≡◌, ◌≤◌, ◌+◌, ◌*◌, ◌-◌, ◌∙◌, ◌∷◌, ℕ, zero, suc, Bool, true, false, List, [], Option, None, Some, refl, ap, sym, subst, arith, length, slice_get, slice_set, if◌then◌else◌}
+use Rattle.std.proofs.Common.{◌≡◌, ◌≤◌, ◌+◌, ◌*◌, ◌-◌, ◌∙◌, ◌∷◌, ℕ, zero, suc, List, [], Option, None, Some, refl, ap, sym, subst, arith, length, slice_get, slice_set, if◌then◌else◌}
 use Rattle.a6_numbers.specs.Throttling.{Bucket}
 use Rattle.attempt_ledger.specs.declared.ledger.Ledger.{Ledger}
 use Rattle.attempt_ledger.specs.declared.row.Placed.{Placed}
@@ -12,13 +12,13 @@ use Rattle.channel_actions.proofs.GoingCalls.Arms.{CallLaws}
 use Rattle.channel_actions.proofs.SetFrames.Slots.{acted_is}
 use Rattle.channel_cases.proofs.RoundSteps.Loads.{Lowers, lowers_by, lowers_made, may}
 use Rattle.channel_cases.proofs.SettlingKeeps.Carried.{AreSound, Settled, Settles, rests}
-use Rattle.channel_cases.proofs.SettlingKeeps.Spends.{Same, taken_same}
+use Rattle.channel_cases.proofs.SettlingKeeps.Spends.{taken_same}
 use Rattle.channel_cases.proofs.SettlingKeeps.Steps.{leaves_closed, leaves_failed, leaves_placed, leaves_timed, less_on, waiting}
 use Rattle.channel_cases.proofs.SettlingKeeps.Tables.{AllSound, SoundCall, sound_get}
 use Rattle.channel_core.proofs.Resting.{Rests}
 use Rattle.channel_core.specs.States.{StateSeen}
 use Rattle.channel_core.specs.Steps.{next_word}
-use Rattle.channel_core.specs.Tables.{Acted, acted, acted_as, acted_at, acted_on, changed_call, changed_call_at, changed_call_on, changed_slot, changed_slot_at, changed_slot_on, numbered, with_timers, without_due}
+use Rattle.channel_core.specs.Tables.{Acted, acted, acted_at, acted_on, changed_call, changed_call_at, changed_call_on, changed_slot, changed_slot_at, changed_slot_on, numbered, with_timers, without_due}
 use Rattle.channel_core.specs.declared.state.book.Book.{Book}
 use Rattle.channel_core.specs.declared.state.slots.CallSlot.{CallSlot}
 use Rattle.grpc_base.specs.declared.event.EndCause.{EndCause}

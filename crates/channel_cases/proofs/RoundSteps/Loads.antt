@@ -1,7 +1,6 @@
 -- How much a settling may still do for calls: the attempts that wait, and twice those that may still be made. What is done to a call lowers it, or leaves it.
-use Rattle.std.proofs.Common.{◌≡◌, ◌≤◌, ◌+◌, ◌*◌, ◌-◌, ◌∙◌, ◌∷◌, ◌++◌, ◌&&◌, ◌||◌, ◌==◌, ℕ, zero, suc, Bool, true, false, List, [], Option, None, Some, refl, ap, sym, subst, arith, inl, inr, length, min, nat_le, nat_lt, not, if◌then◌else◌, is_some, slice_get, slice_set}
+use Rattle.std.proofs.Common.{◌≡◌, ◌≤◌, ◌+◌, ◌*◌, ◌-◌, ◌∙◌, ◌∷◌, ◌++◌, ◌&&◌, ◌||◌, ◌==◌, ℕ, zero, suc, Bool, true, false, List, [], Option, None, Some, refl, ap, sym, subst, arith, inl, inr, length, min, nat_le, nat_lt, not, if◌then◌else◌, is_some, slice_get}
 use Rattle.std.proofs.lemmas.Bool.{cases_Bool, ltb-false}
-use Rattle.std.proofs.lemmas.Bool.Decides.{nat_tests}
 use Rattle.std.proofs.lemmas.Option.{slice_get_past}
 use Rattle.std.specs.Option.{option_map_or}
 use Rattle.attempt_ledger.specs.Numbering.{most_attempts}
@@ -17,12 +16,12 @@ use Rattle.call_core.specs.declared.attempts.Attempts.{Attempts}
 use Rattle.call_core.specs.declared.live.LiveRow.{LiveRow}
 use Rattle.call_core.specs.declared.state.CallState.{CallState}
 use Rattle.channel_cases.proofs.SettlingKeeps.Spends.{next_less}
-use Rattle.channel_cases.proofs.SettlingKeeps.Steps.{Leaves, Sized, by_last, closed_if, ended_not, judged_sent, judged_stopped, leaves_ended, leaves_on, leaves_refused, leaves_same, less_on, one_if, placed_not, waiting, waits_in, with_attempts}
+use Rattle.channel_cases.proofs.SettlingKeeps.Steps.{Leaves, Sized, by_last, closed_if, ended_not, judged_sent, judged_stopped, leaves_ended, leaves_on, leaves_refused, leaves_same, one_if, placed_not, waiting, waits_in, with_attempts}
 use Rattle.grpc_base.specs.declared.event.EndCause.TheVariants as ends
 use Rattle.grpc_base.specs.declared.plan.CallPlan.{CallPlan}
 use Rattle.grpc_base.specs.declared.plan.CallPlan.TheVariants as plans
 use Rattle.hedge_core.specs.DueMoments as hedging
-use Rattle.ledger_stamps.specs.Steps.{changed, changed_at, ended_row, index_at, placed_row}
+use Rattle.ledger_stamps.specs.Steps.{changed, changed_at, ended_row, placed_row}
 
 -- the attempts that a call may still make
 abbrev pub may : CallState → ℕ

@@ -1,6 +1,6 @@
 -- A round in which something moved lowers what a channel may still do: an attempt that was due is made or withheld, and one that waits is placed or ends.
-use Rattle.std.proofs.Common.{◌≡◌, ◌≤◌, ◌+◌, ◌*◌, ◌-◌, ◌∙◌, ◌∷◌, ◌==◌, ◌&&◌, ◌||◌, ℕ, zero, suc, Bool, true, false, List, [], Option, None, Some, ◌⊎◌, inl, inr, refl, ap, sym, subst, arith, length, map, min, nat_le, nat_lt, not, if◌then◌else◌, is_none, is_some, slice_get, slice_set}
-use Rattle.std.proofs.lemmas.Bool.{and_from, and_parts}
+use Rattle.std.proofs.Common.{◌≡◌, ◌≤◌, ◌+◌, ◌∙◌, ◌∷◌, ◌==◌, ◌&&◌, ◌||◌, ℕ, zero, suc, Bool, true, false, List, [], Option, None, Some, ◌⊎◌, inl, inr, refl, ap, sym, subst, arith, length, map, nat_le, nat_lt, not, if◌then◌else◌, is_none, is_some, slice_get, slice_set}
+use Rattle.std.proofs.lemmas.Bool.{and_from}
 use Rattle.std.proofs.lemmas.Bool.Decides.{nat_tests}
 use Rattle.std.specs.BTreeSet.{insert_key}
 use Rattle.std.specs.List.{list_any}
@@ -27,11 +27,11 @@ use Rattle.channel_actions.specs.Sets.{is_in_dues}
 use Rattle.channel_cases.proofs.ConfiguredCalls.Lists.{same_words}
 use Rattle.channel_cases.proofs.PassActions.Queue.{Waits}
 use Rattle.channel_cases.proofs.RoundSteps.Falls.{Falling, Falls, acted_strict, falling, load, load_of}
-use Rattle.channel_cases.proofs.RoundSteps.Loads.{Lowers, lowers_due, lowers_failed, lowers_placed}
-use Rattle.channel_cases.proofs.SettlingKeeps.Carried.{AreSound, Settled, Settles, rests}
+use Rattle.channel_cases.proofs.RoundSteps.Loads.{lowers_due, lowers_failed, lowers_placed}
+use Rattle.channel_cases.proofs.SettlingKeeps.Carried.{AreSound, Settled, rests}
 use Rattle.channel_cases.proofs.SettlingKeeps.Keeping.{sound_of}
 use Rattle.channel_cases.proofs.SettlingKeeps.Steps.{less_on, waits_in}
-use Rattle.channel_cases.proofs.SettlingKeeps.Tables.{AllSound, SoundCall, sound_numbered}
+use Rattle.channel_cases.proofs.SettlingKeeps.Tables.{AllSound, sound_numbered}
 use Rattle.channel_cases.specs.SettlingActions.Sound.{AllowsPlans, IsSound}
 use Rattle.channel_core.proofs.Resting.{follow, seal}
 use Rattle.channel_core.proofs.RestingSteps.{forget_all, make_all}
@@ -41,7 +41,7 @@ use Rattle.channel_core.specs.Settling.{asked, served, served_by}
 use Rattle.channel_core.specs.States.{StateSeen}
 use Rattle.channel_core.specs.Steps as step
 use Rattle.channel_core.specs.Steps.{dues_forgotten, dues_taken, made_one, next_word, round_made}
-use Rattle.channel_core.specs.Tables.{changed_slot, changed_slot_at, changed_slot_on, numbered, takes_rows, tokens_in, without_due}
+use Rattle.channel_core.specs.Tables.{changed_slot_at, changed_slot_on, numbered, takes_rows, tokens_in, without_due}
 use Rattle.channel_core.specs.Timing.{due_keys, later, number_of, sorted_into}
 use Rattle.channel_core.specs.declared.state.slots.CallSlot.{CallSlot}
 use Rattle.channel_net.specs.Lists as net_lists
@@ -95,7 +95,7 @@ due_by : (moment : ℕ) (t : ℕ × ℕ) (ts : List (ℕ × ℕ)) (key : ℕ) (b
 due_by moment t ts key true past rest is = due_head moment t ts key (t.1 == key) refl past rest is
 due_by moment t ts key false past rest is = absurd (let bad : false ≡ true = is in (cc))
 
-due_from : (moment : ℕ) (pairs : List (ℕ × ℕ)) (key : ℕ) → is_key (due_keys moment pairs) key ≡ true → DuePair moment pairs key
+pub due_from : (moment : ℕ) (pairs : List (ℕ × ℕ)) (key : ℕ) → is_key (due_keys moment pairs) key ≡ true → DuePair moment pairs key
 due_from moment [] key is = absurd (let bad : false ≡ true = is in (cc))
 due_from moment (t ∷ ts) key is = due_by moment t ts key (nat_le t.0 moment) refl (due_from moment ts key) is
 

@@ -1,7 +1,6 @@
 -- Each single thing that is done to a channel keeps its calls sound; and in a settling it takes no more attempts than were to come.
-use Rattle.std.proofs.Common.{◌≡◌, ◌≤◌, ◌+◌, ◌∙◌, ◌∷◌, ◌++◌, ℕ, false, List, [], Option, None, Some, Ok, refl, ap, sym, subst, arith, length}
+use Rattle.std.proofs.Common.{◌≡◌, ◌≤◌, ◌∙◌, ℕ, false, List, [], Option, None, Some, refl, ap, sym, subst, arith, length}
 use Rattle.a6_numbers.specs.Throttling.{Bucket}
-use Rattle.attempt_ledger.specs.Numbering.{most_attempts}
 use Rattle.attempt_ledger.specs.declared.ledger.Ledger.{Ledger}
 use Rattle.attempt_ledger.specs.declared.news.News.{News}
 use Rattle.attempt_ledger.specs.declared.row.Placed.{Placed}
@@ -10,12 +9,11 @@ use Rattle.call_core.specs.Steps as call
 use Rattle.call_core.specs.Steps.{Stepped, lent}
 use Rattle.call_core.specs.declared.state.CallState.{CallState}
 use Rattle.channel_actions.proofs.GoingCalls.Arms.{CallLaws}
-use Rattle.channel_actions.specs.GoingCalls.Going.{GoesOn}
-use Rattle.channel_cases.proofs.SettlingKeeps.Spends.{Same, fed_same, finished_same, goes_heard, goes_sent, spends_by, spends_configured, spends_made, taken_same}
+use Rattle.channel_cases.proofs.SettlingKeeps.Spends.{fed_same, finished_same, goes_heard, goes_sent, spends_by, spends_configured, spends_made, taken_same}
 use Rattle.channel_cases.proofs.SettlingKeeps.Steps.{leaves_closed, leaves_failed, leaves_placed, leaves_timed}
-use Rattle.channel_cases.proofs.SettlingKeeps.Tables.{Acts, AllSound, SoundCall, Spending, Spent, Well, acted_spent, acted_well, changed_spent, slot_spent, sound_last, spent_by, well_by}
+use Rattle.channel_cases.proofs.SettlingKeeps.Tables.{Acts, AllSound, SoundCall, Spending, Spent, Well, acted_spent, acted_well, changed_spent, slot_spent, spent_by, well_by}
 use Rattle.channel_cases.specs.SettlingActions.Sound.{AllowsPlans, IsPlanned, all_attempts, to_come}
-use Rattle.channel_core.proofs.Carrying.{Carried, Carries}
+use Rattle.channel_core.proofs.Carrying.{Carries}
 use Rattle.channel_core.proofs.Resting.{Configures, Rests, changed_length}
 use Rattle.channel_core.specs.Books.{bucket_set, slot_at}
 use Rattle.channel_core.specs.States.{StateSeen}
@@ -24,11 +22,8 @@ use Rattle.channel_core.specs.Tables.{acted, fed_call, last_run, with_bucket, wi
 use Rattle.channel_core.specs.declared.state.book.Book.{Book}
 use Rattle.channel_core.specs.declared.state.slots.CallSlot.{CallSlot}
 use Rattle.grpc_base.specs.declared.event.EndCause.{EndCause}
-use Rattle.grpc_base.specs.declared.event.Event.{Event}
-use Rattle.grpc_base.specs.declared.event.Event.TheVariants as event
 use Rattle.grpc_base.specs.declared.plan.Chosen.{Chosen}
 use Rattle.ledger_stamps.specs.Steps.{streamed_row}
-use Rattle.link_laws.proofs.Knowing.{allowed}
 use Rattle.service_config.specs.Choice.{chosen_for}
 use Rattle.service_config.specs.declared.config.Config.{Config}
 

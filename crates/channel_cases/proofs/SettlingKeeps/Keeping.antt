@@ -1,13 +1,12 @@
 -- Each part of a settling keeps what the others ask of channel and session; and the calls of a channel are sound along whole steps.
-use Rattle.std.proofs.Common.{◌≡◌, ◌≤◌, ◌+◌, ◌++◌, ◌∷◌, ℕ, zero, suc, List, [], Option, Some, refl, subst, sym, arith, length}
+use Rattle.std.proofs.Common.{◌≡◌, ◌≤◌, ◌++◌, ℕ, zero, suc, List, [], Some, refl, arith, length}
 use Rattle.channel_actions.proofs.Does.{does_on}
 use Rattle.channel_actions.proofs.GoingCalls.Arms.{CallLaws}
-use Rattle.channel_actions.specs.Agrees.{Agrees}
 use Rattle.channel_actions.specs.KeptCalls.Laws.{EarlyAlong}
 use Rattle.channel_cases.proofs.SettlingKeeps.Carried.{AreSound, Keeps, Settled, Settles, carries, configures, rests}
-use Rattle.channel_cases.proofs.SettlingKeeps.Tables.{AllSound, SoundCall, of_slot, sound_each, sound_last, sound_numbered, to_slot}
+use Rattle.channel_cases.proofs.SettlingKeeps.Tables.{of_slot, sound_each, sound_last, sound_numbered, to_slot}
 use Rattle.channel_cases.specs.SettlingActions.Laws.{SettlingKeeps, queue_served_state}
-use Rattle.channel_cases.specs.SettlingActions.Sound.{AreSoundCalls, IsReached, IsSound, SoundStays, all_attempts}
+use Rattle.channel_cases.specs.SettlingActions.Sound.{AreSoundCalls, IsReached, SoundStays, all_attempts}
 use Rattle.channel_cases.specs.SettlingActions.Steps.{round_made_state}
 use Rattle.channel_cases.specs.SettlingKeeps.Laws.{AnswersKeepCalls, DeadlinesKeepCalls, NewCallsAreSound, SettlingsKeepCalls, StepsKeepCalls}
 use Rattle.channel_core.proofs.Carrying.{Carried, overdue}
@@ -16,7 +15,7 @@ use Rattle.channel_core.proofs.RestingSteps.{clock, make_round, pass, serve_bare
 use Rattle.channel_core.proofs.Resting.{with_book}
 use Rattle.channel_core.specs.Applying.{begun_at}
 use Rattle.channel_core.specs.Books.{book_begun}
-use Rattle.channel_core.specs.Settling.{most, queue_served, settled, stays}
+use Rattle.channel_core.specs.Settling.{most, settled, stays}
 use Rattle.channel_core.specs.States.{StateSeen}
 use Rattle.channel_core.specs.Steps.{bare_served, clocked, net_settled, overdue_ended}
 use Rattle.channel_core.specs.Tables.{numbered}
@@ -49,7 +48,7 @@ reached_on s t actions k does = record {
   does = does_on k.actions actions (new_session k.setup) s t k.does does;
 }
 
-stays_by : (step : StateSeen → StateSeen) → ((x : StateSeen) → Settles x (step x)) → EarlyAlong → SoundStays step
+pub stays_by : (step : StateSeen → StateSeen) → ((x : StateSeen) → Settles x (step x)) → EarlyAlong → SoundStays step
 stays_by step settles along x s t actions h sound does after =
     let r : Settled x (step x) = settles x (sound_of x sound.calls) in
     let before : length s.calls ≡ length x.book.calls = h.calls.count in

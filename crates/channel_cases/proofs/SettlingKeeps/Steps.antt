@@ -1,8 +1,6 @@
 -- What is done to a call leaves its attempts, and what it holds for them, among the rows that are there; and it makes no more attempts than its plan allows.
-use Rattle.std.proofs.Common.{◌≡◌, ◌≤◌, ◌+◌, ◌-◌, ◌∙◌, ◌∷◌, ◌++◌, ℕ, Bool, true, false, List, [], Option, None, Some, refl, ap, sym, subst, arith, length, min, nat_le, nat_lt, not, ◌&&◌, ◌||◌, ◌==◌, if◌then◌else◌, is_none, is_some, map, suc, zero}
-use Rattle.std.proofs.lemmas.Bool.{and_parts}
+use Rattle.std.proofs.Common.{◌≡◌, ◌≤◌, ◌+◌, ◌∙◌, ◌∷◌, ℕ, Bool, true, false, List, [], Option, None, Some, refl, ap, sym, arith, length, nat_le, not, ◌&&◌, ◌||◌, ◌==◌, if◌then◌else◌, is_none, is_some, suc, zero}
 use Rattle.std.proofs.lemmas.Bool.Decides.{nat_tests}
-use Rattle.std.proofs.lemmas.List.{length-append}
 use Rattle.std.specs.List.{filter, list_all}
 use Rattle.std.specs.Option.{option_map, option_map_or}
 use Rattle.attempt_buffer.specs.Buffers.{Buffered, Cursor, can_open, committed_to, is_committed_row, opened}
@@ -13,7 +11,6 @@ use Rattle.attempt_ledger.specs.declared.news.EndNews.{EndNews}
 use Rattle.attempt_ledger.specs.declared.row.Placed.{Placed}
 use Rattle.attempt_ledger.specs.declared.row.Row.{Row}
 use Rattle.attempt_ledger.specs.declared.row.RowEnd.{RowEnd}
-use Rattle.attempt_ledger.specs.declared.row.RowKind.{RowKind}
 use Rattle.call_core.specs.Parts as parts
 use Rattle.call_core.specs.Parts.{begun_row, committed_buffer, count_of, cut_end, find_live, has_none, is_above, is_followed, is_row, is_tested, is_too_long, judged, kept_alone, linked, names, pick_end, read_of, without}
 use Rattle.call_core.specs.Steps as step
@@ -27,8 +24,6 @@ use Rattle.grpc_base.specs.declared.event.EndCause.{EndCause}
 use Rattle.grpc_base.specs.declared.event.EndCause.TheVariants as ends
 use Rattle.grpc_base.specs.declared.plan.CallPlan.{CallPlan}
 use Rattle.grpc_base.specs.declared.plan.CallPlan.TheVariants as plans
-use Rattle.grpc_base.specs.declared.plan.Chosen.{Chosen}
-use Rattle.a6_numbers.specs.Throttling.{Bucket}
 use Rattle.hedge_core.specs.DueMoments.{stops}
 use Rattle.ledger_stamps.specs.Steps.{changed, changed_at, committed_row, ended_row, index_at, placed_row, stamped}
 

@@ -1,5 +1,5 @@
 -- Where each call of a table is sound, so it is after one of them did something; and the attempts that are to come are no more than before, less those made.
-use Rattle.std.proofs.Common.{◌≡◌, ◌≤◌, ◌+◌, ◌-◌, ◌∙◌, ◌∷◌, ◌++◌, ℕ, zero, suc, List, [], Option, None, Some, refl, ap, sym, subst, arith, length, slice_get, slice_set}
+use Rattle.std.proofs.Common.{◌≡◌, ◌≤◌, ◌+◌, ◌-◌, ◌∷◌, ◌++◌, ℕ, zero, suc, List, [], Option, None, Some, refl, ap, sym, subst, arith, length, slice_get, slice_set}
 use Rattle.std.specs.List.{AllByRecursion}
 use Rattle.a6_numbers.specs.Throttling.{Bucket}
 use Rattle.attempt_ledger.specs.Numbering.{most_attempts}
