@@ -11,6 +11,7 @@ pub mod DialEvents
 pub mod DrainEvents
 pub mod DrainedCalls
 pub mod FullSends
+pub mod GreetedLinks
 pub mod LongSends
 pub mod NetChains
 pub mod NetResults
@@ -18,6 +19,7 @@ pub mod NetSettlings
 pub mod NetSteps
 pub mod OneCallEnds
 pub mod OverdueCalls
+pub mod OwnStreams
 pub mod PassActions
 pub mod ResultEvents
 pub mod SendsEnd

@@ -13,11 +13,13 @@ pub mod DrainedCalls
 pub mod EndedCalls
 pub mod FirstShutdowns
 pub mod FullSends
+pub mod GreetedLinks
 pub mod LongSends
 pub mod NetChains
 pub mod NetResults
 pub mod NetSettlings
 pub mod NetSteps
+pub mod OwnStreams
 pub mod PassActions
 pub mod ResultEvents
 pub mod SendsEnd
