@@ -17,6 +17,7 @@ MODES = {
         "keepalive": (1, 86400000, False),
         "keepalive-timeout": (1, 86400000, False),
     },
+    "relay": {"port": (0, 65535, True), "links": (1, 1024, True), "seed": (0, LARGEST, True), "nets": (1, 4, True)},
 }
 # Options that stand beside another one alone.
 BESIDE = {"keepalive-timeout": "keepalive"}
@@ -36,6 +37,8 @@ Modes:
              grpcc load --seed 1 --calls 1000
   live     reads calls, makes them over TCP and writes the report of the session
              grpcc live < examples/hello.live
+  relay    takes gRPC calls at 127.0.0.1, makes them through one channel, and writes its report
+             grpcc relay --port 50050 --links 1 --seed 1 --nets 2 < examples/relay.script
 
 Usage: grpcc MODE < INPUT
 Once it is built, it has a help of each mode; until then docs/FORMATS.md has the formats and the statuses.

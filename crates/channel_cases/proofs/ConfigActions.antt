@@ -1,7 +1,11 @@
 pub mod Closed
 pub mod Configuring
 pub mod Either
+pub mod Ending
+pub mod Every
+pub mod Longs
 pub mod NetLines
 pub mod Served
+pub mod Timers
 pub mod Unserved
 pub mod Whole

@@ -1,3 +1,4 @@
+pub mod AttemptEnds
 pub mod BareEnds
 pub mod BeginActions
 pub mod CallCommits
@@ -10,9 +11,12 @@ pub mod ConfiguredCalls
 pub mod DialEvents
 pub mod DrainEvents
 pub mod DrainedCalls
+pub mod FewCalls
+pub mod FirstShutdowns
 pub mod FullSends
 pub mod GreetedLinks
 pub mod LongSends
+pub mod MakingSteps
 pub mod NetChains
 pub mod NetResults
 pub mod NetSettlings
@@ -22,7 +26,9 @@ pub mod OverdueCalls
 pub mod OwnStreams
 pub mod PassActions
 pub mod ResultEvents
+pub mod RoundSteps
 pub mod SendsEnd
 pub mod SettlingActions
+pub mod SettlingKeeps
 pub mod SoundBuffers
 pub mod StreamedCalls

@@ -1,3 +1,4 @@
+pub mod AttemptEnds
 pub mod BareEnds
 pub mod BeginActions
 pub mod CallCommits
@@ -11,10 +12,12 @@ pub mod DialEvents
 pub mod DrainEvents
 pub mod DrainedCalls
 pub mod EndedCalls
+pub mod FewCalls
 pub mod FirstShutdowns
 pub mod FullSends
 pub mod GreetedLinks
 pub mod LongSends
+pub mod MakingSteps
 pub mod NetChains
 pub mod NetResults
 pub mod NetSettlings
@@ -22,7 +25,9 @@ pub mod NetSteps
 pub mod OwnStreams
 pub mod PassActions
 pub mod ResultEvents
+pub mod RoundSteps
 pub mod SendsEnd
 pub mod SettlingActions
+pub mod SettlingKeeps
 pub mod SoundBuffers
 pub mod StreamedCalls

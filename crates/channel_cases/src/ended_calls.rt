@@ -1,10 +1,20 @@
 // What stands on the end of one call; nothing runs.
 ghost use Rattle.channel_cases.specs.CallEnds.Laws.{OpenCancels};
 ghost use Rattle.channel_cases.specs.ConfigActions.Ends.{BareCallsEnd};
-ghost use Rattle.channel_cases.specs.EndedCalls.Laws.{DeadlinesAreMet, LongSendsEnd, SendsAreAnsweredToo};
+ghost use Rattle.channel_cases.specs.EndedCalls.Laws.{CallsGetConfigsOrEnd, DeadlinesAreMet, LongSendsEnd};
 ghost use Rattle.channel_cases.specs.LongSends.Laws.{CallsEndAlike};
+ghost use Rattle.channel_cases.specs.SettlingActions.Steps.{ConfigSteps};
 
-use session_order::calls_stir;
+use crate::config_actions::unserved_calls_end;
+use crate::configured_calls::calls_get_configs;
+use channel_actions::kept_calls::calls_are_kept;
+use channel_actions::kept_sessions::sessions_are_kept;
+use channel_actions::link_frames::{actions_are_untold, links_stay};
+use channel_actions::other_calls::{calls_stay, others_are_same, sets_stay};
+use net_actions::net_frames::nets_stay;
+use net_actions::{policy_steps_are_actions, subchannel_steps_are_actions};
+use session_order::config_stirs::configs_stir;
+use session_order::{calls_stir, calm_is_exact};
 
 /// A Cancel of an open call is answered, and ends the call (gRPC, "Core concepts": Cancelling an RPC).
 pub fn open_cancels_are_answered()
@@ -21,11 +31,6 @@ pub fn long_sends_end()
     ensures { LongSendsEnd }
 {}
 
-/// Every Send of a call that is there is answered alike, where a call that is to be committed is committed alike.
-pub fn sends_are_answered_too()
-    ensures { SendsAreAnsweredToo }
-{}
-
 /// A call without an attempt ends alike in channel and session ("gRPC Wait for Ready Semantics").
 pub fn bare_calls_end_too()
     ensures { BareCallsEnd }
@@ -37,3 +42,31 @@ pub fn bare_calls_end_too()
 pub fn deadlines_are_met()
     ensures { DeadlinesAreMet }
 {}
+
+/// Where a config is held, each call that waits for it gets it, or ends by it where it accepted a longer message than that allows (gRPC, "Service Config in gRPC").
+pub fn calls_get_configs_or_end()
+    ensures { CallsGetConfigsOrEnd }
+{
+    actions_are_untold();
+    calls_are_kept();
+    calls_get_configs();
+    calls_stay();
+    calm_is_exact();
+    configs_stir();
+    links_stay();
+    nets_stay();
+    others_are_same();
+    policy_steps_are_actions();
+    sessions_are_kept();
+    sets_stay();
+    subchannel_steps_are_actions();
+}
+
+/// So each step of configs, of a settling, is done alike: calls get the config that is held, end by it or for want of one, or wait on.
+pub fn config_steps_are_done()
+    ensures { ConfigSteps }
+{
+    bare_calls_end_too();
+    calls_get_configs_or_end();
+    unserved_calls_end();
+}

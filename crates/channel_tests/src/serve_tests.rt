@@ -1,4 +1,4 @@
-// The mode `serve` over links that the test holds.
+// The modes `serve` and `relay` over links that the test holds.
 use crate::program::{each_policy, run_over};
 use gate_io::{
     Dialed, LinkIn, LinkRead, Listener, MemLink, MemLinkIn, MemLinkOut, MemListener, MemSink,
@@ -125,6 +125,73 @@ fn a_link_that_is_not_accepted_ends_with_8(rt: HostRuntime) -> Result<(), Fail> 
     let mut source = MemSource::new(Vec::new(alloc), 64, Vec::new(alloc));
     let mut report = MemSink::new(alloc, 64, Vec::new(alloc));
     let line = b"serve --port 1 --links 2";
+    let boxes = each_policy(alloc)?;
+    let status = run_over(
+        &rt,
+        alloc,
+        line,
+        &mut source,
+        &mut report,
+        &mut listener,
+        boxes,
+    )?;
+    assert_eq!(rt; status, 8);
+    assert!(rt; report.taken().is_empty());
+    Ok(())
+}
+
+/// The script of a relay: its target.
+fn relay_script(alloc: Global) -> Result<MemSource, Fail> {
+    let mut text = Vec::new(alloc);
+    text.extend_from_slice(b"channel 2 ipv4:127.0.0.1:50051\n")?;
+    Ok(MemSource::new(text, 64, Vec::new(alloc)))
+}
+
+/// Two links on which nothing comes, and no server: the report has the target's addresses first, and after them the one Shutdown.
+#[test]
+fn links_are_relayed_side_by_side(rt: HostRuntime) -> Result<(), Fail> {
+    let alloc = rt.alloc();
+    let (first, second) = (AtomicU64::new(0), AtomicU64::new(0));
+    let mut listener = Pair {
+        alloc,
+        first: &first,
+        second: &second,
+        accepted: 0,
+        faults: 0,
+    };
+    let mut source = relay_script(alloc)?;
+    let mut report = MemSink::new(alloc, 65_536, Vec::new(alloc));
+    let line = b"relay --port 50061 --links 2 --seed 1 --nets 1";
+    let boxes = each_policy(alloc)?;
+    let status = run_over(
+        &rt,
+        alloc,
+        line,
+        &mut source,
+        &mut report,
+        &mut listener,
+        boxes,
+    )?;
+    assert_eq!(rt; status, 0);
+    let text = report.taken();
+    assert!(rt; text.starts_with(b"channel 2 ipv4:127.0.0.1:50051\n0 "));
+    assert!(rt; text.ends_with(b" shutdown = done\nend 2 0 0 0\n"));
+    assert!(rt; first.load(Ordering::SeqCst) <= PATIENCE);
+    assert!(rt; second.load(Ordering::SeqCst) <= PATIENCE);
+    Ok(())
+}
+
+#[test]
+fn a_link_that_is_not_accepted_ends_a_relay_with_8(rt: HostRuntime) -> Result<(), Fail> {
+    let alloc = rt.alloc();
+    let input = MemLinkIn::new(MemSource::new(Vec::new(alloc), 64, Vec::new(alloc)), true);
+    let output = MemLinkOut::new(MemSink::new(alloc, 65_536, Vec::new(alloc)));
+    let mut links = Vec::new(alloc);
+    links.push(MemLink { input, output })?;
+    let mut listener = MemListener::new(true, links, Vec::new(alloc));
+    let mut source = relay_script(alloc)?;
+    let mut report = MemSink::new(alloc, 64, Vec::new(alloc));
+    let line = b"relay --port 1 --links 2 --seed 1 --nets 1";
     let boxes = each_policy(alloc)?;
     let status = run_over(
         &rt,

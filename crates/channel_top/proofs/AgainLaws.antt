@@ -1,5 +1,5 @@
 -- The events of a session that a script gave are a script again, at the moments of their steps.
-use Rattle.std.proofs.Common.{◌≡◌, ◌≤◌, ℕ, ◌+◌, Option, List, [], ◌∷◌, ◌++◌, map, ap, sym, subst, inl, inr, arith, refl, ◌∙◌}
+use Rattle.std.proofs.Common.{◌≡◌, ◌≤◌, ℕ, ◌+◌, Option, List, [], ◌∷◌, ◌++◌, map, ap, sym, inl, inr, arith, refl, ◌∙◌}
 use Rattle.std.specs.Prelude.{max}
 use Rattle.grpc_base.specs.declared.event.Entry.{Entry}
 use Rattle.grpc_base.specs.declared.event.Stamped.{Stamped}
@@ -14,7 +14,7 @@ use Rattle.script_input.specs.Reading.{ReadsScript}
 use Rattle.script_input.specs.declared.form.Form.{Form}
 use Rattle.script_input.specs.declared.form.Form.TheVariants as form
 use Rattle.resolver_core.specs.declared.any_target.Target.{Target}
-use Rattle.script_input.specs.Scripts.{AreLines, IsOnlyScript, IsScript, read_part, script_reads}
+use Rattle.script_input.specs.Scripts.{AreLines, IsScript, read_part, script_reads}
 use Rattle.script_lines.specs.Spelling.{script_of}
 use Rattle.channel_top.specs.Migrate.{IsMigrated}
 use Rattle.script_input.proofs.ScriptLaws.{AreMoved, script_again}

@@ -1,5 +1,5 @@
 -- A config that is longer than it may be has that fault, and what was read of an input decides its reading.
-use Rattle.std.proofs.Common.{◌≡◌, ◌<◌, ◌≤◌, ℕ, ◌+◌, Option, List, ◌++◌, length, length-append, true, refl, ap, sym, inl, inr, arith, ◌∙◌, Result, Ok, Err}
+use Rattle.std.proofs.Common.{◌≡◌, ◌<◌, ◌≤◌, ℕ, Option, List, ◌++◌, length, length-append, true, refl, ap, sym, inl, inr, arith, ◌∙◌, Result, Ok, Err}
 use Rattle.std.specs.Prelude.{nat_lt}
 use Rattle.std.proofs.lemmas.Bool.Decides.{nat_tests}
 use Rattle.gate_io.specs.Outside.{IsAtEnd, Takes}

@@ -5,6 +5,7 @@ pub mod Lawful
 pub mod LiveLaws
 pub mod LoadLaws
 pub mod OptionLaws
+pub mod RelayLaws
 pub mod ReportLaws
 pub mod RunLaws
 pub mod WordFaults

@@ -1,15 +1,15 @@
 -- The number that an option was given.
-use Rattle.std.proofs.Common.{◌≡◌, ◌≢◌, ◌∙◌, ◌<◌, ◌≤◌, ℕ, List, Option, Some, None, sym, subst, arith, refl}
-use Rattle.std.specs.Prelude.{Result, Ok, Err, IfNone, IfSome, IsSomeAnd, codes, ◌^◌}
-use Rattle.std.specs.Str.Parse.{ExplainsUnsignedError, HasUnsignedDigitsIfOk, IsNumeral, ParsesUnsigned, digits_value, without_leading_plus}
+use Rattle.std.proofs.Common.{◌≡◌, ◌∙◌, ◌≤◌, ℕ, List, Option, Some, None, sym, subst, arith, refl}
+use Rattle.std.specs.Prelude.{Result, Ok, Err, IfNone, IfSome, IsSomeAnd, codes}
+use Rattle.std.specs.Str.Parse.{ExplainsUnsignedError, HasUnsignedDigitsIfOk, ParsesUnsigned}
 use Rattle.std.specs.declared.num.ParseIntError.{ParseIntError}
-use Rattle.clap.specs.Words.{ReadsOne, Row, one_of, rows_of}
+use Rattle.clap.specs.Words.{ReadsOne, Row, rows_of}
 use Rattle.clap.specs.Matches.{one_text}
 use Rattle.clap.specs.declared.parser.matches.Found.{Found}
 use Rattle.clap.proofs.WalkLemmas.{one_text-rows}
 use Rattle.channel_top.specs.declared.words.Mode.{Mode}
 use Rattle.channel_top.specs.declared.words.Mode.TheVariants as mode
-use Rattle.channel_top.specs.Words.{IsLoadBy, IsLoadOf, IsOption, IsServeBy}
+use Rattle.channel_top.specs.Words.{IsLoadBy, IsLoadOf, IsOption, IsRelayBy, IsServeBy}
 
 some_none : {X : Type 0} (x : X) → Some x ≡ None → ⊥
 some_none x e = (cc)
@@ -101,3 +101,20 @@ load_given rows seed calls (Some m) s c made = absurd made
 pub load_there : (P : Type 0) (seed calls : ℕ) (r : Option Mode) → IsSomeAnd r (IsLoadOf seed calls) → IfNone r P
 load_there P seed calls None made = absurd made
 load_there P seed calls (Some m) made = tt
+
+-- an option of the mode `relay` that is not there
+pub no_relay_port : (rows : List Row) → ((n : ℕ) → IsOption (codes "port") 0 65535 rows n → ⊥) → (m : Mode) → IsRelayBy rows m → ⊥
+no_relay_port rows none (mode.Relay settings) is = none settings.port is.0
+no_relay_port rows none m is = absurd is
+
+pub no_relay_links : (rows : List Row) → ((n : ℕ) → IsOption (codes "links") 1 1024 rows n → ⊥) → (m : Mode) → IsRelayBy rows m → ⊥
+no_relay_links rows none (mode.Relay settings) is = none settings.links is.1
+no_relay_links rows none m is = absurd is
+
+pub no_relay_seed : (rows : List Row) → ((n : ℕ) → IsOption (codes "seed") 0 18446744073709551615 rows n → ⊥) → (m : Mode) → IsRelayBy rows m → ⊥
+no_relay_seed rows none (mode.Relay settings) is = none settings.seed is.2
+no_relay_seed rows none m is = absurd is
+
+pub no_relay_nets : (rows : List Row) → ((n : ℕ) → IsOption (codes "nets") 1 4 rows n → ⊥) → (m : Mode) → IsRelayBy rows m → ⊥
+no_relay_nets rows none (mode.Relay settings) is = none settings.nets is.3
+no_relay_nets rows none m is = absurd is

@@ -15,7 +15,7 @@ use Rattle.channel_top.specs.declared.words.Mode.{Mode}
 use Rattle.channel_top.specs.declared.words.Mode.TheVariants as mode
 use Rattle.channel_top.specs.declared.words.ModeName.{ModeName}
 use Rattle.channel_top.specs.declared.words.ModeName.TheVariants as name
-use Rattle.channel_top.specs.Words.{AreWrong, AskForText, AskPlainly, IsAlone, IsAskWord, IsLiveBy, IsLoadBy, IsServeBy, Runs, RunsPlain, app_for, bare_for, dashes, kinds_at, kinds_of, mode_named, mode_of, name_text}
+use Rattle.channel_top.specs.Words.{AreWrong, AskForText, AskPlainly, IsAlone, IsAskWord, IsLiveBy, IsLoadBy, IsRelayBy, IsServeBy, Runs, RunsPlain, app_for, bare_for, dashes, kinds_at, kinds_of, mode_named, mode_of, name_text}
 
 -- each command is of the form whose answers clap tells exactly
 pub is_free : (m : Option ModeName) → is_simple_and_free (app_for m) ≡ true
@@ -26,6 +26,7 @@ is_free (Some name.Migrate) = refl
 is_free (Some name.Serve) = refl
 is_free (Some name.Load) = refl
 is_free (Some name.Live) = refl
+is_free (Some name.Relay) = refl
 is_free None = refl
 
 pub is_plain : (m : Option ModeName) → is_simple (app_for m) ≡ true
@@ -36,6 +37,7 @@ is_plain (Some name.Migrate) = refl
 is_plain (Some name.Serve) = refl
 is_plain (Some name.Load) = refl
 is_plain (Some name.Live) = refl
+is_plain (Some name.Relay) = refl
 is_plain None = refl
 
 -- the modes without options
@@ -43,6 +45,7 @@ abbrev pub HasNone : ModeName → Type 0
 HasNone name.Serve = ⊥
 HasNone name.Load = ⊥
 HasNone name.Live = ⊥
+HasNone name.Relay = ⊥
 HasNone m = Unit {0}
 
 -- their words are taken
@@ -54,6 +57,7 @@ taken_alone name.Migrate none = refl
 taken_alone name.Serve none = absurd none
 taken_alone name.Load none = absurd none
 taken_alone name.Live none = absurd none
+taken_alone name.Relay none = absurd none
 
 taken_dashes : (m : ModeName) → HasNone m → kinds_at (Some m) (name_text m ∷ dashes ∷ []) ≡ []
 unfolding clap_on_literals app_for bare_for kinds_at
@@ -63,6 +67,7 @@ taken_dashes name.Migrate none = refl
 taken_dashes name.Serve none = absurd none
 taken_dashes name.Load none = absurd none
 taken_dashes name.Live none = absurd none
+taken_dashes name.Relay none = absurd none
 
 named : (m : ModeName) (rest : List (List ℕ)) → mode_of (name_text m ∷ rest) ≡ Some m
 named name.Replay rest = refl
@@ -71,6 +76,7 @@ named name.Migrate rest = refl
 named name.Serve rest = refl
 named name.Load rest = refl
 named name.Live rest = refl
+named name.Relay rest = refl
 
 taken_of : (m : ModeName) (rest : List (List ℕ)) → kinds_at (Some m) (name_text m ∷ rest) ≡ [] → kinds_of (name_text m ∷ rest) ≡ []
 taken_of m rest e = ap (λ (o : Option ModeName). kinds_at o (name_text m ∷ rest)) (named m rest) ∙ e
@@ -86,6 +92,7 @@ runs_are_taken mode.Migrate words runs = plain_are_taken name.Migrate words tt r
 runs_are_taken (mode.Serve port links) words runs = ap (λ (o : Option ModeName). kinds_at o words) runs.named ∙ runs.taken
 runs_are_taken (mode.Load load) words runs = ap (λ (o : Option ModeName). kinds_at o words) runs.named ∙ runs.taken
 runs_are_taken (mode.Live settings) words runs = ap (λ (o : Option ModeName). kinds_at o words) runs.named ∙ runs.taken
+runs_are_taken (mode.Relay settings) words runs = ap (λ (o : Option ModeName). kinds_at o words) runs.named ∙ runs.taken
 
 -- one kind, that of a text
 abbrev IsText : Kinds → Type 0
@@ -124,6 +131,10 @@ ask_behind name.Live word (inl e) = inl (ap (λ (w : List ℕ). kinds_of (codes 
 ask_behind name.Live word (inr (inl e)) = inl (ap (λ (w : List ℕ). kinds_of (codes "live" ∷ w ∷ [])) e ∙ refl)
 ask_behind name.Live word (inr (inr (inl e))) = inr (ap (λ (w : List ℕ). kinds_of (codes "live" ∷ w ∷ [])) e ∙ refl)
 ask_behind name.Live word (inr (inr (inr e))) = inr (ap (λ (w : List ℕ). kinds_of (codes "live" ∷ w ∷ [])) e ∙ refl)
+ask_behind name.Relay word (inl e) = inl (ap (λ (w : List ℕ). kinds_of (codes "relay" ∷ w ∷ [])) e ∙ refl)
+ask_behind name.Relay word (inr (inl e)) = inl (ap (λ (w : List ℕ). kinds_of (codes "relay" ∷ w ∷ [])) e ∙ refl)
+ask_behind name.Relay word (inr (inr (inl e))) = inr (ap (λ (w : List ℕ). kinds_of (codes "relay" ∷ w ∷ [])) e ∙ refl)
+ask_behind name.Relay word (inr (inr (inr e))) = inr (ap (λ (w : List ℕ). kinds_of (codes "relay" ∷ w ∷ [])) e ∙ refl)
 
 by_place : (words : List (List ℕ)) (word : List ℕ) → IsAskWord word → (words ≡ word ∷ []) ⊎ ((m : ModeName) × (words ≡ name_text m ∷ word ∷ [])) → IsText (kinds_of words)
 by_place words word is (inl e) = subst (λ (ws : List (List ℕ)). IsText (kinds_of ws)) (sym e) (ask_alone word is)
@@ -172,27 +183,31 @@ the_some x y e = (cc)
 named_is : (word : List ℕ) (m : ModeName) → mode_named word ≡ Some m → word ≡ name_text m
 named_is word m e = first (bytes_eq word (codes "replay")) refl e
   where
-    sixth : (b : Bool) → bytes_eq word (codes "live") ≡ b → (if b then Some name.Live else None) ≡ Some m → word ≡ name_text m
-    sixth true is e = (bytes_eq-Decides word (codes "live")).0 is ∙ ap name_text (the_some name.Live m e)
-    sixth false is e = absurd (cc)
+    seventh : (b : Bool) → bytes_eq word (codes "relay") ≡ b → (if b then Some name.Relay else None) ≡ Some m → word ≡ name_text m
+    seventh true is e = (bytes_eq-Decides word (codes "relay")).0 is ∙ ap name_text (the_some name.Relay m e)
+    seventh false is e = absurd (cc)
 
-    fifth : (b : Bool) → bytes_eq word (codes "load") ≡ b → (if b then Some name.Load else (if bytes_eq word (codes "live") then Some name.Live else None)) ≡ Some m → word ≡ name_text m
+    sixth : (b : Bool) → bytes_eq word (codes "live") ≡ b → (if b then Some name.Live else (if bytes_eq word (codes "relay") then Some name.Relay else None)) ≡ Some m → word ≡ name_text m
+    sixth true is e = (bytes_eq-Decides word (codes "live")).0 is ∙ ap name_text (the_some name.Live m e)
+    sixth false is e = seventh (bytes_eq word (codes "relay")) refl e
+
+    fifth : (b : Bool) → bytes_eq word (codes "load") ≡ b → (if b then Some name.Load else (if bytes_eq word (codes "live") then Some name.Live else (if bytes_eq word (codes "relay") then Some name.Relay else None))) ≡ Some m → word ≡ name_text m
     fifth true is e = (bytes_eq-Decides word (codes "load")).0 is ∙ ap name_text (the_some name.Load m e)
     fifth false is e = sixth (bytes_eq word (codes "live")) refl e
 
-    fourth : (b : Bool) → bytes_eq word (codes "serve") ≡ b → (if b then Some name.Serve else (if bytes_eq word (codes "load") then Some name.Load else (if bytes_eq word (codes "live") then Some name.Live else None))) ≡ Some m → word ≡ name_text m
+    fourth : (b : Bool) → bytes_eq word (codes "serve") ≡ b → (if b then Some name.Serve else (if bytes_eq word (codes "load") then Some name.Load else (if bytes_eq word (codes "live") then Some name.Live else (if bytes_eq word (codes "relay") then Some name.Relay else None)))) ≡ Some m → word ≡ name_text m
     fourth true is e = (bytes_eq-Decides word (codes "serve")).0 is ∙ ap name_text (the_some name.Serve m e)
     fourth false is e = fifth (bytes_eq word (codes "load")) refl e
 
-    third : (b : Bool) → bytes_eq word (codes "migrate") ≡ b → (if b then Some name.Migrate else (if bytes_eq word (codes "serve") then Some name.Serve else (if bytes_eq word (codes "load") then Some name.Load else (if bytes_eq word (codes "live") then Some name.Live else None)))) ≡ Some m → word ≡ name_text m
+    third : (b : Bool) → bytes_eq word (codes "migrate") ≡ b → (if b then Some name.Migrate else (if bytes_eq word (codes "serve") then Some name.Serve else (if bytes_eq word (codes "load") then Some name.Load else (if bytes_eq word (codes "live") then Some name.Live else (if bytes_eq word (codes "relay") then Some name.Relay else None))))) ≡ Some m → word ≡ name_text m
     third true is e = (bytes_eq-Decides word (codes "migrate")).0 is ∙ ap name_text (the_some name.Migrate m e)
     third false is e = fourth (bytes_eq word (codes "serve")) refl e
 
-    second : (b : Bool) → bytes_eq word (codes "config") ≡ b → (if b then Some name.Config else (if bytes_eq word (codes "migrate") then Some name.Migrate else (if bytes_eq word (codes "serve") then Some name.Serve else (if bytes_eq word (codes "load") then Some name.Load else (if bytes_eq word (codes "live") then Some name.Live else None))))) ≡ Some m → word ≡ name_text m
+    second : (b : Bool) → bytes_eq word (codes "config") ≡ b → (if b then Some name.Config else (if bytes_eq word (codes "migrate") then Some name.Migrate else (if bytes_eq word (codes "serve") then Some name.Serve else (if bytes_eq word (codes "load") then Some name.Load else (if bytes_eq word (codes "live") then Some name.Live else (if bytes_eq word (codes "relay") then Some name.Relay else None)))))) ≡ Some m → word ≡ name_text m
     second true is e = (bytes_eq-Decides word (codes "config")).0 is ∙ ap name_text (the_some name.Config m e)
     second false is e = third (bytes_eq word (codes "migrate")) refl e
 
-    first : (b : Bool) → bytes_eq word (codes "replay") ≡ b → (if b then Some name.Replay else (if bytes_eq word (codes "config") then Some name.Config else (if bytes_eq word (codes "migrate") then Some name.Migrate else (if bytes_eq word (codes "serve") then Some name.Serve else (if bytes_eq word (codes "load") then Some name.Load else (if bytes_eq word (codes "live") then Some name.Live else None)))))) ≡ Some m → word ≡ name_text m
+    first : (b : Bool) → bytes_eq word (codes "replay") ≡ b → (if b then Some name.Replay else (if bytes_eq word (codes "config") then Some name.Config else (if bytes_eq word (codes "migrate") then Some name.Migrate else (if bytes_eq word (codes "serve") then Some name.Serve else (if bytes_eq word (codes "load") then Some name.Load else (if bytes_eq word (codes "live") then Some name.Live else (if bytes_eq word (codes "relay") then Some name.Relay else None))))))) ≡ Some m → word ≡ name_text m
     first true is e = (bytes_eq-Decides word (codes "replay")).0 is ∙ ap name_text (the_some name.Replay m e)
     first false is e = second (bytes_eq word (codes "config")) refl e
 
@@ -222,6 +237,7 @@ name_of mode.Migrate = name.Migrate
 name_of (mode.Serve port links) = name.Serve
 name_of (mode.Load load) = name.Load
 name_of (mode.Live settings) = name.Live
+name_of (mode.Relay settings) = name.Relay
 
 mode_of_runs : (m : Mode) (words : List (List ℕ)) → Runs m words → mode_of words ≡ Some (name_of m)
 mode_of_runs mode.Replay words runs = mode_of_plain name.Replay words runs
@@ -230,6 +246,7 @@ mode_of_runs mode.Migrate words runs = mode_of_plain name.Migrate words runs
 mode_of_runs (mode.Serve port links) words runs = runs.named
 mode_of_runs (mode.Load load) words runs = runs.named
 mode_of_runs (mode.Live settings) words runs = runs.named
+mode_of_runs (mode.Relay settings) words runs = runs.named
 
 alone_of_runs : (m : Mode) (words : List (List ℕ)) → HasNone (name_of m) → Runs m words → IsAlone words
 alone_of_runs mode.Replay words none runs = alone_of_plain name.Replay words runs
@@ -238,6 +255,7 @@ alone_of_runs mode.Migrate words none runs = alone_of_plain name.Migrate words r
 alone_of_runs (mode.Serve port links) words none runs = absurd none
 alone_of_runs (mode.Load load) words none runs = absurd none
 alone_of_runs (mode.Live settings) words none runs = absurd none
+alone_of_runs (mode.Relay settings) words none runs = absurd none
 
 runs_plain : (m : Mode) (words : List (List ℕ)) → HasNone (name_of m) → RunsPlain (name_of m) words → Runs m words
 runs_plain mode.Replay words none runs = runs
@@ -246,6 +264,7 @@ runs_plain mode.Migrate words none runs = runs
 runs_plain (mode.Serve port links) words none runs = absurd none
 runs_plain (mode.Load load) words none runs = absurd none
 runs_plain (mode.Live settings) words none runs = absurd none
+runs_plain (mode.Relay settings) words none runs = absurd none
 
 -- the answer of a mode without options
 pub plain_some : (m : Mode) (n : ModeName) (words : List (List ℕ)) (r : Option Mode) → n ≡ name_of m → HasNone (name_of m) → mode_of words ≡ Some n → IfSome r (λ x. (x ≡ m) × IsAlone words) → IfSome r (λ x. Runs x words)
@@ -286,6 +305,7 @@ serve_none n words rows None same is matches told = by_mode
     by_mode mode.Migrate runs = other name.Migrate (λ e. absurd (cc)) (sym is ∙ mode_of_runs mode.Migrate words runs)
     by_mode (mode.Load load) runs = other name.Load (λ e. absurd (cc)) (sym is ∙ mode_of_runs (mode.Load load) words runs)
     by_mode (mode.Live settings) runs = other name.Live (λ e. absurd (cc)) (sym is ∙ mode_of_runs (mode.Live settings) words runs)
+    by_mode (mode.Relay settings) runs = other name.Relay (λ e. absurd (cc)) (sym is ∙ mode_of_runs (mode.Relay settings) words runs)
 
 -- the answer of the mode `load`
 pub load_some : (n : ModeName) (words : List (List ℕ)) (rows : List Row) (r : Option Mode) → n ≡ name.Load → mode_of words ≡ Some n → kinds_at (Some n) words ≡ [] → rows ≡ matches_of (app_for (Some n)) words → IfSome r (IsLoadBy rows) → IfSome r (λ x. Runs x words)
@@ -314,6 +334,7 @@ load_none n words rows None same is matches told = by_mode
     by_mode mode.Migrate runs = other name.Migrate (λ e. absurd (cc)) (sym is ∙ mode_of_runs mode.Migrate words runs)
     by_mode (mode.Serve port links) runs = other name.Serve (λ e. absurd (cc)) (sym is ∙ mode_of_runs (mode.Serve port links) words runs)
     by_mode (mode.Live settings) runs = other name.Live (λ e. absurd (cc)) (sym is ∙ mode_of_runs (mode.Live settings) words runs)
+    by_mode (mode.Relay settings) runs = other name.Relay (λ e. absurd (cc)) (sym is ∙ mode_of_runs (mode.Relay settings) words runs)
 
 -- the answer of the mode `live`
 pub live_some : (n : ModeName) (words : List (List ℕ)) (rows : List Row) (r : Option Mode) → n ≡ name.Live → mode_of words ≡ Some n → kinds_at (Some n) words ≡ [] → rows ≡ matches_of (app_for (Some n)) words → IfSome r (IsLiveBy rows) → IfSome r (λ x. Runs x words)
@@ -342,6 +363,36 @@ live_none n words rows None same is matches told = by_mode
     by_mode mode.Migrate runs = other name.Migrate (λ e. absurd (cc)) (sym is ∙ mode_of_runs mode.Migrate words runs)
     by_mode (mode.Serve port links) runs = other name.Serve (λ e. absurd (cc)) (sym is ∙ mode_of_runs (mode.Serve port links) words runs)
     by_mode (mode.Load load) runs = other name.Load (λ e. absurd (cc)) (sym is ∙ mode_of_runs (mode.Load load) words runs)
+    by_mode (mode.Relay settings) runs = other name.Relay (λ e. absurd (cc)) (sym is ∙ mode_of_runs (mode.Relay settings) words runs)
+
+-- the answer of the mode `relay`
+pub relay_some : (n : ModeName) (words : List (List ℕ)) (rows : List Row) (r : Option Mode) → n ≡ name.Relay → mode_of words ≡ Some n → kinds_at (Some n) words ≡ [] → rows ≡ matches_of (app_for (Some n)) words → IfSome r (IsRelayBy rows) → IfSome r (λ x. Runs x words)
+relay_some n words rows None same is taken matches told = tt
+relay_some n words rows (Some (mode.Relay settings)) same is taken matches told = record {
+  named = is ∙ ap (λ (k : ModeName). Some k) same;
+  taken = subst (λ (k : ModeName). kinds_at (Some k) words ≡ []) same taken;
+  given = subst (λ (k : ModeName). IsRelayBy (matches_of (app_for (Some k)) words) (mode.Relay settings)) same
+      (subst (λ (rs : List Row). IsRelayBy rs (mode.Relay settings)) matches told);
+}
+relay_some n words rows (Some m) same is taken matches told = absurd told
+
+pub relay_none : (n : ModeName) (words : List (List ℕ)) (rows : List Row) (r : Option Mode) → n ≡ name.Relay → mode_of words ≡ Some n → rows ≡ matches_of (app_for (Some n)) words → IfNone r ((m : Mode) → IsRelayBy rows m → ⊥) → IfNone r ((m : Mode) → Runs m words → ⊥)
+relay_none n words rows (Some x) same is matches told = tt
+relay_none n words rows None same is matches told = by_mode
+  where
+    other : (k : ModeName) → (name.Relay ≡ k → ⊥) → Some n ≡ Some k → ⊥
+    other k apart e = apart (sym same ∙ the_some n k e)
+
+    by_mode : (m : Mode) → Runs m words → ⊥
+    by_mode (mode.Relay settings) runs =
+        told (mode.Relay settings) (subst (λ (rs : List Row). IsRelayBy rs (mode.Relay settings)) (sym matches)
+        (subst (λ (k : ModeName). IsRelayBy (matches_of (app_for (Some k)) words) (mode.Relay settings)) (sym same) runs.given))
+    by_mode mode.Replay runs = other name.Replay (λ e. absurd (cc)) (sym is ∙ mode_of_runs mode.Replay words runs)
+    by_mode mode.Config runs = other name.Config (λ e. absurd (cc)) (sym is ∙ mode_of_runs mode.Config words runs)
+    by_mode mode.Migrate runs = other name.Migrate (λ e. absurd (cc)) (sym is ∙ mode_of_runs mode.Migrate words runs)
+    by_mode (mode.Serve port links) runs = other name.Serve (λ e. absurd (cc)) (sym is ∙ mode_of_runs (mode.Serve port links) words runs)
+    by_mode (mode.Load load) runs = other name.Load (λ e. absurd (cc)) (sym is ∙ mode_of_runs (mode.Load load) words runs)
+    by_mode (mode.Live settings) runs = other name.Live (λ e. absurd (cc)) (sym is ∙ mode_of_runs (mode.Live settings) words runs)
 
 -- words that clap takes at the command of their first word
 pub taken_here : (words : List (List ℕ)) (m : Option ModeName) → m ≡ mode_of words → kinds_at m words ≡ [] → kinds_of words ≡ []

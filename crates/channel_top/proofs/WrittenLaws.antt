@@ -7,7 +7,9 @@ use Rattle.script_text.proofs.Passing.{AppendsFront-none}
 use Rattle.channel_top.specs.Load.{FillsLoad, IsLoadDone, IsLoadText, RefusesLoad}
 use Rattle.channel_top.specs.Modes.{FillsIn, IsDoneIn, IsOutput, IsOutputIn, RefusesIn}
 use Rattle.channel_top.specs.Live.{EndsFullLawfully, IsLawfulLiveText, IsLivedLawfully}
+use Rattle.channel_top.specs.Relay.{EndsRelayLawfully, IsLawfulRelayText, IsRelayedLawfully}
 use Rattle.live_mode.specs.declared.settings.LiveSettings.{LiveSettings}
+use Rattle.relay_mode.specs.declared.settings.RelaySettings.{RelaySettings}
 use Rattle.channel_top.specs.Migrate.{IsMigrateText}
 use Rattle.channel_top.specs.Top.{EndsFull, IsDone, IsReplayText}
 use Rattle.channel_top.specs.Words.{Runs}
@@ -35,6 +37,9 @@ output_of kinds (mode.Load load) words left left' runs text (same, inr (inr full
 output_of kinds (mode.Live settings) words left left' runs text (inl (inl done)) = inl (inl (mode.Live settings, runs, done))
 output_of kinds (mode.Live settings) words left left' runs text (inl (inr full)) = inr (inr (inr (mode.Live settings, runs, full)))
 output_of kinds (mode.Live settings) words left left' runs text (inr fault) = inr (inr (inl (mode.Live settings, runs, fault)))
+output_of kinds (mode.Relay settings) words left left' runs text (inl (inl done)) = inl (inl (mode.Relay settings, runs, done))
+output_of kinds (mode.Relay settings) words left left' runs text (inl (inr full)) = inr (inr (inr (mode.Relay settings, runs, full)))
+output_of kinds (mode.Relay settings) words left left' runs text (inr fault) = inr (inr (inl (mode.Relay settings, runs, fault)))
 
 -- the output of the mode `replay` is that of its mode
 pub replay_done : (kinds : KindsSeen) (m : Mode) (left left' : Option (List ℕ)) → m ≡ mode.Replay → (text : List ℕ) → IsDone left left' text → IsDoneIn kinds m left left' text
@@ -72,3 +77,13 @@ live_done kinds m settings left left' is text done = subst (λ (x : Mode). IsDon
 
 pub live_full : (m : Mode) (settings : LiveSettings) (left left' : Option (List ℕ)) → m ≡ mode.Live settings → (text : List ℕ) → EndsFullLawfully left left' text → FillsIn m left left' text
 live_full m settings left left' is text full = subst (λ (x : Mode). FillsIn x left left' text) (sym is) full
+
+-- the output of the mode `relay` is that of its mode
+pub relay_output : (kinds : KindsSeen) (m : Mode) (settings : RelaySettings) (left left' : Option (List ℕ)) → m ≡ mode.Relay settings → (text : List ℕ) → IsLawfulRelayText settings.links left left' text → IsOutputIn kinds m left left' text
+relay_output kinds m settings left left' is text told = subst (λ (x : Mode). IsOutputIn kinds x left left' text) (sym is) told
+
+pub relay_done : (kinds : KindsSeen) (m : Mode) (settings : RelaySettings) (left left' : Option (List ℕ)) → m ≡ mode.Relay settings → (text : List ℕ) → IsRelayedLawfully settings.links left left' text → IsDoneIn kinds m left left' text
+relay_done kinds m settings left left' is text done = subst (λ (x : Mode). IsDoneIn kinds x left left' text) (sym is) done
+
+pub relay_full : (m : Mode) (settings : RelaySettings) (left left' : Option (List ℕ)) → m ≡ mode.Relay settings → (text : List ℕ) → EndsRelayLawfully settings.links left left' text → FillsIn m left left' text
+relay_full m settings left left' is text full = subst (λ (x : Mode). FillsIn x left left' text) (sym is) full

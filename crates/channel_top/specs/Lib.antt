@@ -5,6 +5,7 @@ pub mod Live
 pub mod Load
 pub mod Migrate
 pub mod Modes
+pub mod Relay
 pub mod Runs
 pub mod Serve
 pub mod Top

@@ -5,6 +5,8 @@ use Rattle.channel_top.specs.Top.{EndsFull, IsDone, IsReplayText, StopsAtRead, T
 use Rattle.channel_top.specs.ConfigMode.{IsConfigDone, IsConfigText, StopsInConfig, TellsConfigFault}
 use Rattle.live_mode.specs.Live.{StopsInCalls, TellsBadCall}
 use Rattle.channel_top.specs.Live.{EndsFullLawfully, IsLawfulLiveText, IsLivedLawfully}
+use Rattle.relay_mode.specs.Relayed.{EndsUnrelayed, StopsAtRelay, TellsBadRelay}
+use Rattle.channel_top.specs.Relay.{EndsRelayLawfully, IsLawfulRelayText, IsRelayedLawfully}
 use Rattle.channel_top.specs.Migrate.{IsMigrateText, IsMigrated, StopsInReport, TellsBadReport}
 use Rattle.channel_top.specs.Serve.{EndsUnheard, IsServeText, IsServed, StopsInServer, TellsBadAnswer}
 use Rattle.channel_top.specs.Load.{FillsLoad, IsLoadDone, IsLoadText, RefusesLoad}
@@ -20,6 +22,7 @@ IsDoneIn kinds mode.Migrate left left' text = IsMigrated left left' text
 IsDoneIn kinds (mode.Serve port links) left left' text = IsServed links left left' text
 IsDoneIn kinds (mode.Load load) left left' text = (left' ≡ left) × IsLoadDone kinds load text
 IsDoneIn kinds (mode.Live settings) left left' text = IsLivedLawfully left left' text
+IsDoneIn kinds (mode.Relay settings) left left' text = IsRelayedLawfully settings.links left left' text
 
 -- this text of a mode tells the fault of its input
 abbrev pub TellsFaultIn : KindsSeen → Mode → Option (List ℕ) → Option (List ℕ) → List ℕ → Type 0
@@ -29,6 +32,7 @@ TellsFaultIn kinds mode.Migrate left left' text = TellsBadReport left left' text
 TellsFaultIn kinds (mode.Serve port links) left left' text = TellsBadAnswer left left' text
 TellsFaultIn kinds (mode.Load load) left left' text = ⊥
 TellsFaultIn kinds (mode.Live settings) left left' text = TellsBadCall left left' text
+TellsFaultIn kinds (mode.Relay settings) left left' text = TellsBadRelay left left' text
 
 -- a read failed in a mode
 abbrev pub StopsIn : Mode → Option (List ℕ) → Option (List ℕ) → Option (List ℕ) → Option (List ℕ) → ℕ → ℕ → Type 0
@@ -38,6 +42,7 @@ StopsIn mode.Migrate left left' taken taken' faults faults' = StopsInReport left
 StopsIn (mode.Serve port links) left left' taken taken' faults faults' = StopsInServer left left' taken taken' faults faults'
 StopsIn (mode.Load load) left left' taken taken' faults faults' = ⊥
 StopsIn (mode.Live settings) left left' taken taken' faults faults' = StopsInCalls left left' taken taken' faults faults'
+StopsIn (mode.Relay settings) left left' taken taken' faults faults' = StopsAtRelay left left' taken taken' faults faults'
 
 -- the output of a mode, by what it read
 abbrev pub IsOutputIn : KindsSeen → Mode → Option (List ℕ) → Option (List ℕ) → List ℕ → Type 0
@@ -47,6 +52,7 @@ IsOutputIn kinds mode.Migrate left left' text = IsMigrateText left left' text
 IsOutputIn kinds (mode.Serve port links) left left' text = IsServeText links left left' text
 IsOutputIn kinds (mode.Load load) left left' text = (left' ≡ left) × IsLoadText kinds load text
 IsOutputIn kinds (mode.Live settings) left left' text = IsLawfulLiveText left left' text
+IsOutputIn kinds (mode.Relay settings) left left' text = IsLawfulRelayText settings.links left left' text
 
 -- status 0: the mode that the words run is done, and this is its text; or the words ask for the text of help or of the version, and
 -- nothing is read
@@ -73,15 +79,17 @@ abbrev pub FillsIn : Mode → Option (List ℕ) → Option (List ℕ) → List �
 FillsIn mode.Replay left left' text = EndsFull left left' text
 FillsIn (mode.Load load) left left' text = (left' ≡ left) × FillsLoad load text
 FillsIn (mode.Live settings) left left' text = EndsFullLawfully left left' text
+FillsIn (mode.Relay settings) left left' text = EndsRelayLawfully settings.links left left' text
 FillsIn m left left' text = ⊥
 
 -- status 7: the words run a mode whose journal got full
 abbrev pub EndsSession : List (List ℕ) → Option (List ℕ) → Option (List ℕ) → List ℕ → Type 0
 EndsSession words left left' text = (m : Mode) × Runs m words × FillsIn m left left' text
 
--- status 8: the words run the mode that listens, and a call of the listener failed
+-- status 8: the words run a mode that listens, and a call of the listener failed
 abbrev pub UnheardIn : Mode → Option (List ℕ) → Option (List ℕ) → Option (List ℕ) → Option (List ℕ) → ℕ → ℕ → Type 0
 UnheardIn (mode.Serve port links) left left' taken taken' faults faults' = EndsUnheard left left' taken taken' faults faults'
+UnheardIn (mode.Relay settings) left left' taken taken' faults faults' = EndsUnrelayed left left' taken taken' faults faults'
 UnheardIn m left left' taken taken' faults faults' = ⊥
 
 abbrev pub Unheard : List (List ℕ) → Option (List ℕ) → Option (List ℕ) → Option (List ℕ) → Option (List ℕ) → ℕ → ℕ → Type 0

@@ -26,6 +26,7 @@ name_text name.Migrate = codes "migrate"
 name_text name.Serve = codes "serve"
 name_text name.Load = codes "load"
 name_text name.Live = codes "live"
+name_text name.Relay = codes "relay"
 
 abbrev pub mode_named : List ℕ → Option ModeName
 mode_named word =
@@ -35,6 +36,7 @@ mode_named word =
     else if bytes_eq word (name_text name.Serve) then Some name.Serve
     else if bytes_eq word (name_text name.Load) then Some name.Load
     else if bytes_eq word (name_text name.Live) then Some name.Live
+    else if bytes_eq word (name_text name.Relay) then Some name.Relay
     else None
 
 -- the mode of the first word, if it is a mode's name
@@ -66,6 +68,7 @@ bare_for (Some name.Migrate) = app_named (codes "grpcc migrate")
 bare_for (Some name.Serve) = app_named (codes "grpcc serve")
 bare_for (Some name.Load) = app_named (codes "grpcc load")
 bare_for (Some name.Live) = app_named (codes "grpcc live")
+bare_for (Some name.Relay) = app_named (codes "grpcc relay")
 bare_for None = record (app_named (codes "grpcc")) { top = record (app_named (codes "grpcc")).top { no_binary_name = true } }
 
 -- an option that has to be there and takes one value
@@ -86,11 +89,17 @@ with_keepalives app = with_rule (with_rule app (choice_rule (codes "keepalive"))
 abbrev pub with_live : App → App
 with_live app = with_keepalives (with_workers app)
 
--- the command of a mode: options are those of `serve`, `load` and `live`
+-- a command with the options of `relay`
+abbrev pub with_relay : App → App
+with_relay app =
+    with_rule (with_rule (with_rule (with_rule app (option_rule (codes "port"))) (option_rule (codes "links"))) (option_rule (codes "seed"))) (option_rule (codes "nets"))
+
+-- the command of a mode: options are those of `serve`, `load`, `live` and `relay`
 unfoldable pub app_for : Option ModeName → App
 app_for (Some name.Serve) = with_rule (with_rule (bare_for (Some name.Serve)) (option_rule (codes "port"))) (option_rule (codes "links"))
 app_for (Some name.Load) = with_rule (with_rule (bare_for (Some name.Load)) (option_rule (codes "seed"))) (option_rule (codes "calls"))
 app_for (Some name.Live) = with_live (bare_for (Some name.Live))
+app_for (Some name.Relay) = with_relay (bare_for (Some name.Relay))
 app_for m = bare_for m
 
 -- the kinds of error that clap gives for the words at such a command, by clap's own definitions; none where it takes them
@@ -153,6 +162,13 @@ IsLiveBy rows (mode.Live settings) =
     IsChoice (codes "seed") 0 18446744073709551615 1 rows settings.seed × IsChoice (codes "nets") 1 4 2 rows settings.nets × IsKeepBy rows settings.keep
 IsLiveBy rows m = ⊥
 
+-- the mode `relay` with the values of its options
+abbrev pub IsRelayBy : List Row → Mode → Type 0
+IsRelayBy rows (mode.Relay settings) =
+    IsOption (codes "port") 0 65535 rows settings.port × IsOption (codes "links") 1 1024 rows settings.links
+    × IsOption (codes "seed") 0 18446744073709551615 rows settings.seed × IsOption (codes "nets") 1 4 rows settings.nets
+IsRelayBy rows m = ⊥
+
 -- the words run a mode with options: clap takes them at its command, and their matches there give the options their values
 pub record RunsByOptions (n : ModeName) (IsBy : List Row → Type 0) (words : List (List ℕ)) : Type 0 where
   pub named : mode_of words ≡ Some n
@@ -167,6 +183,7 @@ Runs mode.Migrate words = RunsPlain name.Migrate words
 Runs (mode.Serve port links) words = RunsByOptions name.Serve (λ rows. IsServeBy rows (mode.Serve port links)) words
 Runs (mode.Load load) words = RunsByOptions name.Load (λ rows. IsLoadBy rows (mode.Load load)) words
 Runs (mode.Live settings) words = RunsByOptions name.Live (λ rows. IsLiveBy rows (mode.Live settings)) words
+Runs (mode.Relay settings) words = RunsByOptions name.Relay (λ rows. IsRelayBy rows (mode.Relay settings)) words
 
 -- clap answers the words with the text of help or of the version
 abbrev pub AskForText : List (List ℕ) → Type 0

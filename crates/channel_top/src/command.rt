@@ -1,7 +1,7 @@
 // The commands of `clap`, one for each mode.
 ghost use Rattle.std.specs.Prelude.{◌≡◌, IfOk};
 ghost use Rattle.clap.specs.Words.{app_of, with_rule};
-ghost use Rattle.channel_top.specs.Words.{app_for, bare_for, choice_rule, option_rule, with_keepalives, with_live, with_workers};
+ghost use Rattle.channel_top.specs.Words.{app_for, bare_for, choice_rule, option_rule, with_keepalives, with_live, with_relay, with_workers};
 
 use crate::help;
 use crate::words::ModeName;
@@ -26,6 +26,7 @@ pub fn command<'a>(alloc: Global, name: Option<ModeName>) -> Result<Command<'a>,
             with_number(alloc, command, "calls", "How many calls, from 1 to 10000")
         }
         Some(ModeName::Live) => with_live_options(alloc, command),
+        Some(ModeName::Relay) => with_relay_options(alloc, command),
         _ => Ok(command),
     }
 }
@@ -62,6 +63,10 @@ fn bare<'a>(alloc: Global, name: Option<ModeName>) -> Command<'a>
             .override_usage(
                 "grpcc live [--seed N] [--nets N] [--keepalive MS] [--keepalive-timeout MS] < SCRIPT",
             ),
+        Some(ModeName::Relay) => Command::new(alloc, "grpcc relay")
+            .version(VERSION)
+            .about(help::of_relay())
+            .override_usage("grpcc relay --port N --links N --seed N --nets N < SCRIPT"),
         None => Command::new(alloc, "grpcc")
             .version(VERSION)
             .about(help::of_program())
@@ -98,6 +103,21 @@ fn with_choice<'a>(
 {
     let option = Arg::new(alloc, id).long(id).value_name("N").help(text);
     command.arg(option)
+}
+
+/// A command with the options of `relay`.
+fn with_relay_options<'a>(alloc: Global, command: Command<'a>) -> Result<Command<'a>, AllocError>
+    ensures { IfOk result (λ c. app_of c ≡ with_relay (app_of command.entry)) }
+{
+    let command = with_number(alloc, command, "port", "The port, from 0 to 65535")?;
+    let command = with_number(alloc, command, "links", "How many links, from 1 to 1024")?;
+    let command = with_number(alloc, command, "seed", "The seed of the random choices")?;
+    with_number(
+        alloc,
+        command,
+        "nets",
+        "How many threads keep links to the servers open, from 1 to 4",
+    )
 }
 
 /// A command with the options of `live`.

@@ -15,6 +15,8 @@ pub fn of_program() -> &'static str {
              grpcc load --seed 1 --calls 1000
   live     reads calls, makes them over TCP and writes the report of the session
              grpcc live < examples/hello.live
+  relay    takes gRPC calls at 127.0.0.1, makes them through one channel, and writes its report
+             grpcc relay --port 50050 --links 1 --seed 1 --nets 2 < examples/relay.script
 
 Statuses, explained on standard error:
   0  done; the whole output is written
@@ -178,4 +180,22 @@ All others:  call <worker> <path> <wait> <timeout> <metadata> <message>..
 
 It ends when the calls are made and the channel is shut down. Causes of bad lines are those of
 scripts: grpcc replay --help"
+}
+
+/// Of `relay`: what it does, the lines of a script, and what becomes of a call.
+pub fn of_relay() -> &'static str {
+    "Reads a live script without calls, listens at a port of 127.0.0.1, says 'listening <port>' on
+standard error, and makes each gRPC call that comes there through one channel, with its retries,
+hedges, load balancing and deadlines. It takes so many links, ends when each has ended, shuts the
+channel down, and writes the report of the session, as 'grpcc live' does.
+
+Line 1 is: channel 2 <target>       as for grpcc replay --help
+Line 2 may be: config <hex>         a service config
+
+A request that is no gRPC call gets status 12, metadata past its limit 8, a timeout that cannot be
+read 13, a compressed message 13, a message above 4194304 bytes 8. All other statuses are those of
+the channel. A session has room for 1048576 entries, of which a call of one message each way takes
+about ten.
+
+Causes of bad lines are those of scripts: grpcc replay --help"
 }

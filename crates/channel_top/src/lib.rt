@@ -10,6 +10,7 @@ mod live;
 mod live_words;
 mod load;
 mod migrate;
+mod relay;
 mod replay;
 mod run;
 mod serve;

@@ -10,6 +10,7 @@ use crate::links::Place;
 use crate::live::run_lawfully;
 use crate::load::run_load;
 use crate::migrate::run_migrate;
+use crate::relay::relay_lawfully;
 use crate::replay::run_replay;
 use crate::serve::run_serve;
 use crate::tell::WORDS_FAULT;
@@ -32,6 +33,7 @@ use std::thread::Threads;
 /// | `serve --port <n> --links <1..1024>` | reads a server script, serves so many links of the listener by it until each has ended, and writes `served <links>`; it may never return |
 /// | `load --seed <n> --calls <1..10000>` | reads nothing, plays the session that is made from the seed in memory, on both links of a scripted server, and writes the line that sums it up |
 /// | `live [--seed <n>] [--nets <1..4>] [--keepalive <ms>] [--keepalive-timeout <ms>]` | reads a live script, makes its calls over the world's links, and writes the report of the session; it may never return |
+/// | `relay --port <n> --links <1..1024> --seed <n> --nets <1..4>` | reads a live script without calls, makes each call that comes over so many links of the listener over the world's links, and writes the report of the session; it may never return |
 /// | `--help`, `--version`, alone or behind a mode | writes that text, and reads nothing |
 ///
 /// | Status | When | Written |
@@ -164,6 +166,9 @@ fn run_mode<
         Mode::Live { settings } => {
             run_lawfully(rt, alloc, settings, policies, world, script, report)
         }
+        Mode::Relay { settings } => relay_lawfully(
+            rt, alloc, settings, policies, world, script, report, listener,
+        ),
     }
 }
 

@@ -1,15 +1,16 @@
 // The words of the command line, read by `clap` from the mode on.
-ghost use Rattle.std.specs.Prelude.{◌≡◌, ◌≤◌, ◌↔◌, ℕ, List, [], Some, map, string_bytes, IsTrue, IfOk, IfSome, IfNone, IsSomeAnd};
+ghost use Rattle.std.specs.Prelude.{◌≡◌, ◌≤◌, ◌↔◌, ℕ, List, [], Some, map, string_bytes, IsTrue, IfOk, IfSome, IfNone, IsSomeAnd, codes};
 ghost use Rattle.clap.specs.Words.{FailsBy, found_of, matches_of, rows_of};
 ghost use Rattle.channel_top.specs.declared.words.Mode.{Mode};
-ghost use Rattle.channel_top.specs.Words.{AskForText, IsAlone, IsAskedBy, IsLoadBy, IsLoadOf, IsOption, IsServeBy, Runs, app_for, dashes, kinds_at, mode_named, mode_of};
+ghost use Rattle.channel_top.specs.Words.{AskForText, IsAlone, IsAskedBy, IsLoadBy, IsLoadOf, IsOption, IsRelayBy, IsServeBy, Runs, app_for, dashes, kinds_at, mode_named, mode_of};
 
 use crate::command::command;
 use crate::live_words::live_of;
 use clap::error::ErrorKind;
 use clap::{ArgMatches, Error};
-use live_mode::LiveSettings;
+use live_mode::{LiveSettings, NETS};
 use load_plan::Load;
+use relay_mode::RelaySettings;
 use std::alloc::Global;
 
 /// The modes of the program, as its first word names them.
@@ -21,6 +22,7 @@ pub enum ModeName {
     Serve,
     Load,
     Live,
+    Relay,
 }
 
 /// What the program does.
@@ -38,6 +40,8 @@ pub enum Mode {
     Load(Load),
     /// Reads a live script, makes its calls and writes the report.
     Live { settings: LiveSettings },
+    /// Reads a live script without calls, relays so many links at a port and writes the report.
+    Relay { settings: RelaySettings },
 }
 
 /// What the words ask for.
@@ -77,6 +81,9 @@ fn mode_named(word: &[u8]) -> Option<ModeName>
     }
     if word == b"live".as_slice() {
         return Some(ModeName::Live);
+    }
+    if word == b"relay".as_slice() {
+        return Some(ModeName::Relay);
     }
     None
 }
@@ -191,6 +198,44 @@ fn load_with(seed: u64, calls: u64) -> Option<Mode>
     }
 }
 
+/// Where the mode `relay` listens, and how many links it takes, by its options.
+fn place_of(matches: &ArgMatches<'_>) -> Option<(u64, u64)>
+    ensures some { IfSome result (λ p. IsOption (codes "port") 0 65535 (rows_of (found_of matches.now)) p.0 × IsOption (codes "links") 1 1024 (rows_of (found_of matches.now)) p.1 × (p.0 ≤ 65535) × (p.1 ≤ 1024)) }
+    ensures none { IfNone result ((m : Mode) → IsRelayBy (rows_of (found_of matches.now)) m → ⊥) }
+{
+    match number_at(matches, "port", 0, 65_535) {
+        Some(port) => match number_at(matches, "links", 1, 1_024) {
+            Some(links) => Some((port, links)),
+            None => None,
+        },
+        None => None,
+    }
+}
+
+/// The mode `relay` with its options.
+fn relay_of(matches: &ArgMatches<'_>) -> Option<Mode>
+    ensures some { IfSome result (IsRelayBy (rows_of (found_of matches.now))) }
+    ensures none { IfNone result ((m : Mode) → IsRelayBy (rows_of (found_of matches.now)) m → ⊥) }
+{
+    match place_of(matches) {
+        Some((port, links)) => match number_at(matches, "seed", 0, u64::MAX) {
+            Some(seed) => match number_at(matches, "nets", 1, NETS as u64) {
+                Some(nets) => Some(Mode::Relay {
+                    settings: RelaySettings {
+                        port: port as u16,
+                        links: links as u32,
+                        seed,
+                        nets: nets as u32,
+                    },
+                }),
+                None => None,
+            },
+            None => None,
+        },
+        None => None,
+    }
+}
+
 /// A mode without options, where it runs.
 fn plain_of(words: &[String], mode: Mode) -> Option<Mode>
     ensures some { IfSome result (λ m. (m ≡ mode) × IsAlone (map string_bytes words.now)) }
@@ -217,6 +262,7 @@ fn taken_mode(name: ModeName, words: &[String], matches: &ArgMatches<'_>) -> Opt
         ModeName::Serve => serve_of(matches),
         ModeName::Load => load_of(matches),
         ModeName::Live => live_of(matches),
+        ModeName::Relay => relay_of(matches),
     }
 }
 

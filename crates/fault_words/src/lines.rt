@@ -68,7 +68,9 @@ fn finding_in<'a>(
         b"3" => return finding_in_bytes(line),
         _ => {}
     }
-    if line.text.is_empty() && mode == b"live".as_slice() && !line.is_fed {
+    let is_relay = mode == b"relay".as_slice();
+    let is_live = is_relay || mode == b"live".as_slice();
+    if line.text.is_empty() && is_live && !line.is_fed {
         return Some(Finding::of(b"empty-live"));
     }
     if line.text.is_empty() {
@@ -83,8 +85,8 @@ fn finding_in<'a>(
     if line.number == 1 {
         return Some(finding_in_channel(alloc, line.text));
     }
-    if mode == b"live".as_slice() {
-        return finding_in_live(alloc, line, cause);
+    if is_live {
+        return finding_in_live(alloc, line, is_relay);
     }
     finding_in_event(alloc, mode, line.text, cause)
 }
@@ -105,14 +107,23 @@ fn finding_in_bytes<'a>(line: &Line<'a>) -> Option<Finding<'a>> {
     Some(finding.at(at))
 }
 
-/// What is wrong with a line of a live script after the first.
-fn finding_in_live<'a>(alloc: Global, line: &Line<'a>, cause: &[u8]) -> Option<Finding<'a>> {
+/// What is wrong with a line of a live script after the first, or of one of a relay.
+fn finding_in_live<'a>(alloc: Global, line: &Line<'a>, is_relay: bool) -> Option<Finding<'a>> {
     let (name, rest) = first_piece(line.text, b' ');
-    let Some(usage) = row(lines(), b"live ", name) else {
+    if is_relay && name == b"call".as_slice() {
+        return Some(Finding::of(b"relay-call").at(0));
+    }
+    let mode: &[u8] = if is_relay { b"relay " } else { b"live " };
+    let Some(usage) = row(lines(), mode, name) else {
         if name.is_empty() {
             return Some(Finding::of(b"empty-field").at(0));
         }
-        return Some(Finding::with(b"no-line", name, b"").at(0));
+        let sentence: &[u8] = if is_relay {
+            b"no-relay-line"
+        } else {
+            b"no-line"
+        };
+        return Some(Finding::with(sentence, name, b"").at(0));
     };
     if name == b"config".as_slice() && line.number != 2 {
         return Some(Finding::of(b"config-line").at(0));

@@ -42,6 +42,8 @@ no-version: no version '$' of scripts; versions: 1 2
 line-of-events: a line is: <moment> <word> <event>, as 0 0 dial
 no-event: no event '$'; events:
 no-line: no line '$' after the first; lines: config (line 2 alone) call
+no-relay-line: no line '$' after the first; lines: config (line 2 alone)
+relay-call: a script of a relay has no calls; its clients make them
 no-answer: no line '$' (answer?); a line is: answer <path> <n> <parts>
 after-rows: an event after the rows; in a report all events stand before them
 config-line: a config stands in line 2 alone
@@ -127,7 +129,8 @@ config: config reads standard input: grpcc config <
 migrate: migrate reads standard input: grpcc migrate <
 serve: serve reads standard input: grpcc serve --port 50051 --links 1 <
 load: load reads nothing: grpcc load --seed 1 --calls 1000
-live: live reads standard input: grpcc live <"
+live: live reads standard input: grpcc live <
+relay: relay reads standard input: grpcc relay --port 50050 --links 1 --seed 1 --nets 2 <"
 }
 
 /// The options after the names of their modes: the numbers that they take, and `needed` where the option has to stand.
@@ -139,7 +142,11 @@ load--calls: from 1 to 10000 needed
 live--seed: from 0 to 18446744073709551615
 live--nets: from 1 to 4
 live--keepalive: from 1 to 86400000
-live--keepalive-timeout: from 1 to 86400000"
+live--keepalive-timeout: from 1 to 86400000
+relay--port: from 0 to 65535 needed
+relay--links: from 1 to 1024 needed
+relay--seed: from 0 to 18446744073709551615 needed
+relay--nets: from 1 to 4 needed"
 }
 
 /// The events with their fields, and the lines of live and server scripts by the names of their modes.
@@ -162,10 +169,11 @@ tick:
 shutdown:"
 }
 
-/// The lines of live and server scripts, by the names of their modes.
+/// The lines of live and server scripts and those of relays, by the names of their modes.
 pub fn lines() -> &'static str {
     "live call: <worker> <path> <wait> <timeout> <metadata> <hex>..
 live config: <hex>
+relay config: <hex>
 serve answer: <path> <n> <parts>"
 }
 
@@ -175,6 +183,9 @@ pub fn causes() -> &'static str {
 live5: a line is: config <hex>, in line 2 alone, or call <worker> <path> <wait> <timeout> <metadata> <hex>.., with a wait of yes, no or -
 live6: a call has five fields and 0 to 64 messages: call <worker> <path> <wait> <timeout> <metadata> <hex>..; a config has one field
 live7: bytes that are not in lower-case hex; an empty message is -
+relay5: a line is: config <hex>, in line 2 alone; a script of a relay has no calls
+relay6: a config has one field
+relay11: a config has 65536 bytes at most
 live11: a value above its limit: a message has 4194304 bytes at most, a config 65536, and a timeout is up to 1000000000000000000
 serve4: n is one more than the number of the path's earlier lines; the number of an s, r or w is below 2^32
 serve5: a line is: answer <path> <n> <parts>, with parts h m<hex> s<code> p<text> r<code> g w<k>; after an s or an r only g stands

@@ -121,6 +121,8 @@ struct Bench {
     desk: Desk,
     cut: Cut,
     told: String,
+    /// The most bytes of input that the link kept behind any piece.
+    most: u64,
 }
 
 impl Bench {
@@ -135,6 +137,7 @@ impl Bench {
             desk,
             cut,
             told: String::new(alloc),
+            most: 0,
         })
     }
 
@@ -177,6 +180,11 @@ impl Bench {
                 let kept = self.link.kept();
                 self.tell(format!(in self.alloc; " {kept}")?)
             }
+            "within" if self.most <= rest.parse::<u64>()? => Ok(()),
+            "within" => {
+                let most = self.most;
+                self.tell(format!(in self.alloc; " {most}")?)
+            }
             _ => Err("a word that nothing does".into()),
         }
     }
@@ -198,7 +206,10 @@ impl Bench {
             let end = self.cut.end(start, bytes.len());
             let piece = &bytes.as_slice()[start..end];
             match self.link.hear(self.alloc, piece, &mut self.told) {
-                Ok(taken) => start += taken,
+                Ok(taken) => {
+                    start += taken;
+                    self.most = self.most.max(self.link.kept());
+                }
                 Err(LinkFault::Gone) if start == 0 => return Ok(self.told.push_str(" gone")?),
                 Err(LinkFault::Gone) => return Ok(()),
                 Err(LinkFault::NoMemory) => return Err("out of memory".into()),

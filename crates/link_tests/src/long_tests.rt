@@ -6,11 +6,11 @@ use std::test::Fail;
 /// The most bytes of a frame's payload.
 const PAYLOAD: usize = 16_384;
 
-/// A byte in hex, so many times.
-fn repeated(alloc: Global, byte: &str, count: usize) -> Result<String, Fail> {
+/// A text, so many times.
+fn repeated(alloc: Global, text: &str, count: usize) -> Result<String, Fail> {
     let mut all = String::new(alloc);
     for _ in 0..count {
-        all.push_str(byte)?;
+        all.push_str(text)?;
     }
     Ok(all)
 }
@@ -72,37 +72,54 @@ fn header_blocks_and_lists_are_bounded(rt: HostRuntime) -> Result<(), Fail> {
     Ok(())
 }
 
-/// The row of a message of 200,000 bytes in thirteen frames, the last of them of 3,397 bytes, between a head and trailers.
-fn message_row(alloc: Global) -> Result<String, Fail> {
+/// The row of a message in so many frames of one byte and a last one of five bytes, between a head and trailers. The number in hex is the
+/// message's length; the others are the bytes of the link up to its end, and up to the end of all. A link keeps less than a frame of it.
+fn message_row(
+    alloc: Global,
+    frames: usize,
+    length: &str,
+    read: u64,
+    all: u64,
+) -> Result<String, Fail> {
     let head = "000014010400000001880f10106170706c69636174696f6e2f67727063";
     let trailers = "00000f010500000001000b677270632d7374617475730130";
     let front = repeated(alloc, "61", PAYLOAD - 5)?;
-    let middle = repeated(alloc, "62", 11 * PAYLOAD)?;
-    let end = repeated(alloc, "63", 3_397)?;
+    let block = repeated(alloc, "62", PAYLOAD)?;
+    let middle = repeated(alloc, block.as_str(), frames)?;
+    let end = "6363636363";
     let first = frame(
         alloc,
         0,
         0,
-        format!(in alloc; "0000030d40{front}")?.as_str(),
+        format!(in alloc; "00{length}{front}")?.as_str(),
     )?;
-    let more = full_frame(alloc, 0, "62")?;
-    let last = frame(alloc, 0, 0, end.as_str())?;
+    let more = frame(alloc, 0, 0, block.as_str())?;
+    let last = frame(alloc, 0, 0, end)?;
     let mut bytes = format!(in alloc; "{head}{first}")?;
-    for _ in 0..11u32 {
+    for _ in 0..frames {
         bytes.push_str(more.as_str())?;
     }
     Ok(format!(in alloc;
-        "message up>1 in>{bytes}{last}{trailers} head 1 - 38 message 1 {front}{middle}{end} 200160 ended 1 0 - - - seen 200184 status kept> 0"
+        "message up>1 in>{bytes}{last}{trailers} head 1 - 38 message 1 {front}{middle}{end} {read} ended 1 0 - - - seen {all} status within>16392 kept> 0"
     )?)
 }
 
 #[test]
 fn a_long_message_is_told_whole(rt: HostRuntime) -> Result<(), Fail> {
-    let row = message_row(rt.alloc())?;
+    // (12 * 16,384 bytes, and 38, 5 and 13 * 9 more; the trailers are 24)
+    let row = message_row(rt.alloc(), 11, "00030000", 196_768, 196_792)?;
     for size in [1_021, 65_536] {
         let wrong = first_wrong(rt.alloc(), true, row.as_str(), Cut::Every(size))?;
         assert!(rt; wrong.is_empty(), "in pieces of {size}");
     }
+    Ok(())
+}
+
+#[test]
+fn the_longest_message_is_not_kept(rt: HostRuntime) -> Result<(), Fail> {
+    let row = message_row(rt.alloc(), 255, "00400000", 4_196_660, 4_196_684)?;
+    let wrong = first_wrong(rt.alloc(), true, row.as_str(), Cut::Every(1_021))?;
+    assert!(rt; wrong.is_empty());
     Ok(())
 }
 

@@ -10,6 +10,15 @@ use grpc_base::{
 };
 use std::alloc::Global;
 
+/// The address that each dial goes to.
+pub const DIALED: Address = Address {
+    ip: 2_130_706_433,
+    port: 50_051,
+};
+
+/// The moment until which each dial may take.
+pub const DIALED_UNTIL: u64 = 20_000_000_000;
+
 /// What the channel replies.
 #[derive(Clone, Copy, Debug)]
 pub struct Plan {
@@ -66,8 +75,8 @@ impl Plan {
                 self.dials -= 1;
                 Reply::Dial {
                     sub: 7,
-                    address: Address { ip: 1, port: 1 },
-                    until: 0,
+                    address: DIALED,
+                    until: DIALED_UNTIL,
                 }
             }
             Event::LinkUp { .. } => {

@@ -3,6 +3,8 @@
 
 mod channel;
 #[cfg(test)]
+mod dial_tests;
+#[cfg(test)]
 mod dns_watch_tests;
 #[cfg(test)]
 mod keepalive_core_tests;
@@ -11,4 +13,4 @@ mod live_pump_tests;
 #[cfg(test)]
 mod names;
 
-pub use channel::{Channel, Plan};
+pub use channel::{Channel, DIALED, DIALED_UNTIL, Plan};

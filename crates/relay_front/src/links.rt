@@ -10,7 +10,7 @@ use crate::ends::relay_close;
 use crate::relay_core::RelayCore;
 use crate::turned::RelayTurn;
 use crate::turns::relay_turn;
-use gate_io::{LinkIn, LinkOut, LinkRead, Patience, WriteAnswer};
+use gate_io::{LinkIn, LinkOut, LinkRead, Patience, Pause, WriteAnswer};
 use grpc_base::{Glance, Post};
 use relay_connection::RelayFault;
 use std::sync::Wait;
@@ -118,8 +118,23 @@ fn turn_link<P: Post + Glance, O: LinkOut>(
     drain_out(core, patience, output)
 }
 
+/// How long a read may wait: not at all after a round in which something came or went out, since more may go out at once. Without a call
+/// nothing else is to come but bytes of the client, and they end each wait of a read.
+fn pause_of(core: &RelayCore, patience: &Patience) -> Pause {
+    let pause = patience.pause();
+    if pause != Pause::None && core.count() == 0 {
+        return Pause::Long;
+    }
+    pause
+}
+
 /// Reads once, and says how many bytes came; None where the link gave its end or the read failed.
-fn read_link<I: LinkIn>(patience: &mut Patience, input: &mut I, buffer: &mut [u8]) -> Option<usize>
+fn read_link<I: LinkIn>(
+    pause: Pause,
+    patience: &mut Patience,
+    input: &mut I,
+    buffer: &mut [u8],
+) -> Option<usize>
     requires some { 0 < length buffer.old }
     requires most { length buffer.old ≤ 16384 }
     ensures over { result ≡ None → IsOver (record { left = I.left input.old; faults = I.faults input.old; quiet = I.quiet input.old }) (record { left = I.left input.new; faults = I.faults input.new; quiet = I.quiet input.new }) }
@@ -127,7 +142,7 @@ fn read_link<I: LinkIn>(patience: &mut Patience, input: &mut I, buffer: &mut [u8
     ensures within { IfSome result (λ count. count ≤ length buffer.new) }
     ensures same { length buffer.new ≡ length buffer.old }
 {
-    input.wait_at_most(patience.pause());
+    input.wait_at_most(pause);
     match input.read(buffer) {
         LinkRead::Got(count) => {
             patience.hit();
@@ -154,7 +169,8 @@ fn round<P: Post + Glance, I: LinkIn, O: LinkOut>(
     ensures share { P.share post.new ≡ P.share post.old }
 {
     let mut piece = [0u8; READ_BYTES];
-    match read_link(patience, input, &mut piece) {
+    let pause = pause_of(core, patience);
+    match read_link(pause, patience, input, &mut piece) {
         Some(count) => turn_link(post, core, patience, &piece[..count], output),
         None => Some(LinkEnd::Lost),
     }

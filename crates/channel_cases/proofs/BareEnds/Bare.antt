@@ -1,5 +1,5 @@
 -- A call without an attempt ends as any call does.
-use Rattle.std.proofs.Common.{◌≡◌, ◌||◌, ap, refl, false, Bool, Some, ℕ}
+use Rattle.std.proofs.Common.{◌||◌, ap, refl, false, Bool, ℕ}
 use Rattle.channel_cases.specs.BareEnds.Laws.{BareEndsFollow}
 use Rattle.channel_cases.specs.CallEnds.Ends.{EndsNext, HasEnded}
 use Rattle.channel_cases.specs.CallEnds.Laws.{OneCallEnds}
@@ -7,7 +7,6 @@ use Rattle.channel_actions.proofs.Stamps.{counted_at}
 use Rattle.channel_core.specs.States.{StateSeen}
 use Rattle.channel_cases.specs.ConfigActions.Ends.{BareEndsNext, BareHasEnded}
 use Rattle.grpc_base.specs.declared.event.EndCause.{EndCause}
-use Rattle.session_actions.specs.Words.{numbered}
 use Rattle.session_actions.specs.declared.call.Call.{Call}
 use Rattle.session_actions.specs.declared.entry.OpenEntry.{OpenEntry}
 use Rattle.session_actions.specs.declared.seen.Seen.{Seen}

@@ -91,18 +91,18 @@ some_cause None p e h = absurd (cc)
 some_cause (Some k) p e h = sym (ap (λ (q : Option EndCause). is_some q) e)
 
 module _ (x : StateSeen) (s : Seen) (h : Agrees x s) (n : ℕ) (c : Call) (there : numbered s.calls n ≡ Some c) (ended : is_some c.end ≡ true) where
-  has : HasSlot x s c n
+  pub has : HasSlot x s c n
   has = h.calls.each n c there
 
-  ended_too : is_some has.slot.call.ended ≡ true
+  pub ended_too : is_some has.slot.call.ended ≡ true
   ended_too = some_cause c.end has.slot.call.ended has.sees.serves.sees.ended ended
 
-  no_due : due_at (Some has.slot) ≡ has.slot.due
+  pub no_due : due_at (Some has.slot) ≡ has.slot.due
   no_due =
       ap (λ (b : Bool). if b then call.next_due has.slot.call else None) (open_by has.slot.call.ended ended_too)
       ∙ sym (ap (λ (b : Bool). if b then next_due c s else None) (open_by c.end ended)) ∙ has.sees.due
 
-  no_deadline : deadline_of (Some has.slot) ≡ has.slot.deadline
+  pub no_deadline : deadline_of (Some has.slot) ≡ has.slot.deadline
   no_deadline =
       ap (λ (b : Bool). if b then call.deadline_at has.slot.call else None) (open_by has.slot.call.ended ended_too)
       ∙ sym (ap (λ (b : Bool). if b then deadline c s else None) (open_by c.end ended)) ∙ has.sees.deadline_is

@@ -44,7 +44,6 @@ use Rattle.session_actions.specs.Calls.{is_open_call}
 use Rattle.session_actions.specs.Commitments.{is_free_call}
 use Rattle.session_actions.specs.Configs.{is_too_long}
 use Rattle.session_actions.specs.Deliveries.{held_bytes, is_accepted, message_accepted}
-use Rattle.session_actions.specs.Entries.{now}
 use Rattle.session_actions.specs.Events.{event_action, event_action_by, frame_action, frame_of_event}
 use Rattle.session_actions.specs.Policies.{addresses_in}
 use Rattle.session_actions.specs.Words.{changed, numbered}

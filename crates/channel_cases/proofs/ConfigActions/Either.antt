@@ -11,7 +11,8 @@ use Rattle.session_actions.specs.declared.entry.OpenEntry.{OpenEntry}
 use Rattle.session_actions.specs.declared.entry.Stage.TheVariants as stage
 use Rattle.session_actions.specs.declared.seen.Seen.{Seen}
 use Rattle.channel_cases.specs.SettlingActions.Sound.{IsSound}
-use Rattle.channel_cases.specs.SettlingActions.Steps.{IsJoined, IsTended, Leads}
+use Rattle.channel_cases.specs.SettlingActions.Steps.{ConfigSteps, IsJoined, IsTended, Leads}
+use Rattle.channel_cases.specs.EndedCalls.Laws.{CallsGetConfigsOrEnd}
 
 module _ (served : ServedCallsGetConfigs) (unserved : UnservedCallsEnd) (ends : BareCallsEnd) (x : StateSeen) (o : OpenEntry) (s : Seen) (h : Agrees x s) (sound : IsSound x s)
     (at : IsAt stage.Settling o s) (joined : IsJoined o s) (allowed : (config : Config) → x.held ≡ Some config → IsAllowed config x) where
@@ -24,3 +25,16 @@ module _ (served : ServedCallsGetConfigs) (unserved : UnservedCallsEnd) (ends : 
 
 pub configs_are_step : ServedCallsGetConfigs → UnservedCallsEnd → ConfigsAreStep
 configs_are_step served unserved ends x o s h sound at joined allowed = either served unserved ends x o s h sound at joined allowed
+
+-- and so it is whatever messages were accepted
+module _ (served : CallsGetConfigsOrEnd) (unserved : UnservedCallsEnd) (ends : BareCallsEnd) (x : StateSeen) (o : OpenEntry) (s : Seen) (h : Agrees x s) (sound : IsSound x s)
+    (at : IsAt stage.Settling o s) (joined : IsJoined o s) where
+  step_by : (c : Option Config) → x.held ≡ c → Leads (bare_served x) o s IsTended
+  step_by None e = unserved ends x o s h sound at joined e
+  step_by (Some config) e = served config x o s h sound at joined e
+
+  pub one_step : Leads (bare_served x) o s IsTended
+  one_step = step_by x.held refl
+
+pub config_steps : CallsGetConfigsOrEnd → UnservedCallsEnd → BareCallsEnd → ConfigSteps
+config_steps served unserved ends x o s h sound at joined = one_step served unserved ends x o s h sound at joined

@@ -1,6 +1,6 @@
 -- What a session keeps while the attempts of a call are cut off and their streams are reset: the config of the call, whose each attempt is, and of the links all
 -- but what is queued on them.
-use Rattle.std.proofs.Common.{◌≡◌, ◌∷◌, ap, refl, subst, sym, ◌∙◌, Bool, List, [], Option, ℕ, map}
+use Rattle.std.proofs.Common.{◌≡◌, ◌∷◌, refl, subst, sym, ◌∙◌, Bool, List, [], Option, ℕ, map}
 use Rattle.std.specs.Option.{option_map}
 use Rattle.call_actions.proofs.TakeActions.CutAttempts.{ended_mark}
 use Rattle.call_actions.proofs.TakeActions.CutOne.{marked_also}

@@ -3,8 +3,7 @@ use Rattle.std.proofs.Common.{◌≡◌, ◌||◌, ◌&&◌, ◌+◌, ◌∷◌,
 use Rattle.std.specs.List.{AllByRecursion, list_any}
 use Rattle.std.specs.Option.{option_map}
 use Rattle.attempt_ledger.specs.declared.ledger.LinkSeen.{LinkSeen}
-use Rattle.attempt_ledger.specs.declared.row.Row.{Row}
-use Rattle.call_core.specs.Steps.{Stepped, cut_all}
+use Rattle.call_core.specs.Steps.{Stepped}
 use Rattle.call_core.specs.declared.live.LiveRow.{LiveRow}
 use Rattle.channel_actions.proofs.ActsFollowed.Acts.{IsDone, LinkIn, all_done, given}
 use Rattle.channel_actions.proofs.Gone.{all_numbered, gone_same}
@@ -25,7 +24,6 @@ use Rattle.channel_cases.specs.CallEnds.Ends.{EndsNext}
 use Rattle.channel_core.specs.Books.{link_at}
 use Rattle.channel_core.specs.States.{StateSeen}
 use Rattle.channel_core.specs.Steps.{acts_done, has_outstanding, is_of_shut_sub, is_on, is_shut_state, sub_of}
-use Rattle.channel_core.specs.Steps as channel
 use Rattle.channel_core.specs.Tables.{is_dead, is_dead_at, is_retiring_at}
 use Rattle.channel_core.specs.Tables as tables
 use Rattle.channel_core.specs.declared.state.slots.CallSlot.{CallSlot}

@@ -1,12 +1,10 @@
 -- Once a call has ended and its acts are followed, the links of the channel's ledger are stamped as those of the session would be were the entry to close.
-use Rattle.std.proofs.Common.{◌≡◌, ◌-◌, ◌&&◌, ◌||◌, ◌∷◌, ◌++◌, not, ap, refl, subst, sym, ◌∙◌, Bool, true, false, List, [], Option, None, Some, ℕ, if◌then◌else◌, is_none, is_some, map, slice_set}
-use Rattle.std.specs.List.{AllByRecursion}
-use Rattle.std.specs.Option.{option_map}
+use Rattle.std.proofs.Common.{◌≡◌, ◌-◌, ◌&&◌, ◌∷◌, ◌++◌, not, ap, refl, sym, ◌∙◌, Bool, true, false, List, [], Option, None, Some, ℕ, if◌then◌else◌, is_none, is_some, map, slice_set}
 use Rattle.attempt_ledger.specs.declared.ledger.LinkSeen.{LinkSeen}
 use Rattle.call_core.specs.Steps.{Stepped, closed_by, ended_as}
 use Rattle.call_core.specs.declared.act.CallAct.{CallAct}
 use Rattle.call_core.specs.declared.act.CallAct.TheVariants as act
-use Rattle.channel_actions.proofs.ActsFollowed.Acts.{LinkIn, done_append, given, told_is}
+use Rattle.channel_actions.proofs.ActsFollowed.Acts.{done_append, given, told_is}
 use Rattle.channel_actions.proofs.SetFrames.Slots.{asked_is}
 use Rattle.channel_actions.specs.ActsFollowed.Followed.{call_closed, call_lent}
 use Rattle.channel_cases.proofs.OneCallEnds.Stamps.{stamped_if}
@@ -17,7 +15,6 @@ use Rattle.channel_core.specs.Tables.{with_call}
 use Rattle.channel_core.specs.declared.state.book.Book.{Book}
 use Rattle.channel_core.specs.declared.state.slots.CallSlot.{CallSlot}
 use Rattle.grpc_base.specs.declared.event.EndCause.{EndCause}
-use Rattle.ledger_stamps.specs.Steps.{gone_link, stamped}
 use Rattle.session_actions.specs.Sessions.{link_seen}
 use Rattle.session_actions.specs.declared.link.Link.{Link}
 

@@ -1,6 +1,5 @@
 -- The slot of a call that has ended, and the columns of the ledger, once its attempts are cut off and their streams are reset.
-use Rattle.std.proofs.Common.{◌≡◌, ◌-◌, ◌==◌, ◌∷◌, ap, refl, subst, sym, ◌∙◌, Bool, true, false, List, [], Option, None, Some, ℕ, eqb-true, if◌then◌else◌, is_none, length, map, take}
-use Rattle.std.proofs.lemmas.Bool.{eqb-false}
+use Rattle.std.proofs.Common.{◌≡◌, ◌==◌, ap, refl, subst, sym, ◌∙◌, Bool, true, false, List, [], Option, None, Some, ℕ, eqb-true, if◌then◌else◌, is_none, length, map, take}
 use Rattle.std.specs.Option.{option_map, option_map_or}
 use Rattle.a6_numbers.specs.Throttling.{Bucket}
 use Rattle.attempt_ledger.specs.declared.ledger.CallEnd.{CallEnd}
@@ -9,11 +8,10 @@ use Rattle.attempt_ledger.specs.declared.ledger.Ledger.{Ledger}
 use Rattle.attempt_ledger.specs.declared.ledger.LinkSeen.{LinkSeen}
 use Rattle.call_actions.proofs.Ranks.{numbered_map}
 use Rattle.call_actions.specs.CallsInTurn.Turns.{StaysSteady}
-use Rattle.call_actions.specs.EndsInOrder.Laws.{EndsInOrder}
 use Rattle.call_actions.specs.Order.{IsInTurn}
 use Rattle.call_actions.specs.Sees.{Sees}
 use Rattle.call_actions.specs.TakeActions.Serves.{Serves}
-use Rattle.call_core.specs.Steps.{Stepped, closed_by, cut_all, ended_as, lent}
+use Rattle.call_core.specs.Steps.{Stepped, closed_by, cut_all, lent}
 use Rattle.channel_actions.proofs.OtherCalls.Rows.{columns_stay}
 use Rattle.channel_actions.proofs.SetFrames.Slots.{put_away}
 use Rattle.channel_actions.proofs.Stamps.{stamp_keeps}
@@ -22,7 +20,7 @@ use Rattle.channel_actions.specs.Calls.{HasSlot, SeesCall, lent_to}
 use Rattle.channel_actions.specs.Columns.{SeesColumns, links_noted}
 use Rattle.channel_actions.specs.Configs.{runs_in_turn}
 use Rattle.channel_actions.specs.OtherCalls.Others.{GoesApart}
-use Rattle.channel_cases.proofs.CallEnds.Alone.{goes_apart, has_cut, to}
+use Rattle.channel_cases.proofs.CallEnds.Alone.{has_cut, to}
 use Rattle.channel_cases.proofs.CallEnds.Linked.{closed_now, going, on, own, slot, tokens, w, y}
 use Rattle.channel_cases.proofs.CallEnds.On.{ended, resets, t}
 use Rattle.channel_cases.proofs.ConfiguredCalls.Lists.{other_numbers, same_numbered, same_words}

@@ -1,6 +1,6 @@
 -- The sets of rows once a call has ended: its attempts wait no more, and none of them is outstanding; those of other calls are as before.
 use Rattle.std.proofs.Common.{◌≡◌, ◌&&◌, ◌||◌, ◌==◌, not, ap, refl, subst, sym, ◌∙◌, Bool, true, false, List, Option, None, Some, ℕ, zero, suc, eqb-true, filter, is_none, is_some, map, slice_get}
-use Rattle.std.proofs.lemmas.Bool.{and_parts, both_ways, eq-eqb}
+use Rattle.std.proofs.lemmas.Bool.{and_parts, both_ways}
 use Rattle.std.specs.Option.{option_map, option_map_or}
 use Rattle.attempt_ledger.specs.declared.row.Placed.{Placed}
 use Rattle.call_actions.proofs.Ranks.{numbered_map}

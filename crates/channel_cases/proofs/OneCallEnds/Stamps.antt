@@ -15,7 +15,7 @@ use Rattle.channel_actions.specs.Sets.{AreRising}
 use Rattle.channel_core.proofs.BookLaws.{number_changed, number_other}
 use Rattle.channel_core.specs.Books.{link_of}
 use Rattle.channel_core.specs.States.{StateSeen}
-use Rattle.channel_core.specs.Steps.{act_done, acts_done, cut_on, has_outstanding, is_gone, is_of_shut_sub, is_shut_state, reset_on, stamped_gone, sub_of, with_ledger_links}
+use Rattle.channel_core.specs.Steps.{act_done, acts_done, cut_on, has_outstanding, is_gone, is_of_shut_sub, is_shut_state, reset_on, sub_of, with_ledger_links}
 use Rattle.channel_core.specs.Tables.{is_dead, is_dead_at, is_retiring, is_retiring_at, numbered, reset_in, reset_link, with_link}
 use Rattle.channel_core.specs.declared.state.links.LinkSlot.{LinkSlot}
 use Rattle.channel_net.specs.Lists.{state_at}

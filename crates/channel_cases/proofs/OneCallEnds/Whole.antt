@@ -1,18 +1,21 @@
 -- One call ends, and channel and session agree again.
-use Rattle.std.proofs.Common.{◌≡◌, ap, subst, sym, ◌∙◌, Bool, List, length, map, ℕ}
+use Rattle.std.proofs.Common.{◌≡◌, ap, subst, sym, ◌∙◌, Bool, true, List, Some, is_some, length, ℕ}
 use Rattle.std.proofs.lemmas.List.{length-map}
 use Rattle.attempt_ledger.specs.declared.ledger.CallSeen.{CallSeen}
 use Rattle.channel_actions.proofs.OtherCalls.Slots.{all_calls_stay}
 use Rattle.channel_actions.proofs.SetFrames.Slots.{set_length}
 use Rattle.channel_actions.specs.ActsFollowed.Followed.{slot_closed}
+use Rattle.channel_actions.proofs.EndsFollow.Cuts.{IsDone}
 use Rattle.channel_actions.specs.Agrees.{Agrees}
 use Rattle.channel_actions.specs.Calls.{SeesCalls}
 use Rattle.channel_actions.specs.Columns.{SeesColumns}
+use Rattle.channel_actions.specs.EndsFollow.Laws.{IsSameRest}
 use Rattle.channel_actions.specs.OtherCalls.Others.{BooksApart, GoesApart}
 use Rattle.channel_actions.specs.Sets.{SeesSets}
 use Rattle.channel_cases.proofs.CallEnds.Alone.{buckets_on, goes_apart}
 use Rattle.channel_cases.proofs.CallEnds.Linked.{clock_on, configs_on, links_on, on, slot, timers_on, w, whole}
 use Rattle.channel_cases.proofs.CallEnds.On.{resets}
+use Rattle.channel_cases.proofs.CallEnds.Sets.{done}
 use Rattle.channel_cases.proofs.OneCallEnds.Gone as gone
 use Rattle.channel_cases.proofs.OneCallEnds.Own.{calls_are, columns_on, others_slots, own_slot}
 use Rattle.channel_cases.proofs.OneCallEnds.Rows.{outstanding_on, patient_on, queue_on}
@@ -23,9 +26,24 @@ use Rattle.channel_core.specs.States.{StateSeen}
 use Rattle.channel_core.specs.Steps.{closed}
 use Rattle.grpc_base.specs.declared.event.EndCause.{EndCause}
 use Rattle.session_actions.specs.Sessions.{call_seen}
+use Rattle.session_actions.specs.Words.{numbered}
+use Rattle.session_actions.specs.declared.call.Call.{Call}
 use Rattle.session_actions.specs.declared.entry.OpenEntry.{OpenEntry}
 use Rattle.session_actions.specs.declared.seen.Seen.{Seen}
 use Rattle.session_order.specs.declared.line.Line.{Line}
+
+-- and what else is so then: all else of the session is as before, but what is of this call, which is over
+pub record WholeEnd (waits : Line → Bool) (number : ℕ) (why : EndCause) (x : StateSeen) (o : OpenEntry) (s : Seen) : Type 0 where
+  pub ended : HasEnded waits number why x o s
+  pub rest : IsSameRest s ended.seen
+  pub apart : GoesApart number s ended.seen
+  pub over : (d : Call) → numbered ended.seen.calls number ≡ Some d → is_some d.end ≡ true
+  pub long : length ended.seen.calls ≡ length s.calls
+
+over_by : {n : ℕ} {v : Seen} (k : IsDone n v) (d : Call) → numbered v.calls n ≡ Some d → is_some d.end ≡ true
+over_by k d there =
+    let both : Some k.call ≡ Some d = sym k.there ∙ there in
+    let one : k.call ≡ d = (cc) in ap (λ (c : Call). is_some c.end) (sym one) ∙ k.ended
 
 module _ (waits : Line → Bool) (n : ℕ) (why : EndCause) (x : StateSeen) (o : OpenEntry) (s : Seen) (is : EndsNext waits n why x o s) where
   abbrev u : Seen
@@ -95,6 +113,16 @@ module _ (waits : Line → Bool) (n : ℕ) (why : EndCause) (x : StateSeen) (o :
     still = (on waits n why x o s is).still;
     unreset = (on waits n why x o s is).unreset;
     agrees = agrees;
+  }
+
+  pub whole_end : WholeEnd waits n why x o s
+  unfolding has_ended
+  whole_end = record {
+    ended = has_ended;
+    rest = (on waits n why x o s is).rest;
+    apart = g;
+    over = λ d there. over_by (done waits n why x o s is) d there;
+    long = count ∙ set_length x.book.calls _ (slot_closed why x (slot waits n why x o s is)) ∙ sym is.agrees.calls.count;
   }
 
 pub one_call_ends : OneCallEnds

@@ -1,5 +1,5 @@
 -- What the end of a call does to the channel hangs on its deadlines in these alone; and a call whose deadline has come is closed by it.
-use Rattle.std.proofs.Common.{◌≡◌, ◌-◌, ◌∷◌, ap, refl, sym, ◌∙◌, Bool, true, false, List, [], Option, None, Some, ℕ, if◌then◌else◌, is_none, is_some, nat_le, not, slice_set}
+use Rattle.std.proofs.Common.{◌≡◌, ◌-◌, ◌∷◌, ap, refl, sym, ◌∙◌, Bool, true, false, List, [], Option, None, Some, ℕ, if◌then◌else◌, is_none, is_some, nat_le, not}
 use Rattle.attempt_ledger.specs.declared.ledger.LinkSeen.{LinkSeen}
 use Rattle.call_core.specs.Steps as call
 use Rattle.call_core.specs.Steps.{Stepped, ended_as, lent}

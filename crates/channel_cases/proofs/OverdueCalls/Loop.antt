@@ -1,5 +1,5 @@
 -- Calls whose deadline has come end one after the other, the earliest first.
-use Rattle.std.proofs.Common.{◌≡◌, ◌≤◌, ◌++◌, ◌||◌, ◌∷◌, ap, arith, refl, subst, sym, ◌∙◌, Bool, true, false, cond, List, [], Option, None, Some, ℕ, if◌then◌else◌, is_none, length, min, nat_le}
+use Rattle.std.proofs.Common.{◌≡◌, ◌≤◌, ◌++◌, ◌||◌, ◌∷◌, ap, arith, refl, subst, sym, ◌∙◌, Bool, true, false, cond, List, [], Option, None, Some, ℕ, if◌then◌else◌, length, min, nat_le}
 use Rattle.std.proofs.lemmas.Bool.{and_parts, or_parts}
 use Rattle.std.specs.List.{list_all}
 use Rattle.std.specs.Option.{option_map, option_map_or}
@@ -24,20 +24,17 @@ use Rattle.channel_cases.proofs.OverdueCalls.Apart.{at, closed_at, deadlines_are
 use Rattle.channel_cases.proofs.OverdueCalls.Next.{IsTimedCall, all_late, found, is_timed, next_is, none_next}
 use Rattle.channel_cases.specs.CallEnds.Ends.{EndsNext, HasEnded}
 use Rattle.channel_cases.specs.EndedCalls.Laws.{DeadlinesAreMet, IsTimed}
-use Rattle.channel_core.specs.Books.{slot_at}
 use Rattle.channel_core.specs.States.{StateSeen}
 use Rattle.channel_core.specs.Steps.{all_timed_out, closed, overdue_ended, timed_out}
-use Rattle.channel_core.specs.Timing.{due_keys, later, number_of, timer_moved}
-use Rattle.channel_core.specs.declared.state.slots.CallSlot.{CallSlot}
+use Rattle.channel_core.specs.Timing.{due_keys, later, timer_moved}
 use Rattle.grpc_base.specs.declared.event.EndCause.{EndCause}
 use Rattle.grpc_base.specs.declared.event.EndCause.TheVariants as ending
 use Rattle.picker_gate.specs.Pairs.{has, is_behind, is_same}
 use Rattle.session_actions.specs.Actions.{first_action, following, of_stage}
-use Rattle.session_actions.specs.CallEnds.{call_ended, next_deadline}
+use Rattle.session_actions.specs.CallEnds.{next_deadline}
 use Rattle.session_actions.specs.Configs.{deadline}
 use Rattle.session_actions.specs.Entries.{last_moment, now}
 use Rattle.session_actions.specs.Events.{event_action}
-use Rattle.session_actions.specs.Words.{numbered}
 use Rattle.session_actions.specs.declared.action.Action.{Action}
 use Rattle.session_actions.specs.declared.action.Action.TheVariants as action
 use Rattle.session_actions.specs.declared.call.Call.{Call}
@@ -48,7 +45,6 @@ use Rattle.session_order.proofs.Calms.{calm_is_exact, calm_leaves_stage}
 use Rattle.session_order.proofs.Ended.{ended_leaves}
 use Rattle.session_order.specs.Calm as order
 use Rattle.session_order.specs.Calm.{IsStill}
-use Rattle.session_order.specs.Lines.{is_line}
 use Rattle.session_order.specs.declared.line.Line.{Line}
 use Rattle.session_order.specs.declared.line.Line.TheVariants as line
 

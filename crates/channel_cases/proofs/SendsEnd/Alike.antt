@@ -3,7 +3,7 @@ use Rattle.channel_cases.specs.CallEnds.Ends.{HasEnded}
 use Rattle.channel_cases.proofs.CallPosts.Answered.{of_order}
 use Rattle.channel_cases.specs.SendsEnd.Laws.{CallsThatAreToEnd}
 use Rattle.session_order.specs.declared.line.Line.{Line}
-use Rattle.std.proofs.Common.{false, refl, ◌≡◌}
+use Rattle.std.proofs.Common.{false, refl}
 
 pub calls_end_alike : CallsThatAreToEnd
 calls_end_alike ends number why x o s unreset h =

@@ -7,7 +7,7 @@ use Rattle.channel_core.specs.States.{StateSeen}
 use Rattle.grpc_base.specs.declared.event.Event.TheVariants as event
 use Rattle.grpc_base.specs.declared.event.Event.{Event}
 use Rattle.session_actions.specs.declared.seen.Seen.{Seen}
-use Rattle.std.specs.Prelude.{false, length, ℕ, ◌≡◌, ◌≤◌}
+use Rattle.std.specs.Prelude.{false, length, ◌≡◌, ◌≤◌}
 
 -- (of the session alone: no stream was reset of an attempt that goes on, and the last pick request was answered with a subchannel that was made. Numbers of calls do
 -- not end, which no session reaches.)

@@ -5,3 +5,7 @@ use Rattle.channel_cases.specs.SettlingActions.Steps.{QueueSteps}
 
 abbrev pub PassesAreServes : Type 0
 PassesAreServes = ServeSteps → PassesStop → PassesEnd → QueueSteps
+
+-- where each attempt that is served is placed or ends, a pass comes to its end. (Numbers of calls and of attempts have 32 bits.)
+abbrev pub PassesAreShort : Type 0
+PassesAreShort = ServeSteps → PassesEnd

@@ -1,4 +1,4 @@
-use Rattle.channel_cases.proofs.ConfigActions.Served.{served_get}
+use Rattle.channel_cases.proofs.ConfigActions.Every.{served_get}
 use Rattle.channel_cases.proofs.config_actions.served_calls_get_configs.Goals as goal
 
 pub returns : goal.returns
@@ -14,4 +14,4 @@ returns c config x o s h sound at joined held allowed =
       net = c.nets_stay.ensures.one;
       kept = c.sessions_are_kept.ensures.along;
     })
-    c.calls_are_kept.ensures.along c.calls_are_kept.ensures.bare config x o s h sound at joined held allowed
+    c.calls_are_kept.ensures.along c.calls_are_kept.ensures.bare config x o s h sound at joined held

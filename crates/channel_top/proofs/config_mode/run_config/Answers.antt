@@ -1,6 +1,6 @@
-use Rattle.std.proofs.Common.{List, ℕ, inl, inr, rules}
+use Rattle.std.proofs.Common.{inl, inr, rules}
 use Rattle.service_config.specs.Text.{config_text, fault_text}
-use Rattle.channel_top.specs.ConfigMode.{IsConfigDone, TellsConfigFault}
+use Rattle.channel_top.specs.ConfigMode.{TellsConfigFault}
 use Rattle.channel_top.proofs.ConfigLaws.{config_done, config_told}
 use Rattle.session_text.proofs.WrittenLaws.{err_holds, err_write}
 use Rattle.channel_top.proofs.config_mode.run_config.Goals as goal

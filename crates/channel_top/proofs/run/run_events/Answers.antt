@@ -1,7 +1,7 @@
 use Rattle.std.proofs.Common.{subst}
 use Rattle.session_text.specs.declared.ran.Ran.{Ran}
 use Rattle.channel_top.specs.Runs.{StepsTo}
-use Rattle.channel_top.proofs.RunLaws.{IsRunning-done, IsRunning-full, IsRunning-new, IsRunning-step}
+use Rattle.channel_top.proofs.RunLaws.{IsRunning-full, IsRunning-step}
 use Rattle.channel_top.proofs.run.run_events.Goals as goal
 
 pub loop-stamped-preserved : goal.loop-stamped-preserved

@@ -1,8 +1,5 @@
-use Rattle.std.proofs.Common.{inl, inr, refl, rules, subst}
-use Rattle.script_input.specs.declared.fault.InputFault.{InputFault}
-use Rattle.script_input.specs.Servers.{GivesNoServer}
+use Rattle.std.proofs.Common.{inl, inr, refl, rules}
 use Rattle.channel_top.specs.Serve.{IsServed, served_text}
-use Rattle.session_text.specs.Sessions.{line_fault_text}
 use Rattle.channel_top.proofs.serve.run_serve.Goals as goal
 
 pub returns-in-Ok : goal.returns-in-Ok

@@ -1,7 +1,7 @@
 use Rattle.std.proofs.Common.{map, refl}
 use Rattle.policy_rack.specs.Kinds.{kinds_of}
 use Rattle.session_text.proofs.WrittenLaws.{all_as, front_as, some_as}
-use Rattle.channel_top.proofs.WrittenLaws.{live_done, live_full, live_output, load_done, load_full, load_output, load_refused, migrate_output, replay_done, replay_full, replay_output}
+use Rattle.channel_top.proofs.WrittenLaws.{live_done, live_full, live_output, load_done, load_full, load_output, load_refused, migrate_output, relay_done, relay_full, relay_output, replay_done, replay_full, replay_output}
 use Rattle.channel_top.proofs.top.run_mode.Goals as goal
 
 pub returns-in-Replay-clause-done : goal.returns-in-Replay-clause-done
@@ -58,3 +58,19 @@ returns-in-Live-clause-writing g c = λ five. (
 pub returns-in-Live-clause-memory : goal.returns-in-Live-clause-memory
 returns-in-Live-clause-memory g c = λ six.
     some_as _ _ _ _ (live_output _ c.args.mode c.in-Live.settings _ _ c.in-Live.is) (c.run_lawfully.ensures.memory six)
+
+pub returns-in-Relay-clause-done : goal.returns-in-Relay-clause-done
+returns-in-Relay-clause-done g c = λ zero. all_as _ _ _ _ (relay_done _ c.args.mode c.in-Relay.settings _ _ c.in-Relay.is) (c.relay_lawfully.ensures.done zero)
+
+pub returns-in-Relay-clause-full : goal.returns-in-Relay-clause-full
+returns-in-Relay-clause-full g c = λ seven. all_as _ _ _ _ (relay_full c.args.mode c.in-Relay.settings _ _ c.in-Relay.is) (c.relay_lawfully.ensures.full seven)
+
+pub returns-in-Relay-clause-writing : goal.returns-in-Relay-clause-writing
+returns-in-Relay-clause-writing g c = λ five. (
+  (c.relay_lawfully.ensures.writing five).0,
+  front_as _ _ _ _ (relay_output _ c.args.mode c.in-Relay.settings _ _ c.in-Relay.is) (c.relay_lawfully.ensures.writing five).1,
+)
+
+pub returns-in-Relay-clause-memory : goal.returns-in-Relay-clause-memory
+returns-in-Relay-clause-memory g c = λ six.
+    some_as _ _ _ _ (relay_output _ c.args.mode c.in-Relay.settings _ _ c.in-Relay.is) (c.relay_lawfully.ensures.memory six)

@@ -1,0 +1,17 @@
+pub mod After
+pub mod Agreeing
+pub mod Base
+pub mod Buckets
+pub mod Buffers
+pub mod Finals
+pub mod GoesOn
+pub mod Gone
+pub mod Lines
+pub mod Noted
+pub mod Others
+pub mod Own
+pub mod Picks
+pub mod Sets
+pub mod Told
+pub mod Unowed
+pub mod Whole

@@ -1,0 +1,4 @@
+pub mod Ends
+pub mod Falls
+pub mod Loads
+pub mod Strict

@@ -1,0 +1,18 @@
+use Rattle.session_text.proofs.WrittenLaws.{all_as, front_as, some_as}
+use Rattle.channel_top.proofs.RelayLaws.{relay_full_lawfully, relay_text_lawfully, relayed_lawfully}
+use Rattle.channel_top.proofs.relay.relay_lawfully.Goals as goal
+
+pub returns-clause-done : goal.returns-clause-done
+returns-clause-done g c = λ zero. all_as _ _ _ _ (relayed_lawfully c.channels_are_lawful.ensures.lawful _ _ _) (c.run_relay.ensures.done zero)
+
+pub returns-clause-writing : goal.returns-clause-writing
+returns-clause-writing g c = λ five. (
+  (c.run_relay.ensures.writing five).0,
+  front_as _ _ _ _ (relay_text_lawfully c.channels_are_lawful.ensures.lawful _ _ _) (c.run_relay.ensures.writing five).1,
+)
+
+pub returns-clause-memory : goal.returns-clause-memory
+returns-clause-memory g c = λ six. some_as _ _ _ _ (relay_text_lawfully c.channels_are_lawful.ensures.lawful _ _ _) (c.run_relay.ensures.memory six)
+
+pub returns-clause-full : goal.returns-clause-full
+returns-clause-full g c = λ seven. all_as _ _ _ _ (relay_full_lawfully c.channels_are_lawful.ensures.lawful _ _ _) (c.run_relay.ensures.full seven)

@@ -1,0 +1,21 @@
+//! Gives the events of scripts to channels one by one, and prints what came of each.
+#![tactic(auto)]
+
+mod line;
+mod stepped;
+mod told;
+
+use std::io;
+use stepped::Stepped;
+
+/// Standard input has the scripts, one behind another.
+fn main(rt: HostRuntime) -> io::Result<()> {
+    let Ok(mut stepped) = Stepped::new(rt.alloc()) else {
+        return println!(rt; "no channel");
+    };
+    for line in rt.lines(rt.alloc()) {
+        let line = line?;
+        told::print_line(&rt, &mut stepped, line.as_str())?;
+    }
+    Ok(())
+}
