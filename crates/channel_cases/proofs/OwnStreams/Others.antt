@@ -112,11 +112,11 @@ module _ (s : Seen) (l : Link) (kept : IsKept s) (own : AreOwnStreams s) (line :
 
   control_data : (n : ℕ) (o : Option FrameSeen) → slice_get l.owed n ≡ o → list_all is_control l.owed ≡ true → DataIf (option_map (λ (f : FrameSeen). sent.Frame f) o)
   control_data n None got e = tt
-  control_data n (Some f) got e kind = absurd (no_data f.kind (all_get is_control l.owed n f e got) kind)
+  control_data n (Some f) got e = λ kind. absurd (no_data f.kind (all_get is_control l.owed n f e got) kind)
 
   headers_data : (a : Attempt) (o : Option Call) → DataIf (option_map (λ (c : Call). sent.Frame (headers_frame (next_stream l) (request_block c a l s))) o)
   headers_data a None = tt
-  headers_data a (Some c) kind = absurd (let no : false ≡ true = kind in (cc))
+  headers_data a (Some c) = λ kind. absurd (let no : false ≡ true = kind in (cc))
 
   data_by : (b : Attempt) (stream : ℕ) (content : List ℕ) (ends c : Bool) → IsThere b → is_outstanding_on l b ≡ true → b.row.stream ≡ Some stream
       → DataIf (if c then Some (sent.Frame (data_frame stream content ends)) else None)

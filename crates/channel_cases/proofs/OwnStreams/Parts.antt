@@ -92,9 +92,9 @@ pub links_mapped : (f : Link → Link) (s : Seen) → OpensMore f → Own s → 
 links_mapped f s keeps h = links_now s (map f s.links) (mapped_opens f keeps s.links) h
 
 -- attempts: one changes, but not its link and its stream
-record IsLike (a z : Attempt) : Type 0 where
-  placed : z.row.placed ≡ a.row.placed
-  stream : z.row.stream ≡ a.row.stream
+pub record IsLike (a z : Attempt) : Type 0 where
+  pub placed : z.row.placed ≡ a.row.placed
+  pub stream : z.row.stream ≡ a.row.stream
 
 one_of : {X : Type 0} (o : Option X) (x y : X) → o ≡ Some x → o ≡ Some y → x ≡ y
 one_of None x y e f = absurd (cc)
