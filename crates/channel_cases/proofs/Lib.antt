@@ -11,6 +11,7 @@ pub mod ConfiguredCalls
 pub mod DialEvents
 pub mod DrainEvents
 pub mod DrainedCalls
+pub mod DrainedLines
 pub mod FewCalls
 pub mod FirstShutdowns
 pub mod FullSends
@@ -32,3 +33,4 @@ pub mod SettlingActions
 pub mod SettlingKeeps
 pub mod SoundBuffers
 pub mod StreamedCalls
+pub mod WrittenResponses

@@ -11,6 +11,7 @@ pub mod ConfiguredCalls
 pub mod DialEvents
 pub mod DrainEvents
 pub mod DrainedCalls
+pub mod DrainedLines
 pub mod EndedCalls
 pub mod FewCalls
 pub mod FirstShutdowns
@@ -31,3 +32,4 @@ pub mod SettlingActions
 pub mod SettlingKeeps
 pub mod SoundBuffers
 pub mod StreamedCalls
+pub mod WrittenResponses

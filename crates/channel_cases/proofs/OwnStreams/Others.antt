@@ -214,7 +214,7 @@ module _ (s : Seen) (l : Link) (kept : IsKept s) (own : AreOwnStreams s) (line :
         let off_ : is_data_on n f ≡ false
         = other_data n at f (f.kind == data_type) (n == 0) (f.stream == n) has on here (data_is (sendable l s) f sends (sends_data e)) refl (stream_not n has) refl in
         used_more n (sent.Frame f)
-        ∙ (ap (λ (b : Bool). used n l + ((if b then length f.payload else 0) + 0)) off_ ∙ plus_none (used n l))
+        ∙ (ap (λ (b : Bool). used n l + (0 + (if b then length f.payload else 0))) off_ ∙ plus_none (used n l))
 
     -- on another link, or on this
     link_by : (n : ℕ) (at : Placed) (x : Sent) (b : Bool) → a.row.stream ≡ Some n → a.row.placed ≡ Some at → (at.link == l.number) ≡ b → sendable l s ≡ Some x → list_all is_control l.owed ≡ true
