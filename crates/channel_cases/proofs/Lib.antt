@@ -16,6 +16,7 @@ pub mod FewCalls
 pub mod FirstShutdowns
 pub mod FullSends
 pub mod GreetedLinks
+pub mod HeldCalls
 pub mod LongSends
 pub mod MakingSteps
 pub mod NetChains

@@ -20,6 +20,7 @@ pub mod few_calls;
 pub mod first_shutdowns;
 pub mod full_sends;
 pub mod greeted_links;
+pub mod held_calls;
 pub mod long_sends;
 pub mod making_steps;
 pub mod net_chains;
