@@ -11,9 +11,12 @@ pub mod ConfiguredCalls
 pub mod DialEvents
 pub mod DrainEvents
 pub mod DrainedCalls
+pub mod DrainedLines
 pub mod FewCalls
 pub mod FirstShutdowns
 pub mod FullSends
+pub mod GreetedLinks
+pub mod HeldCalls
 pub mod LongSends
 pub mod MakingSteps
 pub mod NetChains
@@ -22,6 +25,7 @@ pub mod NetSettlings
 pub mod NetSteps
 pub mod OneCallEnds
 pub mod OverdueCalls
+pub mod OwnStreams
 pub mod PassActions
 pub mod ResultEvents
 pub mod RoundSteps
@@ -32,3 +36,4 @@ pub mod SettlingKeeps
 pub mod SettlingParts
 pub mod SoundBuffers
 pub mod StreamedCalls
+pub mod WrittenResponses

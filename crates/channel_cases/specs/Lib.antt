@@ -11,16 +11,20 @@ pub mod ConfiguredCalls
 pub mod DialEvents
 pub mod DrainEvents
 pub mod DrainedCalls
+pub mod DrainedLines
 pub mod EndedCalls
 pub mod FewCalls
 pub mod FirstShutdowns
 pub mod FullSends
+pub mod GreetedLinks
+pub mod HeldCalls
 pub mod LongSends
 pub mod MakingSteps
 pub mod NetChains
 pub mod NetResults
 pub mod NetSettlings
 pub mod NetSteps
+pub mod OwnStreams
 pub mod PassActions
 pub mod ResultEvents
 pub mod RoundSteps
@@ -31,3 +35,4 @@ pub mod SettlingKeeps
 pub mod SettlingParts
 pub mod SoundBuffers
 pub mod StreamedCalls
+pub mod WrittenResponses

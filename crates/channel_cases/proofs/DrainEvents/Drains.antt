@@ -34,7 +34,7 @@ use Rattle.channel_actions.proofs.DrainBooks.Sets.{buckets_stay, call_columns_st
 use Rattle.channel_actions.specs.DrainBooks.Laws.{AreSameSets}
 use Rattle.channel_actions.specs.DrainCalls.Laws.{IsOnlyStreamed}
 use Rattle.channel_cases.proofs.DrainEvents.Links.{all_kept, all_orderly, drained_slot, none_borne, read_so, sends_fresh}
-use Rattle.channel_cases.specs.DrainEvents.Laws.{DrainsAreAnswered, DrainsKeepCalls, HasRun}
+use Rattle.channel_cases.specs.DrainEvents.Laws.{DrainsAreAnswered, HasRun}
 use Rattle.channel_actions.proofs.DrainLends.Lends.{lines_are_lent}
 use Rattle.channel_actions.specs.DrainLends.Laws.{AreNear}
 use Rattle.channel_actions.proofs.DrainWrites.Runs.{drains_are_actions}
@@ -49,6 +49,7 @@ use Rattle.grpc_link.specs.Links.{opened_all}
 use Rattle.h2_link.specs.Drains.{opened_between}
 use Rattle.h2_link.specs.declared.news.Drained.{Drained}
 use Rattle.channel_actions.proofs.KeptSessions.Along.{kept_along}
+use Rattle.channel_actions.specs.Calls.{SeesCalls}
 use Rattle.channel_actions.specs.KeptSessions.Kept.{IsKept}
 use Rattle.channel_actions.proofs.LinkFrames.Frame.{links_stay}
 use Rattle.channel_actions.proofs.LinkFrames.Tellings.{fewer_tell}
@@ -62,7 +63,7 @@ use Rattle.session_actions.specs.CallEnds.{cancels, is_after_event, next_deadlin
 use Rattle.session_actions.specs.Events.{event_action}
 use Rattle.session_actions.specs.Policies.{addresses_in}
 use Rattle.session_actions.specs.Refusals.{link_refusal, refused_if}
-use Rattle.session_actions.specs.Sessions.{Does}
+use Rattle.session_actions.specs.Sessions.{Does, IsNext}
 use Rattle.session_actions.specs.Words.{changed, numbered}
 use Rattle.session_actions.specs.declared.action.Action.{Action}
 use Rattle.session_actions.specs.declared.action.Action.TheVariants as action
@@ -79,10 +80,13 @@ use Rattle.link_actions.specs.StreamActions.Sees.{SeesStreams}
 use Rattle.channel_cases.proofs.DrainEvents.Rows.{rows_given}
 use Rattle.channel_cases.proofs.DrainEvents.Rooms.{IsThere, and_no, fed_form, if_none, length_changed, may_drain, none_posted, one_some, there_by}
 
-module _ (keeps : DrainsKeepCalls) (x y : StateSeen) (r : Reply) (o : OpenEntry) (s : Seen) (h : Agrees x s) (at : IsAt stage.Event o s) (fresh : o.turn ≡ None)
+module _ (x y : StateSeen) (r : Reply) (o : OpenEntry) (s : Seen) (h : Agrees x s) (at : IsAt stage.Event o s) (fresh : o.turn ≡ None)
     (timely : next_deadline s ≡ None) (link room : ℕ) (is : o.event ≡ event.Drain link room) (kept : channel.refusal_of o.event x ≡ None) (near : AreNear s)
     (leaves : DrainLeaves link (min room drained_limit) x r y)
-    (few : (slot : LinkSlot) → numbered y.links link ≡ Some slot → slot.link.link.wire.opened < 2 ^ 30) where
+    (few : (slot : LinkSlot) → numbered y.links link ≡ Some slot → slot.link.link.wire.opened < 2 ^ 30)
+    -- what is left of the calls, once the event is answered
+    (keeps : (t : Seen) → Agrees x (after (action.EventAnswered (reply.Octets [])) s) → IsNext (action.EventAnswered (reply.Octets [])) s
+    → (run : HasRun (after (action.EventAnswered (reply.Octets [])) s) t y link leaves.fed) → run.before.over ≡ None → SeesColumns y.book.ledger t → SeesCalls y t) where
   abbrev p : OpenEntry
   p = replied_entry (reply.Octets []) o
 
@@ -360,13 +364,19 @@ module _ (keeps : DrainsKeepCalls) (x y : StateSeen) (r : Reply) (o : OpenEntry)
           ∙ sym (ap (λ (z : StateSeen). z.book.ledger.links) y_is ∙ ap (λ (b : Book). b.ledger.links) fed_is);
     }
 
+    keeps_now : (u : Seen) → (ran : HasRun s1 u y link leaves.fed) → ran.before.over ≡ None → SeesColumns y.book.ledger u → SeesCalls y u
+    keeps_now =
+        subst
+        (λ (z : Seen). Agrees x z → (u : Seen) → (ran : HasRun z u y link leaves.fed) → ran.before.over ≡ None → SeesColumns y.book.ledger u → SeesCalls y u) does_so
+        (λ agrees u ran over columns. keeps u agrees follows ran over columns) h1
+
     agrees_t : Agrees y t
     agrees_t = record {
       clock = clock_t;
       columns = columns_t;
       configs = configs_t;
       buckets = buckets_t;
-      calls = keeps x y s1 t link (min room drained_limit) r h1 leaves has_run columns_t;
+      calls = keeps_now t has_run there.over columns_t;
       links = links_now;
       net = net_t;
       orderly = orderly_t;
@@ -414,5 +424,7 @@ pub drains_are_answered : DrainsAreAnswered
 drains_are_answered keeps x y r o s h at fresh timely case answers =
     let given : DrainLeaves case.link (min case.room drained_limit) x r y
     = subst (λ (e : Event). AnswersBy None e x y r) case.event_is (subst (λ (z : Option Refusal). AnswersBy z o.event x y r) case.kept answers) in
-    answered_by keeps x y r o s h at fresh timely case.link case.room case.event_is case.kept case.near given
+    answered_by x y r o s h at fresh timely case.link case.room case.event_is case.kept case.near given
     (λ slot there. case.few y r slot (subst (λ (z : Option Refusal). AnswersBy z o.event x y r) case.kept answers) there)
+    (λ t agrees next run over columns.
+    keeps x y (after (action.EventAnswered (reply.Octets [])) s) t case.link (min case.room drained_limit) r agrees given run columns)

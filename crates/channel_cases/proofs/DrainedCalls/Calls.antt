@@ -22,7 +22,7 @@ use Rattle.channel_core.specs.declared.state.slots.CallSlot.{CallSlot}
 use Rattle.channel_actions.specs.DrainCalls.Laws.{IsOnlyStreamed}
 use Rattle.channel_cases.specs.DrainEvents.Laws.{HasRun}
 use Rattle.channel_actions.specs.DrainWrites.Laws.{with_all_sent, writing}
-use Rattle.channel_cases.specs.DrainedCalls.Laws.{CallsAreHeld, HeldCallsAgree, IsHeld}
+use Rattle.channel_cases.specs.DrainedCalls.Laws.{HeldCallsAgree, IsHeld}
 use Rattle.grpc_base.specs.declared.event.Reply.{Reply}
 use Rattle.channel_actions.proofs.KeptSessions.Along.{kept_along}
 use Rattle.channel_actions.specs.KeptSessions.Kept.{IsKept}
@@ -91,8 +91,9 @@ fed_form : (feeds : List (ℕ × ℕ)) (b : Book) → all_fed feeds b ≡ record
 fed_form [] b = refl
 fed_form (f ∷ feeds) b = fed_form feeds (book_fed f.0 f.1 b)
 
-module _ (held : CallsAreHeld) (x y : StateSeen) (s : Seen) (link room : ℕ) (r : Reply) (h : Agrees x s) (leaves : DrainLeaves link room x r y) (t : Seen)
-    (run : HasRun s t y link leaves.fed) where
+module _ (x y : StateSeen) (s : Seen) (link room : ℕ) (r : Reply) (h : Agrees x s) (leaves : DrainLeaves link room x r y) (t : Seen)
+    (run : HasRun s t y link leaves.fed)
+    (held : (number : ℕ) (c : Call) (slot : CallSlot) → numbered s.calls number ≡ Some c → slot_at leaves.fed number ≡ Some slot → IsHeld s t c slot) where
   abbrev v : Seen
   v = run.run.seen
 
@@ -159,7 +160,7 @@ module _ (held : CallsAreHeld) (x y : StateSeen) (s : Seen) (link room : ℕ) (r
     slot = new.slot
 
     is_held : IsHeld s t c slot
-    is_held = held x y s t link room r h leaves run number c slot here new.there
+    is_held = held number c slot here new.there
 
     held_v : IsHeld s v c slot
     held_v = subst (λ (z : Seen). IsHeld s z c slot) run.seen is_held
@@ -198,7 +199,12 @@ module _ (held : CallsAreHeld) (x y : StateSeen) (s : Seen) (link room : ℕ) (r
   calls_now : SeesColumns y.book.ledger v → SeesCalls y v
   calls_now columns = record { count = count; each = λ number c got. has columns number c (ap (λ (ls : List Call). numbered ls number) (sym calls_v) ∙ got) }
 
+pub calls_agree_by : (x y : StateSeen) (s t : Seen) (link room : ℕ) (r : Reply) → Agrees x s → (leaves : DrainLeaves link room x r y) → HasRun s t y link leaves.fed
+    → ((number : ℕ) (c : Call) (slot : CallSlot) → numbered s.calls number ≡ Some c → slot_at leaves.fed number ≡ Some slot → IsHeld s t c slot) → SeesColumns y.book.ledger t
+    → SeesCalls y t
+calls_agree_by x y s t link room r h leaves run held columns =
+    subst (SeesCalls y) (sym run.seen) (calls_now x y s link room r h leaves t run held (subst (SeesColumns y.book.ledger) run.seen columns))
+
 pub held_calls_agree : HeldCallsAgree
 held_calls_agree held x y s t link room r h leaves run columns =
-    subst (SeesCalls y) (sym run.seen)
-    (calls_now held x y s link room r h leaves t run (subst (SeesColumns y.book.ledger) run.seen columns))
+    calls_agree_by x y s t link room r h leaves run (λ number c slot got there. held x y s t link room r h leaves run number c slot got there) columns

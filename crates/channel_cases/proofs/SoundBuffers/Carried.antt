@@ -3,6 +3,7 @@ use Rattle.std.proofs.Common.{◌≡◌, ◌+◌, ◌≤◌, ◌∷◌, ℕ, Lis
 use Rattle.attempt_ledger.specs.Numbering.{most_attempts}
 use Rattle.a6_numbers.specs.Throttling.{Bucket}
 use Rattle.attempt_ledger.specs.declared.ledger.Ledger.{Ledger}
+use Rattle.attempt_ledger.specs.declared.row.Placed.{Placed}
 use Rattle.call_core.specs.Steps as call
 use Rattle.call_core.specs.Steps.{Stepped, lent}
 use Rattle.channel_core.proofs.Carrying.{Carried, Carries, Configures, overdue}
@@ -67,6 +68,12 @@ acted_both : (f : Stepped → Stepped) → ((z : Stepped) → Both z.call → Bo
 acted_both f does ledger tokens calls number = all_acted Both f ledger tokens (λ c g. does (lent c ledger tokens []) g) calls number
 
 module _ (laws : CallLaws) where
+  placed_both : (row : ℕ) (at : Placed) (ledger : Ledger) (calls : List CallSlot) (number : ℕ) → at.entry ≡ ledger.entry → AllAre Both calls
+      → AllAre Both (acted (call.placed_at row at) calls number ledger None).calls
+  placed_both row at ledger calls number entry =
+      all_acted Both (call.placed_at row at) ledger None
+      (λ c g. record { goes = laws.placed row at (lent c ledger None []) entry g.goes; holds = arm.placed row at (lent c ledger None []) g.goes.kept g.holds }) calls number
+
   go_carries : Carries Stay
   go_carries = record {
     joined = λ s t u first second g. second (first g);
@@ -77,7 +84,7 @@ module _ (laws : CallLaws) where
     made = λ number s. into s _ refl (acted_both (call.made_due s.book.moment) (λ z g. record { goes = laws.made s.book.moment z g.goes; holds = arm.made s.book.moment z g.holds }) s.book.ledger _ s.book.calls number);
     heard = λ row told number s fair. into s _ refl (acted_both (call.heard_news row told s.book.moment (next_word s)) (λ z g. record { goes = laws.heard row told s.book.moment (next_word s) z g.goes; holds = arm.heard row told s.book.moment (next_word s) z g.holds }) s.book.ledger _ s.book.calls number);
     failed = λ row number s. into s _ refl (acted_both (call.pick_failed row s.book.moment (next_word s)) (λ z g. record { goes = laws.failed row s.book.moment (next_word s) z g.goes; holds = arm.failed row s.book.moment (next_word s) z g.holds }) s.book.ledger _ s.book.calls number);
-    placed = λ row at number s entry moment. into s _ refl (acted_both (call.placed_at row at) (λ z g. record { goes = laws.placed row at z entry g.goes; holds = arm.placed row at z g.goes.kept g.holds }) s.book.ledger None s.book.calls number);
+    placed = λ row at number s entry moment. into s _ refl (placed_both row at s.book.ledger s.book.calls number entry);
     finished = λ number s. into s _ refl (all_changed Both call.finished (λ c g. both (call.finished c) (laws.same c _ (laws.finished c) g.goes) (arm.finished c g.holds)) s.book.calls number);
     taken = λ number s. into s _ refl (all_changed Both call.taken (λ c g. both (call.taken c) (laws.same c _ (laws.taken c) g.goes) (arm.taken c g.holds)) s.book.calls number);
     fed = λ row len s. into s _ refl (all_changed Both (fed_call row len) (λ c g. both (fed_call row len c) (laws.same c _ (laws.fed row len c) g.goes) (arm.fed row len c g.holds)) s.book.calls _);

@@ -1,0 +1,4 @@
+pub mod Drains
+pub mod Fed
+pub mod Held
+pub mod Lines

@@ -1,0 +1,4 @@
+pub mod Along
+pub mod Items
+pub mod One
+pub mod Silent
