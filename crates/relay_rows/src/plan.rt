@@ -84,8 +84,10 @@ impl Plan {
         let (call, words) = input.split_once(' ').ok_or(Wrong::Form)?;
         let call = number_of(call)?;
         let item = Item::of(self.alloc, words)?;
-        self.coming.push(Coming { call, item })?;
-        Ok(())
+        match self.coming.push(Coming { call, item }) {
+            Ok(()) => Ok(()),
+            Err(_) => Err(Wrong::NoMemory),
+        }
     }
 
     /// Whether something is to come of a call.
