@@ -104,8 +104,10 @@ fn receive<W: Wait, R: Print + Eprint, H: Caller>(
     for _ in rt.forever() {
         let received = next(handle, call)?;
         shown.came(&received);
-        if let Received::End(status) = received {
-            return Ok(status);
+        match received {
+            Received::End(status) => return Ok(status),
+            Received::Head(_head) => {}
+            Received::Message(_message) => {}
         }
     }
     unreachable!()
