@@ -7,6 +7,15 @@ use std::marker::Model;
 use std::sync::atomic::{AtomicUsize, Ordering};
 use std::thread::yield_now;
 
+/// Whom of those that wait for links there is news for.
+#[derive(Clone, Copy, Debug, PartialEq, Eq)]
+pub enum Woken {
+    Nobody,
+    /// Those that have links; all, where none has one.
+    Linked,
+    All,
+}
+
 /// What tells the time, in nanoseconds since the beginning of 1970, at most 4,000,000,000,000,000,000, and lets time
 /// pass. A clock may go back.
 pub trait Clock: Send + Sync + Drop {
@@ -20,6 +29,10 @@ pub trait Clock: Send + Sync + Drop {
 
     /// Lets the time of a pause pass; a clock that is not the system's only lets other threads run.
     fn pause(&self, pause: Pause);
+
+    /// Says that there is news for some of those that wait for links of the same world (`Dialer::wait`). It ends a wait that is under way,
+    /// or else the next one.
+    fn wake(&self, _whom: Woken) {}
 }
 
 /// A clock that gives the moments of a list one after another, and then the last one again and again.

@@ -13,6 +13,7 @@ mod memory_dialer;
 mod memory_link;
 mod patience;
 mod setup;
+mod sleepers;
 mod standard;
 mod std_clock;
 mod steady;
@@ -23,7 +24,7 @@ mod whole;
 mod wire;
 mod world;
 
-pub use clock::{Clock, ListClock};
+pub use clock::{Clock, ListClock, Woken};
 pub use draws::{Draws, PcgDraws};
 pub use given_up::GivenUp;
 pub use link::{Dialed, Dialer, LinkIn, LinkOut, LinkRead, Listener};

@@ -94,9 +94,10 @@ pub trait Dialer: Send + Drop {
     fn dial(&mut self, to: Address, until: u64) -> Dialed<Self::In, Self::Out>
         ensures { DialGives Self.In.LinkIn.left (coming self.old) (coming self.new) (faults self.old) (faults self.new) result };
 
-    /// Waits until bytes come on a link that it opened, or until one takes some again, and at most as long as a pause. False where it
-    /// waited for nothing, so that its user pauses otherwise.
-    fn wait(&self, _: Pause) -> bool {
+    /// Waits until bytes come on a link that it opened, until one takes some again, until the clock of the same world says that there is
+    /// news, or until a moment comes, if there is one. It waits at most for 50 ms, and for less behind a try that was not long in vain. False
+    /// where it can't wait, so that its user pauses otherwise.
+    fn wait(&self, _pause: Pause, _due: Option<u64>) -> bool {
         false
     }
 }

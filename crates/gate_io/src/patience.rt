@@ -42,6 +42,8 @@ const SHORT_TRIES: u64 = 20;
 #[derive(Debug, Drop)]
 pub struct Patience {
     misses: u64,
+    /// Whether a try found something since this was last asked.
+    has_found: bool,
 }
 
 impl Model for Patience {
@@ -57,7 +59,10 @@ impl Patience {
     pub fn new() -> Patience
         ensures { result ≡ 0 }
     {
-        Patience { misses: 0 }
+        Patience {
+            misses: 0,
+            has_found: false,
+        }
     }
 
     /// A try found something.
@@ -65,6 +70,16 @@ impl Patience {
         ensures { self.new ≡ 0 }
     {
         self.misses = 0;
+        self.has_found = true;
+    }
+
+    /// Whether a try found something since this was last asked, or the first one was made.
+    pub fn takes_find(&mut self) -> bool
+        ensures { self.new ≡ self.old }
+    {
+        let found = self.has_found;
+        self.has_found = false;
+        found
     }
 
     /// A try found nothing.

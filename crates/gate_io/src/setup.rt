@@ -4,6 +4,7 @@ ghost use Rattle.rand_core.specs.Pcg32Seed.{pcg32_seed};
 ghost use Rattle.rand_pcg.specs.Pcg.{pcg64_of_seed};
 
 use crate::lately::Lately;
+use crate::sleepers::Sleeper;
 use crate::{Clock, Dialer, Draws, ListClock, MemDialer, PcgDraws, StdClock, TcpDialer};
 use grpc_base::NoMemory;
 use std::alloc::Global;
@@ -82,12 +83,15 @@ impl<R: Net<Stream = TcpStream> + time::Clock + Copy + Drop> TcpWorld<R> {
     /// The world of this runtime.
     pub fn new(rt: R, alloc: Global) -> Result<TcpWorld<R>, NoMemory> {
         let lately = Arc::new(alloc, Mutex::new(Lately::new(alloc)))?;
+        let mut sleepers = Vec::new(alloc);
         let mut dialers = Vec::new(alloc);
         while dialers.len() < DIALERS {
-            dialers.push(TcpDialer::beside(rt, alloc, lately.clone()?))?;
+            let sleeper = Arc::new(alloc, Sleeper::new())?;
+            sleepers.push(sleeper.clone()?)?;
+            dialers.push(TcpDialer::beside(rt, alloc, lately.clone()?, sleeper))?;
         }
         Ok(TcpWorld {
-            clock: StdClock::new(rt),
+            clock: StdClock::beside(rt, sleepers),
             dialers,
         })
     }

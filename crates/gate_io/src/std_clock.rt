@@ -3,8 +3,10 @@ ghost use Rattle.std.specs.Prelude.{◌≤◌};
 ghost use Rattle.std.specs.Bool.{⊤};
 ghost use Rattle.grpc_base.specs.Limits.{moment_limit};
 
-use crate::{Clock, Pause};
+use crate::sleepers::Sleeper;
+use crate::{Clock, Pause, Woken};
 use grpc_base::Moment;
+use std::sync::Arc;
 use std::thread::sleep;
 use std::time;
 use std::time::UNIX_EPOCH;
@@ -13,12 +15,22 @@ use std::time::UNIX_EPOCH;
 #[derive(Drop)]
 pub struct StdClock<R> {
     rt: R,
+    /// Those that wait for links of the same world.
+    sleepers: Option<Vec<Arc<Sleeper>>>,
 }
 
 impl<R: time::Clock> StdClock<R> {
     /// The clock of this runtime.
     pub fn new(rt: R) -> StdClock<R> {
-        StdClock { rt }
+        StdClock { rt, sleepers: None }
+    }
+
+    /// The clock of a world in which these wait for links.
+    pub(crate) fn beside(rt: R, sleepers: Vec<Arc<Sleeper>>) -> StdClock<R> {
+        StdClock {
+            rt,
+            sleepers: Some(sleepers),
+        }
     }
 }
 
@@ -47,6 +59,36 @@ impl<R: time::Clock + Send + Sync + Drop> Clock for StdClock<R> {
     fn pause(&self, pause: Pause) {
         if let Some(time) = pause.time() {
             sleep(&self.rt, time);
+        }
+    }
+
+    fn wake(&self, whom: Woken) {
+        let Some(sleepers) = &self.sleepers else {
+            return;
+        };
+        match whom {
+            Woken::Nobody => {}
+            Woken::Linked => wake_some(sleepers, !any_has_links(sleepers)),
+            Woken::All => wake_some(sleepers, true),
+        }
+    }
+}
+
+/// Whether one of these has links.
+fn any_has_links(sleepers: &[Arc<Sleeper>]) -> bool {
+    for sleeper in sleepers.iter() {
+        if sleeper.has_links() {
+            return true;
+        }
+    }
+    false
+}
+
+/// Says that there is news for all of these, or for those that have links.
+fn wake_some(sleepers: &[Arc<Sleeper>], everyone: bool) {
+    for sleeper in sleepers.iter() {
+        if everyone || sleeper.has_links() {
+            sleeper.hear();
         }
     }
 }

@@ -3,6 +3,7 @@ ghost use Rattle.std.specs.Prelude.{◌≡◌, ◌<◌, ◌≤◌, ℕ, None, So
 ghost use Rattle.gate_io.specs.declared.wire.Received.TheVariants as received;
 
 use crate::first_answer::FirstAnswer;
+use crate::sleepers::Sleeper;
 use crate::wire::{Received, Wire};
 use crate::{LinkIn, LinkOut, LinkRead, Pause, WriteAnswer};
 use std::alloc::Global;
@@ -31,14 +32,16 @@ pub struct TcpOut {
     faults: u64,
 }
 
-/// Both ends of a connection that was accepted, and waits, or of one that was dialled. Small frames are sent at once.
+/// Both ends of a connection that was accepted, and waits, or of one that was dialled. Small frames are sent at once. Where one waits for
+/// the links of a dialer, it is told when this one is closed.
 pub(crate) fn link_over(
     alloc: Global,
     stream: TcpStream,
     waits: bool,
     answer: FirstAnswer,
+    sleeper: Option<Arc<Sleeper>>,
 ) -> io::Result<(TcpIn, TcpOut)> {
-    let wire = Wire::new(alloc, stream, waits, answer)?;
+    let wire = Wire::new(alloc, stream, waits, answer, sleeper)?;
     let wire = Arc::new(alloc, Mutex::new(wire))?;
     let input = TcpIn {
         wire: wire.clone()?,

@@ -3,6 +3,7 @@ ghost use Rattle.std.specs.Prelude.{◌≡◌, None, Some, true, false};
 
 use crate::first_answer::FirstAnswer;
 use crate::lately::{Lately, Turn};
+use crate::sleepers::Sleeper;
 use crate::standard::TRIES;
 use crate::std_clock::nanos_now;
 use crate::tcp::link_over;
@@ -22,8 +23,8 @@ pub struct TcpDialer<R> {
     rt: R,
     alloc: Global,
     lately: Option<Arc<Mutex<Lately>>>,
-    /// Its links, from the first dial on.
-    waiting: Option<Waiting>,
+    /// Its links.
+    waiting: Waiting,
     faults: u64,
 }
 
@@ -34,20 +35,25 @@ impl<R: Net<Stream = TcpStream> + time::Clock> TcpDialer<R> {
             rt,
             alloc,
             lately: None,
-            waiting: None,
+            waiting: Waiting::new(alloc, None),
             faults: 0,
         }
     }
 
     /// One of several dialers, which know together what was dialled: a dial that nobody answered to its end is followed by one that fails at
     /// once, and so are three connections that were over right behind their SETTINGS. So such an address is seen to fail: the next one gets
-    /// its turn, and it is dialled again after the wait behind a failed dial.
-    pub(crate) fn beside(rt: R, alloc: Global, lately: Arc<Mutex<Lately>>) -> TcpDialer<R> {
+    /// its turn, and it is dialled again after the wait behind a failed dial. The clock beside them wakes the one that waits for its links.
+    pub(crate) fn beside(
+        rt: R,
+        alloc: Global,
+        lately: Arc<Mutex<Lately>>,
+        sleeper: Arc<Sleeper>,
+    ) -> TcpDialer<R> {
         TcpDialer {
             rt,
             alloc,
             lately: Some(lately),
-            waiting: None,
+            waiting: Waiting::new(alloc, Some(sleeper)),
             faults: 0,
         }
     }
@@ -63,22 +69,8 @@ impl<R: Net<Stream = TcpStream> + time::Clock> TcpDialer<R> {
         }
     }
 
-    /// Has its user wait for a link too. Where that can't be, the link is looked at as often as its user pauses.
-    fn wait_for(&mut self, stream: &mut mio::net::TcpStream)
-        ensures { self.new.faults ≡ self.old.faults }
-    {
-        if self.waiting.is_none() {
-            self.waiting = Waiting::new(&self.rt, self.alloc).ok();
-        }
-        if let Some(waiting) = &self.waiting {
-            let _ = waiting.add(stream);
-        }
-    }
-
     /// A connection to an address that begins before the moment `until`.
-    fn connect(&mut self, to: Address, until: u64) -> io::Result<(TcpIn, TcpOut)>
-        ensures { self.new.faults ≡ self.old.faults }
-    {
+    fn connect(&self, to: Address, until: u64) -> io::Result<(TcpIn, TcpOut)> {
         let now = nanos_now(&self.rt);
         if until <= now {
             return Err(io::Error::from(ErrorKind::TimedOut));
@@ -88,9 +80,11 @@ impl<R: Net<Stream = TcpStream> + time::Clock> TcpDialer<R> {
         };
         let addr = SocketAddr::V4(SocketAddrV4::new(Ipv4Addr::from_bits(to.ip), to.port));
         let mut stream = mio::net::TcpStream::connect(&self.rt, addr)?;
-        self.wait_for(&mut stream);
+        // Where it can't be waited for, the link is looked at as often as its user pauses.
+        let _ = self.waiting.add(&self.rt, &mut stream);
         let answer = FirstAnswer::new(told);
-        link_over(self.alloc, TcpStream::from(stream), false, answer)
+        let stream = TcpStream::from(stream);
+        link_over(self.alloc, stream, false, answer, self.waiting.opened())
     }
 }
 
@@ -113,22 +107,23 @@ impl<R: Net<Stream = TcpStream> + time::Clock + Send + Drop> Dialer for TcpDiale
         }
     }
 
-    fn wait(&self, pause: Pause) -> bool {
-        match &self.waiting {
-            Some(waiting) => wait_as_long(waiting, pause),
-            None => false,
-        }
+    fn wait(&self, pause: Pause, due: Option<u64>) -> bool {
+        let longest = longest(pause);
+        let nanos = match due {
+            Some(due) => due.saturating_sub(nanos_now(&self.rt)).min(longest),
+            None => longest,
+        };
+        self.waiting.wait(&self.rt, nanos)
     }
 }
 
-/// Waits for links as long as a pause, and says whether it did. The system's wait is in milliseconds, so a brief pause is none for it.
-fn wait_as_long(waiting: &Waiting, pause: Pause) -> bool {
+/// How many nanoseconds a wait takes at most that bytes, news and a moment end: the longer nothing came, the longer.
+fn longest(pause: Pause) -> u64 {
     match pause {
-        Pause::None | Pause::Brief => false,
-        Pause::Short | Pause::Long => match pause.time() {
-            Some(time) => waiting.wait(time),
-            None => false,
-        },
+        Pause::None => 0,
+        Pause::Brief => 1_000_000,
+        Pause::Short => 5_000_000,
+        Pause::Long => 50_000_000,
     }
 }
 
@@ -167,7 +162,7 @@ impl<R: Net<Stream = TcpStream, Listener = TcpListener>> TcpListen<R> {
         for _ in 0..TRIES {
             match listener.accept() {
                 Ok((stream, _)) => {
-                    return link_over(self.alloc, stream, true, FirstAnswer::new(None));
+                    return link_over(self.alloc, stream, true, FirstAnswer::new(None), None);
                 }
                 Err(error) => match error.kind() {
                     ErrorKind::ConnectionAborted | ErrorKind::Interrupted => {}

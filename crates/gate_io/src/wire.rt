@@ -7,11 +7,13 @@ ghost use Rattle.gate_io.specs.declared.wire.Sent.TheVariants as sent;
 
 use crate::Pause;
 use crate::first_answer::FirstAnswer;
+use crate::sleepers::Sleeper;
 use crate::standard::{TRIES, write_some};
 use std::alloc::Global;
 use std::io;
 use std::io::{ErrorKind, Read, Write};
 use std::net::{Shutdown, TcpStream};
+use std::sync::Arc;
 use std::time::Duration;
 
 /// How many milliseconds a write waits for a peer that takes nothing before it fails: as long as gRPC's keepalive waits
@@ -53,6 +55,8 @@ pub(crate) struct Wire {
     broken: bool,
     /// Whether an answer came, for the dialer.
     answer: FirstAnswer,
+    /// Who waits for its dialer's links, until it is closed.
+    sleeper: Option<Arc<Sleeper>>,
 }
 
 impl Wire {
@@ -62,6 +66,7 @@ impl Wire {
         stream: TcpStream,
         waits: bool,
         answer: FirstAnswer,
+        sleeper: Option<Arc<Sleeper>>,
     ) -> io::Result<Wire> {
         stream.set_nodelay(true)?;
         stream.set_read_timeout(Pause::Long.time())?;
@@ -74,6 +79,7 @@ impl Wire {
             sent: 0,
             broken: false,
             answer,
+            sleeper,
         })
     }
 
@@ -185,6 +191,9 @@ impl Wire {
         self.send_held();
         // A connection that is gone already cannot be shut down again.
         let _ = self.stream.shutdown(Shutdown::Both);
+        if let Some(sleeper) = self.sleeper.take() {
+            sleeper.closed();
+        }
     }
 }
 

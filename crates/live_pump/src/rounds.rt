@@ -12,7 +12,7 @@ ghost use Rattle.live_pump.specs.declared.link_turn.OpenLink.{OpenLink};
 
 use crate::link_turn::{OpenLink, close_link, close_links, turn_link};
 use crate::{DialTurn, Pumped, dial_once, tick_if_due};
-use gate_io::{Clock, Dialer, LinkIn, LinkOut, Patience};
+use gate_io::{Clock, Dialer, LinkIn, LinkOut, Patience, Pause};
 use grpc_base::{Conn, Glance, NoMemory, Post, PostError, Tender};
 use std::alloc::Global;
 use std::sync::Wait;
@@ -136,13 +136,24 @@ fn is_shut(state: Conn) -> bool
     matches!(state, Conn::Shutdown)
 }
 
-/// Pauses as long as no bytes came lately, where the dialer can, until some come. A round without links found nothing.
-fn rest<N: Dialer, C: Clock>(dialer: &N, clock: &C, patience: &mut Patience, links: usize) {
+/// Pauses, the longer nothing was found lately; where the dialer can wait, until bytes come, until there is news, or until a moment at which
+/// something is due. Right behind a round that found something it does not. A round without links found nothing.
+fn rest<N: Dialer, C: Clock>(
+    dialer: &N,
+    clock: &C,
+    patience: &mut Patience,
+    links: usize,
+    due: Option<u64>,
+) {
     if links == 0 {
         patience.miss();
     }
-    let pause = patience.pause();
-    if !dialer.wait(pause) {
+    let pause = if patience.takes_find() {
+        Pause::None
+    } else {
+        patience.pause()
+    };
+    if !dialer.wait(pause, due) {
         clock.pause(pause);
     }
 }
@@ -172,7 +183,7 @@ fn round<P: Post + Glance, N: Dialer, C: Clock, T: Tender>(
     if let Some(error) = links_part(alloc, post, clock, tender, patience, links) {
         return Some(Pumped::Failed(error));
     }
-    rest(dialer, clock, patience, links.len());
+    rest(dialer, clock, patience, links.len(), view.next);
     let ticked = tick_if_due(post, clock);
     match ticked {
         Ok(_) => None,

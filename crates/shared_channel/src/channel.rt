@@ -9,6 +9,7 @@ ghost use Rattle.shared_channel.specs.Turns.{Looks, words_of};
 use crate::bell::Bell;
 use crate::channel_seat::ChannelSeat;
 use crate::jobs::Lend;
+use crate::owed::Owed;
 use crate::reading::Reading;
 use crate::shared::{Seat, Shared};
 use crate::take::TakeFuture;
@@ -65,12 +66,10 @@ impl<P: Balancer> SharedChannel<P> {
         ensures seat { IfOk result (λ r. r.1 ≡ record { lock = r.0; seen = core.journal.entries; own = places 0 core.journal.entries; parts = 4294967296; found = [] }) }
         ensures authority { IfOk result (λ r. r.0.origin ≡ authority) }
     {
+        let bell = Bell::new(alloc)?;
         let watched = Watched::new(core, authority);
         let (lock, seat) = TurnLock::new(alloc, Shared { watched })?;
-        let channel = SharedChannel {
-            lock,
-            bell: Bell::new(),
-        };
+        let channel = SharedChannel { lock, bell };
         Ok((channel, seat))
     }
 
@@ -118,6 +117,7 @@ impl<P: Balancer> SharedChannel<P> {
             next,
             tally: Tally::new(),
             given_up: None,
+            owed: Owed::Nothing,
         }
     }
 
@@ -150,6 +150,8 @@ impl<P: Balancer> SharedChannel<P> {
         seat: &'b mut ChannelSeat<'a, P, W, C, D>,
         call: u32,
     ) -> TakeFuture<'b, 'a, P, W, C, D> {
+        seat.clock.wake(seat.owed.at_wait());
+        seat.owed = Owed::Nothing;
         TakeFuture { seat, call }
     }
 }

@@ -11,9 +11,10 @@ ghost use Rattle.turn_lock.specs.Turn.{Sees};
 
 use crate::bell::{Bell, is_news};
 use crate::jobs::{AtDrain, AtSend, AtTake, AtView, SendStep, Step, TakeStep, moment_of};
+use crate::owed::Owed;
 use crate::shared::{Seat, Shared};
 use crate::tally::Tally;
-use gate_io::{Clock, Draws, GivenUp, Patience};
+use gate_io::{Clock, Draws, GivenUp};
 use grpc_base::{Caller, Event, Glance, Look, Octets, Post, PostError, Reply, Stamped, View};
 use lb_policy::Balancer;
 use std::sync::Wait;
@@ -37,6 +38,8 @@ where
     pub(crate) tally: Tally,
     /// Where its looks note that a link is given up.
     pub(crate) given_up: Option<GivenUp>,
+    /// What those that keep links open are to be told of its posts.
+    pub(crate) owed: Owed,
     ghost own: { seat.lock ≡ lock.now },
 }
 
@@ -102,16 +105,21 @@ impl<P: Balancer, W: Wait, C: Clock, D: Draws> Post for ChannelSeat<'_, P, W, C,
         ensures words { (k : ℕ) → words_of self.new.next (D.words self.new.draws) k ≡ words_of self.old.next (D.words self.old.draws) (k + 1) }
     {
         let is_news = is_news(&event);
+        let owed = self.owed.behind(&event);
         let mut step = Step {
             stamped: Stamped {
                 moment: moment_of(self.clock.now()),
                 word: self.next,
                 event,
             },
+            bell: self.bell,
+            is_news,
         };
         self.next = self.draws.word();
         let result = self.lock.turn(self.rt, &mut self.seat, &mut step);
-        self.bell.ring_if(is_news);
+        self.bell.wake();
+        self.clock.wake(owed.now());
+        self.owed = owed.left();
         self.tally.posted(&result);
         result
     }
@@ -156,6 +164,8 @@ impl<P: Balancer, W: Wait, C: Clock, D: Draws> Glance for ChannelSeat<'_, P, W, 
         ensures share { share_of self.new.seat ≡ share_of self.old.seat }
         ensures told { Looks (CanTake call result) self.old.seat self.new.seat }
     {
+        self.clock.wake(self.owed.at_wait());
+        self.owed = Owed::Nothing;
         let answer = self
             .lock
             .turn(self.rt, &mut self.seat, &mut AtTake { call });
@@ -170,6 +180,8 @@ impl<P: Balancer, W: Wait, C: Clock, D: Draws> Glance for ChannelSeat<'_, P, W, 
         ensures share { share_of self.new.seat ≡ share_of self.old.seat }
         ensures told { Looks (CanSend call len result) self.old.seat self.new.seat }
     {
+        self.clock.wake(self.owed.at_wait());
+        self.owed = Owed::Nothing;
         let answer = self
             .lock
             .turn(self.rt, &mut self.seat, &mut AtSend { call, len });
@@ -179,9 +191,9 @@ impl<P: Balancer, W: Wait, C: Clock, D: Draws> Glance for ChannelSeat<'_, P, W, 
 }
 
 impl<P: Balancer, W: Wait, C: Clock, D: Draws> Caller for ChannelSeat<'_, P, W, C, D> {
-    /// One Take, as soon as something has come for the call: it looks again and again, first every few microseconds, and then
-    /// when an event of another thread may have brought something, and every 20 ms. Where nothing has
-    /// come, and a look finds that nothing more happens in the channel, the answer is NoMemory, and all is as before.
+    /// One Take, as soon as something has come for the call: it looks, and again when another thread's event has brought something for it,
+    /// and every 50 ms. Where nothing has come, and a look finds that nothing more happens in the channel, the answer is NoMemory, and all is
+    /// as before.
     /// The clock is read at each look, and the entry has the last of these moments and the next random word.
     fn await_take(&mut self, call: u32) -> Result<Reply, PostError>
         ensures made { Posts (entries_of self.old.seat.own) (entries_of self.new.seat.own) (event.Take call) result }
@@ -192,27 +204,32 @@ impl<P: Balancer, W: Wait, C: Clock, D: Draws> Caller for ChannelSeat<'_, P, W, 
         ensures place { TakesPlace (C.may_give self.old.clock.now) (words_of self.old.next (D.words self.old.draws) 0) (event.Take call) result self.old.seat self.new.seat }
         ensures words { (k : ℕ) → words_of self.new.next (D.words self.new.draws) k ≡ words_of self.old.next (D.words self.old.draws) (k + 1) }
     {
-        let mut patience = Patience::new();
+        let bell = self.bell;
+        let waiter = bell.wait_for(call);
         for _ in self.rt.forever() {
-            let rings = self.bell.rings();
+            let rings = waiter.rings();
             let mut take = TakeStep {
                 moment: moment_of(self.clock.now()),
                 word: self.next,
                 call,
+                bell,
             };
             if let Some(result) = self.lock.turn(self.rt, &mut self.seat, &mut take) {
+                waiter.leave();
+                bell.wake();
                 self.next = self.draws.word();
                 self.tally.posted(&result);
                 return result;
             }
-            patience.miss();
-            let left = self.bell.sleep(self.rt, rings, patience.pause());
+            self.clock.wake(self.owed.at_wait());
+            self.owed = Owed::Nothing;
+            let left = waiter.sleep(self.rt, rings);
             self.clock.pause(left);
         }
         unreachable!()
     }
 
-    /// One Send, as soon as the call has room for the message: it looks again and again, and ends without, as for a Take. The clock is read
+    /// One Send, as soon as the call has room for the message: it looks, and again as for a Take, and ends without as that. The clock is read
     /// at each look, and the entry has the last of these moments and the next random word.
     fn await_send(&mut self, call: u32, message: Octets) -> Result<Reply, PostError>
         ensures made { Posts (entries_of self.old.seat.own) (entries_of self.new.seat.own) (event.Send call message) result }
@@ -228,18 +245,26 @@ impl<P: Balancer, W: Wait, C: Clock, D: Draws> Caller for ChannelSeat<'_, P, W, 
             word: self.next,
             call,
             message,
+            bell: self.bell,
         };
-        let mut patience = Patience::new();
+        let bell = self.bell;
+        let waiter = bell.wait_for_room(call);
         for _ in self.rt.forever() {
-            let rings = self.bell.rings();
+            let rings = waiter.rings();
             send.moment = moment_of(self.clock.now());
             if let Some(result) = self.lock.turn(self.rt, &mut self.seat, &mut send) {
+                waiter.leave();
+                bell.wake();
                 self.next = self.draws.word();
                 self.tally.posted(&result);
+                let owed = self.owed.behind_send();
+                self.clock.wake(owed.now());
+                self.owed = owed.left();
                 return result;
             }
-            patience.miss();
-            let left = self.bell.sleep(self.rt, rings, patience.pause());
+            self.clock.wake(self.owed.at_wait());
+            self.owed = Owed::Nothing;
+            let left = waiter.sleep(self.rt, rings);
             self.clock.pause(left);
         }
         unreachable!()

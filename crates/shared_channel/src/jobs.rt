@@ -2,6 +2,7 @@
 ghost use Rattle.std.specs.Prelude.{◌≡◌, ◌≤◌, Err, option_map};
 ghost use Rattle.grpc_base.specs.Limits.{moment_limit};
 
+use crate::bell::Bell;
 use crate::reading::Reading;
 use crate::shared::Shared;
 use attempt_ledger::Ledger;
@@ -20,11 +21,14 @@ pub fn moment_of(nanos: u64) -> Moment
 
 /// One step. The event is taken by the turn.
 #[derive(Drop)]
-pub struct Step {
+pub struct Step<'b> {
     pub stamped: Stamped,
+    /// Where it is rung, if the event may bring something to another thread's call, or something was due.
+    pub bell: &'b Bell,
+    pub is_news: bool,
 }
 
-impl<P: Balancer> Job<Shared<P>> for Step {
+impl<P: Balancer> Job<Shared<P>> for Step<'_> {
     ghost use Rattle.shared_channel.specs.Turns.{StepGives};
 
     type Answer = Result<Reply, PostError>;
@@ -33,11 +37,14 @@ impl<P: Balancer> Job<Shared<P>> for Step {
 
     fn run(&mut self, state: &mut Shared<P>) -> Result<Reply, PostError> {
         let event = mem::replace(&mut self.stamped.event, Event::Tick);
-        state.watched.step(Stamped {
+        let is_due = state.watched.is_due(self.stamped.moment);
+        let result = state.watched.step(Stamped {
             moment: self.stamped.moment,
             word: self.stamped.word,
             event,
-        })
+        });
+        state.watched.ring_if(self.bell, is_due, self.is_news);
+        result
     }
 }
 
@@ -53,13 +60,15 @@ fn refused(end: Option<PostError>) -> Option<Result<Reply, PostError>>
 
 /// A Take, where something has come for the call, or nothing more comes.
 #[derive(Drop)]
-pub struct TakeStep {
+pub struct TakeStep<'b> {
     pub moment: Moment,
     pub word: u64,
     pub call: u32,
+    /// Where it is rung, if something was due.
+    pub bell: &'b Bell,
 }
 
-impl<P: Balancer> Job<Shared<P>> for TakeStep {
+impl<P: Balancer> Job<Shared<P>> for TakeStep<'_> {
     ghost use Rattle.shared_channel.specs.Turns.{TakeGives};
 
     type Answer = Option<Result<Reply, PostError>>;
@@ -70,26 +79,29 @@ impl<P: Balancer> Job<Shared<P>> for TakeStep {
         if !state.watched.core().can_take(self.call) {
             return refused(state.watched.end());
         }
-        Some(
-            state.watched.step(Stamped {
-                moment: self.moment,
-                word: self.word,
-                event: Event::Take { call: self.call },
-            }),
-        )
+        let is_due = state.watched.is_due(self.moment);
+        let result = state.watched.step(Stamped {
+            moment: self.moment,
+            word: self.word,
+            event: Event::Take { call: self.call },
+        });
+        state.watched.ring_if(self.bell, is_due, false);
+        Some(result)
     }
 }
 
 /// A Send, where the call has room for the message, or nothing makes room any more. The message is taken by the turn that sends it.
 #[derive(Drop)]
-pub struct SendStep {
+pub struct SendStep<'b> {
     pub moment: Moment,
     pub word: u64,
     pub call: u32,
     pub message: Octets,
+    /// Where it is rung, if something was due.
+    pub bell: &'b Bell,
 }
 
-impl<P: Balancer> Job<Shared<P>> for SendStep {
+impl<P: Balancer> Job<Shared<P>> for SendStep<'_> {
     ghost use Rattle.std.specs.Prelude.{◌≡◌, MatchOption};
     ghost use Rattle.shared_channel.specs.Turns.{SendGives};
 
@@ -104,16 +116,17 @@ impl<P: Balancer> Job<Shared<P>> for SendStep {
             }
         }
         let message = mem::replace(&mut self.message, Octets::new());
-        Some(
-            state.watched.step(Stamped {
-                moment: self.moment,
-                word: self.word,
-                event: Event::Send {
-                    call: self.call,
-                    message,
-                },
-            }),
-        )
+        let is_due = state.watched.is_due(self.moment);
+        let result = state.watched.step(Stamped {
+            moment: self.moment,
+            word: self.word,
+            event: Event::Send {
+                call: self.call,
+                message,
+            },
+        });
+        state.watched.ring_if(self.bell, is_due, false);
+        Some(result)
     }
 }
 

@@ -5,6 +5,7 @@ mod bell;
 mod channel;
 mod channel_seat;
 mod jobs;
+mod owed;
 mod reading;
 mod shared;
 mod take;

@@ -51,9 +51,11 @@ impl<P: Balancer, W, C: Clock, D: Draws> Future for TakeFuture<'_, '_, P, W, C, 
             moment: moment_of(seat.clock.now()),
             word: seat.next,
             call: self.call,
+            bell: seat.bell,
         };
         match seat.lock.try_turn(&mut seat.seat, &mut take) {
             Ok(Some(result)) => {
+                seat.bell.wake();
                 seat.next = seat.draws.word();
                 seat.tally.posted(&result);
                 Poll::Ready(result)

@@ -10,9 +10,10 @@ ghost use Rattle.shared_channel.specs.Running.{HasRun, IsRunning};
 ghost use Rattle.grpc_base.specs.declared.event.Event.{Event};
 ghost use Rattle.shared_channel.specs.Turns.{CannotGoOn, Fails, ShowsView, StepGives};
 
+use crate::bell::Bell;
 use channel_core::{ChannelCore, CoreError};
 use grpc_base::limits::MESSAGE_BYTES;
-use grpc_base::{Conn, Entry, Event, PostError, Reply, Stamped, Text, View};
+use grpc_base::{Conn, Entry, Event, Moment, PostError, Reply, Stamped, Text, View};
 use lb_policy::Balancer;
 use std::marker::Model;
 
@@ -203,6 +204,21 @@ impl<P: Balancer> Watched<P> {
         ensures { ShowsView self.now.core result }
     {
         shown(self.core.view(), self.is_over())
+    }
+
+    /// Whether a step at a moment may bring something to calls of which its event does not speak: something is due by then.
+    pub(crate) fn is_due(&self, moment: Moment) -> bool {
+        match self.core.view().next {
+            Some(due) => due <= moment.nanos(),
+            None => false,
+        }
+    }
+
+    /// Rings for those for whose calls something has come, where that may be.
+    pub(crate) fn ring_if(&self, bell: &Bell, is_due: bool, is_news: bool) {
+        if is_due || is_news {
+            bell.ring(&self.core);
+        }
     }
 
     /// How many entries there are.

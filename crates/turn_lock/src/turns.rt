@@ -11,9 +11,11 @@ use crate::seat::Seat;
 use atomic_table::{Shared, Table};
 use grpc_base::NoMemory;
 use std::alloc::Global;
+use std::hint::spin_loop;
 use std::snapshot::Snapshot;
 use std::sync::Wait;
-use std::thread;
+use std::sync::atomic::AtomicU64;
+use std::time::Duration;
 
 // The words of the table.
 const FRONT: usize = 0;
@@ -30,6 +32,22 @@ const STATE: usize = 0;
 
 // A mark is below this, and the front is the count times it and the mark.
 const MARKS: u64 = 8;
+
+// So many tries for a turn in a row come at once one behind another, some ten microseconds in all: most turns are shorter.
+const SPINS: u64 = 100;
+
+// How many microseconds lie between further tries. Who sleeps is preferred when it wakes, where one that yields goes behind all other
+// programs of a busy machine.
+const NAP: u64 = 20;
+
+// What lies between two tries for a turn, behind so many tries.
+fn wait_a_while<W: Wait>(rt: &W, tries: u64) {
+    if tries < SPINS {
+        spin_loop();
+    } else {
+        AtomicU64::new(0).park_timeout(rt, 0, Duration::from_micros(NAP));
+    }
+}
 
 // The front of a state's history.
 fn front_of<S: Chronicle>(state: &S) -> u64
@@ -171,11 +189,13 @@ impl<S: Chronicle> TurnLock<S> {
         ensures found { StartsWith seat.new.found seat.old.found }
         ensures lock { seat.new.lock ≡ seat.old.lock }
     {
+        let mut tries = 0;
         for _ in rt.forever() {
             if let Ok(answer) = self.try_turn(seat, job) {
                 return answer;
             }
-            thread::yield_now();
+            wait_a_while(rt, tries);
+            tries = tries.saturating_add(1);
         }
         unreachable!()
     }

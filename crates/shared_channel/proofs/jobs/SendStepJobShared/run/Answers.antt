@@ -8,8 +8,8 @@ use Rattle.shared_channel.proofs.jobs.SendStepJobShared.run.Goals.{in-Ok+else-no
 
 pub returns-clause-runs : goal.returns-clause-runs
 returns-clause-runs g c =
-    let G : List ℕ → Type 0 = λ m. StepGives (record { moment = c.args.self.now.moment; word = c.args.self.now.word; event = event.Send c.args.self.now.call m }) c.args.state.now.watched.core c.step.result c.step.new.self.core in
-    let gives = subst G c.replace-message.ensures.value c.step.ensures.gives in (
+    let G : List ℕ → Type 0 = λ m. StepGives (record { moment = c.args.self.now.moment; word = c.args.self.now.word; event = event.Send c.args.self.now.call m }) c.args.state.now.watched.core c.step-result.result c.step-result.new.self.core in
+    let gives = subst G c.replace-message.ensures.value c.step-result.ensures.gives in (
       (
         gives,
         elim c.match-try_from.branch [
@@ -22,7 +22,7 @@ returns-clause-runs g c =
           | in_default w ↦ (
               let L : List ℕ → Type 0 = λ m. 4294967295 < length m in
               let huge : 4294967295 < length c.args.self.now.message = search rules in
-              send_huge c.args.self.now.call _ _ _ _ (subst L (sym c.replace-message.ensures.value) huge) c.step.ensures.room
+              send_huge c.args.self.now.call _ _ _ _ (subst L (sym c.replace-message.ensures.value) huge) c.step-result.ensures.room
               )
         ],
       ),

@@ -1,0 +1,68 @@
+// What those that keep links open are still to be told of a handle's posts.
+use gate_io::Woken;
+use grpc_base::Event;
+
+/// What a handle posted that may give them something to send, and of which they were not told. A call that is sent whole at once goes out in
+/// one piece, so its Begin and its first message wait for what comes behind them: its Finish, a further message, or a wait of the handle.
+#[derive(Clone, Copy, Debug, PartialEq, Eq)]
+pub(crate) enum Owed {
+    Nothing,
+    /// A call was begun.
+    Call,
+    /// A call was begun and has its first message.
+    Message,
+    /// They are to be told now.
+    News,
+    /// All are to be told now, also those without links.
+    End,
+}
+
+impl Owed {
+    /// What is owed behind an event.
+    pub(crate) fn behind(self, event: &Event) -> Owed {
+        match event {
+            Event::Begin { .. } => Owed::Call,
+            Event::Send { .. } => match self {
+                Owed::Call => Owed::Message,
+                _ => Owed::News,
+            },
+            Event::Take { .. } | Event::TakeDial | Event::Drain { .. } => self,
+            Event::Shutdown => Owed::End,
+            _ => Owed::News,
+        }
+    }
+
+    /// What is owed behind a message that a handle had waited for room with.
+    pub(crate) fn behind_send(self) -> Owed {
+        match self {
+            Owed::Call => Owed::Message,
+            _ => Owed::News,
+        }
+    }
+
+    /// Who is to be told now.
+    pub(crate) fn now(self) -> Woken {
+        match self {
+            Owed::Nothing | Owed::Call | Owed::Message => Woken::Nobody,
+            Owed::News => Woken::Linked,
+            Owed::End => Woken::All,
+        }
+    }
+
+    /// What is owed still once these were told.
+    pub(crate) fn left(self) -> Owed {
+        match self {
+            Owed::Call | Owed::Message => self,
+            _ => Owed::Nothing,
+        }
+    }
+
+    /// Who is to be told as the handle is to wait.
+    pub(crate) fn at_wait(self) -> Woken {
+        match self {
+            Owed::Nothing => Woken::Nobody,
+            Owed::Call | Owed::Message | Owed::News => Woken::Linked,
+            Owed::End => Woken::All,
+        }
+    }
+}
