@@ -371,6 +371,7 @@ module _ (x y : StateSeen) (r : Reply) (o : OpenEntry) (s : Seen) (h : Agrees x 
         (λ agrees u ran over columns. keeps u agrees follows ran over columns) h1
 
     agrees_t : Agrees y t
+    unfolding has_run there
     agrees_t = record {
       clock = clock_t;
       columns = columns_t;

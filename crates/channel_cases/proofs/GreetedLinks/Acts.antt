@@ -40,7 +40,7 @@ use Rattle.session_actions.specs.declared.link.Sent.{Sent}
 use Rattle.session_actions.specs.declared.link.Traffic.TheVariants as traffic
 use Rattle.session_actions.specs.declared.link.Traffic.{Traffic}
 use Rattle.session_actions.specs.declared.seen.Seen.{Seen}
-use Rattle.std.proofs.Common.{Bool, Err, List, None, Ok, Option, Result, Some, [], ap, false, filter_map, if◌then◌else◌, is_none, is_some, length, not, option_and_then, refl, slice_get, sym, true, ℕ, ◌&&◌, ◌++◌, ◌+◌, ◌==◌, ◌||◌, ◌∙◌, ◌∷◌, ◌≡◌}
+use Rattle.std.proofs.Common.{Bool, Err, List, None, Ok, Option, Result, Some, [], ap, false, filter_map, if◌then◌else◌, is_none, is_some, length, not, option_and_then, refl, slice_get, true, ℕ, ◌&&◌, ◌++◌, ◌+◌, ◌==◌, ◌||◌, ◌∙◌, ◌∷◌, ◌≡◌}
 use Rattle.std.proofs.lemmas.List.Elements.{filter_map-append}
 use Rattle.std.proofs.lemmas.List.{append-nil}
 use Rattle.std.specs.List.{list_any}

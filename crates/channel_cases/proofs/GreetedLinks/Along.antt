@@ -11,7 +11,7 @@ use Rattle.channel_cases.specs.GreetedLinks.Laws.{GreetedAlong, GreetedBegins, G
 use Rattle.session_actions.specs.Actions.{after}
 use Rattle.session_actions.specs.Links.{has_settings}
 use Rattle.session_actions.specs.Words.{holds}
-use Rattle.std.proofs.Common.{Option, [], ap, refl, subst, sym, true, ◌∙◌, ◌∷◌, ◌≡◌}
+use Rattle.std.proofs.Common.{Option, [], ap, refl, subst, sym, true, ◌∙◌, ◌∷◌}
 use Rattle.std.specs.Option.{option_map_or}
 
 pub greeted_begins : GreetedBegins

@@ -34,7 +34,7 @@ use Rattle.channel_core.specs.Tables as table
 use Rattle.channel_core.specs.Tables.{DrainGives, left_at}
 use Rattle.channel_core.specs.declared.state.book.Book.{Book}
 use Rattle.channel_core.specs.declared.state.slots.CallSlot.{CallSlot}
-use Rattle.channel_core.specs.declared.state.slots.LinkSlot.{LinkSlot}
+use Rattle.channel_core.specs.declared.state.links.LinkSlot.{LinkSlot}
 use Rattle.h2_link.specs.declared.news.Drained.{Drained}
 use Rattle.attempt_ledger.specs.declared.ledger.Ledger.{Ledger}
 use Rattle.attempt_ledger.specs.declared.row.Placed.{Placed}

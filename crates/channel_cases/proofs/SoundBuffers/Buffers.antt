@@ -1,7 +1,7 @@
 -- What is done to a buffer leaves it sound, for a call that is committed to a row or to none.
 use Rattle.std.proofs.Common.{◌≡◌, ◌+◌, ◌-◌, ◌≤◌, ◌∷◌, ◌&&◌, ◌==◌, ◌++◌, ◌⊎◌, inl, inr, not, ap, arith, length-append, refl, subst, sym, ◌∙◌, Bool, true, false, List, [], Option, None, Some, ℕ, cond, filter, if◌then◌else◌, is_some, length, nat_le}
 use Rattle.std.proofs.Math.Nat.{le_refl}
-use Rattle.std.proofs.lemmas.Bool.{and_parts, both_ways, eq-eqb, eqb-true}
+use Rattle.std.proofs.lemmas.Bool.{both_ways, eq-eqb, eqb-true}
 use Rattle.std.specs.List.{concat, find}
 use Rattle.std.specs.Option.{option_map, option_map_or, option_or}
 use Rattle.attempt_buffer.proofs.LeftLaws.{IsAlone}

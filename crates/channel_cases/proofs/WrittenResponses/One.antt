@@ -24,7 +24,7 @@ use Rattle.session_actions.specs.declared.link.Sent.{Sent}
 use Rattle.session_actions.specs.declared.link.Traffic.TheVariants as traffic
 use Rattle.session_actions.specs.declared.seen.Seen.{Seen}
 use Rattle.session_order.proofs.Changed.{changed_away, changed_here}
-use Rattle.std.proofs.Common.{Bool, List, None, Option, Some, [], ap, drop, eqb-true, false, filter, if◌then◌else◌, is_some, length, not, option_and_then, option_map, refl, slice_get, subst, suc, sym, take, true, zero, ℕ, ◌&&◌, ◌+◌, ◌++◌, ◌-◌, ◌==◌, ◌||◌, ◌∙◌, ◌∷◌, ◌≡◌, ◌≤◌}
+use Rattle.std.proofs.Common.{Bool, List, None, Option, Some, [], ap, drop, eqb-true, false, filter, if◌then◌else◌, is_some, length, not, option_and_then, option_map, refl, slice_get, subst, suc, sym, take, true, zero, ℕ, ◌&&◌, ◌+◌, ◌++◌, ◌-◌, ◌==◌, ◌||◌, ◌∙◌, ◌∷◌, ◌≡◌}
 use Rattle.std.proofs.lemmas.Bool.{and_parts, eqb-false}
 use Rattle.std.specs.List.{list_all}
 use Rattle.std.specs.Option.{option_map_or, option_or}

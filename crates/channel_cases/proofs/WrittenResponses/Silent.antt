@@ -38,7 +38,7 @@ headed : (p q : Response) → q.head ≡ p.head → (p.head ≡ None → ⊥) �
 headed p q same has none = absurd (has (sym same ∙ none))
 
 there : (p : Response) (b : Bool) → is_none p.head ≡ b → b ≡ false → p.head ≡ None → ⊥
-there p b is no none = absurd (let bad : true ≡ false = sym (ap is_none none) ∙ (is ∙ no) in (cc))
+there p b is off none = absurd (let bad : true ≡ false = sym (ap is_none none) ∙ (is ∙ off) in (cc))
 
 head_by : (p : Response) (b : Block) (c : Bool) → IsBare p
     → IsBare (if c then record p { head = Some (shown_of b.fields) } else ended (block_end (http_code b.fields) cause.Http cancel b) p)
