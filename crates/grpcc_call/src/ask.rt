@@ -196,6 +196,7 @@ fn request_of(alloc: Global, matches: &ArgMatches<'_>) -> Result<Request> {
 }
 
 /// The metadata of each call.
+#[tactic(auto, using(crate::proofs::MetaLaws::none_is))]
 fn metadata_of(alloc: Global, matches: &ArgMatches<'_>) -> Result<Metadata>
     ensures { IfOk result IsRequestMetadata }
 {
@@ -215,13 +216,18 @@ fn add_header(alloc: Global, meta: &mut Metadata, header: &str) -> Result<()>
         bail!("-H: '{header}' is not NAME:VALUE");
     };
     let value = value.trim();
-    let pushed = if name.ends_with("-bin") {
+    if name.ends_with("-bin") {
         let bytes = base64_of(alloc, value)?;
-        meta.push(name.as_bytes(), bytes.as_slice())
-    } else {
-        meta.push(name.as_bytes(), value.as_bytes())
-    };
-    match pushed {
+        return push_header(meta, header, name.as_bytes(), bytes.as_slice());
+    }
+    push_header(meta, header, name.as_bytes(), value.as_bytes())
+}
+
+/// Adds one pair of metadata, which this text has.
+fn push_header(meta: &mut Metadata, header: &str, name: &[u8], value: &[u8]) -> Result<()>
+    ensures { IsRequestMetadata meta.old → IsRequestMetadata meta.new }
+{
+    match meta.push(name, value) {
         Ok(()) => Ok(()),
         Err(fault) => bail!("-H: '{header}': {fault}"),
     }

@@ -3,7 +3,6 @@
 #![tactic(auto)]
 
 ghost use Rattle.std.specs.Prelude.{◌≡◌, map, true};
-ghost use Rattle.lb_policy.specs.declared.policy.Policy.{seen};
 ghost use Rattle.policy_rack.specs.Kinds.{are_ready};
 
 mod ask;
@@ -36,6 +35,9 @@ use std::time;
 
 /// How many addresses a tier of the policy `priority` has.
 const TIER_WIDTH: u32 = 8;
+
+/// How many channels the most calls take, one after the other.
+const MOST_CHANNELS: u64 = 200;
 
 /// Makes so many calls over one channel with these policies, and gives the work back with how they ended.
 fn call_service<R>(
@@ -92,6 +94,14 @@ where
     call_service(rt, asked, count, policies)
 }
 
+/// Keeps work that was done.
+fn keep<R: Drop>(works: &mut Vec<Calls<R>>, done: Vec<Calls<R>>) -> Result<()> {
+    for work in done {
+        works.push(work)?;
+    }
+    Ok(())
+}
+
 /// Makes all calls, so many over one channel and then over the next, says how they ended, and gives the status.
 fn call_all<R>(rt: &R, asked: &Asked) -> Result<u8>
 where
@@ -103,12 +113,13 @@ where
     let begun = clock.now();
     let mut works: Vec<Calls<R>> = Vec::new(alloc);
     let mut left = asked.plan.count;
-    while left > 0 {
-        let count = left.min(CALLS_OF_A_CHANNEL);
-        left -= count;
-        for work in call_once_more(rt, asked, count)? {
-            works.push(work)?;
+    for _ in 0..MOST_CHANNELS {
+        if left == 0 {
+            break;
         }
+        let count = left.min(CALLS_OF_A_CHANNEL);
+        left = left.saturating_sub(count);
+        keep(&mut works, call_once_more(rt, asked, count)?)?;
     }
     let nanos = clock.now().saturating_sub(begun);
     sum_up(rt, alloc, &asked.plan, works.as_slice(), nanos)?;

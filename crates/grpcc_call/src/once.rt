@@ -91,6 +91,15 @@ impl<R: Print + Eprint> Shown<R> {
     }
 }
 
+/// The end, where this is it.
+fn end_in(received: Received) -> Option<Status> {
+    match received {
+        Received::End(status) => Some(status),
+        Received::Head(_head) => None,
+        Received::Message(_message) => None,
+    }
+}
+
 /// Receives up to the end.
 fn receive<W: Wait, R: Print + Eprint, H: Caller>(
     rt: &W,
@@ -104,10 +113,8 @@ fn receive<W: Wait, R: Print + Eprint, H: Caller>(
     for _ in rt.forever() {
         let received = next(handle, call)?;
         shown.came(&received);
-        match received {
-            Received::End(status) => return Ok(status),
-            Received::Head(_head) => {}
-            Received::Message(_message) => {}
+        if let Some(status) = end_in(received) {
+            return Ok(status);
         }
     }
     unreachable!()

@@ -2,8 +2,8 @@ use Rattle.std.proofs.Common.{◌≤◌, ◌-◌, length}
 use Rattle.grpcc_call.proofs.calls.calls_of.Given as goal
 
 -- no more than the workers
-abbrev pub invariant-loop-share : goal.invariant-loop-share
-invariant-loop-share g l = length l.works.items ≤ l.workers
+abbrev pub invariant-loop-rt : goal.invariant-loop-rt
+invariant-loop-rt g l = length l.works.items ≤ l.workers
 
-abbrev pub decreases-loop-share : goal.decreases-loop-share
-decreases-loop-share g l = l.workers - length l.works.items
+abbrev pub decreases-loop-rt : goal.decreases-loop-rt
+decreases-loop-rt g l = l.workers - length l.works.items
