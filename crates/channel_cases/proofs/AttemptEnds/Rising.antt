@@ -1,5 +1,5 @@
 -- The runs of the configs rise: a config read joins the run of the one before, or begins the next; every other action leaves configs as they are.
-use Rattle.std.proofs.Common.{◌≡◌, ◌∙◌, ◌&&◌, ◌==◌, ◌<◌, ◌≤◌, ◌∷◌, ◌++◌, ◌+◌, Bool, true, false, List, [], Option, None, Some, ℕ, zero, suc, ap, arith, refl, sym, subst, if◌then◌else◌, is_some, length}
+use Rattle.std.proofs.Common.{◌≡◌, ◌∙◌, ◌==◌, ◌∷◌, ◌++◌, ◌+◌, Bool, true, false, List, [], Option, None, Some, ℕ, zero, suc, ap, arith, refl, if◌then◌else◌, is_some, length}
 use Rattle.std.proofs.lemmas.Bool.{and_from, and_parts, eqb-true}
 use Rattle.std.proofs.lemmas.Bool.Decides.{nat_tests}
 use Rattle.std.specs.List.{list_all}
