@@ -18,6 +18,7 @@ pub mod Noted
 pub mod Others
 pub mod Own
 pub mod Picks
+pub mod Rising
 pub mod Sets
 pub mod Told
 pub mod ToldEnd
