@@ -47,11 +47,31 @@ def written(status, out, error):
     return status
 
 
+CALL_USAGE = "Usage: grpcc call TARGET PATH [-d TEXT].. [OPTIONS]\n"
+
+
+def for_call(given):
+    """The words for the program that calls a service, which they then name no more."""
+    if given[:1] != ["call"]:
+        return given
+    proof.use("grpcc_call")
+    return given[1:]
+
+
+def call_answer(given):
+    """What is answered without that program: no words, and words that ask for a text."""
+    if given and not {"-h", "--help", "-V", "--version"} & set(given):
+        return None
+    text = f"The program is not built yet.\n{CALL_USAGE}"
+    return (0, text, "") if given else (2, "", text)
+
+
 def run_unproved(given):
     """Runs the program without its proof, and gives its status."""
+    given = for_call(given)
     proof.need_toolchain()
     proof.say("compiles the program without its proof, in a few minutes, and runs it once: nothing is promised of this run")
-    run = subprocess.Popen(["rt", "try", "--", *given], cwd=os.path.join(proof.TOP, "crates", "grpcc"), stderr=subprocess.PIPE)
+    run = subprocess.Popen(["rt", "try", "--", *given], cwd=os.path.join(proof.TOP, "crates", proof.NAME), stderr=subprocess.PIPE)
     try:
         said = run.stderr.read()
         status = run.wait()
@@ -69,12 +89,15 @@ def time_here(crates):
 def main(given):
     if given[:1] == ["--unproved"]:
         return run_unproved(given[1:])
+    asked = [shlex.quote(it) for it in given]
+    given = for_call(given)
     crates = proof.read_crates()
     if not proof.is_built(crates):
-        answer = words.answer(given, time_here(crates))
+        is_call = proof.NAME != "grpcc"
+        answer = call_answer(given) if is_call else words.answer(given, time_here(crates))
         if answer:
             return written(*answer)
-        proof.build_once(crates, [shlex.quote(it) for it in given])
+        proof.build_once(crates, asked)
     # (this language ignores it, and the program would go on to)
     signal.signal(signal.SIGPIPE, signal.SIG_DFL)
     os.execv(proof.PROGRAM, [proof.PROGRAM, *given])

@@ -17,7 +17,9 @@ from estimate import Estimate, in_words, processors
 TOP = os.path.dirname(os.path.dirname(os.path.dirname(os.path.abspath(__file__))))
 OUT = os.path.join(TOP, "out")
 LOG = os.path.join(OUT, "first-call.log")
-PROGRAM = os.path.join(TOP, "crates", "grpcc", "out", "grpcc")
+# The program, by its crate (`use` names another one).
+NAME = "grpcc"
+PROGRAM = os.path.join(TOP, "crates", NAME, "out", NAME)
 # What the program that stands there was built from, and which program that was.
 BUILT_OF = PROGRAM + ".of"
 LOGIC = "dac8208d650f15bf"
@@ -36,6 +38,14 @@ class Failed(Exception):
     def __init__(self, why, status=1):
         super().__init__(why)
         self.status = status
+
+
+def use(name):
+    """Has the program of this crate proved, built and run."""
+    global NAME, PROGRAM, BUILT_OF
+    NAME = name
+    PROGRAM = os.path.join(TOP, "crates", name, "out", name)
+    BUILT_OF = PROGRAM + ".of"
 
 
 def say(text):
@@ -72,7 +82,7 @@ def read_crates():
                 add(it)
             found[name] = lines[name][0], needs
 
-    add("grpcc")
+    add(NAME)
     return found
 
 
@@ -242,7 +252,7 @@ def prove(copy, progress):
         finally:
             end(run)
             progress.clear()
-    if status or not os.access(os.path.join(copy, "crates", "grpcc", "out", "grpcc"), os.X_OK):
+    if status or not os.access(os.path.join(copy, "crates", NAME, "out", NAME), os.X_OK):
         raise Failed(reason())
 
 
@@ -251,7 +261,7 @@ def take(copy, crates, begun):
     made = f"{PROGRAM}.{os.getpid()}"
     os.makedirs(os.path.dirname(PROGRAM), exist_ok=True)
     try:
-        shutil.copyfile(os.path.join(copy, "crates", "grpcc", "out", "grpcc"), made)
+        shutil.copyfile(os.path.join(copy, "crates", NAME, "out", NAME), made)
         os.chmod(made, 0o755)
         os.utime(made, (begun, begun))
         os.replace(made, PROGRAM)
