@@ -12,7 +12,7 @@ use std::time::Duration;
 const SLEEP: u64 = 50;
 
 /// How many threads wait at once with a place of their own. Further ones look again and again.
-const PLACES: usize = 32;
+const PLACES: usize = 1_024;
 
 /// In a place's word, a thread that waits for room, and not for what comes.
 const FOR_ROOM: u64 = 1 << 33;
@@ -70,6 +70,8 @@ impl Place {
 #[derive(Drop)]
 pub(crate) struct Bell {
     places: Vec<Place>,
+    /// So many of them, from the first on, were ever taken.
+    used: AtomicU64,
 }
 
 impl Bell {
@@ -79,7 +81,10 @@ impl Bell {
         while places.len() < PLACES {
             places.push(Place::new())?;
         }
-        Ok(Bell { places })
+        Ok(Bell {
+            places,
+            used: AtomicU64::new(0),
+        })
     }
 
     /// A place for a thread that waits for what comes for a call. It has it before it looks, so that no ring behind the look is missed.
@@ -99,17 +104,29 @@ impl Bell {
     }
 
     fn free_place(&self, word: u64) -> Option<&Place> {
-        for place in self.places.iter() {
+        for (at, place) in self.places.iter().enumerate() {
             if place.is_taken_by(word) {
+                self.use_all_to(at as u64);
                 return Some(place);
             }
         }
         None
     }
 
+    /// Notes that the places were taken up to this one.
+    fn use_all_to(&self, at: u64) {
+        if self.used.load(Ordering::SeqCst) <= at {
+            self.used.fetch_max(at.saturating_add(1), Ordering::SeqCst);
+        }
+    }
+
     /// In a turn, behind a step: rings for those for whose calls something has come. Those that wait for room all look again.
     pub(crate) fn ring<P: Balancer>(&self, core: &ChannelCore<P>) {
-        for place in self.places.iter() {
+        let used = self.used.load(Ordering::SeqCst);
+        for (at, place) in self.places.iter().enumerate() {
+            if at as u64 >= used {
+                return;
+            }
             let word = place.call.load(Ordering::SeqCst);
             if word != 0 && (word >= FOR_ROOM || has_come(core, word)) {
                 place.ring();
@@ -119,7 +136,11 @@ impl Bell {
 
     /// Behind a turn: wakes those that were rung for.
     pub(crate) fn wake(&self) {
-        for place in self.places.iter() {
+        let used = self.used.load(Ordering::SeqCst);
+        for (at, place) in self.places.iter().enumerate() {
+            if at as u64 >= used {
+                return;
+            }
             place.wake();
         }
     }
