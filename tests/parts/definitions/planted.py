@@ -71,3 +71,84 @@ PLANTED = (
         WORKED + "a-status-past-the-deadline.report",
     ),
 )
+
+# Channels that break one rule for good, of the kind that a law on one moment of a session may let through.
+CHANNELS = (
+    (
+        "each end that counts ends its call, whatever its policy",
+        CRATE + "DueAttempts",
+        "is_final_by plan.None c a s e = true",
+        "is_final_by _ c a s e = true",
+        WORKED + "a-failed-hedge-brings-the-next-one-at-once.report",
+    ),
+    (
+        "no refused stream is tried again",
+        CRATE + "Attempts",
+        "is_unsent why || (unseen && is_by_peer why && is_none (commitment c s) && not (was_retried_so c s))",
+        "is_unsent why",
+        WORKED + "a-refused-stream-is-tried-again-once.report",
+    ),
+    (
+        "the channel never connects",
+        CRATE + "Subchannels",
+        "take_dial s = option_map_or (dial_action s) (find is_dialable s.subs) (action.EventAnswered reply.NotYet)",
+        "take_dial s = action.EventAnswered reply.NotYet",
+        WORKED + "two-retries-and-a-success.report",
+    ),
+    (
+        "each drain is empty",
+        CRATE + "Events",
+        "frame_of_event (event.Drain link most) o s = next_written link most o s",
+        "frame_of_event (event.Drain link most) o s = None",
+        WORKED + "two-retries-and-a-success.report",
+    ),
+    (
+        "each pick fails",
+        CRATE + "Policies",
+        "action.PickRequested a.place g.number (pick_of (policy_of g s))",
+        "action.PickRequested a.place g.number pick.Fail",
+        WORKED + "four-calls-go-round-three-addresses.report",
+    ),
+    (
+        "throttling is ignored",
+        CRATE + "Tokens",
+        "run_of c s = option_and_then (numbered s.runs) (option_and_then (λ h. h.run) (config_of_call c s))",
+        "run_of c s = None",
+        WORKED + "tokens-at-half-stop-a-retry.report",
+    ),
+    (
+        "each further attempt is made at once",
+        CRATE + "Making",
+        "if nat_le due (now s) then Some (due_attempt c s due) else None",
+        "Some (due_attempt c s due)",
+        WORKED + "a-retry-after-a-pushback-and-one-after-a-wait.report",
+    ),
+    (
+        "hedges are made however few tokens are left",
+        CRATE + "Making",
+        "if is_hedge (kind_of_next c s) && not (has_tokens c s) then action.HedgeWithheld c.number\n    else action",
+        "action",
+        "tests/vectors/hedge/030.report",
+    ),
+    (
+        "every wait after a failure draws the word 0",
+        CRATE + "AttemptEnds",
+        "then Some (next_word s) else None",
+        "then Some 0 else None",
+        WORKED + "two-retries-and-a-success.report",
+    ),
+    (
+        "one end brings all further hedges",
+        CRATE + "DueAttempts",
+        "else record d { newest = Some a.place; placed = None; forced = None }",
+        "else record d { newest = Some a.place; placed = None; forced = d.forced }",
+        WORKED + "two-hedges-end-in-one-piece.report",
+    ),
+    (
+        "of two last ends the first is committed",
+        CRATE + "DueAttempts",
+        "|| (is_number a.place (last_counted c s) && is_none (next_due c s)",
+        "|| (is_none (next_due c s)",
+        WORKED + "the-last-failed-hedge-is-the-end.report",
+    ),
+)
