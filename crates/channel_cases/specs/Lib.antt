@@ -7,6 +7,7 @@ pub mod CallPosts
 pub mod CallSends
 pub mod CommitsFollow
 pub mod ConfigActions
+pub mod ConfigReads
 pub mod ConfiguredCalls
 pub mod DialEvents
 pub mod DrainEvents
@@ -16,8 +17,12 @@ pub mod EndedCalls
 pub mod FewCalls
 pub mod FirstShutdowns
 pub mod FullSends
+pub mod GenerationStamps
 pub mod GreetedLinks
 pub mod HeldCalls
+pub mod HeldKinds
+pub mod HeldResults
+pub mod LeftLinks
 pub mod LongSends
 pub mod MakingSteps
 pub mod NetChains
@@ -35,4 +40,5 @@ pub mod SettlingKeeps
 pub mod SettlingParts
 pub mod SoundBuffers
 pub mod StreamedCalls
+pub mod TakeOvers
 pub mod WrittenResponses

@@ -32,11 +32,11 @@ use Rattle.session_order.proofs.SessionLaws.Same.{is_quiet, made_keeps, same_if,
 use Rattle.std.specs.Prelude.{Err, Ok, Result}
 
 -- one config more: its run follows where it is not that of the last one
-abbrev final : Option ℕ → List HeldConfig → Option ℕ
+abbrev pub final : Option ℕ → List HeldConfig → Option ℕ
 final r [] = r
 final r (g ∷ configs) = final g.run configs
 
-abbrev joined : Option ℕ → Option ℕ → List (Option ℕ)
+abbrev pub joined : Option ℕ → Option ℕ → List (Option ℕ)
 joined r run = if is_same_run r run then [] else run ∷ []
 
 same_run : (m n : Option ℕ) → is_same_run m n ≡ true → m ≡ n
@@ -48,12 +48,12 @@ same_run (Some m) (Some n) e = ap (λ (k : ℕ). Some k) (eqb-true m n e)
 is_itself : (k : ℕ) → (k == k) ≡ true
 is_itself k = grind (arith, nat_tests)
 
-same_self_run : (m : Option ℕ) → is_same_run m m ≡ true
+pub same_self_run : (m : Option ℕ) → is_same_run m m ≡ true
 same_self_run None = refl
 same_self_run (Some m) = is_itself m
 
 -- the last one's run follows itself by nothing
-more : (r : Option ℕ) (configs : List HeldConfig) (h : HeldConfig) → runs_after r (configs ++ h ∷ []) ≡ runs_after r configs ++ joined (final r configs) h.run
+pub more : (r : Option ℕ) (configs : List HeldConfig) (h : HeldConfig) → runs_after r (configs ++ h ∷ []) ≡ runs_after r configs ++ joined (final r configs) h.run
 more r [] h = one (is_same_run r h.run)
   where
     one : (b : Bool) → (if b then [] else h.run ∷ []) ≡ [] ++ (if b then [] else h.run ∷ [])
@@ -68,7 +68,7 @@ more r (g ∷ configs) h = by (is_same_run r g.run) refl (more r configs h) (mor
     by true e one two = one ∙ ap (λ (k : Option ℕ). runs_after r configs ++ joined (final k configs) h.run) (same_run r g.run e)
     by false e one two = ap (λ (l : List (Option ℕ)). g.run ∷ l) two
 
-final_is : (configs : List HeldConfig) (g h : HeldConfig) → slice_get (g ∷ configs) (length configs) ≡ Some h → final g.run configs ≡ h.run
+pub final_is : (configs : List HeldConfig) (g h : HeldConfig) → slice_get (g ∷ configs) (length configs) ≡ Some h → final g.run configs ≡ h.run
 final_is [] g h got = let one : g ≡ h = (cc) in ap (λ (x : HeldConfig). x.run) one
 final_is (k ∷ configs) g h got = final_is configs k h got
 
@@ -91,7 +91,7 @@ none_more last (None ∷ runs) up = none_more last runs up
 none_more last (Some k ∷ runs) up =
     let both = and_parts (nat_lt last k) (rise k runs) up in and_from (nat_lt last k) (rise k (runs ++ None ∷ [])) both.0 (none_more k runs both.1)
 
-nothing_more : (runs : List (Option ℕ)) → runs ++ [] ≡ runs
+pub nothing_more : (runs : List (Option ℕ)) → runs ++ [] ≡ runs
 nothing_more [] = refl
 nothing_more (r ∷ runs) = ap (λ (l : List (Option ℕ)). r ∷ l) (nothing_more runs)
 
@@ -103,7 +103,7 @@ within (x ∷ xs) (suc i) e = step i (length xs) (within xs i e)
     step : (i n : ℕ) → nat_lt i n ≡ true → nat_lt (suc i) (suc n) ≡ true
     step i n low = grind (arith, nat_tests, low)
 
-low_number : {X : Type 0} (xs : List X) (k : ℕ) → is_some (numbered xs k) ≡ true → nat_lt k (length xs + 1) ≡ true
+pub low_number : {X : Type 0} (xs : List X) (k : ℕ) → is_some (numbered xs k) ≡ true → nat_lt k (length xs + 1) ≡ true
 low_number xs zero e = absurd (cc)
 low_number xs (suc i) e = step i (length xs) (within xs i e)
   where

@@ -114,7 +114,7 @@ module _ (o : OpenEntry) (s : Seen) where
       (either (next_shut s) _ (by_map (λ (b : Subchannel). action.SubchannelShut b.number) (λ b. subbed_links (without_link conn.Shutdown) b.number s) (find (is_unlisted s) s.subs))
       (either (next_added s) None (by_map (λ (a : Address). action.SubchannelAdded a) (λ a. refl) (find (λ (a : Address). is_none (live_sub s a)) (listed s))) none)))))
 
-links_along : (actions : List Action) (o : OpenEntry) (s t : Seen) → DoesAll actions o s t → t.links ≡ s.links
+pub links_along : (actions : List Action) (o : OpenEntry) (s t : Seen) → DoesAll actions o s t → t.links ≡ s.links
 links_along [] o s t d = ap (λ (v : Seen). v.links) d.1
 links_along (a ∷ actions) o s t d = links_along actions o (after_in o a s) t d.1 ∙ lines_leave o s a d.0
 
@@ -123,7 +123,7 @@ form_if : (b : Bool) (ls : List LinkSeen) (z : StateSeen) → (if b then with_le
 form_if true ls z = refl
 form_if false ls z = refl
 
-stamps_form : (links : List ℕ) (z : StateSeen) → all_stamped_gone links z ≡ with_ledger_links (all_stamped_gone links z).book.ledger.links z
+pub stamps_form : (links : List ℕ) (z : StateSeen) → all_stamped_gone links z ≡ with_ledger_links (all_stamped_gone links z).book.ledger.links z
 stamps_form [] z = refl
 stamps_form (link ∷ links) z =
     stamps_form links (stamped_gone link z)

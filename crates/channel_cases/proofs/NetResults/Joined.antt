@@ -48,11 +48,11 @@ shutdowns_are_next chains shuts o s n h shut ended none current calm picks =
     joined chains o s (net_shut n).net (shuts o s n h shut ended none) current calm picks
 
 -- a take-over itself
-over_current : (g : ℕ) (s : Seen) (o : Option PolicyUse) → (option_map_or (λ (c : PolicyUse). policy_retired c.number s) o s).current ≡ s.current
+pub over_current : (g : ℕ) (s : Seen) (o : Option PolicyUse) → (option_map_or (λ (c : PolicyUse). policy_retired c.number s) o s).current ≡ s.current
 over_current g s None = refl
 over_current g s (Some c) = refl
 
-over_subs : (g : ℕ) (s : Seen) (o : Option PolicyUse) → (option_map_or (λ (c : PolicyUse). policy_retired c.number s) o s).subs ≡ s.subs
+pub over_subs : (g : ℕ) (s : Seen) (o : Option PolicyUse) → (option_map_or (λ (c : PolicyUse). policy_retired c.number s) o s).subs ≡ s.subs
 over_subs g s None = refl
 over_subs g s (Some c) = refl
 
@@ -63,7 +63,7 @@ module _ (exact : CalmIsExact) (apart : PoliciesStirApart) (chains : ChainsAreNe
   abbrev u : Seen
   u = policy_took_over number s
 
-  next : s.current ≡ Some o → o.stage ≡ stage.Settling → channel.IsCalm o s → next_of_clock s ≡ None → next_take_over s ≡ Some a → following s ≡ Some a
+  pub next : s.current ≡ Some o → o.stage ≡ stage.Settling → channel.IsCalm o s → next_of_clock s ≡ None → next_take_over s ≡ Some a → following s ≡ Some a
   next current at calm clock over =
       ap (option_and_then (following_in s)) current
       ∙ follows_by (of_calls o s) (of_links o s) (of_policies o s) (of_stage o s o.stage) a calm.calls calm.links calm.policies

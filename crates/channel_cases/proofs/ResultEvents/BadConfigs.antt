@@ -60,7 +60,7 @@ kind_more kind.PickFirst a b c = refl
 kind_more kind.RoundRobin a b c = refl
 kind_more kind.Priority a b c = refl
 
-kinds_same : (kinds : List PolicyKind) (policies : List PolicySeen) → AreKinds kinds policies → kinds_in kinds ≡ kinds_of policies
+pub kinds_same : (kinds : List PolicyKind) (policies : List PolicySeen) → AreKinds kinds policies → kinds_in kinds ≡ kinds_of policies
 kinds_same [] [] h = refl
 kinds_same (k ∷ kinds) (p ∷ policies) h =
     ap (λ (ks : KindsSeen). with_kind ks k.kind) (kinds_same kinds policies h.2) ∙ kind_more k.kind (has_policy kind.PickFirst policies) (has_policy kind.RoundRobin policies) (has_policy kind.Priority policies)
@@ -68,7 +68,7 @@ kinds_same (k ∷ kinds) (p ∷ policies) h =
 kinds_same [] (p ∷ policies) h = absurd h
 kinds_same (k ∷ kinds) [] h = absurd h
 
-read_by : (text : Option (List ℕ)) (s : Seen) (kinds : KindsSeen) → kinds_in s.setup.policies ≡ kinds → read_config text s ≡ config_read kinds text
+pub read_by : (text : Option (List ℕ)) (s : Seen) (kinds : KindsSeen) → kinds_in s.setup.policies ≡ kinds → read_config text s ≡ config_read kinds text
 read_by None s kinds e = refl
 read_by (Some text) s kinds e = ap (λ (ks : KindsSeen). config_read ks (Some text)) e
 

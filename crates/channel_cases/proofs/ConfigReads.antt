@@ -1,0 +1,5 @@
+pub mod Behind
+pub mod Buckets
+pub mod Read
+pub mod Still
+pub mod Stirred

@@ -1,0 +1,6 @@
+pub mod Answered
+pub mod Given
+pub mod LeftNets
+pub mod Mid
+pub mod Stepped
+pub mod Unread

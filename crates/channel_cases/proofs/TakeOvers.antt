@@ -1,0 +1,4 @@
+pub mod Kept
+pub mod Over
+pub mod Settled
+pub mod Stamped
