@@ -21,6 +21,7 @@ pub mod FinalEnds
 pub mod Finals
 pub mod GoesOn
 pub mod Gone
+pub mod Hedged
 pub mod Held
 pub mod Last
 pub mod LastCommits

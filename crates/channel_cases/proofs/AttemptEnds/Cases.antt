@@ -5,13 +5,12 @@ use Rattle.std.specs.Prelude.{filter}
 use Rattle.attempt_ledger.specs.declared.ledger.CallEnd.{CallEnd}
 use Rattle.call_actions.specs.Laws.{IsCounting}
 use Rattle.call_actions.specs.Sees.{is_live, live_row}
-use Rattle.channel_actions.specs.GoingCalls.Going.{GoesOn}
-use Rattle.channel_cases.proofs.AttemptEnds.Base.{c, sees, slot, slot_there}
+use Rattle.channel_cases.proofs.AttemptEnds.Base.{c, sees, slot}
 use Rattle.channel_cases.proofs.AttemptEnds.Closed.{committed_ends_close}
+use Rattle.channel_cases.proofs.AttemptEnds.Hedged.{going_on, several}
 use Rattle.channel_cases.proofs.AttemptEnds.Last.{lone_last_ends_close}
 use Rattle.channel_cases.proofs.AttemptEnds.Retries.{retries_follow_ends}
 use Rattle.channel_cases.proofs.AttemptEnds.Whole.{calls_go_on_after_ends}
-use Rattle.channel_cases.proofs.SoundBuffers.Slots.{all_numbered}
 use Rattle.channel_cases.specs.AttemptEnds.Ends.{EndNext, HasEnded}
 use Rattle.channel_cases.specs.AttemptEnds.Laws.{CallsGoOnAfterEnds, CommittedEndsClose, EndsByCases, EndsByCuts, IsLastEnd, LastEndsClose, LastEndsCutOff, RetriesFollowEnds, goes_on_after}
 use Rattle.channel_core.specs.States.{StateSeen}
@@ -57,15 +56,12 @@ module _ (goes : CallsGoOnAfterEnds) (retried : RetriesFollowEnds) (last : LastE
   Ended = HasEnded waits also a out x o s
 
   -- a call that ended has no attempt that goes on
-  on : GoesOn held.call
-  on = all_numbered (λ call. GoesOn call) x.book.calls k.number held is.going.calls (slot_there waits also a out x o s is)
-
   ended_so : (e : Option CallEnd) → k.end ≡ e → k.end ≡ None
   ended_so None eq = eq
   ended_so (Some e) eq =
       let over : is_some held.call.ended ≡ true
       = sym (ap (λ o. is_some o) (sees waits also a out x o s is).ended) ∙ ap (λ o. is_some (option_map (λ (w : CallEnd). w.cause) o)) eq in
-      absurd (none_at (is_live s k) s.attempts a.place a is.ending.there is.ending.lives ((sees waits also a out x o s is).live ∙ (on.kept.ended over).live))
+      absurd (none_at (is_live s k) s.attempts a.place a is.ending.there is.ending.lives ((sees waits also a out x o s is).live ∙ ((going_on waits also a out x o s is).kept.ended over).live))
 
   going : k.end ≡ None
   going = ended_so k.end refl
@@ -94,7 +90,7 @@ ends_by_cases goes retried last closes waits also a out x o s is case = has_ende
 module _ (cuts : LastEndsCutOff) where
   last_by : (waits : Line → Bool) (also : List ℕ) (a : Attempt) (out : Outcome) (x : StateSeen) (o : OpenEntry) (s : Seen) (is : EndNext waits also a out x o s)
       → IsLastEnd s is.call a out → (q : Bool) → list_any (λ (w : Attempt). is_live s is.call w && not (w.place == a.place)) s.attempts ≡ q → HasEnded waits also a out x o s
-  last_by waits also a out x o s is last true e = cuts waits also a out x o s is (record { last = last; others = e })
+  last_by waits also a out x o s is last true e = cuts waits also a out x o s is (several waits also a out x o s is last e)
   last_by waits also a out x o s is last false e = lone_last_ends_close waits also a out x o s is (record { last = last; alone = e })
 
   last_closes : LastEndsClose
