@@ -5,9 +5,11 @@
 -- The laws, in the order of this file:
 -- 1. One attempt ends; and so the cases.
 -- 2. Then the resets that are owed are made, and all agrees.
+-- 3. And what the channel keeps by itself.
 use Rattle.std.specs.Option.{option_and_then}
 use Rattle.std.specs.List.{list_any}
 use Rattle.std.specs.Prelude.{Bool, List, None, Some, [], false, is_some, not, true, ℕ, ◌&&◌, ◌==◌, ◌≡◌, ◌∷◌, ◌||◌}
+use Rattle.attempt_ledger.specs.declared.news.EndNews.{EndNews}
 use Rattle.call_actions.specs.Laws.{IsCounting}
 use Rattle.call_actions.specs.Sees.{is_live}
 use Rattle.channel_actions.specs.Agrees.{Agrees}
@@ -15,12 +17,13 @@ use Rattle.channel_actions.specs.EndsFollow.Cuts.{AreUnreset}
 use Rattle.channel_actions.specs.EndsFollow.Laws.{is_late}
 use Rattle.channel_actions.specs.Sets.{is_in_outstanding}
 use Rattle.channel_cases.specs.AttemptEnds.Ahead.{AgreesAhead}
-use Rattle.channel_cases.specs.AttemptEnds.Ends.{EndNext, HasEnded}
+use Rattle.channel_cases.specs.AttemptEnds.Ends.{AreHeld, EndNext, HasEnded, ended_in}
 use Rattle.channel_core.specs.States.{StateSeen}
 use Rattle.channel_core.specs.Steps.{sealed, sealed_one}
 use Rattle.grpc_base.specs.Codes.{has_code}
 use Rattle.grpc_base.specs.declared.plan.CallPlan.{CallPlan}
 use Rattle.grpc_base.specs.declared.plan.CallPlan.TheVariants as plan
+use Rattle.grpc_base.specs.declared.plan.HedgePolicy.{HedgePolicy}
 use Rattle.session_actions.specs.AttemptEnds.{attempt_ended, end_of, tokens_at_end}
 use Rattle.session_actions.specs.Attempts.{commitment, is_to_follow}
 use Rattle.session_actions.specs.Configs.{plan_of}
@@ -103,6 +106,20 @@ CommittedEndsClose = AttemptEndsOf IsCommittedEnd
 abbrev pub EndsByCases : Type 0
 EndsByCases = CallsGoOnAfterEnds → RetriesFollowEnds → LastEndsClose → CommittedEndsClose → OneAttemptEnds
 
+-- what is shown of these leaves one case: a hedged call ends by a code that its policy does not name, and its other attempts are cut off
+pub record IsLastOfSeveral (s : Seen) (c : Call) (a : Attempt) (out : Outcome) : Type 0 where
+  pub last : IsLastEnd s c a out
+  pub policy : HedgePolicy
+  pub hedged : plan_of c s ≡ plan.Hedge policy
+  pub unnamed : has_code policy.codes out.code ≡ false
+  pub others : list_any (λ q. is_live s c q && not (q.place == a.place)) s.attempts ≡ true
+
+abbrev pub LastEndsCutOff : Type 0
+LastEndsCutOff = AttemptEndsOf IsLastOfSeveral
+
+abbrev pub EndsByCuts : Type 0
+EndsByCuts = LastEndsCutOff → OneAttemptEnds
+
 -- then the streams are reset that the session owes, by link and stream, and the channel closes what it queued: all agrees
 abbrev pub all_sealed : List ℕ → StateSeen → StateSeen
 all_sealed [] x = sealed x
@@ -138,3 +155,7 @@ ResetsCatchUp = (waits : Line → Bool) (also : List ℕ) (x : StateSeen) (o : O
 -- where none is owed there is nothing to do: all agrees at once
 abbrev pub NoneIsOwed : Type 0
 NoneIsOwed = (x : StateSeen) (s : Seen) → AgreesAhead [] x s → list_any (is_to_reset s) s.attempts ≡ false → x.resets ≡ [] → Agrees x s
+
+-- and what buffers hold for rows is for those that are there, as before (of the channel alone)
+abbrev pub EndsStayHeld : Type 0
+EndsStayHeld = (a : Attempt) (news : EndNews) (x : StateSeen) → AreHeld x → AreHeld (ended_in a news x)
