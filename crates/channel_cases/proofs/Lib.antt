@@ -25,6 +25,7 @@ pub mod NetSettlings
 pub mod NetSteps
 pub mod OneCallEnds
 pub mod OverdueCalls
+pub mod OwedResets
 pub mod OwnStreams
 pub mod PassActions
 pub mod ResultEvents

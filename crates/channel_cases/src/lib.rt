@@ -28,6 +28,7 @@ pub mod net_results;
 pub mod net_settlings;
 pub mod net_steps;
 pub mod one_call_ends;
+pub mod owed_resets;
 pub mod own_streams;
 pub mod pass_actions;
 pub mod result_events;
