@@ -28,6 +28,7 @@ pub mod OverdueCalls
 pub mod OwedResets
 pub mod OwnStreams
 pub mod PassActions
+pub mod PassedAtOnce
 pub mod ResultEvents
 pub mod RoundSteps
 pub mod SendsEnd

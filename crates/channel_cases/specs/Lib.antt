@@ -26,6 +26,7 @@ pub mod NetSettlings
 pub mod NetSteps
 pub mod OwnStreams
 pub mod PassActions
+pub mod PassedAtOnce
 pub mod ResultEvents
 pub mod RoundSteps
 pub mod SendsEnd

@@ -31,6 +31,7 @@ pub mod one_call_ends;
 pub mod owed_resets;
 pub mod own_streams;
 pub mod pass_actions;
+pub mod passed_at_once;
 pub mod result_events;
 pub mod round_steps;
 pub mod sends_end;
