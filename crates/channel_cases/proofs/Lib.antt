@@ -18,6 +18,7 @@ pub mod FullSends
 pub mod GreetedLinks
 pub mod HeldCalls
 pub mod LongSends
+pub mod LostLinks
 pub mod MakingSteps
 pub mod NetChains
 pub mod NetResults

@@ -22,6 +22,7 @@ pub mod full_sends;
 pub mod greeted_links;
 pub mod held_calls;
 pub mod long_sends;
+pub mod lost_links;
 pub mod making_steps;
 pub mod net_chains;
 pub mod net_results;

@@ -3,7 +3,10 @@
 -- "When Retries are Valid" and "Hedging Policy").
 -- Example: link 1 is lost, with attempt 1 of call 1 on it, whose plan is to retry. AttemptEnds 1; a retry is due after its wait; nothing follows. The channel's
 -- ledger has the end of row 1, its bucket a token less, and call 1 its moment among those that are due.
-use Rattle.std.specs.Prelude.{Bool, List, None, Option, Some, [], false, true, ℕ, ◌∷◌, ◌≡◌}
+use Rattle.std.specs.List.{list_all}
+use Rattle.std.specs.Prelude.{Bool, List, None, Option, Some, [], false, is_some, length, nat_le, true, ℕ, ◌∷◌, ◌≡◌}
+use Rattle.attempt_buffer.specs.Buffers.{Buffered, Committed}
+use Rattle.attempt_ledger.specs.TransparentRows.{is_unsent}
 use Rattle.attempt_ledger.specs.declared.news.EndNews.{EndNews}
 use Rattle.attempt_ledger.specs.declared.news.News.TheVariants as news
 use Rattle.attempt_ledger.specs.declared.row.Placed.{Placed}
@@ -15,10 +18,13 @@ use Rattle.channel_actions.specs.Points.{IsSameEntry}
 use Rattle.channel_actions.specs.Sets.{is_in_outstanding}
 use Rattle.channel_cases.specs.AttemptEnds.Ahead.{AgreesAhead, AgreesOffLinks, LinksAhead}
 use Rattle.channel_cases.specs.AttemptEnds.Runs.{RunsRise}
+use Rattle.channel_core.specs.Books.{slot_at}
 use Rattle.channel_core.specs.States.{StateSeen}
 use Rattle.channel_core.specs.Steps.{left_behind, stamped_gone, told, unqueued}
+use Rattle.channel_core.specs.declared.state.slots.CallSlot.{CallSlot}
 use Rattle.session_actions.specs.Actions.{following}
 use Rattle.session_actions.specs.AttemptEnds.{attempt_ended, end_of}
+use Rattle.session_actions.specs.Attempts.{is_to_follow}
 use Rattle.session_actions.specs.Laws.{posted_in}
 use Rattle.session_actions.specs.Sessions.{Does}
 use Rattle.session_actions.specs.Words.{numbered}
@@ -57,6 +63,14 @@ may_wait line.WireEnd = true
 may_wait line.Reset = true
 may_wait l = is_late l
 
+-- what a buffer holds for rows is for those that are there; and while it is committed, it is for that row alone (of the channel alone: `sound_calls`, `sound_buffers`)
+pub record IsHeld (rows : ℕ) (b : Buffered) : Type 0 where
+  pub rows_are : list_all (λ k. nat_le k.row rows) b.cursors ≡ true
+  pub alone : (m : Committed) → b.committed ≡ Some m → b.cursors ≡ []
+
+abbrev pub AreHeld : StateSeen → Type 0
+AreHeld x = (number : ℕ) (slot : CallSlot) → slot_at x.book number ≡ Some slot → IsHeld (length x.book.ledger.rows) slot.call.buffer
+
 -- the end of an attempt is next. The links of the channel are as they are once it has ended: the frame that ended it took it off its link, and queued the reset
 -- of its stream. (A link that is over is stamped as gone in the session at once, and in the channel with the first attempt that ends.)
 pub record EndNext (waits : Line → Bool) (also : List ℕ) (a : Attempt) (out : Outcome) (x : StateSeen) (o : OpenEntry) (s : Seen) : Type 0 where
@@ -73,6 +87,10 @@ pub record EndNext (waits : Line → Bool) (also : List ℕ) (a : Attempt) (out 
   pub rising : RunsRise s
   -- of the channel alone (`going_calls`)
   pub going : CallsGoOn x
+  -- where a transparent retry follows: nothing is held for it yet
+  pub held : is_to_follow call out.cause out.unseen s ≡ true → AreHeld x
+  -- one that was never sent waited on a link for a stream
+  pub unsent : is_unsent out.cause ≡ true → (is_some a.row.placed ≡ true) × (a.row.stream ≡ None)
 
 -- the session after it: in the same entry, at the same stage, with nothing that follows at once but these lines, ends by the wire, and resets
 pub record HasEnded (waits : Line → Bool) (also : List ℕ) (a : Attempt) (out : Outcome) (x : StateSeen) (o : OpenEntry) (s : Seen) : Type 0 where

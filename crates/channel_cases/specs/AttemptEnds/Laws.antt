@@ -8,6 +8,7 @@
 use Rattle.std.specs.Option.{option_and_then}
 use Rattle.std.specs.List.{list_any}
 use Rattle.std.specs.Prelude.{Bool, List, None, Some, [], false, is_some, not, true, ℕ, ◌&&◌, ◌==◌, ◌≡◌, ◌∷◌, ◌||◌}
+use Rattle.attempt_ledger.specs.declared.news.EndNews.{EndNews}
 use Rattle.call_actions.specs.Laws.{IsCounting}
 use Rattle.call_actions.specs.Sees.{is_live}
 use Rattle.channel_actions.specs.Agrees.{Agrees}
@@ -15,7 +16,7 @@ use Rattle.channel_actions.specs.EndsFollow.Cuts.{AreUnreset}
 use Rattle.channel_actions.specs.EndsFollow.Laws.{is_late}
 use Rattle.channel_actions.specs.Sets.{is_in_outstanding}
 use Rattle.channel_cases.specs.AttemptEnds.Ahead.{AgreesAhead}
-use Rattle.channel_cases.specs.AttemptEnds.Ends.{EndNext, HasEnded}
+use Rattle.channel_cases.specs.AttemptEnds.Ends.{AreHeld, EndNext, HasEnded, ended_in}
 use Rattle.channel_core.specs.States.{StateSeen}
 use Rattle.channel_core.specs.Steps.{sealed, sealed_one}
 use Rattle.grpc_base.specs.Codes.{has_code}
@@ -138,3 +139,7 @@ ResetsCatchUp = (waits : Line → Bool) (also : List ℕ) (x : StateSeen) (o : O
 -- where none is owed there is nothing to do: all agrees at once
 abbrev pub NoneIsOwed : Type 0
 NoneIsOwed = (x : StateSeen) (s : Seen) → AgreesAhead [] x s → list_any (is_to_reset s) s.attempts ≡ false → x.resets ≡ [] → Agrees x s
+
+-- and what buffers hold for rows is for those that are there, as before (of the channel alone)
+abbrev pub EndsStayHeld : Type 0
+EndsStayHeld = (a : Attempt) (news : EndNews) (x : StateSeen) → AreHeld x → AreHeld (ended_in a news x)

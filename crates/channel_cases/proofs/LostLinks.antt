@@ -1,0 +1,10 @@
+pub mod After
+pub mod Answered
+pub mod Downs
+pub mod Ends
+pub mod First
+pub mod Losing
+pub mod News
+pub mod Stamped
+pub mod Starts
+pub mod Walk
