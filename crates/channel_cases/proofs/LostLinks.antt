@@ -7,4 +7,5 @@ pub mod Losing
 pub mod News
 pub mod Stamped
 pub mod Starts
+pub mod Stirred
 pub mod Walk
