@@ -1,5 +1,5 @@
 // No call of a channel stands still; nothing runs.
-ghost use Rattle.channel_actions.specs.GoingCalls.Laws.{AnswersGoOn, DeadlinesGoOn, EachGoesOn, NewCallsGoOn, SettlingsGoOn, StepsGoOn};
+ghost use Rattle.channel_actions.specs.GoingCalls.Laws.{AnswersGoOn, DeadlinesGoOn, EachGoesOn, LossesGoOn, NewCallsGoOn, SettlingsGoOn, StepsGoOn};
 
 use call_core::{calls_are_kept, calls_go_on, takes_leave_rows};
 
@@ -12,6 +12,7 @@ pub fn calls_of_channels_go_on()
     ensures answers { AnswersGoOn }
     ensures settlings { SettlingsGoOn }
     ensures each { EachGoesOn }
+    ensures losses { LossesGoOn }
 {
     calls_are_kept();
     calls_go_on();

@@ -22,6 +22,7 @@ pub mod HeldCalls
 pub mod HeldKinds
 pub mod HeldResults
 pub mod LongSends
+pub mod LostLinks
 pub mod MakingSteps
 pub mod NetChains
 pub mod NetResults
@@ -29,8 +30,10 @@ pub mod NetSettlings
 pub mod NetSteps
 pub mod OneCallEnds
 pub mod OverdueCalls
+pub mod OwedResets
 pub mod OwnStreams
 pub mod PassActions
+pub mod PassedAtOnce
 pub mod ResultEvents
 pub mod RoundSteps
 pub mod SendsEnd

@@ -24,6 +24,7 @@ pub mod HeldKinds
 pub mod HeldResults
 pub mod LeftLinks
 pub mod LongSends
+pub mod LostLinks
 pub mod MakingSteps
 pub mod NetChains
 pub mod NetResults
@@ -31,6 +32,7 @@ pub mod NetSettlings
 pub mod NetSteps
 pub mod OwnStreams
 pub mod PassActions
+pub mod PassedAtOnce
 pub mod ResultEvents
 pub mod RoundSteps
 pub mod SendsEnd

@@ -1,21 +1,27 @@
 -- Each single thing that is done to a channel lets its calls go on; so does a whole step, and so do its parts.
-use Rattle.std.proofs.Common.{◌≡◌, ◌≤◌, ℕ, Option, Some, None, refl, sym, ap, subst}
+use Rattle.std.proofs.Common.{◌≡◌, ◌≤◌, ◌∷◌, ℕ, Bool, true, false, List, [], Option, Some, None, if◌then◌else◌, refl, sym, ap, subst}
 use Rattle.attempt_ledger.specs.Numbering.{most_attempts}
+use Rattle.attempt_ledger.specs.declared.ledger.LinkSeen.{LinkSeen}
+use Rattle.attempt_ledger.specs.declared.news.EndNews.{EndNews}
+use Rattle.attempt_ledger.specs.declared.news.News.{News}
+use Rattle.attempt_ledger.specs.declared.news.News.TheVariants as news
 use Rattle.call_core.specs.Steps as call
-use Rattle.channel_core.proofs.Carrying.{Carried, Carries, Configures, overdue}
+use Rattle.channel_core.proofs.Carrying.{Carried, Carries, Configures, after_book, overdue}
 use Rattle.channel_core.proofs.CarryingSteps.{answered, settle, carried}
-use Rattle.channel_core.specs.Books.{bucket_set, slot_at}
+use Rattle.channel_core.specs.Arrivals.{ended_on, sealed_if}
+use Rattle.channel_core.specs.Books.{BookActs, book_acted, bucket_set, call_of, has_drawn, has_ended, row_at, slot_at}
 use Rattle.channel_core.specs.States.{StateSeen}
-use Rattle.channel_core.specs.Steps.{chosen_in, next_word}
+use Rattle.channel_core.specs.Steps.{chosen_in, drawn_if, is_gone, left_behind, links_sealed, loss_of, next_word, resets_taken, sealed_one, stamped_gone, told, with_ledger_links}
 use Rattle.channel_core.specs.Tables.{fed_call, last_run, with_bucket, with_timers, without_due}
 use Rattle.channel_core.specs.declared.state.slots.CallSlot.{CallSlot}
 use Rattle.channel_actions.proofs.GoingCalls.Arms.{CallLaws}
 use Rattle.channel_actions.proofs.GoingCalls.Slots.{AllGo, all_acted, all_beside, all_changed, all_more, all_numbered}
 use Rattle.channel_actions.specs.GoingCalls.Going.{AllowsAttempts, CallsGoOn}
-use Rattle.channel_actions.specs.GoingCalls.Laws.{AnswersGoOn, DeadlinesGoOn, EachGoesOn, NewCallsGoOn, SettlingsGoOn, StepsGoOn}
+use Rattle.channel_actions.specs.GoingCalls.Laws.{AnswersGoOn, DeadlinesGoOn, EachGoesOn, LossesGoOn, NewCallsGoOn, SettlingsGoOn, StepsGoOn}
 use Rattle.grpc_base.specs.declared.event.Event.{Event}
 use Rattle.grpc_base.specs.declared.event.Event.TheVariants as event
 use Rattle.grpc_base.specs.declared.plan.Chosen.{Chosen}
+use Rattle.ledger_stamps.specs.Steps.{changed_at, gone_link}
 use Rattle.link_laws.proofs.Knowing.{allowed}
 use Rattle.service_config.specs.Choice.{chosen_for}
 use Rattle.service_config.specs.declared.config.Config.{Config}
@@ -112,3 +118,36 @@ module _ (laws : CallLaws) where
 
   pub each_goes_on : EachGoesOn
   each_goes_on x number slot g e = all_numbered x.book.calls number slot g.calls e
+
+  -- an attempt that is lost with its link
+  told_goes : (row : ℕ) (n : News) (s : StateSeen) → GoOn s (told row n s)
+  told_goes row n s =
+      let number : ℕ = call_of (row_at s.book row) in
+      let b : BookActs = book_acted (call.heard_news row n s.book.moment (next_word s)) number s.book in
+      after_book GoOn go_carries b number s (drawn_if (has_drawn (row_at b.book row)) s) refl refl (λ e. e)
+      (into s _ refl (all_acted (call.heard_news row n s.book.moment (next_word s)) s.book.ledger _ (λ c. laws.heard row n s.book.moment (next_word s) _) s.book.calls number))
+
+  stamped_goes : (ls : List LinkSeen) (b : Bool) (s : StateSeen) → GoOn s (if b then with_ledger_links ls s else s)
+  stamped_goes ls true s g = left s (with_ledger_links ls s) refl refl g
+  stamped_goes ls false s g = g
+
+  ended_goes : (link row : ℕ) (end : EndNews) (s : StateSeen) (b : Bool)
+      → GoOn s (if b then s else stamped_gone link (told row (news.Ended row end) (left_behind link row s)))
+  ended_goes link row end s true g = g
+  ended_goes link row end s false g =
+      let t : StateSeen = told row (news.Ended row end) (left_behind link row s) in
+      stamped_goes (changed_at (gone_link t.book.ledger.entry) t.book.ledger.links link) (is_gone link t) t
+      (told_goes row (news.Ended row end) (left_behind link row s) (left s (left_behind link row s) refl refl g))
+
+  sealed_goes : (links : List ℕ) (s : StateSeen) → GoOn s (links_sealed links s)
+  sealed_goes [] s g = g
+  sealed_goes (link ∷ links) s g = sealed_goes links (sealed_one link s) (left s (sealed_one link s) refl refl g)
+
+  sealed_if_goes : (each : Bool) (s : StateSeen) → GoOn s (sealed_if each s)
+  sealed_if_goes true s g = sealed_goes s.resets (resets_taken s) (left s (resets_taken s) refl refl g)
+  sealed_if_goes false s g = g
+
+  pub losses_go_on : LossesGoOn
+  losses_go_on link row each x g =
+      let end : EndNews = loss_of link row x in
+      sealed_if_goes each (ended_on link row end x) (ended_goes link row end x (has_ended (row_at x.book row)) g)

@@ -2,8 +2,9 @@
 -- calls, that the event is answered, that the channel settles.
 -- Example: a call is cancelled. It ended, so it need not go on; the others go on as before.
 use Rattle.std.specs.Global.{Global}
-use Rattle.std.specs.Prelude.{List, Option, Some, ℕ, ◌≡◌}
+use Rattle.std.specs.Prelude.{Bool, List, Option, Some, ℕ, ◌≡◌}
 use Rattle.channel_core.specs.Applying.{AnswersBy, Stepped, new_state}
+use Rattle.channel_core.specs.Arrivals.{lost_row}
 use Rattle.channel_core.specs.Books.{slot_at}
 use Rattle.channel_core.specs.Settling.{settled}
 use Rattle.channel_core.specs.States.{StateSeen}
@@ -34,3 +35,7 @@ SettlingsGoOn = (x : StateSeen) → CallsGoOn x → CallsGoOn (settled x)
 -- of the call of a number
 abbrev pub EachGoesOn : Type 0
 EachGoesOn = (x : StateSeen) (number : ℕ) (slot : CallSlot) → CallsGoOn x → slot_at x.book number ≡ Some slot → GoesOn slot.call
+
+-- and so does the end of each attempt that is lost with its link
+abbrev pub LossesGoOn : Type 0
+LossesGoOn = (link row : ℕ) (each : Bool) (x : StateSeen) → CallsGoOn x → CallsGoOn (lost_row link each row x)

@@ -415,7 +415,7 @@ module _ (exact : CalmIsExact) (stir : BoardsStir) (clocks : ClockChanges) (kept
           goes_off : (w : Link) → link_seen (noted_gone u (gives_up w)) ≡ gone_link E (link_seen (noted_gone t w))
           goes_off w =
               ap (λ (n : ℕ). link_seen (if is_none w.gone && true then record w { over = Some over.TimedOut; gone = Some n } else record w { over = Some over.TimedOut })) (entry_same ∙ entry_is)
-              ∙ stamp_over w E (is_gone w t)
+              ∙ stamp_over over.TimedOut w E (is_gone w t)
               ∙ ap (λ (n : ℕ). gone_link E (link_seen (if is_none w.gone && is_gone w t then record w { gone = Some n } else w))) (sym entry_is)
 
           noted : links_noted u ≡ stamps_after E (l.gone ++ k ∷ []) x.book.ledger.links

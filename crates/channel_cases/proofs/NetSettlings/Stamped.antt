@@ -9,7 +9,7 @@ use Rattle.ledger_stamps.specs.Steps.{changed_at, gone_link}
 use Rattle.session_actions.specs.Sessions.{link_seen}
 use Rattle.session_actions.specs.Words.{changed, changed_if}
 use Rattle.session_actions.specs.declared.link.Link.{Link}
-use Rattle.session_actions.specs.declared.link.LinkOver.TheVariants as over
+use Rattle.session_actions.specs.declared.link.LinkOver.{LinkOver}
 
 fewer : (i n : ℕ) → nat_lt (suc i) (suc n) ≡ false → nat_lt i n ≡ false
 fewer i n e = grind (arith, nat_tests)
@@ -46,15 +46,15 @@ module _ {X Y : Type 0} (F G : X → Y) (f : X → X) (g : Y → Y) (same : (x :
       put_same xs i (slice_get xs i) refl ∙ sym (in_range g (map G xs) i (nat_lt i (length (map G xs))) refl)
 
 -- the stamp of one
-stamp_by : (l : Link) (n : ℕ) (o : Option ℕ) (b : Bool)
-    → link_seen (if is_none o && true then record l { over = Some over.TimedOut; gone = Some n } else record l { over = Some over.TimedOut; gone = o })
+stamp_by : (why : LinkOver) (l : Link) (n : ℕ) (o : Option ℕ) (b : Bool)
+    → link_seen (if is_none o && true then record l { over = Some why; gone = Some n } else record l { over = Some why; gone = o })
     ≡ gone_link n (link_seen (if is_none o && b then record l { gone = Some n } else record l { gone = o }))
-stamp_by l n None true = refl
-stamp_by l n None false = refl
-stamp_by l n (Some m) true = refl
-stamp_by l n (Some m) false = refl
+stamp_by why l n None true = refl
+stamp_by why l n None false = refl
+stamp_by why l n (Some m) true = refl
+stamp_by why l n (Some m) false = refl
 
-pub stamp_over : (l : Link) (n : ℕ) (b : Bool)
-    → link_seen (if is_none l.gone && true then record l { over = Some over.TimedOut; gone = Some n } else record l { over = Some over.TimedOut })
+pub stamp_over : (why : LinkOver) (l : Link) (n : ℕ) (b : Bool)
+    → link_seen (if is_none l.gone && true then record l { over = Some why; gone = Some n } else record l { over = Some why })
     ≡ gone_link n (link_seen (if is_none l.gone && b then record l { gone = Some n } else l))
-stamp_over l n b = stamp_by l n l.gone b
+stamp_over why l n b = stamp_by why l n l.gone b

@@ -1,13 +1,14 @@
 -- A step of the net: all else agrees as before, since nothing else changed.
-use Rattle.std.proofs.Common.{◌≡◌, ◌==◌, ◌||◌, ◌∷◌, ap, arith, refl, subst, sym, ◌∙◌, true, false, List, [], Option, None, Some, ℕ, zero, suc, is_some, length}
+use Rattle.std.proofs.Common.{◌≡◌, ◌==◌, ◌∷◌, ap, arith, refl, subst, sym, ◌∙◌, true, false, List, [], Option, None, Some, ℕ, zero, suc, is_some, length}
 use Rattle.std.proofs.lemmas.Bool.Decides.{nat_tests}
 use Rattle.std.specs.Option.{option_map_or}
 use Rattle.std.specs.Prelude.{map}
 use Rattle.channel_actions.specs.Agrees.{Agrees}
 use Rattle.channel_actions.specs.Calls.{SeesCalls}
-use Rattle.channel_actions.specs.Clock.{DrawsAlike}
+use Rattle.channel_actions.specs.Clock.{DrawsAlike, SeesClock}
 use Rattle.channel_actions.specs.Columns.{SeesColumns, links_noted}
 use Rattle.channel_actions.specs.Configs.{SeesBuckets, SeesConfigs}
+use Rattle.channel_actions.specs.Links.{SeesLinks}
 use Rattle.channel_actions.specs.Sets.{SeesSets, is_in_dues}
 use Rattle.channel_core.specs.States.{StateSeen}
 use Rattle.channel_actions.specs.KeptSessions.Kept.{IsKept}
@@ -16,9 +17,11 @@ use Rattle.channel_actions.proofs.BoardActions.Boards.{boards_leave_rest, of_non
 use Rattle.channel_cases.proofs.NetSteps.Passing.{passes_none}
 use Rattle.channel_actions.specs.BoardActions.Boards.{AreOfBoard, IsBoarded, boarded, is_of_board}
 use Rattle.channel_cases.specs.NetSteps.Laws.{NetStepsKeep}
-use Rattle.channel_cases.specs.NetSteps.Steps.{IsNetStep, netted}
+use Rattle.channel_cases.specs.NetSteps.Steps.{netted}
 use Rattle.channel_actions.specs.OtherCalls.Laws.{AllCallsStay, SetsApart, SetsStay}
 use Rattle.channel_actions.specs.OtherCalls.Others.{AreOfCall, BooksApart, GoesApart, IsBooked, IsOfCall}
+use Rattle.net_actions.specs.Runs.{IsOfCalls}
+use Rattle.net_actions.specs.Sees.{Sees}
 use Rattle.session_actions.specs.Actions.{after}
 use Rattle.session_actions.specs.Policies.{current_policy}
 use Rattle.session_actions.specs.Sessions.{Does}
@@ -30,11 +33,11 @@ use Rattle.session_actions.specs.declared.seen.Seen.{Seen}
 no_zero : (n : ℕ) → (suc n == 0) ≡ false
 no_zero n = grind (arith, nat_tests)
 
-booked : (s : Seen) → IsKept s → IsBooked s
+pub booked : (s : Seen) → IsKept s → IsBooked s
 booked s k = record { book = k.book; owned = k.owned; reads = k.reads }
 
 -- they are of no call, and pass nothing
-of_call : (s : Seen) (a : Action) → IsKept s → is_of_board a ≡ true → IsOfCall 0 a s
+pub of_call : (s : Seen) (a : Action) → IsKept s → is_of_board a ≡ true → IsOfCall 0 a s
 of_call s a kept board = record {
   acts = ap (λ (o : Option ℕ). option_map_or (λ (k : ℕ). k == 0) o true) (of_none s a board);
   passes = λ c at other. passes_none s a c kept board;
@@ -47,13 +50,27 @@ all_of_call kept_along (a ∷ actions) s t kept board does = (
   all_of_call kept_along actions (after a s) t (kept_along (a ∷ []) s (after a s) kept (does.0, refl)) board.1 does.1,
 )
 
-module _ (calls_stay : AllCallsStay) (sets_stay : SetsStay) (kept_along : KeptAlong) (x : StateSeen) (s t : Seen) (h : Agrees x s) where
-  module _ (y : StateSeen) (step : IsNetStep x y s t) where
+-- what leaves calls, attempts and configs as they are, and passes nothing on a stream: the net, links and their stamps alone change
+pub record IsBeside (x y : StateSeen) (s t : Seen) : Type 0 where
+  pub channel : y ≡ netted y.net y.drawn y.resolver y.links y.book.ledger.generations y.book.ledger.links x
+  pub boarded : IsBoarded s t
+  pub goes : GoesApart 0 s t
+  pub kept : IsKept t
+  pub clock : SeesClock y t
+  pub generations : map (λ (g : PolicyUse). g.generation) t.policies ≡ y.book.ledger.generations
+  pub noted : links_noted t ≡ y.book.ledger.links
+  pub policy : is_some x.held ≡ true → s.shut ≡ false → is_some (current_policy t) ≡ true
+  pub links : SeesLinks y t
+  pub net : Sees t y.net
+  pub orderly : IsOfCalls y.net
+
+module _ (calls_stay : AllCallsStay) (sets_stay : SetsStay) (x : StateSeen) (s t : Seen) (h : Agrees x s) where
+  module _ (y : StateSeen) (step : IsBeside x y s t) where
     e : IsBoarded s t
-    e = boards_leave_rest step.actions s t step.board step.does
+    e = step.boarded
 
     later : IsKept t
-    later = kept_along step.actions s t h.kept step.does
+    later = step.kept
 
     abbrev z : StateSeen
     z = netted y.net y.drawn y.resolver y.links y.book.ledger.generations y.book.ledger.links x
@@ -78,13 +95,7 @@ module _ (calls_stay : AllCallsStay) (sets_stay : SetsStay) (kept_along : KeptAl
     buckets = subst (SeesBuckets z.book.buckets) (sym e) buckets_for
 
     goes : GoesApart 0 s t
-    goes = record {
-      actions = step.actions;
-      does = step.does;
-      apart = all_of_call kept_along step.actions s t h.kept step.board step.does;
-      earlier = booked s h.kept;
-      later = booked t later;
-    }
+    goes = step.goes
 
     long : length t.calls ≡ length z.book.calls
     long = ap (λ (v : Seen). length v.calls) e ∙ h.calls.count
@@ -145,4 +156,25 @@ module _ (calls_stay : AllCallsStay) (sets_stay : SetsStay) (kept_along : KeptAl
     agrees_after = subst (λ (v : StateSeen). Agrees v t) (sym step.channel) agrees_now
 
 pub net_steps_keep : AllCallsStay → SetsStay → KeptAlong → NetStepsKeep
-net_steps_keep calls_stay sets_stay kept_along x y s t h step = agrees_after calls_stay sets_stay kept_along x s t h y step
+net_steps_keep calls_stay sets_stay kept_along x y s t h step =
+    let later : IsKept t = kept_along step.actions s t h.kept step.does in
+    agrees_after calls_stay sets_stay x s t h y
+    (record {
+      channel = step.channel;
+      boarded = boards_leave_rest step.actions s t step.board step.does;
+      goes = record {
+        actions = step.actions;
+        does = step.does;
+        apart = all_of_call kept_along step.actions s t h.kept step.board step.does;
+        earlier = booked s h.kept;
+        later = booked t later;
+      };
+      kept = later;
+      clock = step.clock;
+      generations = step.generations;
+      noted = step.noted;
+      policy = step.policy;
+      links = step.links;
+      net = step.net;
+      orderly = step.orderly;
+    })

@@ -1,0 +1,11 @@
+pub mod After
+pub mod Answered
+pub mod Downs
+pub mod Ends
+pub mod First
+pub mod Losing
+pub mod News
+pub mod Stamped
+pub mod Starts
+pub mod Stirred
+pub mod Walk

@@ -1,0 +1,7 @@
+pub mod Books
+pub mod Final
+pub mod First
+pub mod Late
+pub mod Sealed
+pub mod Walk
+pub mod Whole
