@@ -1,5 +1,5 @@
 -- An attempt that is placed stirs no line: it was queued, its call has room, and its link is up. (The line of final ends is left out.)
-use Rattle.std.proofs.Common.{◌≡◌, ◌∷◌, ◌++◌, ◌||◌, ◌&&◌, ◌==◌, ◌⊎◌, inl, inr, not, ap, refl, sym, ◌∙◌, Bool, true, false, List, [], Option, None, Some, ℕ, if◌then◌else◌, is_none, is_some, nat_lt}
+use Rattle.std.proofs.Common.{◌≡◌, ◌∷◌, ◌++◌, ◌||◌, ◌&&◌, ◌==◌, ◌⊎◌, inl, inr, not, ap, refl, sym, ◌∙◌, Bool, true, false, List, [], Option, None, Some, ℕ, if◌then◌else◌, is_none, is_some, nat_lt, slice_get, suc, zero}
 use Rattle.std.proofs.lemmas.Bool.{and_left, and_right, eqb-false, eqb-true}
 use Rattle.std.specs.List.{list_any}
 use Rattle.std.specs.Option.{option_and_then, option_map, option_map_or}
@@ -49,6 +49,17 @@ no_first x y e = and_left x y e
 
 same_some : (b c : Attempt) (o : Option Attempt) → o ≡ Some b → o ≡ Some c → b ≡ c
 same_some b c o p q = (cc)
+
+none_by : {X : Type 0} (p q : X → Bool) (x : X) (xs : List X) (b : Bool) → q x ≡ b → (b || list_any q xs) ≡ false → (q x ≡ false → p x ≡ false)
+    → (list_any q xs ≡ false → list_any p xs ≡ false) → (p x || list_any p xs) ≡ false
+none_by p q x xs true e h each rest = (let bad : true ≡ false = h in absurd (cc))
+none_by p q x xs false e h each rest = ap (λ (b : Bool). b || list_any p xs) (each e) ∙ rest h
+
+-- of each that is in the list
+none_at : {X : Type 0} (p q : X → Bool) (xs : List X) → ((i : ℕ) (x : X) → slice_get xs i ≡ Some x → q x ≡ false → p x ≡ false) → list_any q xs ≡ false → list_any p xs ≡ false
+none_at p q [] each h = refl
+none_at p q (x ∷ xs) each h =
+    none_by p q x xs (q x) refl h (each zero x refl) (λ e. none_at p q xs (λ i y got. each (suc i) y got) e)
 
 module _ (s : Seen) (n : ℕ) (at : Placed) (fits : IsPlaceable n at s) where
   abbrev put : Attempt → Attempt
@@ -130,11 +141,11 @@ module _ (s : Seen) (n : ℕ) (at : Placed) (fits : IsPlaceable n at s) where
       (λ k. holds_same (counts_by k t) (counts_by k s) (counts_same k) k.row.ended) (commitment c s))
 
   -- its call has room
-  room_by : (c : Call) (b : Bool) → is_of c fits.attempt ≡ b → is_overflowing s c ≡ false → is_overflowing t c ≡ false
-  room_by c true e h =
+  room_by : (i : ℕ) (c : Call) (b : Bool) → slice_get s.calls i ≡ Some c → is_of c fits.attempt ≡ b → is_overflowing s c ≡ false → is_overflowing t c ≡ false
+  room_by i c true got e h =
       ap (λ (b : Bool). (b && nat_lt 262144 (accepted_bytes c)) && has_outstanding c t) (free_same c)
-      ∙ no_first (is_free_call s c && nat_lt 262144 (accepted_bytes c)) (has_outstanding c t) (fits.room c e)
-  room_by c false e h =
+      ∙ no_first (is_free_call s c && nat_lt 262144 (accepted_bytes c)) (has_outstanding c t) (fits.room i c got e)
+  room_by i c false got e h =
       ap (λ (b : Bool). (b && nat_lt 262144 (accepted_bytes c)) && has_outstanding c t) (free_same c)
       ∙ ap (λ (b : Bool). (is_free_call s c && nat_lt 262144 (accepted_bytes c)) && b)
       (any_changed_at (λ (a : Attempt). is_of c a && is_outstanding a) put n s.attempts
@@ -232,7 +243,7 @@ module _ (s : Seen) (n : ℕ) (at : Placed) (fits : IsPlaceable n at s) where
   placed_still line.Final o e h = absurd (cc)
   placed_still line.Cancelled o e h = h
   placed_still line.Request o e h = aside_request o s t ∙ h
-  placed_still line.Overflow o e h = none_less (is_overflowing t) (is_overflowing s) (λ c. room_by c (is_of c fits.attempt) refl) s.calls h
+  placed_still line.Overflow o e h = none_at (is_overflowing t) (is_overflowing s) s.calls (λ i c got. room_by i c (is_of c fits.attempt) got refl) h
   placed_still line.Head o e h = none_changed (is_headed t) put n s.attempts
       (λ a is. and_right (is_outstanding (put a)) (holds (has_head_in (put a) t) (numbered s.calls a.row.call)) (no_head a is (numbered s.calls a.row.call)))
       (any_same (is_headed t) (is_headed s) head_one s.attempts ∙ h)

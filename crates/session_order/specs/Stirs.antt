@@ -3,7 +3,7 @@
 -- Example: the trailers of a hedged attempt are read, with a code that hedgingPolicy does not name. FrameRead stirs the line by which attempts end;
 -- AttemptEnds those by which the call is committed and the stream reset; CallCommitted those by which the other attempts are cut and the call ends.
 use Rattle.std.specs.List.{list_any}
-use Rattle.std.specs.Prelude.{Bool, List, None, Some, [], false, true, length, nat_lt, ℕ, ◌&&◌, ◌+◌, ◌∷◌, ◌<◌, ◌≡◌, ◌≤◌}
+use Rattle.std.specs.Prelude.{Bool, List, None, Some, [], false, true, length, nat_lt, slice_get, ℕ, ◌&&◌, ◌+◌, ◌∷◌, ◌<◌, ◌≡◌, ◌≤◌}
 use Rattle.attempt_ledger.specs.declared.ledger.Ask.{Ask}
 use Rattle.attempt_ledger.specs.declared.row.Placed.{Placed}
 use Rattle.attempt_ledger.specs.declared.row.RowEnd.{RowEnd}
@@ -101,7 +101,7 @@ pub record IsPlaceable (row : ℕ) (at : Placed) (s : Seen) : Type 0 where
   pub link : Link
   pub there : numbered s.links at.link ≡ Some link
   pub up : is_going_down link ≡ false
-  pub room : (c : Call) → is_of c attempt ≡ true → (is_free_call s c && nat_lt 262144 (accepted_bytes c)) ≡ false
+  pub room : (i : ℕ) (c : Call) → slice_get s.calls i ≡ Some c → is_of c attempt ≡ true → (is_free_call s c && nat_lt 262144 (accepted_bytes c)) ≡ false
 
 -- an attempt of a number of its own: it follows none; and the last pick request was of an attempt that was made
 abbrev pub made_row : ℕ → ℕ → RowKind → ℕ → Seen → Attempt
