@@ -1,5 +1,5 @@
 // One attempt that ends; nothing runs.
-ghost use Rattle.channel_cases.specs.AttemptEnds.Laws.{CallsGoOnAfterEnds, CommittedEndsClose, NoneIsOwed};
+ghost use Rattle.channel_cases.specs.AttemptEnds.Laws.{CallsGoOnAfterEnds, CommittedEndsClose, EndsByCases, EndsByCuts, EndsStayHeld, LoneLastEndsClose, NoneIsOwed, RetriesFollowEnds};
 ghost use Rattle.channel_cases.specs.AttemptEnds.Runs.{RunsOfSessions, RunsStay};
 
 /// Where an attempt ends, by its pick or by the wire, and its call goes on, since a retry is licensed, or another attempt of the hedged call goes on or is due,
@@ -14,6 +14,30 @@ pub fn calls_go_on_after_ends()
 /// but resets, and channel and session agree (gRPC, "Core concepts": RPC life cycle; gRFC A6, "When Retries are Valid").
 pub fn committed_ends_close()
     ensures { CommittedEndsClose }
+{}
+
+/// Where an attempt ends, no further attempt follows it, and no other attempt of its call goes on, the call is committed to it next, and then ends by it; and
+/// nothing follows at once but resets, and channel and session agree (gRFC A6, "Retry Policy", "Hedging Policy" and "When Retries are Valid").
+pub fn lone_last_ends_close()
+    ensures { LoneLastEndsClose }
+{}
+
+/// Where a transparent retry follows the end of an attempt, it is made at once, and takes the commitment over where the call is committed to that attempt; and
+/// nothing follows at once but resets, and channel and session agree (gRFC A6, "Transparent Retries").
+pub fn retries_follow_ends()
+    ensures { RetriesFollowEnds }
+{}
+
+/// These are all but one: an attempt ends with nothing more asked, once it is shown of a last end after which the other attempts of its call are cut off (gRFC A6,
+/// "Retry Policy", "Hedging Policy", "Transparent Retries" and "When Retries are Valid").
+pub fn ends_are_by_cases()
+    ensures cases { EndsByCases }
+    ensures cuts { EndsByCuts }
+{}
+
+/// An attempt that ends leaves it so that what buffers hold for rows is for those that are there (gRFC A6, "Memory Management (Buffering)").
+pub fn ends_stay_held()
+    ensures { EndsStayHeld }
 {}
 
 /// The runs of equal throttle settings rise as the configs of a session come: a config read joins the run of the one before or begins the next, and every other

@@ -44,7 +44,7 @@ out_by false z o p = sym (and_on (is_some o && is_none p))
     and_on true = refl
     and_on false = refl
 
-waits_by : (b : Bool) (z : RowEnd) (o : Option Placed) (p : Option RowEnd) (over : Bool)
+pub waits_by : (b : Bool) (z : RowEnd) (o : Option Placed) (p : Option RowEnd) (over : Bool)
     → ((is_none o && is_none (if b then Some z else p)) && not over) ≡ (((is_none o && is_none p) && not over) && not b)
 waits_by true z o p over =
     ap (λ (c : Bool). c && not over) (and_right (is_none o) false refl) ∙ sym (and_right ((is_none o && is_none p) && not over) false refl)

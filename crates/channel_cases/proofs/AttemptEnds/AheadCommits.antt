@@ -1,5 +1,5 @@
 -- A commitment leaves each link as far ahead as it was.
-use Rattle.std.proofs.Common.{◌≡◌, ◌&&◌, ◌==◌, ◌++◌, ◌∷◌, ap, refl, subst, sym, ◌∙◌, Bool, true, false, List, [], Option, None, Some, ℕ, cond, filter, if◌then◌else◌, is_some, length, map, option_map}
+use Rattle.std.proofs.Common.{◌≡◌, ◌&&◌, ◌==◌, ◌++◌, ◌∷◌, ap, refl, subst, sym, ◌∙◌, Bool, true, false, List, [], Option, None, Some, ℕ, filter, if◌then◌else◌, is_some, length, map, option_map}
 use Rattle.std.specs.Option.{option_map_or}
 use Rattle.std.specs.Prelude.{nat_lt, option_and_then, unwrap_or}
 use Rattle.call_actions.proofs.Lists.{changed_here}
@@ -13,14 +13,13 @@ use Rattle.channel_cases.proofs.AttemptEnds.AheadStays.{codes_with, limit_noted}
 use Rattle.channel_cases.specs.AttemptEnds.Ahead.{HasLinkAhead, IsAhead, LinksAhead, is_owed_on, owed_reset, resets_owed}
 use Rattle.channel_core.specs.States.{StateSeen}
 use Rattle.channel_core.specs.declared.state.links.LinkSlot.{LinkSlot}
-use Rattle.grpc_link.specs.declared.readers.TagReader.{TagReader}
 use Rattle.link_actions.proofs.ResponseActions.Taken.{readers_are_left}
 use Rattle.link_actions.proofs.SteadyLinks.Calls.{commitments_leave_links}
 use Rattle.link_actions.proofs.Without.{at_place, changed_at}
 use Rattle.link_actions.specs.ResetActions.Ahead.{SeesAhead}
 use Rattle.link_actions.specs.ResponseActions.Laws.{IsSameResponse, ReadsAlike}
 use Rattle.link_actions.specs.StreamActions.Sees.{SeesStreams}
-use Rattle.link_actions.specs.ResponseActions.Readers.{SeesReaders, attempt_on}
+use Rattle.link_actions.specs.ResponseActions.Readers.{attempt_on}
 use Rattle.link_actions.specs.Sees.{ArePlaced, by_stream, put_by_stream}
 use Rattle.session_actions.specs.AttemptEnds.{reset_code_of}
 use Rattle.session_actions.specs.Attempts.{with_attempt}

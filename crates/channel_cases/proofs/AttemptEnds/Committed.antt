@@ -120,7 +120,7 @@ one_by c s None at e = absurd (cc)
 one_by c s (Some k) at e = record { one = k; is = at }
 
 module _ (waits : Line → Bool) (also : List ℕ) (a : Attempt) (out : Outcome) (x : StateSeen) (o : OpenEntry) (s : Seen) (is : EndNext waits also a out x o s)
-    (counting : IsCounting s (c waits also a out x o s is) out) where
+    (going : (c waits also a out x o s is).end ≡ None) where
   abbrev k : Call
   k = c waits also a out x o s is
 
@@ -140,7 +140,7 @@ module _ (waits : Line → Bool) (also : List ℕ) (a : Attempt) (out : Outcome)
   was_still l may = early_by (waits l) (may_wait l) (is.late l) may
 
   -- attempts of the call that go on have its number
-  going_over : (q : Attempt) (m : ℕ) → numbered s.attempts m ≡ Some q → is_live s k q ≡ true → is_over q s ≡ false
+  pub going_over : (q : Attempt) (m : ℕ) → numbered s.attempts m ≡ Some q → is_live s k q ≡ true → is_over q s ≡ false
   going_over q m there lives =
       over_by (is_of k q) (is_outstanding q) (is_none q.row.placed) (is_none q.row.ended) (is_over q s) lives
       (numbered_not (is_to_cut s) s.attempts m q (is.still line.Cut refl (was_still line.Cut refl)) there)
@@ -177,7 +177,7 @@ module _ (waits : Line → Bool) (also : List ℕ) (a : Attempt) (out : Outcome)
     number_of q m there lives =
         let over : not (its.one.row.number == q.row.number) ≡ false
         = sym (ap (holds (λ (g : Call). is_over_in g q s)) (ap (numbered s.calls) (eqb-true q.row.call k.number (mine_of q lives)) ∙ here waits also a out x o s is)
-        ∙ ap (λ (z : Option CallEnd). is_some z || holds (λ (p : Attempt). not (p.row.number == q.row.number)) (commitment k s)) counting.goes_on
+        ∙ ap (λ (z : Option CallEnd). is_some z || holds (λ (p : Attempt). not (p.row.number == q.row.number)) (commitment k s)) going
         ∙ ap (holds (λ (p : Attempt). not (p.row.number == q.row.number))) its.is)
         ∙ going_over q m there lives in
         eqb-true its.one.row.number q.row.number (not_not (its.one.row.number == q.row.number) over)
@@ -245,7 +245,7 @@ module _ (waits : Line → Bool) (also : List ℕ) (a : Attempt) (out : Outcome)
         by_stamp None e =
             sym (ap (λ (w : Option ℕ). is_none w && (holds (λ (g : Call). is_inherited_in a s g) (numbered s.calls a.row.call))) e
             ∙ ap (holds (λ (g : Call). is_inherited_in a s g)) is.there
-            ∙ ap (λ (z : Option CallEnd). is_none z && holds (is_inherited_by a) (commitment k s)) counting.goes_on
+            ∙ ap (λ (z : Option CallEnd). is_none z && holds (is_inherited_by a) (commitment k s)) going
             ∙ ap (holds (is_inherited_by a)) its.is ∙ ap (λ (b : Bool). b && nat_lt its.one.place a.place) (eq-eqb its.one.row.number a.row.number one_number))
             ∙ numbered_not (is_inherited s) s.attempts a.place a (is.still line.Inherited refl (was_still line.Inherited refl)) is.ending.there
 
@@ -254,7 +254,24 @@ module _ (waits : Line → Bool) (also : List ℕ) (a : Attempt) (out : Outcome)
         let place : its.one.place ≡ a.place = same_places its.one.place a.place not_below not_above in
         its.is ∙ sym one_there ∙ ap (numbered s.attempts) place ∙ is.ending.there
 
-  -- and its end counts
+-- and its end counts
+module _ (waits : Line → Bool) (also : List ℕ) (a : Attempt) (out : Outcome) (x : StateSeen) (o : OpenEntry) (s : Seen) (is : EndNext waits also a out x o s)
+    (counting : IsCounting s (c waits also a out x o s is) out) where
+  abbrev mine : Call
+  mine = c waits also a out x o s is
+
+  abbrev given : Stepped
+  given = x2 waits also a out x o s is
+
+  abbrev viewed : Sees s mine given
+  viewed = sees waits also a out x o s is
+
+  abbrev ordered : IsInOrder s mine
+  ordered = (has waits also a out x o s is).sees.order
+
+  abbrev turned : IsInTurn s mine
+  turned = (has waits also a out x o s is).sees.turn
+
   abbrev v : Seen
   v = u waits also a out x o s is
 
@@ -262,22 +279,22 @@ module _ (waits : Line → Bool) (also : List ℕ) (a : Attempt) (out : Outcome)
   end_ = e waits also a out x o s is
 
   abbrev t2 : Seen
-  t2 = ending.t s k lent a.place a out seen order turn is.ending counting
+  t2 = ending.t s mine given a.place a out viewed ordered turned is.ending counting
 
   pub same_then : v ≡ t2
-  same_then = sym (t_is waits also a out x o s is) ∙ ending.is_ended s k lent a.place a out seen order turn is.ending counting
+  same_then = sym (t_is waits also a out x o s is) ∙ ending.is_ended s mine given a.place a out viewed ordered turned is.ending counting
 
   counts_then : counts_by (with_end end_ a) v end_ ≡ true
   counts_then =
       ap (λ (w : Seen). counts_by (with_end end_ a) w end_) same_then
-      ∙ frames.counts_same (ending.base s k lent a.place a out seen order turn is.ending counting) k.number (λ g. g.messages) (λ g. g.finished) (λ g. g.taken) (λ g. g.end_taken)
-      (λ g. g.marks ++ rows.w s k lent a.place a end_ (ending.runs s k lent a.place a out seen order turn is.ending counting) seen order (ending.ends s k lent a.place a out seen order turn is.ending counting) is.ending.own ∷ [])
+      ∙ frames.counts_same (ending.base s mine given a.place a out viewed ordered turned is.ending counting) mine.number (λ g. g.messages) (λ g. g.finished) (λ g. g.taken) (λ g. g.end_taken)
+      (λ g. g.marks ++ rows.w s mine given a.place a end_ (ending.runs s mine given a.place a out viewed ordered turned is.ending counting) viewed ordered (ending.ends s mine given a.place a out viewed ordered turned is.ending counting) is.ending.own ∷ [])
       (λ g. g.end)
-      (rows.now_open s k lent a.place a end_ (ending.runs s k lent a.place a out seen order turn is.ending counting) seen order (ending.ends s k lent a.place a out seen order turn is.ending counting) is.ending.own)
+      (rows.now_open s mine given a.place a end_ (ending.runs s mine given a.place a out viewed ordered turned is.ending counting) viewed ordered (ending.ends s mine given a.place a out viewed ordered turned is.ending counting) is.ending.own)
       (with_end end_ a) end_
-      ∙ ap (λ (w : Attempt). counts_by w (ending.base s k lent a.place a out seen order turn is.ending counting) end_)
+      ∙ ap (λ (w : Attempt). counts_by w (ending.base s mine given a.place a out viewed ordered turned is.ending counting) end_)
       (sym (ap (λ (b : Bool). record a { row = record a.row { placed = a.row.placed; ended = (if b then Some end_ else a.row.ended) } }) (eq-eqb a.place a.place refl)))
-      ∙ ending.counts_now s k lent a.place a out seen order turn is.ending counting
+      ∙ ending.counts_now s mine given a.place a out viewed ordered turned is.ending counting
 
   pub counted_then : is_counted (with_end end_ a) v ≡ true
   counted_then = counts_then

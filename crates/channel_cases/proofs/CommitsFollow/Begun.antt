@@ -1,10 +1,9 @@
 -- A call has just been committed: what the session is then, and what is left of its other calls.
-use Rattle.std.proofs.Common.{◌≡◌, ◌||◌, ◌&&◌, ◌==◌, ◌∷◌, ◌++◌, ap, refl, subst, sym, ◌∙◌, Bool, true, false, List, [], Option, None, Some, ℕ, zero, suc, if◌then◌else◌, is_none, is_some, option_map, slice_get, arith}
+use Rattle.std.proofs.Common.{◌≡◌, ◌&&◌, ◌==◌, ◌∷◌, ap, refl, subst, sym, ◌∙◌, Bool, true, false, List, [], Option, None, Some, ℕ, zero, suc, is_none, is_some, option_map, arith}
 use Rattle.std.proofs.lemmas.Bool.{and_parts, both_ways, eq-eqb, eqb-false, eqb-true}
 use Rattle.std.proofs.lemmas.Bool.Decides.{nat_tests}
 use Rattle.std.specs.List.{list_all}
-use Rattle.std.specs.Option.{option_map_or, option_or}
-use Rattle.std.specs.Prelude.{slice_set}
+use Rattle.std.specs.Option.{option_map_or}
 use Rattle.attempt_ledger.specs.declared.row.Placed.{Placed}
 use Rattle.attempt_ledger.specs.declared.row.RowEnd.{RowEnd}
 use Rattle.call_actions.proofs.CallsApart.Books.{books_stay}
@@ -14,13 +13,14 @@ use Rattle.call_actions.proofs.TakeActions.CutOne.{marked_also}
 use Rattle.call_actions.specs.CallsApart.Apart.{IsApart}
 use Rattle.call_actions.specs.Order.{is_own_mark}
 use Rattle.channel_actions.proofs.EndsFollow.Steps.{call_number}
+use Rattle.channel_cases.proofs.CommitsFollow.Newest.{new_last}
 use Rattle.channel_cases.proofs.CommitsFollow.Cuts.{IsTaken}
 use Rattle.session_actions.specs.Actions.{after, after_if}
 use Rattle.session_actions.specs.Attempts.{call_of, is_commitment, is_of, with_attempt}
 use Rattle.session_actions.specs.Calls.{marked}
 use Rattle.session_actions.specs.Commitments.{call_committed, with_commitment}
 use Rattle.session_actions.specs.Entries.{entry, now}
-use Rattle.session_actions.specs.Words.{changed, changed_if, find_last, holds, is_number, numbered}
+use Rattle.session_actions.specs.Words.{changed, holds, is_number, numbered}
 use Rattle.session_actions.specs.declared.action.Action.TheVariants as action
 use Rattle.session_actions.specs.declared.action.CommitCause.{CommitCause}
 use Rattle.session_actions.specs.declared.action.CommitCause.TheVariants as commit
@@ -33,7 +33,6 @@ use Rattle.session_actions.specs.declared.call.MarkKind.TheVariants as mark
 use Rattle.session_actions.specs.declared.entry.OpenEntry.{OpenEntry}
 use Rattle.session_actions.specs.declared.seen.Seen.{Seen}
 use Rattle.session_order.proofs.Changed.{changed_away, changed_here, lookup}
-use Rattle.session_order.proofs.Lists.{or_none}
 use Rattle.call_actions.specs.TakeActions.Cuts.{CanCommit}
 
 -- a call may be committed to an attempt, while an entry is being made
@@ -148,18 +147,6 @@ module _ (n : ℕ) (o : OpenEntry) (s : Seen) (is : IsToCommit n o s) where
       ap (λ (q : Bool). q && list_all (λ (i : Mark). is_own_mark b d i.what) ms) (mark_same d m.what) ∙ ap (λ (q : Bool). is_own_mark s d m.what && q) (marks_same d ms)
 
   -- the commitment is there
-  new_set : (T : Attempt → Bool) (xs : List Attempt) (i : ℕ) (x y : Attempt) → slice_get xs i ≡ Some x → find_last T xs ≡ None → T y ≡ true → find_last T (slice_set xs i y) ≡ Some y
-  new_set T [] i x y at none now_ = absurd (cc)
-  new_set T (z ∷ xs) zero x y at none now_ =
-      ap (λ (o : Option Attempt). option_or o (if T y then Some y else None)) (or_none (find_last T xs) (if T z then Some z else None) none).0
-      ∙ ap (λ (q : Bool). if q then Some y else None) now_
-  new_set T (z ∷ xs) (suc i) x y at none now_ =
-      ap (λ (o : Option Attempt). option_or o (if T z then Some z else None)) (new_set T xs i x y at (or_none (find_last T xs) (if T z then Some z else None) none).0 now_)
-
-  new_last : (T : Attempt → Bool) (m : ℕ) (xs : List Attempt) (x : Attempt) → numbered xs m ≡ Some x → find_last T xs ≡ None → T (put x) ≡ true → find_last T (changed put m xs) ≡ Some (put x)
-  new_last T zero xs x at none now_ = absurd (cc)
-  new_last T (suc i) xs x at none now_ = ap (λ (o : Option Attempt). find_last T (changed_if put (suc i) xs o)) at ∙ new_set T xs i x (put x) at none now_
-
   mine : is_commitment c k ≡ true
   mine = ap (λ (q : Bool). q && true) is.can.mine
 
@@ -168,5 +155,5 @@ module _ (n : ℕ) (o : OpenEntry) (s : Seen) (is : IsToCommit n o s) where
     call = marked_also first c;
     there = changed_here (marked_also first) n s.calls c is.there;
     going = is.can.open_now;
-    is = new_last (λ (x : Attempt). is_commitment c x) a.place s.attempts a is.can.at is.can.free mine;
+    is = new_last (λ (x : Attempt). is_commitment c x) put a.place s.attempts a is.can.at is.can.free mine;
   }

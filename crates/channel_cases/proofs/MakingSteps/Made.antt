@@ -128,7 +128,26 @@ free_by (Some a) false stops = absurd (let bad : true ≡ false = stops refl in 
 far : (n row : ℕ) → nat_le row n ≡ true → (row == n + 1) ≡ false
 far n row e = grind (arith, nat_tests)
 
-none_held : (n : ℕ) (cs : List Cursor) → list_all (λ (c : Cursor). nat_le c.row n) cs ≡ true → find (λ (c : Cursor). c.row == n + 1) cs ≡ None
+-- whether a call waits for ready, in both
+wait_by : (d : Chosen) (w q : Option Bool) → unwrap_or (option_or w q) false ≡ parts.or_else w (parts.or_else q false)
+wait_by d None None = refl
+wait_by d None (Some b) = refl
+wait_by d (Some b) q = refl
+
+config_wait : (c : Call) (q : Option HeldConfig)
+    → parts.or_else (option_map_or (λ (g : HeldConfig). chosen_for g.config c.request.path) q no_choice).wait false
+    ≡ parts.config_wait (option_map (λ (g : HeldConfig). chosen_for g.config c.request.path) q)
+config_wait c None = refl
+config_wait c (Some g) = refl
+
+pub patient_of : (s : Seen) (c : Call) (x : Stepped) → Sees s c x → is_patient s c.number ≡ waits x.call
+patient_of s c x sees =
+    ap (holds (λ (d : Call). waits_for_ready d s)) sees.own ∙ wait_by (chosen_of c s) c.request.wait (chosen_of c s).wait
+    ∙ ap (parts.or_else c.request.wait) (config_wait c (config_of_call c s))
+    ∙ ap (λ (q : Option Chosen). parts.waits_for c.request q) sees.chosen
+    ∙ ap (λ (r : _). parts.waits_for r x.call.chosen) sees.request
+
+pub none_held : (n : ℕ) (cs : List Cursor) → list_all (λ (c : Cursor). nat_le c.row n) cs ≡ true → find (λ (c : Cursor). c.row == n + 1) cs ≡ None
 none_held n [] e = refl
 none_held n (c ∷ cs) e =
     let both = and_parts (nat_le c.row n) (list_all (λ (k : Cursor). nat_le k.row n) cs) e in
@@ -535,23 +554,8 @@ module _ (frames : Frames) (tokens_stay : TokensStay) (fair : LinesAreFair) (tur
     patient_same : (k : ℕ) → is_patient t k ≡ is_patient s k
     patient_same k = holds_changed noted c.number s.calls (λ (d : Call). waits_for_ready d s) (λ d. refl) k
 
-    wait_by : (d : Chosen) (w q : Option Bool) → unwrap_or (option_or w q) false ≡ parts.or_else w (parts.or_else q false)
-    wait_by d None None = refl
-    wait_by d None (Some b) = refl
-    wait_by d (Some b) q = refl
-
-    config_wait : (q : Option HeldConfig)
-        → parts.or_else (option_map_or (λ (g : HeldConfig). chosen_for g.config c.request.path) q no_choice).wait false
-        ≡ parts.config_wait (option_map (λ (g : HeldConfig). chosen_for g.config c.request.path) q)
-    config_wait None = refl
-    config_wait (Some g) = refl
-
     patient_is : is_patient s c.number ≡ waits slot.call
-    patient_is =
-        ap (holds (λ (d : Call). waits_for_ready d s)) there ∙ wait_by (chosen_of c s) c.request.wait (chosen_of c s).wait
-        ∙ ap (parts.or_else c.request.wait) (config_wait (config_of_call c s))
-        ∙ ap (λ (q : Option Chosen). parts.waits_for c.request q) sees.serves.sees.chosen
-        ∙ ap (λ (r : _). parts.waits_for r slot.call.chosen) sees.serves.sees.request
+    patient_is = patient_of s c x0 sees.serves.sees
 
     here_patient : (b : Bool) → waits slot.call ≡ b → (k row : ℕ) → is_same (k, row) (c.number, place) ≡ true → is_patient t k ≡ b
     here_patient b w k row e = patient_same k ∙ ap (is_patient s) (pair_first k c.number row place e) ∙ patient_is ∙ w

@@ -5,6 +5,7 @@
 -- The laws, in the order of this file:
 -- 1. One attempt ends; and so the cases.
 -- 2. Then the resets that are owed are made, and all agrees.
+-- 3. And what the channel keeps by itself.
 use Rattle.std.specs.Option.{option_and_then}
 use Rattle.std.specs.List.{list_any}
 use Rattle.std.specs.Prelude.{Bool, List, None, Some, [], false, is_some, not, true, ℕ, ◌&&◌, ◌==◌, ◌≡◌, ◌∷◌, ◌||◌}
@@ -22,6 +23,7 @@ use Rattle.channel_core.specs.Steps.{sealed, sealed_one}
 use Rattle.grpc_base.specs.Codes.{has_code}
 use Rattle.grpc_base.specs.declared.plan.CallPlan.{CallPlan}
 use Rattle.grpc_base.specs.declared.plan.CallPlan.TheVariants as plan
+use Rattle.grpc_base.specs.declared.plan.HedgePolicy.{HedgePolicy}
 use Rattle.session_actions.specs.AttemptEnds.{attempt_ended, end_of, tokens_at_end}
 use Rattle.session_actions.specs.Attempts.{commitment, is_to_follow}
 use Rattle.session_actions.specs.Configs.{plan_of}
@@ -103,6 +105,20 @@ CommittedEndsClose = AttemptEndsOf IsCommittedEnd
 -- these are all
 abbrev pub EndsByCases : Type 0
 EndsByCases = CallsGoOnAfterEnds → RetriesFollowEnds → LastEndsClose → CommittedEndsClose → OneAttemptEnds
+
+-- what is shown of these leaves one case: a hedged call ends by a code that its policy does not name, and its other attempts are cut off
+pub record IsLastOfSeveral (s : Seen) (c : Call) (a : Attempt) (out : Outcome) : Type 0 where
+  pub last : IsLastEnd s c a out
+  pub policy : HedgePolicy
+  pub hedged : plan_of c s ≡ plan.Hedge policy
+  pub unnamed : has_code policy.codes out.code ≡ false
+  pub others : list_any (λ q. is_live s c q && not (q.place == a.place)) s.attempts ≡ true
+
+abbrev pub LastEndsCutOff : Type 0
+LastEndsCutOff = AttemptEndsOf IsLastOfSeveral
+
+abbrev pub EndsByCuts : Type 0
+EndsByCuts = LastEndsCutOff → OneAttemptEnds
 
 -- then the streams are reset that the session owes, by link and stream, and the channel closes what it queued: all agrees
 abbrev pub all_sealed : List ℕ → StateSeen → StateSeen

@@ -1,4 +1,4 @@
-use Rattle.channel_cases.proofs.AttemptEnds.ClosedLines.{committed_ends_close}
+use Rattle.channel_cases.proofs.AttemptEnds.Closed.{committed_ends_close}
 use Rattle.channel_cases.proofs.attempt_ends.committed_ends_close.Goals as goal
 
 pub returns : goal.returns

@@ -1,0 +1,5 @@
+use Rattle.channel_cases.proofs.AttemptEnds.Held.{ends_stay_held}
+use Rattle.channel_cases.proofs.attempt_ends.ends_stay_held.Goals as goal
+
+pub returns : goal.returns
+returns c = ends_stay_held

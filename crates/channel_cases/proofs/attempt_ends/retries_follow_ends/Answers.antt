@@ -1,0 +1,5 @@
+use Rattle.channel_cases.proofs.AttemptEnds.Retries.{retries_follow_ends}
+use Rattle.channel_cases.proofs.attempt_ends.retries_follow_ends.Goals as goal
+
+pub returns : goal.returns
+returns c = retries_follow_ends
