@@ -1,6 +1,7 @@
 // Links that the environment loses; nothing runs.
 ghost use Rattle.channel_cases.specs.LostLinks.Laws.{LossesEndInTurn, LostLinksAreAnswered};
 
+use crate::attempt_ends::ends_stay_held;
 use channel_actions::going_calls::calls_of_channels_go_on;
 
 /// The attempts of a link that is lost end one after the other, the lowest place first, where the end of one attempt is followed alike (RFC 9113, section 5.4.1; gRPC
@@ -9,6 +10,7 @@ pub fn losses_end_in_turn()
     ensures { LossesEndInTurn }
 {
     calls_of_channels_go_on();
+    ends_stay_held();
 }
 
 /// A link that the environment loses: its subchannel goes down, and its attempts end one after the other, alike in channel and session; the two agree after it, and
@@ -17,4 +19,5 @@ pub fn lost_links_are_answered()
     ensures { LostLinksAreAnswered }
 {
     calls_of_channels_go_on();
+    ends_stay_held();
 }

@@ -60,7 +60,7 @@ module _ (losses : LossesGoOn) (ends : OneAttemptEnds) (stays : EndsStayHeld) (x
   ended : HasLost link (buried link x) p t
   ended =
       subst (λ (n : ℕ). HasLost n (buried link x) p t) number
-      (losses_end_in_turn losses ends stays (lost x o s h at timely case.known.own case.known.early link case.event_is case.kept) (buried link x) p t
+      (losses_end_in_turn losses stays ends (lost x o s h at timely case.known.own case.known.early link case.event_is case.kept) (buried link x) p t
       (loss_goes_on x o s h at timely case.known.own case.known.early link case.event_is case.kept case.rising case.known.going case.held) few)
 
   pub lost_answered : IsAnswered (lose link true x) reply.Done o s
@@ -86,8 +86,8 @@ module _ (losses : LossesGoOn) (ends : OneAttemptEnds) (stays : EndsStayHeld) (x
     none = ap (λ (e : Event). if is_after_event ended.entry then frame_of_event e ended.entry ended.seen else None) (ended.same.event ∙ case.event_is) ∙ none_if None refl (is_after_event ended.entry);
   }
 
-pub lost_links_are_answered : LossesGoOn → LostLinksAreAnswered
-lost_links_are_answered losses ends stays x y r o s h at fresh timely case answers =
+pub lost_links_are_answered : LossesGoOn → EndsStayHeld → LostLinksAreAnswered
+lost_links_are_answered losses stays ends x y r o s h at fresh timely case answers =
     let given : AnswersBy None (event.LinkLost case.link) x y r
     = subst (λ (e : Event). AnswersBy None e x y r) case.event_is (subst (λ (z : Option Refusal). AnswersBy z o.event x y r) case.kept answers) in
     subst (λ (z : StateSeen). IsAnswered z r o s) (sym given.0)

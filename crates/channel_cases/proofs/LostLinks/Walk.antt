@@ -460,5 +460,5 @@ most_is : most_rows ≡ 18446744073709551615
 unfolding most_rows
 most_is = refl
 
-pub losses_end_in_turn : LossesGoOn → LossesEndInTurn
-losses_end_in_turn going ends stays l x o s is few = lost_by ends stays going 18446744073709551615 most_is l x o s is few
+pub losses_end_in_turn : LossesGoOn → EndsStayHeld → LossesEndInTurn
+losses_end_in_turn going stays ends l x o s is few = lost_by ends stays going 18446744073709551615 most_is l x o s is few

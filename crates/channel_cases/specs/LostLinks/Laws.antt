@@ -6,7 +6,7 @@
 -- The laws, in the order of this file: the attempts end one after the other; so the event is answered.
 use Rattle.std.specs.Prelude.{length, ◌<◌}
 use Rattle.channel_actions.specs.Stages.{EventsAnswered}
-use Rattle.channel_cases.specs.AttemptEnds.Laws.{EndsStayHeld, OneAttemptEnds}
+use Rattle.channel_cases.specs.AttemptEnds.Laws.{OneAttemptEnds}
 use Rattle.channel_cases.specs.LostLinks.Losses.{HasLost, IsLostLink, LossGoesOn}
 use Rattle.channel_core.specs.States.{StateSeen}
 use Rattle.session_actions.specs.declared.entry.OpenEntry.{OpenEntry}
@@ -15,8 +15,8 @@ use Rattle.session_actions.specs.declared.seen.Seen.{Seen}
 
 abbrev pub LossesEndInTurn : Type 0
 LossesEndInTurn =
-    OneAttemptEnds → EndsStayHeld
+    OneAttemptEnds
     → (l : Link) (x : StateSeen) (o : OpenEntry) (s : Seen) → LossGoesOn l x o s → length s.attempts < 18446744073709551615 → HasLost l.number x o s
 
 abbrev pub LostLinksAreAnswered : Type 0
-LostLinksAreAnswered = OneAttemptEnds → EndsStayHeld → EventsAnswered IsLostLink
+LostLinksAreAnswered = OneAttemptEnds → EventsAnswered IsLostLink
