@@ -1,0 +1,7 @@
+pub mod Answered
+pub mod Arrives
+pub mod Cuts
+pub mod Knows
+pub mod Slots
+pub mod Stops
+pub mod Walk

@@ -1,0 +1,5 @@
+pub mod Heard
+pub mod Lines
+pub mod Read
+pub mod ReadStill
+pub mod Responses

@@ -1,0 +1,58 @@
+-- A piece that arrives is its frames, one after the other, however its bytes were cut: where each frame leads from a point to a point, the piece is answered. What is no
+-- whole frame yet is kept by channel and session alike; bytes that break the link end the walk; and of a link that is over nothing is read.
+-- Example: a piece has a frame of DATA, then PUSH_PROMISE, and a PING. BytesArrive; FrameRead of DATA, with all that follows from it; LinkBreaks, with the end of each
+-- attempt on the link. The PING is read in neither.
+-- The laws, in the order of this file: what is asked of one frame, and of bytes that break the link; a piece.
+use Rattle.std.specs.Prelude.{List, None, Some, drop, length, ◌+◌, ◌≡◌, ◌≤◌, ℕ}
+use Rattle.channel_actions.specs.Known.{IsKnown}
+use Rattle.channel_actions.specs.Stages.{EventsAnswered}
+use Rattle.channel_core.specs.Applying as channel
+use Rattle.channel_core.specs.Arrivals.{frame_heard}
+use Rattle.channel_core.specs.States.{StateSeen}
+use Rattle.channel_core.specs.Tables.{Heard, heard_in}
+use Rattle.frame_cases.specs.PieceWalks.Points.{HasHeard, IsHearing, IsReadOut}
+use Rattle.grpc_base.specs.declared.event.Event.{Event}
+use Rattle.grpc_base.specs.declared.event.Event.TheVariants as event
+use Rattle.session_actions.specs.Sessions.{Does}
+use Rattle.session_actions.specs.Words.{numbered}
+use Rattle.session_actions.specs.Writing.{next_frame_read}
+use Rattle.session_actions.specs.declared.action.Action.{Action}
+use Rattle.session_actions.specs.declared.action.Action.TheVariants as action
+use Rattle.session_actions.specs.declared.entry.OpenEntry.{OpenEntry}
+use Rattle.session_actions.specs.declared.link.Link.{Link}
+use Rattle.session_actions.specs.declared.link.ReadFrame.{ReadFrame}
+use Rattle.session_actions.specs.declared.seen.Seen.{Seen}
+
+-- what the bytes show next is read in the session, and heard by the channel; from there the actions that follow lead to the next point. By what it is
+abbrev pub HeardOf : (ℕ → Seen → Action → Heard → Type 0) → Type 0
+HeardOf Case =
+    (link : ℕ) (piece : List ℕ) (x : StateSeen) (o : OpenEntry) (s : Seen) (a : Action) (h : Heard) → IsHearing link piece x o s → next_frame_read link s ≡ Some a
+    → heard_in link piece x.links ≡ Some h → Case link s a h → HasHeard link (drop h.taken piece) (frame_heard link h x) o s
+
+-- a frame
+abbrev pub FramesAreHeard : Type 0
+FramesAreHeard = HeardOf (λ link s a h. (r : ReadFrame) × (a ≡ action.FrameRead link r))
+
+-- bytes that break the link (RFC 9113, section 5.4.1)
+abbrev pub BreaksAreHeard : Type 0
+BreaksAreHeard = HeardOf (λ link s a h. (code : ℕ) × (a ≡ action.LinkBreaks link code))
+
+-- what is known stays known along a frame: of the channel, whatever it hears; of the session, along its actions
+abbrev pub KnownAlongFrames : Type 0
+KnownAlongFrames =
+    (link : ℕ) (piece : List ℕ) (x : StateSeen) (o : OpenEntry) (s t : Seen) (a : Action) (h : Heard) (actions : List Action) → IsHearing link piece x o s
+    → next_frame_read link s ≡ Some a → heard_in link piece x.links ≡ Some h → Does actions s t → t.entries ≡ s.entries → IsKnown (frame_heard link h x) t
+
+-- a piece arrives on a link that is not gone. What was not read of it shows no whole frame, and fewer than 2^64 bytes came on it, as in every session whose journal is
+-- below its limit
+pub record IsArrival (e : Event) (x : StateSeen) (s : Seen) : Type 0 where
+  pub link : ℕ
+  pub piece : List ℕ
+  pub event_is : e ≡ event.Arrived link piece
+  pub kept : channel.refusal_of e x ≡ None
+  pub out : (l : Link) → numbered s.links link ≡ Some l → IsReadOut l
+  pub few : (l : Link) → numbered s.links link ≡ Some l → length l.received + length piece ≤ 18446744073709551615
+  pub known : IsKnown x s
+
+abbrev pub PiecesAreHeard : Type 0
+PiecesAreHeard = FramesAreHeard → BreaksAreHeard → KnownAlongFrames → EventsAnswered IsArrival

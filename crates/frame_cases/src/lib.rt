@@ -1,0 +1,9 @@
+// What comes on a link is the actions of a session, frame by frame; nothing runs.
+#![tactic(auto)]
+
+pub mod first_settings;
+pub mod frame_kinds;
+pub mod message_frames;
+pub mod passed_bytes;
+pub mod piece_walks;
+pub mod quiet_frames;
