@@ -13,6 +13,8 @@ pub mod DialEvents
 pub mod DrainEvents
 pub mod DrainedCalls
 pub mod DrainedLines
+pub mod EndCases
+pub mod EndRetries
 pub mod FewCalls
 pub mod FirstShutdowns
 pub mod FullSends

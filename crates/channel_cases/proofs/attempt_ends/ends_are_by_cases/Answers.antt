@@ -1,4 +1,4 @@
-use Rattle.channel_cases.proofs.AttemptEnds.Cases.{ends_by_cases, ends_by_cuts}
+use Rattle.channel_cases.proofs.EndCases.Whole.{ends_by_cases, ends_by_cuts}
 use Rattle.channel_cases.proofs.attempt_ends.ends_are_by_cases.Goals as goal
 
 pub returns-clause-cases : goal.returns-clause-cases

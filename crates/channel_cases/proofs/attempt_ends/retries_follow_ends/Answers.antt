@@ -1,4 +1,4 @@
-use Rattle.channel_cases.proofs.AttemptEnds.Retries.{retries_follow_ends}
+use Rattle.channel_cases.proofs.EndRetries.Whole.{retries_follow_ends}
 use Rattle.channel_cases.proofs.attempt_ends.retries_follow_ends.Goals as goal
 
 pub returns : goal.returns

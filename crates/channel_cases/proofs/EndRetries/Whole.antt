@@ -7,15 +7,15 @@ use Rattle.call_actions.specs.Order.{Keeps}
 use Rattle.call_core.specs.Steps.{Stepped, ended_at}
 use Rattle.channel_cases.proofs.AttemptEnds.After.{attempts_are, put, runs, t_is, u}
 use Rattle.channel_cases.proofs.AttemptEnds.AheadCommits as commits
-use Rattle.channel_cases.proofs.AttemptEnds.AheadMakes.{makes_ahead}
+use Rattle.channel_cases.proofs.EndRetries.AheadMakes.{makes_ahead}
 use Rattle.channel_cases.proofs.AttemptEnds.Base.{c, e, has, news, sees, x2}
 use Rattle.channel_cases.proofs.AttemptEnds.Committed.{one_is}
 use Rattle.channel_cases.proofs.AttemptEnds.OneEnded as first
-use Rattle.channel_cases.proofs.AttemptEnds.RetryAgree as agree
-use Rattle.channel_cases.proofs.AttemptEnds.RetryFree as free_retry
-use Rattle.channel_cases.proofs.AttemptEnds.RetryHolds as holding
-use Rattle.channel_cases.proofs.AttemptEnds.RetryNext as retry
-use Rattle.channel_cases.proofs.AttemptEnds.RetryTaken as taken_retry
+use Rattle.channel_cases.proofs.EndRetries.Agree as agree
+use Rattle.channel_cases.proofs.EndRetries.Free as free_retry
+use Rattle.channel_cases.proofs.EndRetries.Holds as holding
+use Rattle.channel_cases.proofs.EndRetries.Next as retry
+use Rattle.channel_cases.proofs.EndRetries.Taken as taken_retry
 use Rattle.channel_cases.specs.AttemptEnds.Ahead.{LinksAhead}
 use Rattle.channel_cases.specs.AttemptEnds.Ends.{EndNext, HasEnded}
 use Rattle.channel_cases.specs.AttemptEnds.Laws.{IsRetriedAtOnce, RetriesFollowEnds}

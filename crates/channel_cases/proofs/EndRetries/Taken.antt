@@ -24,9 +24,9 @@ use Rattle.channel_cases.proofs.AttemptEnds.LastCommits.{found_one}
 use Rattle.channel_cases.proofs.AttemptEnds.Lists.{any_more, changed_last, last_found, snoc_by, within}
 use Rattle.channel_cases.proofs.AttemptEnds.OneEnded as first
 use Rattle.channel_cases.proofs.AttemptEnds.Others.{none_at, wants_none}
-use Rattle.channel_cases.proofs.AttemptEnds.RetryFree.{after_it}
-use Rattle.channel_cases.proofs.AttemptEnds.RetryNext as retry
-use Rattle.channel_cases.proofs.AttemptEnds.RetryNext.{Leads, Retry}
+use Rattle.channel_cases.proofs.EndRetries.Free.{after_it}
+use Rattle.channel_cases.proofs.EndRetries.Next as retry
+use Rattle.channel_cases.proofs.EndRetries.Next.{Leads, Retry}
 use Rattle.channel_cases.proofs.ConfiguredCalls.Lists.{changed_length}
 use Rattle.channel_cases.specs.AttemptEnds.Ends.{EndNext}
 use Rattle.channel_core.specs.States.{StateSeen}

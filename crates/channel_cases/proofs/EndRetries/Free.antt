@@ -14,8 +14,8 @@ use Rattle.channel_cases.proofs.AttemptEnds.After.{free_then}
 use Rattle.channel_cases.proofs.AttemptEnds.Base.{c, call_is, e, here}
 use Rattle.channel_cases.proofs.AttemptEnds.Lists.{any_last, any_more, snoc_by, within}
 use Rattle.channel_cases.proofs.AttemptEnds.OneEnded as first
-use Rattle.channel_cases.proofs.AttemptEnds.RetryNext as retry
-use Rattle.channel_cases.proofs.AttemptEnds.RetryNext.{Leads, Retry}
+use Rattle.channel_cases.proofs.EndRetries.Next as retry
+use Rattle.channel_cases.proofs.EndRetries.Next.{Leads, Retry}
 use Rattle.channel_cases.proofs.ConfiguredCalls.Lists.{changed_length}
 use Rattle.channel_cases.specs.AttemptEnds.Ends.{EndNext}
 use Rattle.channel_core.specs.States.{StateSeen}

@@ -16,8 +16,8 @@ use Rattle.channel_cases.proofs.AttemptEnds.Lists.{any_more, within}
 use Rattle.channel_cases.proofs.AttemptEnds.OneEnded as first
 use Rattle.channel_cases.proofs.AttemptEnds.Others.{final_none, none_at, row_none, wants_none}
 use Rattle.channel_cases.proofs.AttemptEnds.Picks.{unpicked}
-use Rattle.channel_cases.proofs.AttemptEnds.RetryNext as retry
-use Rattle.channel_cases.proofs.AttemptEnds.RetryNext.{Leads, Retry}
+use Rattle.channel_cases.proofs.EndRetries.Next as retry
+use Rattle.channel_cases.proofs.EndRetries.Next.{Leads, Retry}
 use Rattle.channel_cases.specs.AttemptEnds.Ends.{EndNext, is_of_ends, may_wait}
 use Rattle.channel_core.specs.States.{StateSeen}
 use Rattle.grpc_base.specs.declared.kind.Pick.{Pick}

@@ -19,8 +19,8 @@ use Rattle.channel_cases.proofs.AttemptEnds.Committed.{going_over}
 use Rattle.channel_cases.proofs.AttemptEnds.Base.{books, c, e, has, here, out_off, queue_off, slot}
 use Rattle.channel_cases.proofs.AttemptEnds.OffSets.{and_on, away_pair, out_left, own_pair, queue_left}
 use Rattle.channel_cases.proofs.AttemptEnds.OneEnded as first
-use Rattle.channel_cases.proofs.AttemptEnds.RetryNext as retry
-use Rattle.channel_cases.proofs.AttemptEnds.RetryNext.{Leads, Retry}
+use Rattle.channel_cases.proofs.EndRetries.Next as retry
+use Rattle.channel_cases.proofs.EndRetries.Next.{Leads, Retry}
 use Rattle.channel_cases.proofs.MakingSteps.Made.{patient_of}
 use Rattle.channel_cases.specs.AttemptEnds.Ends.{EndNext}
 use Rattle.channel_core.specs.States.{StateSeen}

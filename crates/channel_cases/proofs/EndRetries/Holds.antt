@@ -16,10 +16,10 @@ use Rattle.channel_cases.proofs.AttemptEnds.Committed.{alone, unended_by}
 use Rattle.channel_cases.proofs.AttemptEnds.Fed.{buffer_then, free_buffer, holds_then}
 use Rattle.channel_cases.proofs.AttemptEnds.Lists.{snoc_by, within}
 use Rattle.channel_cases.proofs.AttemptEnds.OneEnded as first
-use Rattle.channel_cases.proofs.AttemptEnds.RetryFree as free_retry
-use Rattle.channel_cases.proofs.AttemptEnds.RetryNext as retry
-use Rattle.channel_cases.proofs.AttemptEnds.RetryStep.{rows_before}
-use Rattle.channel_cases.proofs.AttemptEnds.RetryTaken as taken_retry
+use Rattle.channel_cases.proofs.EndRetries.Free as free_retry
+use Rattle.channel_cases.proofs.EndRetries.Next as retry
+use Rattle.channel_cases.proofs.EndRetries.Step.{rows_before}
+use Rattle.channel_cases.proofs.EndRetries.Taken as taken_retry
 use Rattle.channel_cases.proofs.MakingSteps.Made.{none_held}
 use Rattle.channel_cases.specs.AttemptEnds.Ends.{EndNext, IsHeld}
 use Rattle.channel_core.specs.States.{StateSeen}

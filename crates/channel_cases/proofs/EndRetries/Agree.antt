@@ -44,14 +44,14 @@ use Rattle.channel_cases.proofs.AttemptEnds.Closing.{none_cause, placed_by}
 use Rattle.channel_cases.proofs.AttemptEnds.Lists.{any_more, within}
 use Rattle.channel_cases.proofs.AttemptEnds.Noted.{noted_then}
 use Rattle.channel_cases.proofs.AttemptEnds.OneEnded as first
-use Rattle.channel_cases.proofs.AttemptEnds.RetryFree.{runs_same}
-use Rattle.channel_cases.proofs.AttemptEnds.RetryLines as lines
-use Rattle.channel_cases.proofs.AttemptEnds.RetryNext as retry
-use Rattle.channel_cases.proofs.AttemptEnds.RetryNext.{Leads, Retry}
-use Rattle.channel_cases.proofs.AttemptEnds.RetrySets as sets
-use Rattle.channel_cases.proofs.AttemptEnds.RetryStep.{acts_are, aft, r_is, step_form}
+use Rattle.channel_cases.proofs.EndRetries.Free.{runs_same}
+use Rattle.channel_cases.proofs.EndRetries.Lines as lines
+use Rattle.channel_cases.proofs.EndRetries.Next as retry
+use Rattle.channel_cases.proofs.EndRetries.Next.{Leads, Retry}
+use Rattle.channel_cases.proofs.EndRetries.Sets as sets
+use Rattle.channel_cases.proofs.EndRetries.Step.{acts_are, aft, r_is, step_form}
 use Rattle.channel_cases.proofs.AttemptEnds.Told.{gone_form, slot_after}
-use Rattle.channel_cases.proofs.AttemptEnds.ToldQueue.{queued_form, told_queue}
+use Rattle.channel_cases.proofs.EndRetries.ToldQueue.{queued_form, told_queue}
 use Rattle.channel_cases.proofs.ConfiguredCalls.Lists.{changed_length, same_numbered, same_words, set_length}
 use Rattle.channel_cases.proofs.DialEvents.Words.{draw_by}
 use Rattle.channel_cases.specs.AttemptEnds.Ahead.{AgreesAhead, AgreesOffLinks, HasLinkAhead, LinksAhead, SetsAgree}

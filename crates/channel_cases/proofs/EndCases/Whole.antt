@@ -7,9 +7,9 @@ use Rattle.call_actions.specs.Laws.{IsCounting}
 use Rattle.call_actions.specs.Sees.{is_live, live_row}
 use Rattle.channel_cases.proofs.AttemptEnds.Base.{c, sees, slot}
 use Rattle.channel_cases.proofs.AttemptEnds.Closed.{committed_ends_close}
-use Rattle.channel_cases.proofs.AttemptEnds.Hedged.{going_on, several}
+use Rattle.channel_cases.proofs.EndCases.Hedged.{going_on, several}
 use Rattle.channel_cases.proofs.AttemptEnds.Last.{lone_last_ends_close}
-use Rattle.channel_cases.proofs.AttemptEnds.Retries.{retries_follow_ends}
+use Rattle.channel_cases.proofs.EndRetries.Whole.{retries_follow_ends}
 use Rattle.channel_cases.proofs.AttemptEnds.Whole.{calls_go_on_after_ends}
 use Rattle.channel_cases.specs.AttemptEnds.Ends.{EndNext, HasEnded}
 use Rattle.channel_cases.specs.AttemptEnds.Laws.{CallsGoOnAfterEnds, CommittedEndsClose, EndsByCases, EndsByCuts, IsLastEnd, LastEndsClose, LastEndsCutOff, RetriesFollowEnds, goes_on_after}

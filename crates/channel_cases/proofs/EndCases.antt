@@ -1,0 +1,3 @@
+pub mod Hedged
+pub mod Held
+pub mod Whole

@@ -1,0 +1,11 @@
+pub mod Agree
+pub mod AheadMakes
+pub mod Free
+pub mod Holds
+pub mod Lines
+pub mod Next
+pub mod Sets
+pub mod Step
+pub mod Taken
+pub mod ToldQueue
+pub mod Whole
