@@ -12,11 +12,12 @@ pub mod DialEvents
 pub mod DrainEvents
 pub mod DrainedCalls
 pub mod DrainedLines
-pub mod FewCalls
 pub mod FirstShutdowns
 pub mod FullSends
-pub mod GreetedLinks
+pub mod GenerationStamps
 pub mod HeldCalls
+pub mod KnownStages
+pub mod LeftLinks
 pub mod LongSends
 pub mod MakingSteps
 pub mod NetChains
@@ -25,7 +26,6 @@ pub mod NetSettlings
 pub mod NetSteps
 pub mod OneCallEnds
 pub mod OverdueCalls
-pub mod OwnStreams
 pub mod PassActions
 pub mod ResultEvents
 pub mod RoundSteps
@@ -34,6 +34,6 @@ pub mod ServeSteps
 pub mod SettlingActions
 pub mod SettlingKeeps
 pub mod SettlingParts
-pub mod SoundBuffers
 pub mod StreamedCalls
+pub mod WholeRuns
 pub mod WrittenResponses

@@ -1,0 +1,5 @@
+pub mod Along
+pub mod Kinds
+pub mod Over
+pub mod Results
+pub mod Written
