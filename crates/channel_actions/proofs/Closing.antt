@@ -4,9 +4,7 @@ use Rattle.std.proofs.lemmas.List.{length-map}
 use Rattle.std.proofs.lemmas.Simd.{map-map}
 use Rattle.std.specs.List.{list_all}
 use Rattle.std.specs.Option.{option_map, option_map_or}
-use Rattle.std.specs.Prelude.{map, nat_le}
-use Rattle.attempt_ledger.specs.declared.ledger.Ask.{Ask}
-use Rattle.attempt_ledger.specs.declared.row.RowEnd.{RowEnd}
+use Rattle.std.specs.Prelude.{map}
 use Rattle.channel_actions.proofs.Moved.{agrees_moved}
 use Rattle.channel_actions.proofs.Opening.{noted_is, stamp}
 use Rattle.channel_actions.proofs.Relinked.{agrees_relinked, owed_relinked, reader_relinked, streams_relinked}
@@ -32,7 +30,6 @@ use Rattle.session_actions.specs.Responses.{is_read_by}
 use Rattle.session_actions.specs.Sessions.{link_seen}
 use Rattle.session_actions.specs.Words.{last_of, numbered}
 use Rattle.session_actions.specs.Writing.{is_control}
-use Rattle.session_actions.specs.declared.attempt.Attempt.{Attempt}
 use Rattle.session_actions.specs.declared.entry.OpenEntry.{OpenEntry}
 use Rattle.session_actions.specs.declared.entry.Stage.TheVariants as stage
 use Rattle.session_actions.specs.declared.link.Link.{Link}

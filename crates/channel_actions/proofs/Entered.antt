@@ -7,22 +7,33 @@ use Rattle.channel_actions.proofs.Does.{does_on, none_on}
 use Rattle.channel_actions.proofs.Settles.{Settles, begins}
 use Rattle.channel_actions.proofs.States.{states_agree}
 use Rattle.channel_actions.specs.Agrees.{Agrees}
+use Rattle.channel_actions.proofs.FewCalls.Reached.{reached_on}
+use Rattle.channel_actions.proofs.GreetedLinks.Along.{greeted_along}
+use Rattle.channel_actions.proofs.OwnStreams.Along.{streams_along}
+use Rattle.channel_actions.proofs.TheirLinks.Kept.{theirs_along}
+use Rattle.channel_actions.specs.FewCalls.Reached.{IsReached}
 use Rattle.channel_actions.specs.GoingCalls.Going.{CallsGoOn}
-use Rattle.channel_actions.specs.GoingCalls.Laws.{AnswersGoOn, DeadlinesGoOn, SettlingsGoOn}
+use Rattle.channel_actions.specs.GreetedLinks.Greeted.{AreGreeted}
 use Rattle.channel_actions.specs.KeptCalls.Early.{IsEarlyKept}
 use Rattle.channel_actions.specs.KeptCalls.Laws.{EarlyAlong}
 use Rattle.channel_actions.specs.KeptSessions.Kept.{IsKept}
 use Rattle.channel_actions.specs.Known.{IsKnown}
 use Rattle.channel_actions.specs.OwnLinks.Laws.{OwnAlong}
 use Rattle.channel_actions.specs.OwnLinks.Own.{AreOwnLinks}
+use Rattle.channel_actions.specs.OwnStreams.Own.{AreOwnStreams}
+use Rattle.channel_actions.specs.SoundBuffers.Held.{BuffersAreSound}
+use Rattle.channel_actions.specs.SoundCalls.Sound.{AreSoundCalls}
 use Rattle.channel_actions.specs.Points.{IsSameEntry, Rests}
 use Rattle.channel_actions.specs.Stages.{Closings, Deadlines, Events, IsAnswered, IsSettled, IsTimely, Openings, Settlings}
+use Rattle.channel_actions.specs.TheirLinks.Theirs.{AreTheirs}
 use Rattle.channel_core.specs.Applying.{AnswersBy, Stepped, begun_at, conn_of, refusal_of}
+use Rattle.channel_core.specs.Settling.{settled}
 use Rattle.channel_core.specs.States.{StateSeen}
 use Rattle.channel_core.specs.Steps.{overdue_ended}
 use Rattle.grpc_base.specs.declared.event.Conn.{Conn}
 use Rattle.grpc_base.specs.declared.event.Entry.{Entry}
 use Rattle.grpc_base.specs.declared.event.Event.{Event}
+use Rattle.grpc_base.specs.declared.event.Refusal.{Refusal}
 use Rattle.grpc_base.specs.declared.event.Reply.{Reply}
 use Rattle.grpc_base.specs.declared.event.Reply.TheVariants as reply
 use Rattle.grpc_base.specs.declared.event.Stamped.{Stamped}
@@ -41,17 +52,27 @@ use Rattle.session_actions.specs.declared.seen.Seen.{Seen}
 abbrev pub entry_as : ℕ → ℕ → Event → Reply → Conn → Entry
 entry_as moment word e r state = record { moment = moment; word = word; event = e; reply = r; state = state }
 
+-- what each step of a channel keeps, of it alone
+pub record KeepsOn (x : StateSeen) : Type 0 where
+  pub going : CallsGoOn x
+  pub calls : AreSoundCalls x
+  pub buffers : BuffersAreSound x
+
 -- what is known between two entries, but that the journal is below its limit
 pub record IsCarried (x : StateSeen) (s : Seen) : Type 0 where
-  pub going : CallsGoOn x
+  pub keeps : KeepsOn x
   pub early : IsEarlyKept s
   pub own : AreOwnLinks s
+  pub theirs : AreTheirs s
+  pub greeted : AreGreeted s
+  pub streams : AreOwnStreams s
+  pub reached : IsReached s
 
 -- what keeps it: each stage of the channel, and each action
 pub record Carrying : Type 0 where
-  pub deadlines : DeadlinesGoOn
-  pub answers : AnswersGoOn
-  pub settlings : SettlingsGoOn
+  pub deadlines : (x : StateSeen) → KeepsOn x → KeepsOn (overdue_ended x)
+  pub answers : (refused : Option Refusal) (e : Event) (x y : StateSeen) (r : Reply) → AnswersBy refused e x y r → KeepsOn x → KeepsOn y
+  pub settlings : (x : StateSeen) → KeepsOn x → KeepsOn (settled x)
   pub early : EarlyAlong
   pub own : OwnAlong
 
@@ -97,23 +118,40 @@ module _ (states : StatesAreSame) (openings : Openings) (deadlines : Deadlines) 
   agrees_first = openings x s e.moment e.word e.event h
 
   -- what is carried, after actions from a session that is kept
-  carried_on : (actions : List Action) (z : StateSeen) (t u : Seen) → IsKept t → IsEarlyKept t → AreOwnLinks t → Does actions t u → CallsGoOn z → IsCarried z u
-  carried_on actions z t u kept early own does going =
-      record { going = going; early = carrying.early actions t u kept early does; own = carrying.own actions t u kept own does }
+  carried_on : (actions : List Action) (w z : StateSeen) (t u : Seen) → IsKept t → IsCarried w t → Does actions t u → KeepsOn z → IsCarried z u
+  carried_on actions w z t u kept k does keeps = record {
+    keeps = keeps;
+    early = carrying.early actions t u kept k.early does;
+    own = carrying.own actions t u kept k.own does;
+    theirs = theirs_along actions t u kept k.early k.greeted k.theirs does;
+    greeted = greeted_along actions t u kept k.greeted does;
+    streams = streams_along actions t u kept k.greeted k.streams does;
+    reached = reached_on t u actions k.reached does;
+  }
 
   -- and so it is known, while no entry was made
   known_of : (z : StateSeen) (u : Seen) → IsCarried z u → u.entries ≡ s.entries → IsKnown z u
   known_of z u k same = record {
-    going = k.going;
+    going = k.keeps.going;
+    calls = k.keeps.calls;
+    buffers = k.keeps.buffers;
     early = k.early;
     own = k.own;
+    theirs = k.theirs;
+    greeted = k.greeted;
+    streams = k.streams;
+    reached = k.reached;
     few = ap (λ (l : List Entry). nat_lt (length l) 1048576) same ∙ (and_parts (nat_lt (length s.entries) 1048576) _ room).0;
   }
 
   carried_first : IsCarried begun first
   carried_first =
-      carried_on (action.EntryOpens e.moment e.word e.event ∷ []) begun s first h.agrees.kept c.early c.own (may, sym opens_to)
-      (record { calls = c.going.calls; allows = c.going.allows })
+      carried_on (action.EntryOpens e.moment e.word e.event ∷ []) x begun s first h.agrees.kept c (may, sym opens_to)
+      (record {
+        going = record { calls = c.keeps.going.calls; allows = c.keeps.going.allows };
+        calls = record { slots = c.keeps.calls.slots; plans = c.keeps.calls.plans };
+        buffers = c.keeps.buffers;
+      })
 
   timely : IsTimely begun start first
   timely =
@@ -122,8 +160,8 @@ module _ (states : StatesAreSame) (openings : Openings) (deadlines : Deadlines) 
 
   carried_timely : IsCarried (overdue_ended begun) timely.reaches.seen
   carried_timely =
-      carried_on timely.reaches.actions (overdue_ended begun) first timely.reaches.seen agrees_first.kept carried_first.early carried_first.own timely.reaches.does
-      (carrying.deadlines begun carried_first.going)
+      carried_on timely.reaches.actions begun (overdue_ended begun) first timely.reaches.seen agrees_first.kept carried_first timely.reaches.does
+      (carrying.deadlines begun carried_first.keeps)
 
   answers : AnswersBy (refusal_of timely.reaches.entry.event (overdue_ended begun)) timely.reaches.entry.event (overdue_ended begun) step.answered r
   answers =
@@ -139,16 +177,16 @@ module _ (states : StatesAreSame) (openings : Openings) (deadlines : Deadlines) 
 
   carried_answered : IsCarried step.answered answered.reaches.seen
   carried_answered =
-      carried_on answered.reaches.actions step.answered timely.reaches.seen answered.reaches.seen timely.reaches.agrees.kept carried_timely.early carried_timely.own
-      answered.reaches.does (carrying.answers _ timely.reaches.entry.event (overdue_ended begun) step.answered r answers carried_timely.going)
+      carried_on answered.reaches.actions (overdue_ended begun) step.answered timely.reaches.seen answered.reaches.seen timely.reaches.agrees.kept carried_timely
+      answered.reaches.does (carrying.answers _ timely.reaches.entry.event (overdue_ended begun) step.answered r answers carried_timely.keeps)
 
   settling_begins : Settles step.answered answered.reaches.entry answered.reaches.seen
   settling_begins = begins step.answered answered.reaches.entry answered.reaches.seen answered.reaches.agrees answered.reaches.at answered.none
 
   carried_begins : IsCarried step.answered settling_begins.reaches.seen
   carried_begins =
-      carried_on settling_begins.reaches.actions step.answered answered.reaches.seen settling_begins.reaches.seen answered.reaches.agrees.kept
-      carried_answered.early carried_answered.own settling_begins.reaches.does carried_answered.going
+      carried_on settling_begins.reaches.actions step.answered step.answered answered.reaches.seen settling_begins.reaches.seen answered.reaches.agrees.kept
+      carried_answered settling_begins.reaches.does carried_answered.keeps
 
   done : IsSettled step.answered settling_begins.reaches.entry settling_begins.reaches.seen
   done =
@@ -207,13 +245,13 @@ module _ (states : StatesAreSame) (openings : Openings) (deadlines : Deadlines) 
 
   carried_done : IsCarried y last_seen
   carried_done =
-      carried_on done.reaches.actions y settling_begins.reaches.seen last_seen settling_begins.reaches.agrees.kept carried_begins.early carried_begins.own
-      done.reaches.does (subst CallsGoOn (sym step.settles) (carrying.settlings step.answered carried_begins.going))
+      carried_on done.reaches.actions step.answered y settling_begins.reaches.seen last_seen settling_begins.reaches.agrees.kept carried_begins
+      done.reaches.does (subst KeepsOn (sym step.settles) (carrying.settlings step.answered carried_begins.keeps))
 
   carried_last : IsCarried y (entry_made last_entry last_seen)
   carried_last =
-      carried_on (action.EntryCloses ∷ []) y last_seen (entry_made last_entry last_seen) agrees_last.kept carried_done.early carried_done.own
-      (done.closes, sym after_last) carried_done.going
+      carried_on (action.EntryCloses ∷ []) y y last_seen (entry_made last_entry last_seen) agrees_last.kept carried_done
+      (done.closes, sym after_last) carried_done.keeps
 
   pub entered : Enters y s e r
   entered = record {

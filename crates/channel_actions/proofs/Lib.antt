@@ -12,9 +12,11 @@ pub mod DrainWrites
 pub mod Dues
 pub mod EndsFollow
 pub mod Entered
+pub mod FewCalls
 pub mod Fresh
 pub mod GoingCalls
 pub mod Gone
+pub mod GreetedLinks
 pub mod Idle
 pub mod IdleCalls
 pub mod IdleNet
@@ -28,6 +30,7 @@ pub mod Opening
 pub mod OtherCalls
 pub mod Outstanding
 pub mod OwnLinks
+pub mod OwnStreams
 pub mod Pinging
 pub mod Quiet
 pub mod Refusing
@@ -37,8 +40,11 @@ pub mod Resting
 pub mod Running
 pub mod SetFrames
 pub mod Settles
+pub mod SoundBuffers
+pub mod SoundCalls
 pub mod Splitting
 pub mod Stamps
 pub mod States
 pub mod StreamsOpened
+pub mod TheirLinks
 pub mod Timely

@@ -1,8 +1,5 @@
 -- Channel and session still agree where only the clock goes on: another entry is open, or none, or the same at another stage.
-use Rattle.std.proofs.Common.{◌≡◌, ap, subst, sym, ◌∙◌, Bool, true, List, Option, None, Some, ℕ}
-use Rattle.std.specs.List.{list_all}
-use Rattle.std.specs.Option.{option_map_or}
-use Rattle.std.specs.Prelude.{nat_le}
+use Rattle.std.proofs.Common.{◌≡◌, ap, subst, sym, ◌∙◌, Bool, List, Option, None, Some, ℕ}
 use Rattle.call_actions.specs.Order.{IsInOrder, IsInTurn}
 use Rattle.call_actions.specs.Sees.{AreAttempts, AreDue, Sees}
 use Rattle.call_core.specs.Steps.{Stepped}

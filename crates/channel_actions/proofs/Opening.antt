@@ -1,5 +1,5 @@
 -- An entry opens: channel and session agree on it, at the later of its moment and that of the entry before.
-use Rattle.std.proofs.Common.{◌≡◌, ◌+◌, ◌&&◌, ◌∷◌, ap, refl, sym, ◌∙◌, Bool, true, false, List, [], Option, None, Some, ℕ, if◌then◌else◌, is_none, is_some}
+use Rattle.std.proofs.Common.{◌≡◌, ◌+◌, ◌&&◌, ◌∷◌, ap, refl, sym, ◌∙◌, Bool, true, false, List, [], Some, ℕ, if◌then◌else◌, is_none}
 use Rattle.std.proofs.lemmas.Bool.{and_parts}
 use Rattle.std.proofs.lemmas.Simd.{map-map}
 use Rattle.std.specs.Prelude.{length, map, max}
@@ -16,7 +16,6 @@ use Rattle.session_actions.specs.Closing.{noted_gone}
 use Rattle.session_actions.specs.Entries.{entry, last_moment, opened, opened_entry}
 use Rattle.session_actions.specs.Refusals.{is_gone}
 use Rattle.session_actions.specs.Sessions.{link_seen}
-use Rattle.session_actions.specs.declared.entry.OpenEntry.{OpenEntry}
 use Rattle.session_actions.specs.declared.link.Link.{Link}
 use Rattle.session_actions.specs.declared.seen.Seen.{Seen}
 

@@ -2,6 +2,7 @@
 use Rattle.std.proofs.Common.{◌≡◌, ◌++◌, ◌+◌, ◌-◌, ◌∷◌, ap, append_assoc, arith, refl, subst, sym, ◌∙◌, true, List, [], Option, ℕ, zero, suc, if◌then◌else◌, is_some, length, slice_get}
 use Rattle.std.proofs.lemmas.List.{append-nil}
 use Rattle.std.specs.Option.{option_map_or}
+use Rattle.std.specs.Global.{Global}
 use Rattle.std.specs.Prelude.{map, max}
 use Rattle.attempt_ledger.specs.declared.ledger.Ask.{Ask}
 use Rattle.attempt_ledger.specs.declared.ledger.CallSeen.{CallSeen}
@@ -10,22 +11,24 @@ use Rattle.attempt_ledger.specs.declared.ledger.Ledger.{Ledger}
 use Rattle.attempt_ledger.specs.declared.ledger.LinkSeen.{LinkSeen}
 use Rattle.attempt_ledger.specs.declared.row.Row.{Row}
 use Rattle.channel_actions.proofs.Does.{does_on, posted_on}
-use Rattle.channel_actions.proofs.Entered.{Carrying, Enters, IsCarried, entered, entry_as}
+use Rattle.channel_actions.proofs.Entered.{Carrying, Enters, IsCarried, KeepsOn, entered, entry_as}
+use Rattle.channel_actions.proofs.GreetedLinks.Along.{greeted_begins}
+use Rattle.channel_actions.proofs.OwnStreams.Along.{streams_begin}
 use Rattle.channel_actions.proofs.Opening.{noted_is}
 use Rattle.channel_actions.proofs.Splitting.{deadlines_split, events_split, settlings_split}
-use Rattle.channel_actions.specs.GoingCalls.Going.{CallsGoOn}
-use Rattle.channel_actions.specs.GoingCalls.Laws.{NewCallsGoOn}
+use Rattle.channel_actions.proofs.TheirLinks.Kept.{theirs_begin}
 use Rattle.channel_actions.specs.KeptCalls.Laws.{EarlyBegins}
 use Rattle.channel_actions.specs.OwnLinks.Laws.{OwnBegins}
 use Rattle.channel_actions.specs.Laws.{HadRoom, NewChannelsAgree, RunsAreSessions, is_room}
 use Rattle.channel_actions.specs.Points.{Rests}
 use Rattle.channel_actions.specs.Stages.{Closings, Deadlines, Events, Openings, Settlings}
-use Rattle.channel_core.specs.Applying.{Stepped, conn_of}
+use Rattle.channel_core.specs.Applying.{Stepped, conn_of, new_state}
 use Rattle.channel_core.specs.Core.{CoreSeen, Runs, Steps, last_moment}
 use Rattle.channel_core.specs.States.{StateSeen}
 use Rattle.grpc_base.specs.declared.event.Entry.{Entry}
 use Rattle.grpc_base.specs.declared.event.Reply.{Reply}
 use Rattle.grpc_base.specs.declared.event.Stamped.{Stamped}
+use Rattle.lb_policy.specs.Table.{PolicySeen}
 use Rattle.net_actions.specs.Laws.{ClockChanges, NoneToDial, StatesAreSame, TakeOversAreSame, WishesConnect}
 use Rattle.session_actions.specs.Entries as entries
 use Rattle.session_actions.specs.Entries.{has_room}
@@ -149,14 +152,21 @@ recorded x s h =
     ∙ ap (λ (z : List LinkSeen). made l.rows l.calls l.asks l.generations z (length s.entries)) links
     ∙ ap (made l.rows l.calls l.asks l.generations l.links) number
 
+abbrev pub NewOnesKeep : Type 0
+NewOnesKeep = (alloc : Global) (authority : List ℕ) (policies : List PolicySeen) → KeepsOn (new_state alloc authority policies)
+
 pub runs_are_sessions : StatesAreSame → NoneToDial → ClockChanges → TakeOversAreSame → WishesConnect → NewChannelsAgree → Openings → Closings → Carrying
-    → NewCallsGoOn → EarlyBegins → OwnBegins → RunsAreSessions
-runs_are_sessions states none_to_dial clocks overs wishes news openings closings carrying new_calls new_early new_own overdue does due setup policies alloc events new core kinds ready is_new runs room =
+    → NewOnesKeep → EarlyBegins → OwnBegins → RunsAreSessions
+runs_are_sessions states none_to_dial clocks overs wishes news openings closings carrying new_ones new_early new_own overdue does due setup policies alloc events new core kinds ready is_new runs room =
     let begins : Rests new.state (new_session setup) = subst (λ (x : StateSeen). Rests x (new_session setup)) (sym is_new.state) (news setup policies alloc kinds ready) in
     let carried : IsCarried new.state (new_session setup) = record {
-      going = subst CallsGoOn (sym is_new.state) (new_calls alloc setup.authority policies);
+      keeps = subst KeepsOn (sym is_new.state) (new_ones alloc setup.authority policies);
       early = new_early setup;
       own = new_own setup;
+      theirs = theirs_begin setup;
+      greeted = greeted_begins setup;
+      streams = streams_begin setup;
+      reached = record { setup = setup; actions = []; does = refl };
     } in
     let ran = run states openings (deadlines_split overdue) (events_split none_to_dial does) (settlings_split clocks overs wishes states due) closings carrying events new core (new_session setup) begins carried (sym is_new.journal) runs room in
     record {

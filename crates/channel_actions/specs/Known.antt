@@ -1,18 +1,33 @@
 -- What is known at each stage of an entry, beside that channel and session agree: what each step of a channel keeps, what every session keeps, and that the
 -- journal is below its limit. It holds of a new channel and a new session, and is carried along a run.
 -- Example: the deadline of call 1 has come. That no stream was reset of an attempt of it that goes on is no part of the agreement; every session keeps it.
-use Rattle.std.specs.Prelude.{length, nat_lt, true, ℕ, ◌≡◌}
+use Rattle.std.specs.Prelude.{length, nat_lt, true, ◌≡◌}
+use Rattle.channel_actions.specs.FewCalls.Reached.{IsReached}
 use Rattle.channel_actions.specs.GoingCalls.Going.{CallsGoOn}
+use Rattle.channel_actions.specs.GreetedLinks.Greeted.{AreGreeted}
 use Rattle.channel_actions.specs.KeptCalls.Early.{IsEarlyKept}
 use Rattle.channel_actions.specs.OwnLinks.Own.{AreOwnLinks}
+use Rattle.channel_actions.specs.OwnStreams.Own.{AreOwnStreams}
+use Rattle.channel_actions.specs.SoundBuffers.Held.{BuffersAreSound}
+use Rattle.channel_actions.specs.SoundCalls.Sound.{AreSoundCalls}
+use Rattle.channel_actions.specs.TheirLinks.Theirs.{AreTheirs}
 use Rattle.channel_core.specs.States.{StateSeen}
 use Rattle.session_actions.specs.declared.seen.Seen.{Seen}
 
 pub record IsKnown (x : StateSeen) (s : Seen) : Type 0 where
-  -- of the channel alone: each call that runs goes on
+  -- of the channel alone: each call that runs goes on, and makes no more attempts than its plan allows; and what it holds of its messages has a place for each of its
+  -- rows
   pub going : CallsGoOn x
-  -- of the session alone, beside `IsKept`: calls before their first attempt, resets of streams; and links of subchannels are their own
+  pub calls : AreSoundCalls x
+  pub buffers : BuffersAreSound x
+  -- of the session alone, beside `IsKept`: calls before their first attempt, resets of streams; links of subchannels are their own, and links that take further streams
+  -- are; attempts are only on links with SETTINGS, and no two of a link have one stream
   pub early : IsEarlyKept s
   pub own : AreOwnLinks s
+  pub theirs : AreTheirs s
+  pub greeted : AreGreeted s
+  pub streams : AreOwnStreams s
+  -- it began new, and so keeps what every list of actions keeps
+  pub reached : IsReached s
   -- so numbers of calls and links do not end
   pub few : nat_lt (length s.entries) 1048576 ≡ true

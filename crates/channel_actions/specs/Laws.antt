@@ -40,13 +40,16 @@ pub record IsSession (setup : Setup) (events : List Stamped) (core : CoreSeen) :
   pub consistent : IsConsistent setup core.journal.entries (ledger_in core)
   pub posted : posted_in consistent.actions ≡ events
 
+abbrev pub EveryRunIsASession : Type 0
+EveryRunIsASession =
+    (setup : Setup) (policies : List PolicySeen) (alloc : Global) (events : List Stamped) (new core : CoreSeen) → AreKinds setup.policies policies → are_ready policies ≡ true
+    → IsNewBy alloc setup.authority policies new → Runs new events core → HadRoom [] core.journal.entries → IsSession setup events core
+
 -- (the premises are what is left of the stages, where all is known that runs keep; the rest of each is proved below)
 abbrev pub RunsAreSessions : Type 0
 RunsAreSessions =
     DeadlinesOf (λ x s. HasOverdue x s × IsKnown x s) → EventsAnswered (λ e x s. DoesSomething e x s × IsKnown x s) → SettlingsOf (λ x s. HasDue x s × IsKnown x s)
-    → (setup : Setup) (policies : List PolicySeen) (alloc : Global) (events : List Stamped) (new core : CoreSeen)
-    → AreKinds setup.policies policies → are_ready policies ≡ true → IsNewBy alloc setup.authority policies new → Runs new events core
-    → HadRoom [] core.journal.entries → IsSession setup events core
+    → EveryRunIsASession
 
 -- What is proved of the stages, case by case.
 -- Events: what the channel refuses before it looks at a call or a subchannel; a Tick; a resolution that failed; a dial where none is to be made, and dials

@@ -13,7 +13,9 @@ pub mod DrainCalls
 pub mod DrainLends
 pub mod DrainWrites
 pub mod EndsFollow
+pub mod FewCalls
 pub mod GoingCalls
+pub mod GreetedLinks
 pub mod KeptCalls
 pub mod KeptSessions
 pub mod Known
@@ -23,10 +25,14 @@ pub mod LinkFrames
 pub mod Links
 pub mod OtherCalls
 pub mod OwnLinks
+pub mod OwnStreams
 pub mod Points
 pub mod Readers
 pub mod ResetCalls
 pub mod SetFrames
 pub mod Sets
+pub mod SoundBuffers
+pub mod SoundCalls
 pub mod Stages
 pub mod StreamsOpened
+pub mod TheirLinks

@@ -5,6 +5,8 @@ ghost use Rattle.channel_actions.specs.Stages.{Closings, Openings};
 use crate::going_calls::calls_of_channels_go_on;
 use crate::kept_calls::calls_are_kept;
 use crate::own_links::links_are_own;
+use crate::sound_buffers::buffers_stay_sound;
+use crate::sound_calls::calls_stay_sound;
 use link_actions::pings_are_actions;
 use net_actions::{
     new_nets_are_new_sessions, policy_steps_are_actions, subchannel_steps_are_actions,
@@ -67,6 +69,8 @@ pub fn runs_are_sessions()
     policy_steps_are_actions();
     subchannel_steps_are_actions();
     calls_of_channels_go_on();
+    calls_stay_sound();
+    buffers_stay_sound();
     calls_are_kept();
     links_are_own();
 }

@@ -1,4 +1,6 @@
 pub mod Answered
 pub mod Loop
 pub mod Over
+pub mod Retired
 pub mod Shut
+pub mod Stamped

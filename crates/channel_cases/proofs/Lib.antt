@@ -15,14 +15,14 @@ pub mod DrainedCalls
 pub mod DrainedLines
 pub mod EndCases
 pub mod EndRetries
-pub mod FewCalls
 pub mod FirstShutdowns
 pub mod FullSends
 pub mod GenerationStamps
-pub mod GreetedLinks
 pub mod HeldCalls
 pub mod HeldKinds
 pub mod HeldResults
+pub mod KnownStages
+pub mod LeftLinks
 pub mod LongSends
 pub mod LostLinks
 pub mod MakingSteps
@@ -33,7 +33,6 @@ pub mod NetSteps
 pub mod OneCallEnds
 pub mod OverdueCalls
 pub mod OwedResets
-pub mod OwnStreams
 pub mod PassActions
 pub mod PassedAtOnce
 pub mod ResultEvents
@@ -43,7 +42,7 @@ pub mod ServeSteps
 pub mod SettlingActions
 pub mod SettlingKeeps
 pub mod SettlingParts
-pub mod SoundBuffers
 pub mod StreamedCalls
 pub mod TakeOvers
+pub mod WholeRuns
 pub mod WrittenResponses

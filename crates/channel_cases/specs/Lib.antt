@@ -14,14 +14,13 @@ pub mod DrainEvents
 pub mod DrainedCalls
 pub mod DrainedLines
 pub mod EndedCalls
-pub mod FewCalls
 pub mod FirstShutdowns
 pub mod FullSends
 pub mod GenerationStamps
-pub mod GreetedLinks
 pub mod HeldCalls
 pub mod HeldKinds
 pub mod HeldResults
+pub mod KnownStages
 pub mod LeftLinks
 pub mod LongSends
 pub mod LostLinks
@@ -30,7 +29,6 @@ pub mod NetChains
 pub mod NetResults
 pub mod NetSettlings
 pub mod NetSteps
-pub mod OwnStreams
 pub mod PassActions
 pub mod PassedAtOnce
 pub mod ResultEvents
@@ -38,9 +36,8 @@ pub mod RoundSteps
 pub mod SendsEnd
 pub mod ServeSteps
 pub mod SettlingActions
-pub mod SettlingKeeps
 pub mod SettlingParts
-pub mod SoundBuffers
 pub mod StreamedCalls
 pub mod TakeOvers
+pub mod WholeRuns
 pub mod WrittenResponses

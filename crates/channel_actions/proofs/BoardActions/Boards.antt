@@ -1,17 +1,16 @@
 -- Kind by kind: what an action of subchannels and policies leaves.
-use Rattle.std.proofs.Common.{◌≡◌, ◌==◌, ◌∷◌, ◌++◌, ◌+◌, ap, refl, subst, sym, ◌∙◌, Bool, true, false, List, [], Option, None, Some, ℕ, length, not}
+use Rattle.std.proofs.Common.{◌≡◌, ◌∷◌, ◌++◌, ◌+◌, ap, refl, sym, ◌∙◌, true, List, [], Option, None, Some, ℕ, length}
 use Rattle.std.specs.Option.{option_map_or}
 use Rattle.call_actions.specs.CallsApart.Apart.{acts_on}
 use Rattle.grpc_base.specs.declared.address.Address.{Address}
 use Rattle.grpc_base.specs.declared.event.Conn.TheVariants as conn
 use Rattle.grpc_base.specs.declared.event.Event.{Event}
-use Rattle.channel_actions.specs.BoardActions.Boards.{AreOfBoard, IsBoarded, boarded, is_of_board}
+use Rattle.channel_actions.specs.BoardActions.Boards.{IsBoarded, boarded, is_of_board}
 use Rattle.channel_actions.specs.BoardActions.Laws.{BoardsLeaveRest}
 use Rattle.session_actions.specs.Actions.{after, after_if, after_in}
 use Rattle.session_actions.specs.Links.{link_over, wants_resolution}
 use Rattle.session_actions.specs.Policies.{addresses_given, addresses_in, current_policy, given_addresses, policy_retired, policy_took_over, with_policy}
-use Rattle.session_actions.specs.Sessions.{Does}
-use Rattle.session_actions.specs.Subchannels.{connect_timed_out, dial_failed, dial_taken_of, gone_down, in_state, link_timed_out, link_up, new_link, noted_by_policies, settings_arrived, with_dial, with_sub, without_link}
+use Rattle.session_actions.specs.Subchannels.{connect_timed_out, dial_failed, dial_taken_of, gone_down, in_state, link_timed_out, link_up, new_link, noted_by_policies, with_dial, with_sub, without_link}
 use Rattle.session_actions.specs.Words.{changed, numbered}
 use Rattle.session_actions.specs.declared.action.Action.{Action}
 use Rattle.session_actions.specs.declared.action.Action.TheVariants as action

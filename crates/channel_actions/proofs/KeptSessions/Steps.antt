@@ -12,7 +12,6 @@ use Rattle.channel_actions.proofs.KeptSessions.Sound.{IsSound, is_placing}
 use Rattle.channel_actions.proofs.KeptSessions.Whole.{Whole, WholeOf, ask_ok, asks_more, beside, call_now, entered, links_mapped, links_more, picks_at, rows_later, sub_linked, sub_ok, sub_unplaced, subs_more}
 use Rattle.channel_actions.specs.KeptSessions.Kept.{has_link_for}
 use Rattle.lb_policy.specs.Table.{is_ready}
-use Rattle.service_config.specs.Choice.{taken}
 use Rattle.session_actions.specs.Actions.{after, after_if, after_in}
 use Rattle.session_actions.specs.Attempts.{with_attempt}
 use Rattle.session_actions.specs.Calls.{marked}

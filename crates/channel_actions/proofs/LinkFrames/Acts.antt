@@ -1,5 +1,5 @@
 -- What each kind of action does, told by no link on which it does not bear: to calls, to attempts, to links.
-use Rattle.std.proofs.Common.{◌≡◌, ◌+◌, ◌++◌, ◌∷◌, ◌&&◌, ◌==◌, ◌||◌, ◌≤◌, ap, arith, length-append, refl, subst, sym, ◌∙◌, Bool, true, false, List, [], Option, None, Some, ℕ, zero, suc, cond, filter, if◌then◌else◌, is_none, is_some, length, map, not, option_and_then, slice_get}
+use Rattle.std.proofs.Common.{◌≡◌, ◌+◌, ◌++◌, ◌∷◌, ◌&&◌, ◌==◌, ◌≤◌, ap, arith, length-append, refl, subst, sym, ◌∙◌, Bool, true, false, List, [], Option, None, Some, ℕ, if◌then◌else◌, is_none, is_some, length, map, not, option_and_then, slice_get}
 use Rattle.std.proofs.Math.Nat.{le_refl}
 use Rattle.std.proofs.lemmas.Bool.{eqb-false, eqb-true, or_parts}
 use Rattle.std.proofs.lemmas.List.Concat.{flat_map-append}
@@ -12,8 +12,7 @@ use Rattle.attempt_ledger.specs.declared.row.Placed.{Placed}
 use Rattle.attempt_ledger.specs.declared.row.RowEnd.{RowEnd}
 use Rattle.attempt_ledger.specs.declared.row.RowKind.{RowKind}
 use Rattle.call_actions.proofs.Lists.{changed_away}
-use Rattle.call_actions.proofs.CallsApart.Acts.{IsIn, in_filter, others_stay}
-use Rattle.call_actions.proofs.CallsApart.Plain.{still, subbed}
+use Rattle.call_actions.proofs.CallsApart.Plain.{subbed}
 use Rattle.call_actions.specs.CallsApart.Apart.{IsApart}
 use Rattle.channel_actions.proofs.Stamps.{counted_at}
 use Rattle.grpc_base.specs.declared.event.ConfigFault.{ConfigFault}
@@ -27,42 +26,34 @@ use Rattle.grpc_frame.specs.Messages.{framed, framed_all}
 use Rattle.h2_frame.specs.Frames.{FrameSeen}
 use Rattle.h2_frame.specs.Numbers.{headers_type}
 use Rattle.h2_frame.specs.Sent.{rst_stream_frame}
-use Rattle.channel_actions.specs.KeptSessions.Kept.{AreCounted, IsKept}
-use Rattle.channel_actions.proofs.LinkFrames.Changes.{IsMild, IsRowAlike, IsSameSo, all_same, attempt_changed, attempt_joins, call_changed, call_joins, link_changed, link_joins, limit_same, links_mapped, same_but_calls, same_so}
-use Rattle.channel_actions.proofs.LinkFrames.Tellings.{Goes, all_go, fewer_tell, joined, untold}
+use Rattle.channel_actions.specs.KeptSessions.Kept.{AreCounted}
+use Rattle.channel_actions.proofs.LinkFrames.Changes.{IsMild, IsRowAlike, IsSameSo, all_same, attempt_changed, attempt_joins, call_changed, call_joins, link_changed, link_joins, limit_same, same_but_calls, same_so}
+use Rattle.channel_actions.proofs.LinkFrames.Tellings.{Goes, all_go, joined, untold}
 use Rattle.channel_actions.specs.LinkFrames.Alike.{CannotTell, IsLinkStill, Numbers, is_on}
-use Rattle.channel_actions.specs.LinkFrames.Bears.{IsOrderly, bear_on, bears_on, is_placed_on}
-use Rattle.channel_actions.specs.LinkFrames.Laws.{ActionsAreUntold, ListsAreUntold}
-use Rattle.call_actions.proofs.ReadsInOrder.Order.{links_of_addresses, links_of_config, links_of_dial, links_of_policy, links_of_sub}
+use Rattle.channel_actions.specs.LinkFrames.Bears.{is_placed_on}
+use Rattle.call_actions.proofs.ReadsInOrder.Order.{links_of_sub}
 use Rattle.service_config.specs.Choice.{chosen_for}
 use Rattle.service_config.specs.declared.config.Config.{Config}
-use Rattle.session_actions.specs.Actions.{after, after_if, after_in}
 use Rattle.session_actions.specs.AttemptEnds.{attempt_ended_as, stream_reset_of, with_end, with_end_in_run, with_reset_queued}
 use Rattle.session_actions.specs.Attempts.{call_of, is_outstanding, is_to_follow, marked_row, with_attempt}
 use Rattle.session_actions.specs.CallEnds.{call_ended}
 use Rattle.session_actions.specs.Calls.{marked, with_call}
-use Rattle.session_actions.specs.Closing.{noted_gone}
 use Rattle.session_actions.specs.Commitments.{with_commitment}
 use Rattle.session_actions.specs.Configs.{call_configured, config_of_call, config_read, no_choice, resolver_answered, run_to_join, with_held, with_throttled}
-use Rattle.session_actions.specs.Deliveries.{begun_call, call_begun_by, is_end, with_message}
-use Rattle.session_actions.specs.Entries.{entry, now, opened, replied}
+use Rattle.session_actions.specs.Deliveries.{begun_call, call_begun_by, with_message}
+use Rattle.session_actions.specs.Entries.{entry, now, replied}
 use Rattle.session_actions.specs.Links.{link_number, link_over, stream_number, wants_resolution}
 use Rattle.session_actions.specs.Making.{attempt_made, hedge_withheld, new_row, with_row, without_turn_unless}
-use Rattle.session_actions.specs.Policies.{addresses_in, current_policy, with_placing}
-use Rattle.session_actions.specs.Reading.{outstanding_on}
-use Rattle.session_actions.specs.Refusals.{is_gone}
-use Rattle.session_actions.specs.Subchannels.{connect_timed_out, gone_down, in_state, link_timed_out, link_up, new_link, with_sub, without_link}
+use Rattle.session_actions.specs.Policies.{with_placing}
+use Rattle.session_actions.specs.Subchannels.{connect_timed_out, link_timed_out, link_up, new_link, with_sub, without_link}
 use Rattle.session_actions.specs.Words.{changed, holds, is_number, numbered}
-use Rattle.session_actions.specs.Writing.{accepted_bytes, frame_read_on, frame_written_on, owed_for, ping_of, stream_opened, stream_opened_by, waiting_on, with_frame_read, with_piece, with_stream}
-use Rattle.session_actions.specs.declared.action.Action.{Action}
-use Rattle.session_actions.specs.declared.action.Action.TheVariants as action
+use Rattle.session_actions.specs.Writing.{accepted_bytes, frame_read_on, frame_written_on, owed_for, stream_opened, stream_opened_by, waiting_on, with_frame_read, with_stream}
 use Rattle.session_actions.specs.declared.attempt.Attempt.{Attempt}
 use Rattle.session_actions.specs.declared.call.Call.{Call}
 use Rattle.session_actions.specs.declared.call.MarkKind.{MarkKind}
 use Rattle.session_actions.specs.declared.call.MarkKind.TheVariants as mark
 use Rattle.session_actions.specs.declared.config.HeldConfig.{HeldConfig}
 use Rattle.session_actions.specs.declared.config.ThrottleRun.{ThrottleRun}
-use Rattle.session_actions.specs.declared.entry.OpenEntry.{OpenEntry}
 use Rattle.session_actions.specs.declared.link.Link.{Link}
 use Rattle.session_actions.specs.declared.link.LinkOver.TheVariants as over
 use Rattle.session_actions.specs.declared.link.ReadFrame.{ReadFrame}

@@ -1,6 +1,5 @@
 -- All links but those that are touched.
-use Rattle.std.proofs.Common.{◌≡◌, ◌+◌, ◌∷◌, ap, arith, refl, subst, sym, ◌∙◌, Bool, true, false, List, [], Option, None, Some, ℕ, suc, drop, is_some, map}
-use Rattle.std.specs.List.{list_any}
+use Rattle.std.proofs.Common.{◌≡◌, ◌+◌, ◌∷◌, ap, arith, refl, subst, sym, ◌∙◌, Bool, true, false, List, [], Option, Some, ℕ, suc, drop, is_some, map}
 use Rattle.channel_actions.proofs.Lines.{all_at_places}
 use Rattle.channel_actions.proofs.Stamps.{counted_at}
 use Rattle.channel_actions.specs.Links.{HasLink, IsGoing, SeesLinkOf}

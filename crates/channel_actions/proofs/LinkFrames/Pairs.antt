@@ -1,5 +1,5 @@
 -- The attempts of one link, before and after: each with its call, its line, and the limit of its response.
-use Rattle.std.proofs.Common.{◌≡◌, ◌∷◌, ◌&&◌, ◌==◌, ◌≤◌, ap, refl, subst, sym, ◌∙◌, Bool, true, false, List, [], Option, None, Some, ℕ, cond, filter, is_some}
+use Rattle.std.proofs.Common.{◌≡◌, ◌∷◌, ◌&&◌, ◌≤◌, ap, refl, subst, sym, ◌∙◌, Bool, true, false, List, [], Option, None, Some, ℕ, cond, filter, is_some}
 use Rattle.std.proofs.Math.Nat.{le_trans}
 use Rattle.std.specs.List.{AllByRecursion, list_all}
 use Rattle.std.specs.Option.{option_map_or}
@@ -9,7 +9,7 @@ use Rattle.h2_link.specs.Feeds.{Line}
 use Rattle.link_actions.proofs.Lists.{both_if, if_false}
 use Rattle.link_actions.specs.Sees.{IsFed, written_for}
 use Rattle.channel_actions.proofs.LinkFrames.Steps as step
-use Rattle.channel_actions.specs.LinkFrames.Alike.{AreAlike, IsAlike, IsAttemptStill, IsCallStill, IsElsewhere, Numbers, is_on}
+use Rattle.channel_actions.specs.LinkFrames.Alike.{AreAlike, IsAttemptStill, IsCallStill, IsElsewhere, Numbers, is_on}
 use Rattle.session_actions.specs.Attempts.{call_of}
 use Rattle.session_actions.specs.Configs.{chosen_of}
 use Rattle.session_actions.specs.Reading.{used}

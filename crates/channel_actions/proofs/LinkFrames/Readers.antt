@@ -5,7 +5,7 @@ use Rattle.std.specs.Option.{option_map_or}
 use Rattle.std.specs.Prelude.{option_and_then}
 use Rattle.attempt_ledger.specs.declared.row.Placed.{Placed}
 use Rattle.attempt_ledger.specs.declared.row.RowEnd.{RowEnd}
-use Rattle.channel_actions.specs.Readers.{IsReader, IsReaderOf, SeesReaders, attempt_on}
+use Rattle.channel_actions.specs.Readers.{IsReader, IsReaderOf, SeesReaders}
 use Rattle.grpc_link.specs.Links.{reader_in}
 use Rattle.grpc_link.specs.Readers.{ReaderSeen}
 use Rattle.grpc_link.specs.declared.readers.TagReader.{TagReader}

@@ -1,5 +1,5 @@
 -- A link that cannot tell agrees with the session as before: its streams, and what they are fed with.
-use Rattle.std.proofs.Common.{◌≡◌, ◌∷◌, ap, refl, subst, sym, ◌∙◌, true, false, List, [], Option, Some, ℕ, filter, is_none, is_some}
+use Rattle.std.proofs.Common.{◌≡◌, ◌∷◌, ap, refl, subst, sym, ◌∙◌, true, false, List, [], Some, ℕ, filter, is_none, is_some}
 use Rattle.std.specs.List.{AllByRecursion, list_all}
 use Rattle.channel_actions.specs.Links.{lines_in}
 use Rattle.h2_frame.specs.Frames.{FrameSeen}

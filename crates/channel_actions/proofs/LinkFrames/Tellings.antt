@@ -1,11 +1,10 @@
 -- What cannot be told: nothing, and one thing after another.
-use Rattle.std.proofs.Common.{◌≡◌, ◌∷◌, ap, refl, ◌∙◌, true, false, List, [], Some, ℕ}
+use Rattle.std.proofs.Common.{◌≡◌, ◌∷◌, refl, ◌∙◌, true, false, List, [], Some, ℕ}
 use Rattle.std.proofs.Math.Nat.{le_refl, le_trans}
 use Rattle.std.specs.List.{AllByRecursion}
 use Rattle.channel_actions.specs.LinkFrames.Alike.{AreAlike, CannotTell, IsAlike, IsAttemptStill, IsCallStill, IsElsewhere, IsLinkStill, Numbers, is_on}
 use Rattle.channel_actions.specs.LinkFrames.Laws.{FewerTell, TellingsJoin}
 use Rattle.session_actions.specs.Attempts.{call_of}
-use Rattle.session_actions.specs.Words.{numbered}
 use Rattle.session_actions.specs.Writing.{accepted_bytes}
 use Rattle.session_actions.specs.declared.attempt.Attempt.{Attempt}
 use Rattle.session_actions.specs.declared.call.Call.{Call}

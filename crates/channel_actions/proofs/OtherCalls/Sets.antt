@@ -2,9 +2,8 @@
 use Rattle.call_actions.proofs.CallsApart.Kept.{over_same}
 use Rattle.call_actions.proofs.CallsApart.Seen.{all_numbered}
 use Rattle.call_actions.specs.CallsApart.Apart.{IsApart}
-use Rattle.call_actions.specs.Order.{IsInOrder}
 use Rattle.channel_actions.specs.Calls.{HasSlot, SeesCalls, deadline_of, due_of}
-use Rattle.channel_actions.specs.Sets.{is_in_bare, is_in_deadlines, is_in_dues, is_in_impatient, is_in_patient, is_in_queue, is_patient, is_waiting}
+use Rattle.channel_actions.specs.Sets.{is_in_bare, is_in_deadlines, is_in_dues, is_patient, is_waiting}
 use Rattle.channel_core.specs.States.{StateSeen}
 use Rattle.channel_actions.proofs.OtherCalls.Rows.{apart_at, calls_same, number_is, own_of, row_before, rows_same}
 use Rattle.channel_actions.specs.OtherCalls.Laws.{SetsApart, SetsStay}
@@ -19,7 +18,7 @@ use Rattle.session_actions.specs.declared.attempt.Attempt.{Attempt}
 use Rattle.session_actions.specs.declared.call.Call.{Call}
 use Rattle.session_actions.specs.declared.config.HeldConfig.{HeldConfig}
 use Rattle.session_actions.specs.declared.seen.Seen.{Seen}
-use Rattle.std.proofs.Common.{Bool, List, None, Option, Some, ap, eqb-true, false, if◌then◌else◌, is_none, is_some, not, refl, sym, true, unwrap_or, ℕ, ◌&&◌, ◌==◌, ◌∙◌, ◌≡◌}
+use Rattle.std.proofs.Common.{Bool, None, Option, Some, ap, eqb-true, false, if◌then◌else◌, is_none, is_some, not, refl, sym, true, unwrap_or, ℕ, ◌&&◌, ◌==◌, ◌∙◌, ◌≡◌}
 use Rattle.std.specs.List.{list_all}
 use Rattle.std.specs.Option.{option_map_or, option_or}
 use Rattle.call_actions.proofs.TakesApart.Served.{deadlines_stay, others_are_due}

@@ -14,7 +14,7 @@ use Rattle.channel_core.specs.declared.state.slots.CallSlot.{CallSlot}
 use Rattle.channel_actions.proofs.OtherCalls.Along.{goes_heard, goes_on}
 use Rattle.channel_actions.proofs.OtherCalls.Buckets.{place_same, tokens_same}
 use Rattle.channel_actions.proofs.OtherCalls.Grows.{GrowsBut}
-use Rattle.channel_actions.proofs.OtherCalls.Rows.{apart_at, calls_same, number_is, off_of, own_of}
+use Rattle.channel_actions.proofs.OtherCalls.Rows.{apart_at, calls_same, off_of, own_of}
 use Rattle.channel_actions.specs.OtherCalls.Laws.{AllCallsStay, CallsStay}
 use Rattle.channel_actions.specs.OtherCalls.Others.{BooksApart, GoesApart}
 use Rattle.session_actions.specs.Calls.{is_open_call}
@@ -22,7 +22,7 @@ use Rattle.session_actions.specs.Sessions.{call_seen}
 use Rattle.session_actions.specs.Words.{numbered}
 use Rattle.session_actions.specs.declared.call.Call.{Call}
 use Rattle.session_actions.specs.declared.seen.Seen.{Seen}
-use Rattle.std.proofs.Common.{Bool, List, None, Option, Some, [], ap, eqb-true, false, if◌then◌else◌, length, map, option_map, refl, subst, sym, true, ℕ, ◌==◌, ◌∙◌, ◌≡◌}
+use Rattle.std.proofs.Common.{Bool, List, None, Option, Some, [], ap, eqb-true, false, if◌then◌else◌, length, option_map, refl, subst, sym, true, ℕ, ◌==◌, ◌∙◌, ◌≡◌}
 use Rattle.call_actions.specs.TakeActions.Serves.{Serves}
 use Rattle.call_actions.proofs.TakesApart.Served.{deadlines_stay, others_are_due, others_are_served}
 use Rattle.call_actions.specs.TakesApart.Heard.{IsHeardAlike}

@@ -88,10 +88,10 @@ narrow_or s f each (Some x) = each x
 link_same : (x y : Link) (o : Option Link) → o ≡ Some x → o ≡ Some y → x ≡ y
 link_same x y o e f = (cc)
 
-some_same : {X : Type 0} (x y : X) (o : Option X) → o ≡ Some x → o ≡ Some y → x ≡ y
+pub some_same : {X : Type 0} (x y : X) (o : Option X) → o ≡ Some x → o ≡ Some y → x ≡ y
 some_same x y o e f = (cc)
 
-mapped : (f : Subchannel → Subchannel) (o : Option Subchannel) (c : Subchannel) → option_map f o ≡ Some c → (b : Subchannel) × ((o ≡ Some b) × (f b ≡ c))
+pub mapped : (f : Subchannel → Subchannel) (o : Option Subchannel) (c : Subchannel) → option_map f o ≡ Some c → (b : Subchannel) × ((o ≡ Some b) × (f b ≡ c))
 mapped f None c e = absurd (cc)
 mapped f (Some b) c e = (b, (refl, (cc)))
 
@@ -114,7 +114,7 @@ none_there : (P : Type 0) (k : ℕ) → None ≡ Some k → P
 none_there P k e = absurd (cc)
 
 -- a link changes
-link_mapped : (f : Link → Link) (o : Option Link) (q : Link) → option_map f o ≡ Some q → (l : Link) × ((o ≡ Some l) × (f l ≡ q))
+pub link_mapped : (f : Link → Link) (o : Option Link) (q : Link) → option_map f o ≡ Some q → (l : Link) × ((o ≡ Some l) × (f l ≡ q))
 link_mapped f None q e = absurd (cc)
 link_mapped f (Some l) q e = (l, (refl, (cc)))
 
@@ -137,7 +137,7 @@ stamp_sub : (l : Link) (n : ℕ) (b : Bool) → (if b then record l { gone = Som
 stamp_sub l n true = refl
 stamp_sub l n false = refl
 
-numbered_map : (f : Link → Link) (xs : List Link) (n : ℕ) → numbered (map f xs) n ≡ option_map f (numbered xs n)
+pub numbered_map : (f : Link → Link) (xs : List Link) (n : ℕ) → numbered (map f xs) n ≡ option_map f (numbered xs n)
 numbered_map f xs zero = refl
 numbered_map f xs (suc i) = slice_get-map f xs i
 
@@ -150,7 +150,7 @@ narrow_stamped s t e f = record {
 }
 
 -- one thing more stands behind the others
-but_last : {X : Type 0} (xs : List X) (z : X) (n : ℕ) → (n ≡ suc (length xs) → ⊥) → numbered (xs ++ z ∷ []) n ≡ numbered xs n
+pub but_last : {X : Type 0} (xs : List X) (z : X) (n : ℕ) → (n ≡ suc (length xs) → ⊥) → numbered (xs ++ z ∷ []) n ≡ numbered xs n
 but_last [] z zero off = refl
 but_last [] z (suc zero) off = absurd (off refl)
 but_last [] z (suc (suc i)) off = refl

@@ -1,7 +1,6 @@
 -- One attempt, where something was written on a link: its response, how the wire ends it, and how its stream is reset, are as before.
-use Rattle.std.proofs.Common.{◌≡◌, ◌∷◌, ◌||◌, ◌&&◌, ◌==◌, not, ap, refl, sym, ◌∙◌, Bool, true, false, List, [], Option, None, Some, ℕ, if◌then◌else◌, is_none, is_some, map}
-use Rattle.std.specs.Option.{option_and_then, option_map_or, option_or}
-use Rattle.attempt_ledger.specs.declared.row.RowCause.{RowCause}
+use Rattle.std.proofs.Common.{◌≡◌, ◌||◌, ◌&&◌, ◌==◌, not, ap, refl, sym, ◌∙◌, Bool, true, false, List, Option, None, Some, ℕ, if◌then◌else◌, is_some}
+use Rattle.std.specs.Option.{option_and_then, option_or}
 use Rattle.attempt_ledger.specs.declared.row.RowEnd.{RowEnd}
 use Rattle.grpc_base.specs.ErrorCodes.{cancel}
 use Rattle.session_actions.specs.AttemptEnds.{code_at_end, code_for_stream, code_to_reset, is_framing, is_reset, lost_end, outcome_of, outcome_on, reset_code_of, unsent_end}
@@ -9,7 +8,7 @@ use Rattle.session_actions.specs.Attempts.{is_outstanding, is_over}
 use Rattle.session_actions.specs.Entries.{entry}
 use Rattle.session_actions.specs.Links.{has_written_end, is_retiring, link_of}
 use Rattle.session_actions.specs.Responses.{limit_of_attempt, no_response, response, response_by}
-use Rattle.session_actions.specs.Words.{changed, numbered}
+use Rattle.session_actions.specs.Words.{changed}
 use Rattle.session_actions.specs.declared.attempt.Attempt.{Attempt}
 use Rattle.session_actions.specs.declared.link.Link.{Link}
 use Rattle.session_actions.specs.declared.link.LinkOver.{LinkOver}
@@ -18,7 +17,7 @@ use Rattle.session_actions.specs.declared.response.Outcome.{Outcome}
 use Rattle.session_actions.specs.declared.response.Response.{Response}
 use Rattle.session_actions.specs.declared.seen.Seen.{Seen}
 use Rattle.session_order.specs.Calm.{is_to_end, is_to_reset}
-use Rattle.channel_actions.proofs.StreamsOpened.Links.{IsLinkLike, IsSentLink, came_like, came_on, placed_like}
+use Rattle.channel_actions.proofs.StreamsOpened.Links.{IsLinkLike, came_like, came_on, placed_like}
 use Rattle.channel_actions.proofs.StreamsOpened.Responses.{IsLike, like_by, like_join, with_sent}
 use Rattle.channel_actions.proofs.StreamsOpened.Rows.{h, over_same, t}
 

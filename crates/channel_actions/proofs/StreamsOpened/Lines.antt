@@ -1,5 +1,5 @@
 -- Where attempts have streams that they had not, and of responses and links nothing changed that a line looks at, each line that was still is still.
-use Rattle.std.proofs.Common.{◌≡◌, ◌∷◌, ◌||◌, ◌&&◌, ◌==◌, ap, refl, sym, ◌∙◌, Bool, true, false, List, [], Option, None, Some, ℕ, zero, suc, if◌then◌else◌, is_none, is_some, map, nat_lt, slice_get}
+use Rattle.std.proofs.Common.{◌≡◌, ◌∷◌, ◌&&◌, ◌==◌, ap, refl, ◌∙◌, Bool, true, false, List, [], Option, None, Some, ℕ, zero, suc, if◌then◌else◌, is_none, is_some, map, nat_lt, slice_get}
 use Rattle.std.proofs.lemmas.Bool.{or_from, or_parts}
 use Rattle.std.specs.List.{list_any}
 use Rattle.std.specs.Option.{option_map, option_or}
@@ -7,7 +7,7 @@ use Rattle.attempt_ledger.specs.declared.ledger.Ask.{Ask}
 use Rattle.call_actions.proofs.Ranks.{any_map_all, numbered_map}
 use Rattle.grpc_base.specs.declared.kind.Pick.{Pick}
 use Rattle.grpc_base.specs.declared.kind.Pick.TheVariants as pick
-use Rattle.session_actions.specs.Attempts.{commitment, is_commitment, is_counted, is_of, is_outstanding, is_over, wants_follower}
+use Rattle.session_actions.specs.Attempts.{commitment, is_commitment, is_counted, is_of, is_outstanding, wants_follower}
 use Rattle.session_actions.specs.CallEnds.{has_long_response, is_over_by_row}
 use Rattle.session_actions.specs.Calls.{is_open_call}
 use Rattle.session_actions.specs.Commitments.{has_head_in, is_final_end, is_free_call, is_headed, is_inherited, is_inherited_by, is_inherited_in}

@@ -1,7 +1,7 @@
 -- The links, where something was written on one of them: of each what a line looks at is as before.
-use Rattle.std.proofs.Common.{◌≡◌, ◌∷◌, ◌||◌, ◌&&◌, ◌==◌, ap, refl, subst, sym, ◌∙◌, Bool, true, false, List, [], Option, None, Some, ℕ, if◌then◌else◌, is_none, is_some}
+use Rattle.std.proofs.Common.{◌≡◌, ◌||◌, ◌==◌, ap, refl, subst, sym, ◌∙◌, Bool, true, false, List, Option, None, Some, ℕ, is_some}
 use Rattle.std.proofs.lemmas.Bool.{eqb-false, eqb-true}
-use Rattle.std.specs.Option.{option_and_then, option_map, option_map_or, option_or}
+use Rattle.std.specs.Option.{option_and_then, option_map, option_map_or}
 use Rattle.attempt_ledger.specs.declared.row.Placed.{Placed}
 use Rattle.call_actions.proofs.Lists.{changed_away, changed_map}
 use Rattle.session_actions.specs.Links.{has_settings, has_written_end, is_retiring}

@@ -1,5 +1,5 @@
 -- Whatever is written on a link, of the responses on it nothing changes but how much was sent.
-use Rattle.std.proofs.Common.{◌≡◌, ◌∷◌, ◌++◌, ◌+◌, ◌||◌, ◌&&◌, ◌==◌, ap, append-nil, refl, sym, ◌∙◌, Bool, true, false, List, [], Option, None, Some, ℕ, inl, inr, ◌⊎◌, if◌then◌else◌, is_some, filter_map, fold, length}
+use Rattle.std.proofs.Common.{◌≡◌, ◌∷◌, ◌++◌, ◌+◌, ◌||◌, ◌&&◌, ◌==◌, ap, append-nil, refl, ◌∙◌, Bool, true, false, List, [], Option, None, Some, ℕ, inl, inr, ◌⊎◌, if◌then◌else◌, is_some, filter_map, length}
 use Rattle.std.proofs.lemmas.List.Elements.{filter_map-append}
 use Rattle.std.proofs.lemmas.List.Sums.{fold-append}
 use Rattle.std.proofs.lemmas.List.Folds.{list_any-append}

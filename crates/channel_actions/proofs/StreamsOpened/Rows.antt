@@ -1,6 +1,5 @@
 -- Attempts of which nothing changed but that they have streams: who is committed, over, followed and counted is the same.
-use Rattle.std.proofs.Common.{◌≡◌, ◌∷◌, ◌||◌, ◌&&◌, ◌==◌, not, ap, refl, ◌∙◌, Bool, List, [], Option, None, Some, ℕ, is_none, is_some, map}
-use Rattle.std.specs.List.{list_any}
+use Rattle.std.proofs.Common.{◌≡◌, ◌||◌, ◌&&◌, ◌==◌, not, ap, refl, ◌∙◌, Bool, List, Option, None, Some, ℕ, is_none, is_some, map}
 use Rattle.std.specs.Option.{option_map}
 use Rattle.attempt_ledger.specs.Ends.{is_cut}
 use Rattle.attempt_ledger.specs.TransparentRows.{is_by_peer, is_unsent}

@@ -1,5 +1,5 @@
 -- A frame that is written stirs no line.
-use Rattle.std.proofs.Common.{◌≡◌, ◌+◌, ◌++◌, ◌∷◌, ◌||◌, ◌&&◌, ◌==◌, ap, arith, refl, subst, sym, ◌∙◌, inl, inr, ◌⊎◌, Bool, true, false, List, [], Option, None, Some, ℕ, zero, suc, cond, filter, if◌then◌else◌, is_none, is_some, map, slice_get}
+use Rattle.std.proofs.Common.{◌≡◌, ◌∷◌, ◌||◌, ◌&&◌, ◌==◌, ap, refl, subst, sym, ◌∙◌, inl, inr, ◌⊎◌, Bool, true, false, List, [], Option, None, Some, ℕ, zero, suc, cond, filter, if◌then◌else◌, is_none, is_some, map, slice_get}
 use Rattle.std.proofs.lemmas.Bool.{eqb-false, eqb-true}
 use Rattle.std.specs.Option.{option_and_then, option_map, option_map_or}
 use Rattle.attempt_ledger.specs.declared.row.Placed.{Placed}
@@ -8,17 +8,15 @@ use Rattle.call_actions.proofs.Lists.{changed_away, changed_map}
 use Rattle.call_actions.proofs.Places.{place_is}
 use Rattle.call_actions.specs.Order.{AreNumbered}
 use Rattle.call_actions.proofs.CallsApart.Acts.{IsIn, at_place, in_filter}
-use Rattle.grpc_base.specs.declared.event.Event.{Event}
 use Rattle.grpc_base.specs.declared.event.Event.TheVariants as event
-use Rattle.grpc_base.specs.declared.event.Reply.TheVariants as reply
 use Rattle.h2_frame.specs.Frames.{FrameSeen}
 use Rattle.h2_frame.specs.Numbers.{headers_type}
 use Rattle.session_actions.specs.Attempts.{is_outstanding, with_attempt}
-use Rattle.session_actions.specs.Links.{has_settings, is_retiring, link_of}
+use Rattle.session_actions.specs.Links.{has_settings, link_of}
 use Rattle.session_actions.specs.Reading.{is_outstanding_on, outstanding_on}
 use Rattle.session_actions.specs.Responses.{limit_of_attempt, response, response_in, traffic_by}
 use Rattle.session_actions.specs.Words.{changed, holds, numbered}
-use Rattle.session_actions.specs.Writing.{bytes_given, bytes_of, frame_written, frame_written_on, stream_opened, stream_opened_by, waiting_on, with_stream, with_written_bytes}
+use Rattle.session_actions.specs.Writing.{frame_written, frame_written_on, stream_opened, stream_opened_by, waiting_on, with_stream, with_written_bytes}
 use Rattle.session_actions.specs.declared.attempt.Attempt.{Attempt}
 use Rattle.session_actions.specs.declared.entry.OpenEntry.{OpenEntry}
 use Rattle.session_actions.specs.declared.link.Link.{Link}
@@ -37,7 +35,7 @@ use Rattle.channel_actions.proofs.StreamsOpened.Lines.{IsAlikeIn, lines_still}
 use Rattle.channel_actions.proofs.StreamsOpened.Links.{came_on, down_like, number_like, settings_like}
 use Rattle.channel_actions.proofs.StreamsOpened.Responses.{with_sent}
 use Rattle.channel_actions.proofs.StreamsOpened.Rows.{restream, restreamed}
-use Rattle.channel_actions.proofs.StreamsOpened.Streams.{AreRows, restream_is, rows_changed, rows_self, streams_of}
+use Rattle.channel_actions.proofs.StreamsOpened.Streams.{restream_is, rows_changed, rows_self, streams_of}
 use Rattle.channel_actions.specs.StreamsOpened.Laws.{CanWrite, IsBlank, WritesStirNothing}
 
 some_one : (a w : Attempt) → Some a ≡ Some w → a ≡ w

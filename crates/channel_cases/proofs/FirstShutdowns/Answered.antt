@@ -21,6 +21,8 @@ use Rattle.channel_actions.specs.Cases.{answered_done}
 use Rattle.channel_actions.specs.Clock.{DrawsAlike}
 use Rattle.channel_actions.specs.KeptSessions.Kept.{IsKept}
 use Rattle.channel_actions.specs.Stages.{IsAnswered}
+use Rattle.channel_actions.specs.TheirLinks.Laws.{TheirsAlong}
+use Rattle.channel_actions.specs.TheirLinks.Theirs.{AreTheirs}
 use Rattle.channel_cases.proofs.CallPosts.Answered.{of_order}
 use Rattle.channel_cases.proofs.DialEvents.Nets.{one_call_more}
 use Rattle.channel_cases.proofs.FirstShutdowns.Over.{shutdowns_end_calls}
@@ -135,7 +137,7 @@ none_some b None e f = e
 none_some b (Some d) e f = absurd (cc)
 
 -- the rest of it
-module _ (chains : ChainsAreNext) (stamps : ShutsAreStamped) (x : StateSeen) (o : OpenEntry) (s : Seen) (h : Agrees x s) (at : IsAt stage.Event o s) (fresh : o.turn ≡ None)
+module _ (chains : ChainsAreNext) (along : TheirsAlong) (stamps : ShutsAreStamped) (x : StateSeen) (o : OpenEntry) (s : Seen) (h : Agrees x s) (at : IsAt stage.Event o s) (fresh : o.turn ≡ None)
     (timely : next_deadline s ≡ None) (case : IsFirstShutdown o.event x s) where
   c : CallsAreOver x o s
   c = shutdowns_end_calls x o s h at timely case
@@ -166,14 +168,19 @@ module _ (chains : ChainsAreNext) (stamps : ShutsAreStamped) (x : StateSeen) (o 
   chain : IsChained b.runs.actions p c.seen v
   chain = chains b.runs.actions p c.seen v b.runs.does c.current calm_by picks
 
-  stamped : AreStamped z v
-  stamped = stamps z p c.seen v b.runs.actions c.agrees c.shut c.current c.over quiet.result b.runs.does
-
   boarded : IsBoarded c.seen v
   boarded = boards_leave_rest b.runs.actions c.seen v chain.board chain.does
 
   later : IsKept v
   later = kept_along b.runs.actions c.seen v c.agrees.kept chain.does
+
+  theirs : AreTheirs c.seen
+  theirs = along c.actions s c.seen h.kept case.early case.greeted case.theirs c.does
+
+  stamped : AreStamped z v
+  stamped =
+      stamps z p c.seen v b.runs.actions c.agrees theirs c.shut c.current quiet.result b.runs.does chain.current boarded later
+      (links_along b.runs.actions p c.seen v b.runs.does) b.sees
 
   -- the channel
   abbrev generations_now : List Generation
@@ -229,9 +236,9 @@ module _ (chains : ChainsAreNext) (stamps : ShutsAreStamped) (x : StateSeen) (o 
     none = plain_frame reply.Done o v event.Shutdown case.event_is is_plain;
   }
 
-pub first_shutdowns : ChainsAreNext → FirstShutdownsAreAnswered
-first_shutdowns chains stamps x y r o s h at fresh timely case answers =
+pub first_shutdowns : ChainsAreNext → TheirsAlong → ShutsAreStamped → FirstShutdownsAreAnswered
+first_shutdowns chains along stamps x y r o s h at fresh timely case answers =
     let given : AnswersBy None event.Shutdown x y r = subst (λ (e : Event). AnswersBy (refusal_of e x) e x y r) case.event_is answers in
     let same : y ≡ net_closed (without_calls x) = given.0 ∙ ap (λ (b : Bool). if b then x else shut_off x) case.going in
     subst (λ (w : StateSeen). IsAnswered w r o s) (sym same)
-    (subst (λ (q : Reply). IsAnswered (net_closed (without_calls x)) q o s) (sym given.1) (shut_answered chains stamps x o s h at fresh timely case))
+    (subst (λ (q : Reply). IsAnswered (net_closed (without_calls x)) q o s) (sym given.1) (shut_answered chains along stamps x o s h at fresh timely case))

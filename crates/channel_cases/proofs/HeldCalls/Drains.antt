@@ -1,9 +1,9 @@
 -- A drain is answered where channel and session keep what they do keep: that its event is answered changes nothing of it.
 use Rattle.channel_cases.proofs.DrainEvents.Drains.{answered_by}
 use Rattle.channel_cases.proofs.DrainedCalls.Calls.{calls_agree_by}
-use Rattle.channel_cases.proofs.GreetedLinks.Along.{greeted_stays}
+use Rattle.channel_actions.proofs.GreetedLinks.Along.{greeted_stays}
 use Rattle.channel_cases.proofs.HeldCalls.Held.{known_calls_are_held}
-use Rattle.channel_cases.proofs.OwnStreams.Along.{streams_stay}
+use Rattle.channel_actions.proofs.OwnStreams.Along.{streams_stay}
 use Rattle.channel_cases.specs.HeldCalls.Laws.{KnownDrainsAreAnswered}
 use Rattle.channel_core.specs.Applying.{AnswersBy}
 use Rattle.channel_core.specs.Draining.{DrainLeaves, drained_limit}
@@ -25,6 +25,6 @@ known_drains_are_answered x y r o s h at fresh timely case answers =
     (λ slot there. drain.few y r slot (subst (λ (z : Option Refusal). AnswersBy z o.event x y r) drain.kept answers) there)
     (λ t agrees next run over columns.
     calls_agree_by x y (after act s) t drain.link (min drain.room drained_limit) r agrees given run
-    (known_calls_are_held x y (after act s) t drain.link (min drain.room drained_limit) r agrees case.buffers (greeted_stays s act h.kept case.greeted next)
-    (streams_stay s act h.kept case.greeted case.streams next) given run over)
+    (known_calls_are_held x y (after act s) t drain.link (min drain.room drained_limit) r agrees case.known.buffers (greeted_stays s act h.kept case.known.greeted next)
+    (streams_stay s act h.kept case.known.greeted case.known.streams next) given run over)
     columns)

@@ -14,18 +14,18 @@ use Rattle.channel_actions.specs.Links.{HasLink, IsGoing}
 use Rattle.channel_cases.proofs.DrainedLines.Off.{drains_leave_lines}
 use Rattle.channel_cases.proofs.HeldCalls.Fed.{buffer_after, is_row_of}
 use Rattle.channel_cases.proofs.HeldCalls.Lines.{drained_is, row_fed, unfilter}
-use Rattle.channel_cases.proofs.OwnStreams.Others.{writes_leave_others}
-use Rattle.channel_cases.proofs.SoundBuffers.Sound.{buffers_are_sound_in}
-use Rattle.channel_cases.proofs.SoundBuffers.Streamed.{sound_feeds_hold}
+use Rattle.channel_actions.proofs.OwnStreams.Others.{writes_leave_others}
+use Rattle.channel_actions.proofs.SoundBuffers.Sound.{buffers_are_sound_in}
+use Rattle.channel_actions.proofs.SoundBuffers.Streamed.{sound_feeds_hold}
 use Rattle.channel_cases.proofs.WrittenResponses.Along.{writes_leave_items}
 use Rattle.channel_cases.proofs.WrittenResponses.Silent.{unheard_are_silent}
 use Rattle.channel_cases.specs.DrainEvents.Laws.{HasRun}
 use Rattle.channel_cases.specs.DrainedCalls.Laws.{IsHeld}
-use Rattle.channel_cases.specs.GreetedLinks.Greeted.{AreGreeted}
+use Rattle.channel_actions.specs.GreetedLinks.Greeted.{AreGreeted}
 use Rattle.channel_cases.specs.HeldCalls.Laws.{KnownCallsAreHeld}
-use Rattle.channel_cases.specs.OwnStreams.Laws.{goes_on_at}
-use Rattle.channel_cases.specs.OwnStreams.Own.{AreOwnStreams}
-use Rattle.channel_cases.specs.SoundBuffers.Held.{BuffersAreSound}
+use Rattle.channel_actions.specs.OwnStreams.Laws.{goes_on_at}
+use Rattle.channel_actions.specs.OwnStreams.Own.{AreOwnStreams}
+use Rattle.channel_actions.specs.SoundBuffers.Held.{BuffersAreSound}
 use Rattle.channel_core.specs.Books.{call_of, lines_of, slot_at, slot_of_tag}
 use Rattle.channel_core.specs.Draining.{DrainLeaves}
 use Rattle.channel_core.specs.Feeding.{all_fed, book_fed}

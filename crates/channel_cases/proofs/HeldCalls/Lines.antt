@@ -3,7 +3,7 @@ use Rattle.h2_link.specs.Feeds.{Line}
 use Rattle.h2_link.specs.Wire.{Wire}
 use Rattle.h2_link.specs.declared.live.LiveStream.{LiveStream}
 use Rattle.attempt_ledger.specs.declared.row.Placed.{Placed}
-use Rattle.channel_cases.specs.OwnStreams.Laws.{goes_on_at}
+use Rattle.channel_actions.specs.OwnStreams.Laws.{goes_on_at}
 use Rattle.link_actions.proofs.Opened.{unsorted}
 use Rattle.link_actions.specs.Sees.{AreFed, AreLive, IsFed, SeesLink, by_stream, written_for}
 use Rattle.session_actions.specs.Attempts.{is_outstanding}

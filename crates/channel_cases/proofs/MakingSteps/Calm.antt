@@ -88,11 +88,11 @@ none_two p q bad each (a ∷ xs) e f =
     off false b e = (refl, e)
 
 -- which rows a call has
-abbrev some_row : List LiveRow → Bool
+abbrev pub some_row : List LiveRow → Bool
 some_row [] = false
 some_row (r ∷ rows) = true
 
-any_live : (p : Attempt → Bool) (xs : List Attempt) → list_any p xs ≡ some_row (map live_row (filter p xs))
+pub any_live : (p : Attempt → Bool) (xs : List Attempt) → list_any p xs ≡ some_row (map live_row (filter p xs))
 any_live p [] = refl
 any_live p (a ∷ xs) = by_test (p a) (any_live p xs)
   where
@@ -104,7 +104,7 @@ some_last : (rows : List LiveRow) (r : LiveRow) → some_row (rows ++ r ∷ []) 
 some_last [] r = refl
 some_last (x ∷ rows) r = refl
 
-two_off : (a b : Bool) → (a || b) ≡ false → (a ≡ false) × (b ≡ false)
+pub two_off : (a b : Bool) → (a || b) ≡ false → (a ≡ false) × (b ≡ false)
 two_off true b e = absurd (let bad : true ≡ false = e in (cc))
 two_off false b e = (refl, e)
 
@@ -112,12 +112,12 @@ none_of : {X : Type 0} (o : Option X) → is_none o ≡ true → o ≡ None
 none_of None e = refl
 none_of (Some x) e = absurd (let bad : false ≡ true = e in (cc))
 
-three : (f c l : Bool) → (f ≡ true → c ≡ true → l ≡ false) → (f && c && l) ≡ false
+pub three : (f c l : Bool) → (f ≡ true → c ≡ true → l ≡ false) → (f && c && l) ≡ false
 three true true l e = e refl refl
 three true false l e = refl
 three false c l e = refl
 
-three_back : (f c l : Bool) → (f && c && l) ≡ false → f ≡ true → c ≡ true → l ≡ false
+pub three_back : (f c l : Bool) → (f && c && l) ≡ false → f ≡ true → c ≡ true → l ≡ false
 three_back true true l e f g = e
 three_back true false l e f g = absurd (let bad : false ≡ true = g in (cc))
 three_back false c l e f g = absurd (let bad : false ≡ true = f in (cc))

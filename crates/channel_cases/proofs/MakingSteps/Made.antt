@@ -55,7 +55,7 @@ use Rattle.channel_cases.proofs.MakingSteps.Lists.{all_last, holds_alike, holds_
 use Rattle.channel_cases.specs.ConfiguredCalls.Laws.{Frames}
 use Rattle.channel_cases.specs.ConfiguredCalls.Steps.{timed}
 use Rattle.channel_cases.specs.MakingSteps.Made.{made_slot, with_attempt}
-use Rattle.channel_cases.specs.SettlingActions.Sound.{IsSoundSlot}
+use Rattle.channel_actions.specs.SoundCalls.Sound.{IsSoundSlot}
 use Rattle.channel_core.proofs.BookLaws.{number_other}
 use Rattle.channel_core.proofs.Places.{put_there}
 use Rattle.channel_core.specs.Books.{slot_at}
@@ -180,7 +180,7 @@ less_by p q a xs true is rest e = absurd (let bad : true ≡ false = e in (cc))
 less_by p q a xs false is rest e =
     ap (λ (b : Bool). b || list_any (λ (k : Attempt). p k && q k) xs) (and_second (p a) (q a) is) ∙ rest e
 
-any_less : (p q : Attempt → Bool) (xs : List Attempt) → list_any q xs ≡ false → list_any (λ (a : Attempt). p a && q a) xs ≡ false
+pub any_less : (p q : Attempt → Bool) (xs : List Attempt) → list_any q xs ≡ false → list_any (λ (a : Attempt). p a && q a) xs ≡ false
 any_less p q [] e = refl
 any_less p q (a ∷ xs) e = less_by p q a xs (q a) refl (any_less p q xs) e
 

@@ -34,7 +34,7 @@ use Rattle.channel_cases.proofs.NetSettlings.Limits.{slots_after, slots_more, st
 use Rattle.channel_cases.proofs.NetSettlings.Overdue.{fails, gives_up, none_still, some_still, timed_none, timed_some}
 use Rattle.channel_cases.proofs.NetSettlings.Unlinked.{joined_after, link_if, same_links, subs_after}
 use Rattle.channel_cases.proofs.NetSettlings.Stamped.{map_stamped, stamp_over}
-use Rattle.channel_cases.specs.NetSettlings.Joined.{AreJoined}
+use Rattle.channel_actions.specs.GreetedLinks.Joined.{AreJoined}
 use Rattle.channel_cases.proofs.NetSteps.Alike.{links_cannot_tell, still, untold_links_agree}
 use Rattle.channel_actions.proofs.BoardActions.Boards.{boards_leave_rest, one_boarded, subbed}
 use Rattle.channel_actions.proofs.BoardActions.Calm.{of_order}

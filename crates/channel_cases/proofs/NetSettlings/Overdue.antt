@@ -5,7 +5,7 @@ use Rattle.std.specs.Option.{option_map, option_map_or, option_or}
 use Rattle.std.specs.Prelude.{option_and_then}
 use Rattle.attempt_ledger.specs.declared.row.Placed.{Placed}
 use Rattle.grpc_base.specs.declared.event.Conn.TheVariants as conn
-use Rattle.channel_cases.specs.NetSettlings.Joined.{AreJoined}
+use Rattle.channel_actions.specs.GreetedLinks.Joined.{AreJoined}
 use Rattle.channel_actions.proofs.BoardActions.Boards.{subbed}
 use Rattle.channel_cases.proofs.NetSteps.Subbed.{subbed_links, subbed_subs}
 use Rattle.session_actions.specs.AttemptEnds.{lost_end, outcome_on}

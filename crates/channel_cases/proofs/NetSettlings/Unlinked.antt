@@ -3,7 +3,7 @@ use Rattle.std.proofs.Common.{◌≡◌, ◌==◌, ap, refl, sym, ◌∙◌, Boo
 use Rattle.std.proofs.lemmas.Bool.{eqb-false, eqb-true}
 use Rattle.std.specs.Option.{option_map}
 use Rattle.channel_cases.proofs.NetSettlings.Overdue.{gives_up}
-use Rattle.channel_cases.specs.NetSettlings.Joined.{AreJoined}
+use Rattle.channel_actions.specs.GreetedLinks.Joined.{AreJoined}
 use Rattle.session_actions.specs.Links.{has_settings}
 use Rattle.session_actions.specs.Words.{changed, numbered}
 use Rattle.session_actions.specs.declared.attempt.Attempt.{Attempt}

@@ -27,7 +27,7 @@ use Rattle.net_actions.specs.Sees.{AreApart, IsShaped, IsUse, Sees}
 use Rattle.channel_cases.proofs.NetSettlings.Clocking.{board_on, first_true, no_link}
 use Rattle.channel_cases.proofs.NetSettlings.Unlinked.{joined_after, same_links, subs_after}
 use Rattle.channel_cases.proofs.NetSettlings.Starting.{AreIdleIn, IsIdleIn, starting_state}
-use Rattle.channel_cases.specs.NetSettlings.Joined.{AreJoined}
+use Rattle.channel_actions.specs.GreetedLinks.Joined.{AreJoined}
 use Rattle.channel_cases.proofs.NetSteps.Alike.{untold_links_agree}
 use Rattle.channel_actions.proofs.BoardActions.Boards.{one_boarded, subbed}
 use Rattle.channel_actions.proofs.BoardActions.Calm.{of_order}

@@ -9,7 +9,8 @@ use Rattle.channel_actions.specs.Agrees.{Agrees}
 use Rattle.channel_actions.specs.Calm.{IsAt}
 use Rattle.channel_cases.proofs.PassActions.Queue.{Waits, next_waits, none_asks}
 use Rattle.channel_cases.specs.PassActions.Serves.{IsBeginning, IsPassing, IsServed, PassesEnd, PassesStop, ServeSteps, is_passed, is_passed_by, turn_of}
-use Rattle.channel_cases.specs.SettlingActions.Sound.{IsSound, to_come}
+use Rattle.channel_actions.specs.SoundCalls.Sound.{to_come}
+use Rattle.channel_cases.specs.SettlingActions.Sound.{IsSound}
 use Rattle.channel_core.specs.Settling.{also, most, served, stays}
 use Rattle.channel_core.specs.States.{StateSeen}
 use Rattle.channel_core.specs.Steps.{Moved, next_served}

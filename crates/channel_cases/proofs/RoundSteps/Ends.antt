@@ -10,13 +10,14 @@ use Rattle.channel_cases.proofs.RoundSteps.Falls.{Falling, Falls, falling, load,
 use Rattle.channel_cases.proofs.RoundSteps.Loads.{may}
 use Rattle.channel_cases.proofs.RoundSteps.Strict.{made_low, served_low, waits_so}
 use Rattle.channel_cases.proofs.SettlingActions.Composed.{rounds_are_steps}
-use Rattle.channel_cases.proofs.SettlingKeeps.Carried.{AreSound}
-use Rattle.channel_cases.proofs.SettlingKeeps.Keeping.{sound_of}
-use Rattle.channel_cases.proofs.SettlingKeeps.Steps.{one_if, waiting, waits_in}
+use Rattle.channel_actions.proofs.SoundCalls.Carried.{AreSound}
+use Rattle.channel_actions.proofs.SoundCalls.Keeping.{sound_of}
+use Rattle.channel_actions.proofs.SoundCalls.Steps.{one_if, waiting, waits_in}
 use Rattle.channel_cases.specs.PassActions.Serves.{IsPassing, IsServed, ServeSteps}
 use Rattle.channel_cases.specs.RoundSteps.Laws.{RoundsAreShort}
 use Rattle.channel_cases.specs.SettlingActions.Laws.{SettlingKeeps}
-use Rattle.channel_cases.specs.SettlingActions.Sound.{IsSound, to_come}
+use Rattle.channel_actions.specs.SoundCalls.Sound.{to_come}
+use Rattle.channel_cases.specs.SettlingActions.Sound.{IsSound}
 use Rattle.channel_cases.specs.SettlingActions.Steps.{IsMade, IsRound, IsTended, Leads, MakingSteps, QueueSteps, RoundSteps, RoundsEnd, are_over, round_made_state}
 use Rattle.channel_core.proofs.RestingSteps.{make_round, pass, serve}
 use Rattle.channel_core.specs.Settling.{also, most, passed, passed_on, queue_served, round, served, stays}

@@ -28,11 +28,12 @@ use Rattle.channel_cases.proofs.ConfiguredCalls.Lists.{same_words}
 use Rattle.channel_cases.proofs.PassActions.Queue.{Waits}
 use Rattle.channel_cases.proofs.RoundSteps.Falls.{Falling, Falls, acted_strict, falling, load, load_of}
 use Rattle.channel_cases.proofs.RoundSteps.Loads.{lowers_due, lowers_failed, lowers_placed}
-use Rattle.channel_cases.proofs.SettlingKeeps.Carried.{AreSound, Settled, rests}
-use Rattle.channel_cases.proofs.SettlingKeeps.Keeping.{sound_of}
-use Rattle.channel_cases.proofs.SettlingKeeps.Steps.{less_on, waits_in}
-use Rattle.channel_cases.proofs.SettlingKeeps.Tables.{AllSound, sound_numbered}
-use Rattle.channel_cases.specs.SettlingActions.Sound.{AllowsPlans, IsSound}
+use Rattle.channel_actions.proofs.SoundCalls.Carried.{AreSound, Settled, rests}
+use Rattle.channel_actions.proofs.SoundCalls.Keeping.{sound_of}
+use Rattle.channel_actions.proofs.SoundCalls.Steps.{less_on, waits_in}
+use Rattle.channel_actions.proofs.SoundCalls.Tables.{AllSound, sound_numbered}
+use Rattle.channel_actions.specs.SoundCalls.Sound.{AllowsPlans}
+use Rattle.channel_cases.specs.SettlingActions.Sound.{IsSound}
 use Rattle.channel_core.proofs.Resting.{follow, seal}
 use Rattle.channel_core.proofs.RestingSteps.{forget_all, make_all}
 use Rattle.channel_core.specs.Books.{BookActs, book_acted, book_asked, book_placed, bucket_at, has_drawn, limit_at, row_at, slot_at}

@@ -257,7 +257,7 @@ module _ (first : FirstLineGives) (p : ℕ × ℕ) (x : StateSeen) (o : OpenEntr
           ∙ ap (λ (b : Bool). placed_if b p.0 p.1 at (offered on.link p.1 (limit_at (slot_at y.book p.0)) y)) takes
 
       pub place_next : PlaceNext p g sub y t
-      place_next = record { link = on.link; on = linked.0; there = linked.1; up = up; next = next; channel = channel }
+      place_next = record { link = on.link; on = linked.0; there = linked.1; up = up; picked = on.b; is_picked = on.there; linked = on.has; takes = takes; next = next; channel = channel }
 
 pub answers_are_next : FirstLineGives → AnswersAreNext
 answers_are_next first = record {

@@ -7,10 +7,10 @@ use Rattle.channel_actions.proofs.KeptSessions.Along.{kept_stays}
 use Rattle.channel_actions.proofs.KeptSessions.Lists.{all_at, counted_places, own_number}
 use Rattle.channel_actions.proofs.StreamsOpened.Responses.{retiring_same}
 use Rattle.channel_actions.specs.KeptSessions.Kept.{IsKept}
-use Rattle.channel_cases.proofs.GreetedLinks.Along.{greeted_stays}
-use Rattle.channel_cases.proofs.OwnStreams.Along.{frames_are_sendable}
-use Rattle.channel_cases.proofs.OwnStreams.Frames.{passed_opens, sent_next}
-use Rattle.channel_cases.proofs.OwnStreams.Steps.{each_filter, each_from, first_has}
+use Rattle.channel_actions.proofs.GreetedLinks.Along.{greeted_stays}
+use Rattle.channel_actions.proofs.OwnStreams.Along.{frames_are_sendable}
+use Rattle.channel_actions.proofs.OwnStreams.Frames.{passed_opens, sent_next}
+use Rattle.channel_actions.proofs.OwnStreams.Steps.{each_filter, each_from, first_has}
 use Rattle.channel_cases.proofs.WrittenResponses.Items.{more_same}
 use Rattle.channel_cases.proofs.WrittenResponses.One.{both_changed, both_same, headers_go, items_left, items_opened, value_same}
 use Rattle.channel_cases.specs.WrittenResponses.Laws.{IsSilent, WritesLeaveItems}

@@ -2,7 +2,7 @@
 -- Example: attempt 1 goes on on link 1, and attempt 2 on link 2. A drain of link 1 takes 3 bytes of attempt 1, and none of attempt 2.
 use Rattle.std.specs.Prelude.{List, Some, false, ℕ, ◌≡◌}
 use Rattle.channel_actions.specs.KeptSessions.Kept.{IsKept}
-use Rattle.channel_cases.specs.OwnStreams.Laws.{goes_on_at}
+use Rattle.channel_actions.specs.OwnStreams.Laws.{goes_on_at}
 use Rattle.h2_link.specs.Drains.{Drains}
 use Rattle.h2_link.specs.Feeds.{Line}
 use Rattle.h2_link.specs.Wire.{Wire}

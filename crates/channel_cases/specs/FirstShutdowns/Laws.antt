@@ -1,14 +1,19 @@
 -- A Shutdown of an open channel: first all its calls end, in both; and then its policies are retired and its subchannels are shut.
 use Rattle.channel_actions.specs.Agrees.{Agrees}
+use Rattle.channel_actions.specs.BoardActions.Boards.{IsBoarded}
 use Rattle.channel_actions.specs.Calm.{IsAt}
 use Rattle.channel_actions.specs.Cases.{answered_done}
 use Rattle.channel_actions.specs.Columns.{links_noted}
 use Rattle.channel_actions.specs.EndsFollow.Laws.{is_late}
+use Rattle.channel_actions.specs.KeptSessions.Kept.{IsKept}
 use Rattle.channel_actions.specs.Stages.{EventsAnswered}
+use Rattle.channel_actions.specs.TheirLinks.Theirs.{AreTheirs}
 use Rattle.channel_cases.specs.FirstShutdowns.Cases.{IsFirstShutdown}
 use Rattle.channel_core.specs.Applying.{all_closed, net_closed}
 use Rattle.channel_core.specs.States.{StateSeen}
+use Rattle.channel_net.specs.Steps.{net_shut}
 use Rattle.net_actions.specs.Runs.{DoesAll, NoneIsToEnd}
+use Rattle.net_actions.specs.Sees.{Sees}
 use Rattle.session_actions.specs.CallEnds.{next_deadline}
 use Rattle.session_actions.specs.Laws.{posted_in}
 use Rattle.session_actions.specs.Policies.{result_of}
@@ -45,17 +50,16 @@ abbrev pub ShutdownsEndCalls : Type 0
 ShutdownsEndCalls =
     (x : StateSeen) (o : OpenEntry) (s : Seen) → Agrees x s → IsAt stage.Event o s → next_deadline s ≡ None → IsFirstShutdown o.event x s → CallsAreOver x o s
 
--- what is asked of the rest: where policies are retired and subchannels are shut, the ledger has the same stamps of policies and of links that are gone. (A link that
--- neither is over nor takes no further stream is its subchannel's own; no session is without that, but it is not stated of sessions yet.)
+-- where policies are retired and subchannels are shut, the ledger has the same stamps of policies and of links that are gone
 pub record AreStamped (x : StateSeen) (t : Seen) : Type 0 where
   pub generations : map (λ g. g.generation) t.policies ≡ (net_closed x).book.ledger.generations
   pub links : links_noted t ≡ (net_closed x).book.ledger.links
 
 abbrev pub ShutsAreStamped : Type 0
 ShutsAreStamped =
-    (x : StateSeen) (o : OpenEntry) (s t : Seen) (actions : List Action) → Agrees x s → s.shut ≡ true → s.current ≡ Some o → NoneIsToEnd s → result_of o ≡ None
-    → DoesAll actions o s t → AreStamped x t
+    (x : StateSeen) (o : OpenEntry) (s t : Seen) (actions : List Action) → Agrees x s → AreTheirs s → s.shut ≡ true → s.current ≡ Some o → result_of o ≡ None
+    → DoesAll actions o s t → t.current ≡ Some o → IsBoarded s t → IsKept t → t.links ≡ s.links → Sees t (net_shut x.net).net → AreStamped x t
 
 -- so a Shutdown is answered as any other event
 abbrev pub FirstShutdownsAreAnswered : Type 0
-FirstShutdownsAreAnswered = ShutsAreStamped → EventsAnswered IsFirstShutdown
+FirstShutdownsAreAnswered = EventsAnswered IsFirstShutdown

@@ -3,12 +3,13 @@
 -- Example: DATA of 3 bytes is written for attempt 1 of call 1. The buffer of call 1 has 3 bytes less left for row 1, and call 2 is as before.
 use Rattle.std.specs.Prelude.{None, Some, ℕ, ◌≡◌}
 use Rattle.channel_actions.specs.Agrees.{Agrees}
+use Rattle.channel_actions.specs.Known.{IsKnown}
 use Rattle.channel_actions.specs.Stages.{EventsAnswered}
 use Rattle.channel_cases.specs.DrainEvents.Laws.{HasRun, IsDrain}
 use Rattle.channel_cases.specs.DrainedCalls.Laws.{IsHeld}
-use Rattle.channel_cases.specs.GreetedLinks.Greeted.{AreGreeted}
-use Rattle.channel_cases.specs.OwnStreams.Own.{AreOwnStreams}
-use Rattle.channel_cases.specs.SoundBuffers.Held.{BuffersAreSound}
+use Rattle.channel_actions.specs.GreetedLinks.Greeted.{AreGreeted}
+use Rattle.channel_actions.specs.OwnStreams.Own.{AreOwnStreams}
+use Rattle.channel_actions.specs.SoundBuffers.Held.{BuffersAreSound}
 use Rattle.channel_core.specs.Books.{slot_at}
 use Rattle.channel_core.specs.Draining.{DrainLeaves}
 use Rattle.channel_core.specs.States.{StateSeen}
@@ -25,12 +26,10 @@ KnownCallsAreHeld =
     → (run : HasRun s t y link leaves.fed) → run.before.over ≡ None
     → (number : ℕ) (c : Call) (slot : CallSlot) → numbered s.calls number ≡ Some c → slot_at leaves.fed number ≡ Some slot → IsHeld s t c slot
 
--- so a drain is answered where channel and session keep what they do keep
+-- so a drain is answered, with what runs keep
 pub record IsKnownDrain (e : Event) (x : StateSeen) (s : Seen) : Type 0 where
   pub drain : IsDrain e x s
-  pub buffers : BuffersAreSound x
-  pub greeted : AreGreeted s
-  pub streams : AreOwnStreams s
+  pub known : IsKnown x s
 
 abbrev pub KnownDrainsAreAnswered : Type 0
 KnownDrainsAreAnswered = EventsAnswered IsKnownDrain

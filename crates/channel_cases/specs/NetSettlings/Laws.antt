@@ -6,7 +6,7 @@ use Rattle.channel_actions.specs.Agrees.{Agrees}
 use Rattle.channel_actions.specs.Calm.{IsAt}
 use Rattle.channel_core.specs.States.{StateSeen}
 use Rattle.channel_core.specs.Steps.{clocked, net_settled}
-use Rattle.channel_cases.specs.NetSettlings.Joined.{AreJoined}
+use Rattle.channel_actions.specs.GreetedLinks.Joined.{AreJoined}
 use Rattle.channel_cases.specs.NetSettlings.Points.{IsBegun, IsClocked, IsJoined, IsUncontested, Leads}
 use Rattle.session_actions.specs.declared.entry.OpenEntry.{OpenEntry}
 use Rattle.session_actions.specs.declared.entry.Stage.TheVariants as stage

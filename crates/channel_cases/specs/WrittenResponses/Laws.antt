@@ -5,7 +5,7 @@
 use Rattle.std.specs.Prelude.{List, [], false, length, map, ℕ, ◌≡◌, ◌≤◌, Some}
 use Rattle.call_actions.specs.TakeActions.Serves.{came}
 use Rattle.channel_actions.specs.KeptSessions.Kept.{IsKept}
-use Rattle.channel_cases.specs.GreetedLinks.Greeted.{AreGreeted}
+use Rattle.channel_actions.specs.GreetedLinks.Greeted.{AreGreeted}
 use Rattle.link_actions.specs.StreamActions.Sees.{AreUnheard}
 use Rattle.session_actions.specs.Deliveries.{response_items}
 use Rattle.session_actions.specs.Links.{is_retiring}

@@ -1,5 +1,5 @@
 use Rattle.channel_actions.proofs.GoingCalls.Arms.{CallLaws, kept_same}
-use Rattle.channel_cases.proofs.SettlingKeeps.Keeping.{answers_keep, deadlines_keep, new_calls, settling_keeps, settlings_keep, steps_keep}
+use Rattle.channel_cases.proofs.SettlingKeeps.Keeping.{settling_keeps}
 use Rattle.channel_cases.proofs.settling_keeps.settlings_keep.Goals as goal
 
 pub returns : goal.returns
@@ -22,11 +22,4 @@ returns c =
       finished = leaves.finished;
       taken = leaves.taken;
     } in
-    record {
-      parts = settling_keeps laws c.early_goes_on.ensures;
-      begins = new_calls laws;
-      steps = steps_keep laws;
-      deadlines = deadlines_keep laws;
-      answers = answers_keep laws;
-      settlings = settlings_keep laws;
-    }
+    settling_keeps laws c.early_goes_on.ensures

@@ -1,0 +1,3 @@
+pub mod Greeted
+pub mod Joined
+pub mod Laws

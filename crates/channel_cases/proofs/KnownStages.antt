@@ -1,0 +1,4 @@
+pub mod Deadlines
+pub mod Picks
+pub mod Shutdowns
+pub mod Steps

@@ -1,0 +1,16 @@
+-- A run from its parts: the stages of an entry, and what is left of them.
+use Rattle.channel_actions.specs.Laws.{RunsAreSessions}
+use Rattle.channel_actions.specs.Stages.{Deadlines}
+use Rattle.channel_cases.proofs.WholeRuns.Events.{EventLaws, events_answered}
+use Rattle.channel_cases.proofs.WholeRuns.Settled.{settlings_done}
+use Rattle.channel_cases.specs.KnownStages.Laws.{WishSteps}
+use Rattle.channel_cases.specs.ServeSteps.Follows.{PlacesByAgreement}
+use Rattle.channel_cases.specs.SettlingActions.Steps.{ClockSteps}
+use Rattle.channel_cases.specs.SettlingParts.Laws.{SettlingsStand}
+use Rattle.channel_cases.specs.WholeRuns.Laws.{RunsAreSessionsBut}
+
+pub runs_are_sessions_but : EventLaws → Deadlines → ClockSteps → WishSteps → PlacesByAgreement → SettlingsStand → RunsAreSessions → RunsAreSessionsBut
+runs_are_sessions_but laws deadlines clocks wishes places settlings runs events steps counts =
+    runs (λ x o s h at case. deadlines x o s h at case.1)
+    (λ x y r o s h at fresh timely case answers. events_answered laws events counts x y r o s h at fresh timely case.0 case.1 answers)
+    (λ x o s h at fresh case. settlings_done clocks wishes places settlings steps counts x o s h at fresh case.1)

@@ -1,5 +1,0 @@
-use Rattle.channel_cases.proofs.FewCalls.Walk.{calls_are_few}
-use Rattle.channel_cases.proofs.few_calls.calls_are_few.Goals as goal
-
-pub returns : goal.returns
-returns c = calls_are_few

@@ -1,0 +1,24 @@
+use Rattle.channel_cases.proofs.WholeRuns.Events.{EventLaws}
+use Rattle.channel_cases.proofs.WholeRuns.Whole.{runs_are_sessions_but}
+use Rattle.channel_cases.proofs.whole_runs.runs_are_sessions_but.Goals as goal
+
+pub returns : goal.returns
+returns c =
+    let laws : EventLaws = record {
+      begins = c.begins_are_answered.ensures;
+      sends = c.all_sends_are_answered.ensures;
+      finishes = c.finishes_are_answered.ensures;
+      takes = c.takes_are_answered.ensures;
+      cancels = c.open_cancels_are_answered.ensures;
+      late_cancels = c.late_cancels_are_refused.ensures;
+      bad_results = c.some_results_are_answered.ensures.bad;
+      dials = c.dials_are_answered.ensures.taken;
+      failures = c.dials_are_answered.ensures.failed;
+      links = c.dials_are_answered.ensures.up;
+      drains = c.known_drains_are_answered.ensures;
+      pings = c.pings_are_queued.ensures;
+      shutdowns = c.known_shutdowns_are_answered.ensures;
+      second_shutdowns = c.some_results_are_answered.ensures.shut;
+    } in
+    runs_are_sessions_but laws c.deadlines_are_done.ensures c.clocks_and_wishes_are_steps.ensures.clock c.clocks_and_wishes_are_steps.ensures.wishes
+    c.places_by_agreement.ensures c.settlings_stand.ensures.settling c.runs_are_sessions.ensures

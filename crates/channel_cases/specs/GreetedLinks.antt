@@ -1,2 +1,0 @@
-pub mod Greeted
-pub mod Laws

@@ -1,0 +1,39 @@
+// Whole runs; nothing runs.
+ghost use Rattle.channel_cases.specs.WholeRuns.Laws.{RunsAreSessionsBut};
+
+use crate::begin_actions::begins_are_answered;
+use crate::call_commits::all_sends_are_answered;
+use crate::call_ends::late_cancels_are_refused;
+use crate::call_posts::{finishes_are_answered, takes_are_answered};
+use crate::dial_events::dials_are_answered;
+use crate::ended_calls::open_cancels_are_answered;
+use crate::held_calls::known_drains_are_answered;
+use crate::known_stages::{
+    clocks_and_wishes_are_steps, deadlines_are_done, known_shutdowns_are_answered,
+};
+use crate::result_events::some_results_are_answered;
+use crate::serve_steps::places_by_agreement;
+use crate::settling_parts::settlings_stand;
+use channel_actions::{pings_are_queued, runs_are_sessions};
+
+/// Every run of a channel is a session: its journal and its ledger are those of a list of actions, of the same events; but for the parts that are open.
+pub fn runs_are_sessions_but()
+    ensures { RunsAreSessionsBut }
+{
+    all_sends_are_answered();
+    begins_are_answered();
+    clocks_and_wishes_are_steps();
+    deadlines_are_done();
+    dials_are_answered();
+    finishes_are_answered();
+    known_drains_are_answered();
+    known_shutdowns_are_answered();
+    late_cancels_are_refused();
+    open_cancels_are_answered();
+    pings_are_queued();
+    places_by_agreement();
+    runs_are_sessions();
+    settlings_stand();
+    some_results_are_answered();
+    takes_are_answered();
+}
