@@ -2,6 +2,8 @@
 ghost use Rattle.frame_cases.specs.PieceWalks.Laws.{KnownAlongFrames, PiecesAreHeard};
 
 use channel_actions::going_calls::calls_of_channels_go_on;
+use channel_actions::sound_buffers::buffers_stay_sound;
+use channel_actions::sound_calls::calls_stay_sound;
 
 /// A piece that arrives on a link that is not gone is its frames, one after the other, however its bytes were cut: where each frame, and bytes that break the link, lead
 /// from a point to a point, the piece is answered with Done, and channel and session agree after it. What is no whole frame yet is kept by both (RFC 9113, section 4.1).
@@ -15,4 +17,6 @@ pub fn known_stays_along_frames()
     ensures { KnownAlongFrames }
 {
     calls_of_channels_go_on();
+    calls_stay_sound();
+    buffers_stay_sound();
 }

@@ -10,7 +10,7 @@ use Rattle.call_core.specs.Going.{HasAtMostOne, IsAlone, hedges}
 use Rattle.call_core.specs.declared.live.LiveRow.{LiveRow}
 use Rattle.channel_actions.specs.GoingCalls.Going.{GoesOn}
 use Rattle.channel_cases.proofs.AttemptEnds.Base.{c, sees, slot, slot_there, x2}
-use Rattle.channel_cases.proofs.SoundBuffers.Slots.{all_numbered}
+use Rattle.channel_actions.proofs.SoundBuffers.Slots.{all_numbered}
 use Rattle.channel_cases.specs.AttemptEnds.Ends.{EndNext}
 use Rattle.channel_cases.specs.AttemptEnds.Laws.{IsLastEnd, IsLastOfSeveral, goes_on_after}
 use Rattle.channel_core.specs.States.{StateSeen}

@@ -20,8 +20,8 @@ use Rattle.call_core.specs.declared.state.CallState.{CallState}
 use Rattle.channel_actions.proofs.ActsFollowed.Acts.{acts_form}
 use Rattle.channel_actions.proofs.KeptSessions.Lists.{all_filter, all_wide}
 use Rattle.channel_cases.proofs.AttemptEnds.Told.{gone_form, off_book}
-use Rattle.channel_cases.proofs.SettlingKeeps.Steps.{counts}
-use Rattle.channel_cases.proofs.SoundBuffers.Slots.{AllAre, all_acted, all_beside, all_numbered}
+use Rattle.channel_actions.proofs.SoundCalls.Steps.{counts}
+use Rattle.channel_actions.proofs.SoundBuffers.Slots.{AllAre, all_acted, all_beside, all_numbered}
 use Rattle.channel_cases.specs.AttemptEnds.Ends.{AreHeld, IsHeld, ended_in, gone_with, taken_off}
 use Rattle.channel_cases.specs.AttemptEnds.Laws.{EndsStayHeld}
 use Rattle.channel_core.proofs.Resting.{changed_length}

@@ -30,7 +30,8 @@ use Rattle.channel_cases.proofs.NetSteps.Clocks.{clock_goes_on, entry_goes_on}
 use Rattle.channel_cases.proofs.HeldResults.Mid.{IsMid}
 use Rattle.channel_cases.proofs.HeldResults.Stepped.{mid_steps_keep}
 use Rattle.channel_cases.specs.GenerationStamps.Stamps.{generations_after}
-use Rattle.channel_cases.specs.LeftLinks.Laws.{AreLeft, AreTheirs, LeftLinksAreStamped}
+use Rattle.channel_actions.specs.TheirLinks.Theirs.{AreTheirs}
+use Rattle.channel_cases.specs.LeftLinks.Laws.{AreLeft, LeftLinksAreStamped}
 use Rattle.channel_cases.specs.NetChains.Chains.{IsApartCalm, IsChained, IsPickThere}
 use Rattle.channel_cases.specs.NetChains.Laws.{ChainsAreNext}
 use Rattle.channel_cases.specs.NetSteps.Steps.{netted}

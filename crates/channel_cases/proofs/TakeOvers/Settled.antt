@@ -31,10 +31,11 @@ use Rattle.channel_cases.proofs.NetSteps.Subbed.{current_stays}
 use Rattle.channel_cases.proofs.TakeOvers.Kept.{shut_rounds}
 use Rattle.channel_cases.proofs.TakeOvers.Over.{IsOver, is_over}
 use Rattle.channel_cases.proofs.TakeOvers.Stamped.{board_stamps, stamps_of_generations}
-use Rattle.channel_cases.specs.LeftLinks.Laws.{AreLeft, AreTheirs, LeftLinksAreStamped}
+use Rattle.channel_actions.specs.TheirLinks.Theirs.{AreTheirs}
+use Rattle.channel_cases.specs.LeftLinks.Laws.{AreLeft, LeftLinksAreStamped}
 use Rattle.channel_cases.specs.NetChains.Chains.{IsPickThere}
 use Rattle.channel_cases.specs.NetChains.Laws.{ChainsAreNext}
-use Rattle.channel_cases.specs.NetSettlings.Joined.{AreJoined}
+use Rattle.channel_actions.specs.GreetedLinks.Joined.{AreJoined}
 use Rattle.channel_cases.specs.NetSettlings.Points.{IsClocked, IsJoined, Leads}
 use Rattle.channel_cases.specs.NetSteps.Steps.{netted}
 use Rattle.channel_cases.specs.TakeOvers.Laws.{NetsAreSettled}

@@ -2,7 +2,7 @@
 -- Example: a channel holds a config of round_robin. A result with the addresses 10.0.0.1:80 and 10.0.0.2:80 and an invalid config is answered with BadConfig, and
 -- round_robin gets these two addresses. SubchannelShut and SubchannelAdded follow for those that went and came.
 use Rattle.std.specs.Prelude.{Err, List, None, Ok, Option, Result, Some, true, ℕ, ◌≡◌}
-use Rattle.channel_cases.specs.LeftLinks.Laws.{AreTheirs}
+use Rattle.channel_actions.specs.TheirLinks.Theirs.{AreTheirs}
 use Rattle.channel_cases.specs.ConfigReads.Throttled.{AreThrottled}
 use Rattle.channel_cases.specs.NetChains.Chains.{IsPickThere}
 use Rattle.channel_core.specs.Applying as channel

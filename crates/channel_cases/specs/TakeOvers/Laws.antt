@@ -3,9 +3,10 @@
 -- further subchannel that generation 2 wishes, SubchannelConnects.
 use Rattle.channel_actions.specs.Agrees.{Agrees}
 use Rattle.channel_actions.specs.Calm.{IsAt}
-use Rattle.channel_cases.specs.LeftLinks.Laws.{AreTheirs, LeftLinksAreStamped}
+use Rattle.channel_actions.specs.TheirLinks.Theirs.{AreTheirs}
+use Rattle.channel_cases.specs.LeftLinks.Laws.{LeftLinksAreStamped}
 use Rattle.channel_cases.specs.NetChains.Chains.{IsPickThere}
-use Rattle.channel_cases.specs.NetSettlings.Joined.{AreJoined}
+use Rattle.channel_actions.specs.GreetedLinks.Joined.{AreJoined}
 use Rattle.channel_cases.specs.NetSettlings.Points.{IsClocked, IsJoined, Leads}
 use Rattle.channel_core.specs.States.{StateSeen}
 use Rattle.channel_core.specs.Steps.{net_settled}

@@ -20,7 +20,7 @@ use Rattle.channel_cases.proofs.NetSteps.Alike.{untold_links_agree}
 use Rattle.channel_cases.proofs.NetSteps.Clocks.{clock_goes_on, entry_goes_on}
 use Rattle.channel_cases.proofs.NetSteps.Stepped.{net_steps_keep}
 use Rattle.channel_cases.proofs.NetSteps.Subbed.{current_stays, noted_same, subbed_generations, subbed_links, subbed_shut, subbed_subs}
-use Rattle.channel_cases.specs.GreetedLinks.Greeted.{AreGreeted, has_greeted, is_greeted, is_ready_greeted}
+use Rattle.channel_actions.specs.GreetedLinks.Greeted.{AreGreeted, has_greeted, is_greeted, is_ready_greeted}
 use Rattle.channel_core.specs.Arrivals.{frame_heard, heard, read_to}
 use Rattle.channel_core.specs.States.{StateSeen}
 use Rattle.channel_core.specs.Steps.{links_sealed, resets_taken, sealed_one, sub_of}

@@ -98,7 +98,7 @@ module _ (frames : FramesAreHeard) (breaks : BreaksAreHeard) (knows : KnownAlong
     part = part_kept;
     agrees = arrives.agrees_now x o s h at timely link piece case.event_is case.kept l up.here out.fair.within;
     known = known_with x x s t (action.BytesArrive link ∷ []) h.kept case.known (arrives.next x o s h at timely link piece case.event_is case.kept l up.here out.fair.within, sym after_is) refl
-        (λ goes. goes);
+        (λ goes. goes) (λ sound. sound) (λ goes held. held);
   }
 
   walked : Walked (piece_arrived link piece x) p t

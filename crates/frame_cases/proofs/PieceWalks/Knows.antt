@@ -1,13 +1,21 @@
 -- What is known stays known along a frame, and after BytesArrive.
 use Rattle.std.proofs.Common.{◌≡◌, ◌++◌, ap, refl, sym, ◌∙◌, Bool, true, false, List, Option, None, Some, ℕ, if◌then◌else◌, is_none, is_some, length, nat_lt, take}
+use Rattle.channel_actions.proofs.FewCalls.Reached.{reached_on}
+use Rattle.channel_actions.proofs.GreetedLinks.Along.{greeted_along}
 use Rattle.channel_actions.proofs.KeptCalls.Along.{early_along}
 use Rattle.channel_actions.proofs.KeptSessions.Along.{kept_along}
 use Rattle.channel_actions.proofs.OwnLinks.Owned.{own_along}
+use Rattle.channel_actions.proofs.OwnStreams.Along.{streams_along}
+use Rattle.channel_actions.proofs.TheirLinks.Kept.{theirs_along}
 use Rattle.channel_actions.specs.GoingCalls.Going.{CallsGoOn}
 use Rattle.channel_actions.specs.GoingCalls.Laws.{AnswersGoOn}
 use Rattle.channel_actions.specs.KeptSessions.Kept.{IsKept}
 use Rattle.channel_actions.specs.Known.{IsKnown}
 use Rattle.channel_actions.specs.Links.{IsGoing, SeesLinkOf}
+use Rattle.channel_actions.specs.SoundBuffers.Held.{BuffersAreSound}
+use Rattle.channel_actions.specs.SoundBuffers.Laws.{AnswersHoldSoundly}
+use Rattle.channel_actions.specs.SoundCalls.Laws.{AnswersKeepCalls}
+use Rattle.channel_actions.specs.SoundCalls.Sound.{AreSoundCalls}
 use Rattle.channel_core.specs.Arrivals.{frame_heard, piece_arrived}
 use Rattle.channel_core.specs.States.{StateSeen}
 use Rattle.channel_core.specs.Tables.{Heard, heard_by, heard_in}
@@ -37,11 +45,18 @@ use Rattle.session_actions.specs.declared.link.NextRead.TheVariants as nextread
 use Rattle.session_actions.specs.declared.seen.Seen.{Seen}
 
 -- of the session, along its actions, where the channel keeps what is known of it
-pub known_with : (x y : StateSeen) (s t : Seen) (actions : List Action) → IsKept s → IsKnown x s → Does actions s t → t.entries ≡ s.entries → (CallsGoOn x → CallsGoOn y) → IsKnown y t
-known_with x y s t actions kept known does entries going_on = record {
+pub known_with : (x y : StateSeen) (s t : Seen) (actions : List Action) → IsKept s → IsKnown x s → Does actions s t → t.entries ≡ s.entries → (CallsGoOn x → CallsGoOn y)
+    → (AreSoundCalls x → AreSoundCalls y) → (CallsGoOn x → BuffersAreSound x → BuffersAreSound y) → IsKnown y t
+known_with x y s t actions kept known does entries going_on calls_on held_on = record {
   going = going_on known.going;
+  calls = calls_on known.calls;
+  buffers = held_on known.going known.buffers;
   early = early_along actions s t kept known.early does;
   own = own_along kept_along actions s t kept known.own does;
+  theirs = theirs_along actions s t kept known.early known.greeted known.theirs does;
+  greeted = greeted_along actions s t kept known.greeted does;
+  streams = streams_along actions s t kept known.greeted known.streams does;
+  reached = reached_on s t actions known.reached does;
   few = ap (λ (es : _). nat_lt (length es) 1048576) entries ∙ known.few;
 }
 
@@ -101,6 +116,15 @@ module _ (link : ℕ) (piece : List ℕ) (x : StateSeen) (o : OpenEntry) (s : Se
   goes_on_heard answers goes =
       answers None (event.Arrived link (take (heard_by slot link piece x.links).taken piece)) x (frame_heard link h x) reply.Done (sym frame_piece, refl) goes
 
-pub known_along_frames : AnswersGoOn → KnownAlongFrames
-known_along_frames answers link piece x o s t a h actions is next hears does entries =
-    known_with x (frame_heard link h x) s t actions is.agrees.kept is.known does entries (goes_on_heard link piece x o s a h is next hears answers)
+  pub calls_heard : AnswersKeepCalls → AreSoundCalls x → AreSoundCalls (frame_heard link h x)
+  calls_heard answers sound =
+      answers None (event.Arrived link (take (heard_by slot link piece x.links).taken piece)) x (frame_heard link h x) reply.Done (sym frame_piece, refl) sound
+
+  pub buffers_heard : AnswersHoldSoundly → CallsGoOn x → BuffersAreSound x → BuffersAreSound (frame_heard link h x)
+  buffers_heard answers goes held =
+      answers None (event.Arrived link (take (heard_by slot link piece x.links).taken piece)) x (frame_heard link h x) reply.Done (sym frame_piece, refl) goes held
+
+pub known_along_frames : AnswersGoOn → AnswersKeepCalls → AnswersHoldSoundly → KnownAlongFrames
+known_along_frames goes keeps holds link piece x o s t a h actions is next hears does entries =
+    known_with x (frame_heard link h x) s t actions is.agrees.kept is.known does entries (goes_on_heard link piece x o s a h is next hears goes)
+    (calls_heard link piece x o s a h is next hears keeps) (buffers_heard link piece x o s a h is next hears holds)
