@@ -21,6 +21,7 @@ pub mod GenerationStamps
 pub mod HeldCalls
 pub mod HeldKinds
 pub mod HeldResults
+pub mod KnownNets
 pub mod KnownStages
 pub mod LeftLinks
 pub mod LongSends

@@ -20,6 +20,7 @@ pub mod GenerationStamps
 pub mod HeldCalls
 pub mod HeldKinds
 pub mod HeldResults
+pub mod KnownNets
 pub mod KnownStages
 pub mod LeftLinks
 pub mod LongSends

@@ -23,6 +23,7 @@ pub mod generation_stamps;
 pub mod held_calls;
 pub mod held_kinds;
 pub mod held_results;
+pub mod known_nets;
 pub mod known_stages;
 pub mod left_links;
 pub mod long_sends;

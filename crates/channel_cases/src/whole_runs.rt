@@ -1,6 +1,7 @@
 // Whole runs; nothing runs.
 ghost use Rattle.channel_cases.specs.WholeRuns.Laws.{RunsAreSessionsBut};
 
+use crate::attempt_ends::{ends_are_by_cases, runs_rise};
 use crate::begin_actions::begins_are_answered;
 use crate::call_commits::all_sends_are_answered;
 use crate::call_ends::late_cancels_are_refused;
@@ -8,12 +9,15 @@ use crate::call_posts::{finishes_are_answered, takes_are_answered};
 use crate::dial_events::dials_are_answered;
 use crate::ended_calls::open_cancels_are_answered;
 use crate::held_calls::known_drains_are_answered;
+use crate::known_nets::take_overs_are_steps;
 use crate::known_stages::{
     clocks_and_wishes_are_steps, deadlines_are_done, known_shutdowns_are_answered,
 };
+use crate::lost_links::lost_links_are_answered;
 use crate::result_events::some_results_are_answered;
 use crate::serve_steps::places_by_agreement;
 use crate::settling_parts::settlings_stand;
+use channel_actions::sound_buffers::buffers_stay_sound;
 use channel_actions::{pings_are_queued, runs_are_sessions};
 
 /// Every run of a channel is a session: its journal and its ledger are those of a list of actions, of the same events; but for the parts that are open.
@@ -22,18 +26,23 @@ pub fn runs_are_sessions_but()
 {
     all_sends_are_answered();
     begins_are_answered();
+    buffers_stay_sound();
     clocks_and_wishes_are_steps();
     deadlines_are_done();
     dials_are_answered();
+    ends_are_by_cases();
     finishes_are_answered();
     known_drains_are_answered();
     known_shutdowns_are_answered();
     late_cancels_are_refused();
+    lost_links_are_answered();
     open_cancels_are_answered();
     pings_are_queued();
     places_by_agreement();
     runs_are_sessions();
+    runs_rise();
     settlings_stand();
     some_results_are_answered();
+    take_overs_are_steps();
     takes_are_answered();
 }

@@ -116,7 +116,7 @@ asked_setup : (o : Option OpenEntry) (s : Seen) (row g : ℕ) (w : Pick) → (af
 asked_setup None s row g w = refl
 asked_setup (Some o) s row g w = refl
 
-setup_stays : (s : Seen) (a : Action) → (after a s).setup ≡ s.setup
+pub setup_stays : (s : Seen) (a : Action) → (after a s).setup ≡ s.setup
 setup_stays s (action.PickRequested row g w) = asked_setup s.current s row g w
 setup_stays s (action.PolicyBegins k) = ap (λ (v : Seen). v.setup) (one_boarded s (action.PolicyBegins k) refl)
 setup_stays s (action.AddressesGiven g) = ap (λ (v : Seen). v.setup) (one_boarded s (action.AddressesGiven g) refl)
@@ -137,7 +137,7 @@ setup_stays s a = (one_left s a refl).setup
 abbrev IsOf : KindsSeen → HeldConfig → Type 0
 IsOf kinds h = has_kind kinds h.config.kind ≡ true
 
-read_of : (text : Option (List ℕ)) (s : Seen) (config : Config) → has_kind (kinds_in s.setup.policies) kind.PickFirst ≡ true → read_config text s ≡ Ok config
+pub read_of : (text : Option (List ℕ)) (s : Seen) (config : Config) → has_kind (kinds_in s.setup.policies) kind.PickFirst ≡ true → read_config text s ≡ Ok config
     → has_kind (kinds_in s.setup.policies) config.kind ≡ true
 read_of None s config first e = first_kind e
   where

@@ -4,8 +4,12 @@ use Rattle.channel_actions.specs.Calm.{IsAt}
 use Rattle.channel_actions.specs.Cases.{DoesSomething, does_something}
 use Rattle.channel_actions.specs.Known.{IsKnown}
 use Rattle.channel_actions.specs.Laws.{PingsAreQueued}
+use Rattle.channel_actions.specs.SoundBuffers.Laws.{EachHoldsSoundly}
 use Rattle.channel_actions.specs.Stages.{IsAnswered}
 use Rattle.channel_cases.proofs.CallPosts.Answered.{posted}
+use Rattle.channel_cases.proofs.WholeRuns.Losses.{losses_known}
+use Rattle.channel_cases.specs.AttemptEnds.Laws.{EndsByCuts}
+use Rattle.channel_cases.specs.AttemptEnds.Runs.{RunsOfSessions}
 use Rattle.channel_cases.specs.BeginActions.Laws.{BeginsAreAnswered}
 use Rattle.channel_cases.specs.CallCommits.Laws.{SendsAreAnswered}
 use Rattle.channel_cases.specs.CallEnds.Laws.{IsCancelled, LateCancels, OpenCancels}
@@ -13,6 +17,7 @@ use Rattle.channel_cases.specs.CallPosts.Laws.{FinishesAreAnswered, TakesAreAnsw
 use Rattle.channel_cases.specs.DialEvents.Laws.{FailedDialsAreAnswered, LinksUpAreAnswered, TakenDialsAreAnswered}
 use Rattle.channel_cases.specs.HeldCalls.Laws.{KnownDrainsAreAnswered}
 use Rattle.channel_cases.specs.KnownStages.Laws.{KnownShutdownsAreAnswered}
+use Rattle.channel_cases.specs.LostLinks.Laws.{LostLinksAreAnswered}
 use Rattle.channel_cases.specs.ResultEvents.Laws.{FirstBadConfigsAreAnswered, SecondShutdownsAreAnswered}
 use Rattle.channel_cases.specs.WholeRuns.Parts.{OpenCounts, OpenEvents}
 use Rattle.channel_core.specs.Applying as channel
@@ -55,6 +60,10 @@ pub record EventLaws : Type 0 where
   pub pings : PingsAreQueued
   pub shutdowns : KnownShutdownsAreAnswered
   pub second_shutdowns : SecondShutdownsAreAnswered
+  pub lost : LostLinksAreAnswered
+  pub cuts : EndsByCuts
+  pub rise : RunsOfSessions
+  pub each : EachHoldsSoundly
 
 some_there : {X : Type 0} (o : Option X) → is_some o ≡ true → (x : X) × (o ≡ Some x)
 some_there None e = absurd (let bad : false ≡ true = e in (cc))
@@ -164,7 +173,7 @@ module _ (laws : EventLaws) (events : OpenEvents) (counts : OpenCounts) (x y : S
       (record { sub = sub; event_is = is; kept = case.kept; dial = none_there (dial_refusal (numbered x.net.board sub)) (does (event.DialFailed sub) is) }) answers
   by_kind (event.Arrived link piece) is =
       events.arrivals x y r o s h at fresh timely (record { link = link; piece = piece; event_is = is; kept = case.kept; known = known }) answers
-  by_kind (event.LinkLost link) is = events.losses x y r o s h at fresh timely (record { link = link; event_is = is; kept = case.kept; known = known }) answers
+  by_kind (event.LinkLost link) is = losses_known laws.each laws.lost laws.rise (laws.cuts events.ends) counts.attempts x y r o s h at fresh timely (record { link = link; event_is = is; kept = case.kept; known = known }) answers
   by_kind (event.Drain link room) is = drain_few link room is
   by_kind (event.Ping link word) is =
       laws.pings x y r o s h at fresh timely (record { link = link; word = word; event_is = is; kept = case.kept }) answers

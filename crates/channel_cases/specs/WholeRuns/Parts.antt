@@ -6,13 +6,12 @@ use Rattle.channel_actions.specs.DrainLends.Laws.{AreNear}
 use Rattle.channel_actions.specs.Known.{IsKnown}
 use Rattle.channel_actions.specs.SoundCalls.Sound.{all_attempts}
 use Rattle.channel_actions.specs.Stages.{EventsAnswered}
+use Rattle.channel_cases.specs.AttemptEnds.Laws.{LastEndsCutOff, OneAttemptEnds}
 use Rattle.channel_cases.specs.MakingSteps.Laws.{LastIsWithheld}
 use Rattle.channel_cases.specs.ServeSteps.Follows.{FailsFollow, NetsMayAsk, InheritorsAreWhole, PlacedOnesAgree}
-use Rattle.channel_cases.specs.SettlingActions.Steps.{IsJoined, IsStep}
 use Rattle.channel_core.specs.Applying as channel
 use Rattle.channel_core.specs.Applying.{Applies, config_read}
 use Rattle.channel_core.specs.States.{StateSeen}
-use Rattle.channel_core.specs.Steps.{net_settled}
 use Rattle.channel_core.specs.Tables.{numbered}
 use Rattle.channel_core.specs.declared.state.links.LinkSlot.{LinkSlot}
 use Rattle.grpc_base.specs.declared.address.Address.{Address}
@@ -21,9 +20,6 @@ use Rattle.grpc_base.specs.declared.event.Event.{Event}
 use Rattle.grpc_base.specs.declared.event.Reply.{Reply}
 use Rattle.net_actions.specs.Laws.{AreFewDials}
 use Rattle.policy_rack.specs.Kinds.{kinds_of}
-use Rattle.session_actions.specs.Policies.{next_take_over}
-use Rattle.session_actions.specs.Subchannels.{next_of_clock}
-use Rattle.session_actions.specs.declared.entry.OpenEntry.{OpenEntry}
 use Rattle.session_actions.specs.declared.seen.Seen.{Seen}
 use Rattle.std.specs.Prelude.{List, None, Option, Some, is_ok, is_some, length, true, ℕ, ◌<◌, ◌^◌, ◌||◌, ◌≡◌, ◌≤◌}
 
@@ -44,7 +40,7 @@ pub record IsArrival (e : Event) (x : StateSeen) (s : Seen) : Type 0 where
   pub kept : channel.refusal_of e x ≡ None
   pub known : IsKnown x s
 
--- a link that is not gone is lost
+-- a link that is not gone is lost; proved where one attempt ends alike, of which one case is open (`ends`): a last end of a hedged call while other attempts of it go on
 pub record IsLoss (e : Event) (x : StateSeen) (s : Seen) : Type 0 where
   pub link : ℕ
   pub event_is : e ≡ event.LinkLost link
@@ -54,16 +50,10 @@ pub record IsLoss (e : Event) (x : StateSeen) (s : Seen) : Type 0 where
 pub record OpenEvents : Type 0 where
   pub results : EventsAnswered IsResult
   pub arrivals : EventsAnswered IsArrival
-  pub losses : EventsAnswered IsLoss
+  pub ends : LastEndsCutOff
 
--- Settlings. A pending policy takes over
-pub record IsContested (o : OpenEntry) (s : Seen) : Type 0 where
-  pub turn : o.turn ≡ None
-  pub clock : next_of_clock s ≡ None
-  pub takes : is_some (next_take_over s) ≡ true
-
+-- Settlings
 pub record OpenSteps : Type 0 where
-  pub take_overs : IsStep IsContested net_settled IsJoined
   pub withheld : LastIsWithheld
   pub placed : PlacedOnesAgree
   pub inheritors : InheritorsAreWhole
@@ -84,6 +74,9 @@ StreamsAreFew =
 
 abbrev pub AttemptsAreFew : Type 0
 AttemptsAreFew = (x : StateSeen) (s : Seen) → Agrees x s → IsKnown x s → all_attempts x ≤ 4294967294
+
+abbrev pub KnownLossesAreAnswered : Type 0
+KnownLossesAreAnswered = OneAttemptEnds → AttemptsAreFew → EventsAnswered IsLoss
 
 abbrev pub DeadlinesAreNear : Type 0
 DeadlinesAreNear = (x : StateSeen) (s : Seen) → Agrees x s → IsKnown x s → AreNear s

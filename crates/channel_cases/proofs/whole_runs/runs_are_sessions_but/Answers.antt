@@ -19,6 +19,10 @@ returns c =
       pings = c.pings_are_queued.ensures;
       shutdowns = c.known_shutdowns_are_answered.ensures;
       second_shutdowns = c.some_results_are_answered.ensures.shut;
+      lost = c.lost_links_are_answered.ensures;
+      cuts = c.ends_are_by_cases.ensures.cuts;
+      rise = c.runs_rise.ensures.sessions;
+      each = c.buffers_stay_sound.ensures.each;
     } in
-    runs_are_sessions_but laws c.deadlines_are_done.ensures c.clocks_and_wishes_are_steps.ensures.clock c.clocks_and_wishes_are_steps.ensures.wishes
+    runs_are_sessions_but laws c.deadlines_are_done.ensures c.clocks_and_wishes_are_steps.ensures.clock c.take_overs_are_steps.ensures
     c.places_by_agreement.ensures c.settlings_stand.ensures.settling c.runs_are_sessions.ensures
