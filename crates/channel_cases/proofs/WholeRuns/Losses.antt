@@ -28,5 +28,5 @@ losses_known each lost runs ends few x y r o s h at fresh timely case answers =
       rising = runs case.known.reached.setup case.known.reached.actions s case.known.reached.does;
       held = held_known each x case.known.calls case.known.buffers;
       few = few_by (length x.book.ledger.rows) (to_come x.book.calls) (length s.attempts) (few x s h case.known)
-          (sym (length-map (λ (b : Attempt). b.row) s.attempts) ∙ ap length h.columns.rows);
+          (sym (length-map s.attempts (λ (b : Attempt). b.row)) ∙ ap length h.columns.rows);
     }) answers
