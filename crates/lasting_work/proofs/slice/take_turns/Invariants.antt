@@ -1,0 +1,10 @@
+use Rattle.std.proofs.Common.{◌≡◌}
+use Rattle.client_calls.specs.Entries.{others_in}
+use Rattle.lasting_work.proofs.slice.take_turns.Given as goal
+
+-- nothing but calls
+abbrev pub invariant-loop : goal.invariant-loop
+invariant-loop g l = record {
+  others : others_in (g.H.Post.made l.handle) ≡ others_in (g.H.Post.made l.fn.handle);
+  share : g.H.Post.share l.handle ≡ g.H.Post.share l.fn.handle;
+}
