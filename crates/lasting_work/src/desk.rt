@@ -1,12 +1,12 @@
 // The work of a program between its sessions.
-ghost use Rattle.std.specs.Prelude.{◌≡◌, ◌≤◌, ◌<◌, ◌+◌, IfOk, length};
+ghost use Rattle.std.specs.Prelude.{◌≡◌, ◌≤◌, ◌<◌, ◌+◌, All, IfOk, length};
 
 use crate::mark::{Mark, Room};
 use crate::order::Order;
 use crate::place::Place;
 use crate::slice::Slice;
 use crate::used::Used;
-use crate::work::Turn;
+use crate::work::{Turn, TurnWork};
 use grpc_base::NoMemory;
 use std::alloc::Global;
 use std::sync::atomic::{AtomicU64, Ordering};
@@ -15,7 +15,7 @@ use std::sync::{Condvar, Mutex, Wait};
 /// The work of a program, each piece at a place of its own, and which sessions are wanted. Those that open sessions wait here until the next
 /// one is wanted, and each session has a `Slice` for each place.
 #[derive(Drop)]
-pub(crate) struct Desk<J> {
+pub(crate) struct Desk<J: TurnWork> {
     places: Vec<Place<J>>,
     order: Mutex<Order>,
     asked: Condvar,
@@ -26,7 +26,8 @@ pub(crate) struct Desk<J> {
 }
 
 /// The places of this work.
-fn places_of<J: Drop>(alloc: Global, works: Vec<J>) -> Result<Vec<Place<J>>, NoMemory>
+fn places_of<J: TurnWork + Drop>(alloc: Global, works: Vec<J>) -> Result<Vec<Place<J>>, NoMemory>
+    requires { All (λ w. ∥ J.holds w ∥₁) works.items }
     ensures { IfOk result (λ places. length places.items ≡ length works.items) }
 {
     let mut places = Vec::new(alloc);
@@ -37,10 +38,11 @@ fn places_of<J: Drop>(alloc: Global, works: Vec<J>) -> Result<Vec<Place<J>>, NoM
     Ok(places)
 }
 
-impl<J: Drop> Desk<J> {
+impl<J: TurnWork + Drop> Desk<J> {
     /// This work, of which none has begun.
     pub(crate) fn new(alloc: Global, works: Vec<J>, mark: Mark) -> Result<Desk<J>, NoMemory>
         requires few { length works.items ≤ 1024 }
+        requires begin { All (λ w. ∥ J.holds w ∥₁) works.items }
     {
         let left = works.len() as u64;
         let places = places_of(alloc, works)?;
@@ -139,7 +141,9 @@ impl<J: Drop> Desk<J> {
     }
 
     /// The work, in its order; that which waits nowhere is left out.
-    pub(crate) fn into_works(self, alloc: Global) -> Result<Vec<J>, NoMemory> {
+    pub(crate) fn into_works(self, alloc: Global) -> Result<Vec<J>, NoMemory>
+        ensures { IfOk result (λ works. All (λ w. ∥ J.holds w ∥₁) works.items) }
+    {
         let mut works = Vec::new(alloc);
         let mut rest = self.places.into_iter();
         while let Some(place) = rest.next() {

@@ -1,5 +1,5 @@
 // One session after another, until all work is done.
-ghost use Rattle.std.specs.Prelude.{◌≡◌, ◌≤◌, length};
+ghost use Rattle.std.specs.Prelude.{◌≡◌, ◌≤◌, All, IfOk, length};
 
 use crate::desk::Desk;
 use crate::mark::Mark;
@@ -38,7 +38,7 @@ impl From<NoMemory> for NotOpened {
 }
 
 /// What opens the sessions of a program, each anew: so a session has the newest config, and looks its name up.
-pub trait SessionRunner<R, J> {
+pub trait SessionRunner<R, J: TurnWork> {
     /// Opens the session of this number, serves all slices in it, each in a thread of its own, and ends it when all are done.
     fn run_session(
         &self,
@@ -75,7 +75,7 @@ impl Keeper {
     }
 
     /// Opens sessions until all work is done. Where one can't be opened no further one is.
-    fn keep<R: Wait, M: SessionRunner<R, J>, J: Drop>(
+    fn keep<R: Wait, M: SessionRunner<R, J>, J: TurnWork + Drop>(
         &mut self,
         rt: &R,
         alloc: Global,
@@ -99,7 +99,7 @@ impl Keeper {
 }
 
 /// Runs one session.
-fn run_one<R, M: SessionRunner<R, J>, J: Drop>(
+fn run_one<R, M: SessionRunner<R, J>, J: TurnWork + Drop>(
     rt: &R,
     alloc: Global,
     runner: &M,
@@ -133,7 +133,9 @@ fn new_keepers(alloc: Global) -> Result<Vec<Keeper>, NoMemory> {
 }
 
 /// The work, and how the sessions ended.
-fn sum_up<J: Drop>(works: Vec<J>, keepers: &[Keeper]) -> Lasted<J> {
+fn sum_up<J: Drop>(works: Vec<J>, keepers: &[Keeper]) -> Lasted<J>
+    ensures { result.works.items ≡ works.items }
+{
     let mut lasted = Lasted {
         works,
         sessions: 0,
@@ -162,6 +164,8 @@ where
     M: SessionRunner<R, J> + Sync,
     J: TurnWork + Send + Drop,
     requires few { length works.items ≤ 1024 }
+    requires begin { All (λ w. ∥ J.holds w ∥₁) works.items }
+    ensures kept { IfOk result (λ lasted. All (λ w. ∥ J.holds w ∥₁) lasted.works.items) }
 {
     let desk = Desk::new(alloc, works, mark)?;
     let mut keepers = new_keepers(alloc)?;

@@ -13,14 +13,14 @@ use std::sync::Wait;
 /// What one place does in one session: it waits until its work comes, lets it have turns until the session is past its mark or the work is
 /// done, and puts it back.
 #[derive(Drop)]
-pub struct Slice<'d, J> {
+pub struct Slice<'d, J: TurnWork> {
     desk: &'d Desk<J>,
     place: &'d Place<J>,
     used: &'d Used,
     number: u64,
 }
 
-impl<'d, J> Slice<'d, J> {
+impl<'d, J: TurnWork> Slice<'d, J> {
     pub(crate) fn new(
         desk: &'d Desk<J>,
         place: &'d Place<J>,
@@ -45,6 +45,7 @@ fn take_turns<W: Wait, H: Caller, J: TurnWork + Drop>(
     work: &mut J,
     handle: &mut H,
 ) -> Turn
+    ensures kept { J.holds work.old → J.holds work.new }
     ensures others { others_in (H.made handle.new) ≡ others_in (H.made handle.old) }
     ensures share { H.share handle.new ≡ H.share handle.old }
 {
@@ -69,6 +70,7 @@ fn count_turns<W: Wait, H: Caller, J: TurnWork + Drop>(
     work: &mut J,
     handle: &mut H,
 ) -> Turn
+    ensures kept { J.holds work.old → J.holds work.new }
     ensures others { others_in (H.made handle.new) ≡ others_in (H.made handle.old) }
     ensures share { H.share handle.new ≡ H.share handle.old }
 {
