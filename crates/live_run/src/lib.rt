@@ -2,6 +2,7 @@
 #![tactic(auto)]
 
 mod calls;
+mod ending;
 mod jobs;
 mod link_job;
 mod outcome;
@@ -10,6 +11,7 @@ mod tending;
 mod watching;
 
 pub use calls::by_worker;
+pub use ending::Ending;
 pub use jobs::{CallJob, NameJob, NetJob};
 pub use link_job::LinkJob;
 pub use outcome::Outcome;

@@ -1,12 +1,12 @@
 // Workers side by side.
 ghost use Rattle.std.specs.Prelude.{◌≡◌, ◌<◌, ℕ, length, map, slice_index_or};
 ghost use Rattle.live_run.specs.Outcomes.{gravest};
-ghost use Rattle.live_run.specs.Sides.{CallDone, LinkDone, outcome_in, seen_by};
+ghost use Rattle.live_run.specs.Sides.{CallDone, LinkDone, TellsLack, outcome_in, seen_by};
 ghost use Rattle.live_run.specs.declared.jobs.CallJob.{CallJob};
 ghost use Rattle.live_run.specs.declared.link_job.LinkJob.{LinkJob};
 
 use crate::calls::WORKERS;
-use crate::{CallJob, LinkJob, Outcome};
+use crate::{CallJob, Ending, LinkJob, Outcome};
 use dns_watch::Lookup;
 use gate_io::{Clock, Dialer, Draws};
 use grpc_base::{Caller, Glance, Post};
@@ -16,7 +16,8 @@ use std::thread::{Threads, for_each_mut};
 /// The most threads of the workers that keep links open and look a name up.
 const LINKERS: usize = 5;
 
-/// Keeps links open and looks a name up, each worker in a thread of its own, until the channel is shut down. May never return.
+/// Keeps links open and looks a name up, each worker in a thread of its own, until the channel is shut down. One that ends for want of memory
+/// tells the channel so. May never return.
 pub fn work_links<
     R: Threads + Wait + Sync,
     H: Post + Glance + Send,
@@ -24,8 +25,10 @@ pub fn work_links<
     L: Lookup,
     C: Clock,
     D: Draws,
->(rt: &R, clock: &C, links: &mut [LinkJob<H, N, L, D>]) -> Outcome
+    E: Ending<H> + Sync,
+>(rt: &R, clock: &C, ending: &E, links: &mut [LinkJob<H, N, L, D>]) -> Outcome
     ensures each { (i : ℕ) (d : LinkJob H N L D) → i < length links.old → LinkDone (seen_by H.made H.errors H.last_error) H.share H.last_look N.coming (slice_index_or links.old i d) (slice_index_or links.new i d) }
+    ensures told { (i : ℕ) (d : LinkJob H N L D) → i < length links.old → TellsLack E.tells (slice_index_or links.new i d) }
     ensures outcome { result ≡ gravest (map (λ j. outcome_in j) links.new) }
 {
     for_each_mut(
@@ -33,8 +36,8 @@ pub fn work_links<
         links,
         LINKERS,
         &|_: usize, job: &mut LinkJob<H, N, L, D>| -> ()
-            ensures { LinkDone (seen_by H.made H.errors H.last_error) H.share H.last_look N.coming job.entry.now job.exit.now }
-        { job.work(rt, clock) },
+            ensures { LinkDone (seen_by H.made H.errors H.last_error) H.share H.last_look N.coming job.entry.now job.exit.now × TellsLack E.tells job.exit.now }
+        { job.work_and_tell(rt, clock, ending) },
     );
     outcome_of_links(links)
 }
