@@ -262,9 +262,9 @@ send_as moment word told call of message sent old new answer is same text gives 
     let R : List ℕ → Type 0 = λ m. SendGives moment word call m old answer new in
     subst P is (subst Q same (subst R text gives))
 
-pub none_keeps : {A J : Type 0} (before after : J) (answer : Option A) (P : A → Type 0) → answer ≡ None → MatchOption answer (after ≡ before) P → after ≡ before
-none_keeps {A = A} {J = J} before after answer P is kept =
-    let Q : Option A → Type 0 = λ o. MatchOption o (after ≡ before) P in
+pub none_keeps : {A : Type 0} (K : Type 0) (answer : Option A) (P : A → Type 0) → answer ≡ None → MatchOption answer K P → K
+none_keeps {A = A} K answer P is kept =
+    let Q : Option A → Type 0 = λ o. MatchOption o K P in
     subst Q is kept
 
 pub pending_of : {A : Type 0} (r : Poll A) (P : Type 0) → r ≡ polls.Pending → P → OnPending r P

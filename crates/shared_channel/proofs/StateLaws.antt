@@ -1,5 +1,5 @@
 -- The state that a history tells, and what one entry more does to it.
-use Rattle.std.proofs.Common.{◌≡◌, ◌≤◌, ◌<◌, ◌∙◌, ◌↔◌, ℕ, ◌+◌, Bool, true, false, ◌||◌, Result, Ok, Err, IfOk, List, [], ◌∷◌, ◌++◌, length, refl, sym, ap, subst, inl, length-append, arith}
+use Rattle.std.proofs.Common.{◌≡◌, ◌≤◌, ◌<◌, ◌∙◌, ◌↔◌, ◌⊎◌, ℕ, ◌+◌, Bool, true, false, if◌then◌else◌, ◌||◌, ◌&&◌, Result, Ok, Err, IfOk, List, [], ◌∷◌, ◌++◌, length, refl, sym, ap, subst, inl, inr, length-append, arith}
 use Rattle.std.proofs.Math.Nat.{lt_of_not-le}
 use Rattle.grpc_base.specs.Conns.{conn_number}
 use Rattle.grpc_base.specs.Posts.{HasNoRoom}
@@ -8,15 +8,16 @@ use Rattle.grpc_base.specs.declared.event.Conn.TheVariants as conn
 use Rattle.grpc_base.specs.declared.event.Entry.{Entry}
 use Rattle.grpc_base.specs.declared.event.Event.{Event}
 use Rattle.grpc_base.specs.declared.event.Reply.{Reply}
-use Rattle.channel_core.specs.Core.{CoreSeen, IsFull}
+use Rattle.channel_core.specs.Core.{CoreSeen, IsFull, view_of}
 use Rattle.channel_core.specs.Sizes.{counted, journal_bytes}
 use Rattle.channel_core.specs.declared.channel.CoreError.{CoreError}
 use Rattle.channel_core.specs.declared.channel.CoreError.TheVariants as faults
 use Rattle.grpc_base.specs.declared.post.PostError.{PostError}
+use Rattle.grpc_base.specs.declared.post.View.{View}
 use Rattle.grpc_base.specs.declared.post.PostError.TheVariants as failed
 use Rattle.attempt_ledger.specs.declared.journal.Journal.{Journal}
-use Rattle.shared_channel.specs.Errors.{error_of}
-use Rattle.shared_channel.specs.Turns.{Fails}
+use Rattle.shared_channel.specs.Errors.{error_of, finds_no_memory, is_needed, lacks_for}
+use Rattle.shared_channel.specs.Turns.{CannotGoOn, Fails, ShowsView}
 use Rattle.shared_channel.specs.Histories.{conn_of, has_shutdown, is_shutdown}
 
 pub conn_small : (c : Conn) → conn_number c < 8
@@ -33,11 +34,14 @@ conn_back conn.Ready = refl
 conn_back conn.Failure = refl
 conn_back conn.Shutdown = refl
 
+clash_of : true ≡ false → ⊥
+clash_of e = (cc)
+
 or_assoc : (a b c : Bool) → ((a || b) || c) ≡ (a || (b || c))
 or_assoc true b c = refl
 or_assoc false b c = refl
 
-or_false : (a : Bool) → (a || false) ≡ a
+pub or_false : (a : Bool) → (a || false) ≡ a
 or_false true = refl
 or_false false = refl
 
@@ -112,3 +116,22 @@ pub watched_now : (now shut shuts : Bool) (es new : List Entry) (e : Entry) → 
 watched_now now shut shuts es new e is more told kept fits =
     let P : Bool → Type 0 = λ b. IsWatched b new in
     subst P (sym is) (watched_more shut shuts es new e more told kept fits)
+
+-- what a step tells of memory
+pub lacks_err : (lacks needed : Bool) (e : Event) (error : CoreError) (told : PostError) → told ≡ error_of error → needed ≡ is_needed e → (lacks || (finds_no_memory error && needed)) ≡ (lacks || lacks_for e (Err told))
+lacks_err lacks needed e (faults.NoMemory spent) told is same = (let L : PostError → Type 0 = λ t. (lacks || needed) ≡ (lacks || lacks_for e (Err t)) in subst L (sym is) (ap (λ (b : Bool). lacks || b) same))
+lacks_err lacks needed e (faults.SessionFull entries octets) told is same = (let L : PostError → Type 0 = λ t. (lacks || false) ≡ (lacks || lacks_for e (Err t)) in subst L (sym is) refl)
+
+-- what a look shows
+pub shows_view : (lacks over : Bool) (core : CoreSeen) (seen result : View) → (over ≡ true → (lacks ≡ true) ⊎ CannotGoOn core) → (over ≡ false → lacks ≡ false) → seen ≡ view_of core
+    → result ≡ (if over then record seen { state = conn.Shutdown } else seen) → ShowsView lacks core result
+shows_view true true core seen result when lacks told shown = shown ∙ ap (λ (v : View). let w : View = record v { state = conn.Shutdown } in w) told
+shows_view true false core seen result when lacks told shown = absurd (clash_of (lacks refl))
+shows_view false true core seen result when lacks told shown = inr (
+  elim (when refl) [
+    | inl lacked ↦ absurd (clash_of (sym lacked))
+    | inr cannot ↦ cannot
+  ],
+  shown ∙ ap (λ (v : View). let w : View = record v { state = conn.Shutdown } in w) told,
+)
+shows_view false false core seen result when lacks told shown = inl (shown ∙ told)

@@ -1,12 +1,13 @@
 -- What is under the lock: a channel that was new was given events, one behind another.
-use Rattle.std.specs.Prelude.{◌≡◌, ◌⊎◌, ℕ, true, List}
+use Rattle.std.specs.Prelude.{◌≡◌, ◌⊎◌, ℕ, Bool, true, List}
 use Rattle.grpc_base.specs.declared.event.Stamped.{Stamped}
 use Rattle.channel_core.specs.Core.{CoreSeen, IsNew, Runs}
 
--- what is under the lock: a channel, and the authority with which it was new
+-- what is under the lock: a channel, the authority with which it was new, and whether who keeps it going found no memory
 pub record WatchedSeen : Type 0 where
   pub core : CoreSeen
   pub authority : List ℕ
+  pub lacks : Bool
 
 -- a channel that was new with this authority was given some events, and this came of it
 abbrev pub HasRun : List ℕ → CoreSeen → Type 0

@@ -16,14 +16,17 @@ use Rattle.turn_lock.specs.History.{SeatSeen, StartsWith, places}
 use Rattle.turn_lock.specs.Turn.{FoundHolder}
 use Rattle.channel_core.specs.Core.{CoreSeen, IsFull, Steps, WouldReply, view_of}
 use Rattle.shared_channel.specs.Histories.{IsNearlyFull}
+use Rattle.shared_channel.specs.Running.{WatchedSeen}
 
 -- a channel in which nothing more happens: its session is nearly full, or it ran out of memory half way through a step
 abbrev pub CannotGoOn : CoreSeen → Type 0
 CannotGoOn core = IsNearlyFull core.journal.entries ⊎ (core.spent ≡ true)
 
--- what a look shows: the channel's state and what it waits for; SHUTDOWN only where that is its state, or where it can't go on
-abbrev pub ShowsView : CoreSeen → View → Type 0
-ShowsView core view = (view ≡ view_of core) ⊎ (CannotGoOn core × (view ≡ record (view_of core) { state = conn.Shutdown }))
+-- what a look shows: the channel's state and what it waits for; SHUTDOWN only where that is its state, or where it can't go on. Where who
+-- keeps it going found no memory it is always SHUTDOWN
+abbrev pub ShowsView : Bool → CoreSeen → View → Type 0
+ShowsView false core view = (view ≡ view_of core) ⊎ (CannotGoOn core × (view ≡ record (view_of core) { state = conn.Shutdown }))
+ShowsView true core view = view ≡ record (view_of core) { state = conn.Shutdown }
 
 -- a step that makes no entry leaves the channel as before, but for one that ran out of memory half way
 abbrev pub Fails : Event → CoreSeen → PostError → CoreSeen → Type 0
@@ -75,6 +78,13 @@ pub record Looks (tells : CoreSeen → Type 0) (before after : SeatSeen Entry) :
   pub lock : after.lock ≡ before.lock
   pub parts : after.parts ≡ before.parts
   pub found : StartsWith after.found before.found
+
+-- a look that leaves a note in what is under the lock that who keeps the channel going found no memory
+pub record NotesLack (before after : SeatSeen Entry) : Type 0 where
+  pub start : WatchedSeen
+  pub end : WatchedSeen
+  pub noted : end ≡ record start { lacks = true }
+  pub looks : Looks (λ core. core ≡ start.core) before after
 
 -- the entries that a handle made
 abbrev pub entries_of : List (ℕ × Entry) → List Entry

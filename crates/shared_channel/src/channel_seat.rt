@@ -1,16 +1,16 @@
 // A thread's handle of a shared channel, with its clock and its random words.
-ghost use Rattle.std.specs.Prelude.{◌≡◌, ◌+◌, ℕ, Some, IfOk, false};
+ghost use Rattle.std.specs.Prelude.{◌≡◌, ◌+◌, ℕ, Bool, Some, IfOk, false};
 ghost use Rattle.grpc_base.specs.Counts.{one_more};
 ghost use Rattle.grpc_base.specs.Posts.{CountsErrors, Posts, is_full, is_not_yet};
 ghost use Rattle.grpc_base.specs.declared.event.Event.TheVariants as event;
 ghost use Rattle.grpc_base.specs.declared.post.Look.TheVariants as look;
 ghost use Rattle.channel_core.specs.Applying.{can_drain_in};
-ghost use Rattle.shared_channel.specs.Turns.{CanSend, CanTake, Looks, ShowsView, TakesPlace, entries_of, share_of, words_of};
+ghost use Rattle.shared_channel.specs.Turns.{CanSend, CanTake, Looks, NotesLack, ShowsView, TakesPlace, entries_of, share_of, words_of};
 ghost use Rattle.turn_lock.specs.History.{Ascends, Stands, merged};
 ghost use Rattle.turn_lock.specs.Turn.{Sees};
 
 use crate::bell::{Bell, is_news};
-use crate::jobs::{AtDrain, AtSend, AtTake, AtView, SendStep, Step, TakeStep, moment_of};
+use crate::jobs::{AtDrain, AtSend, AtTake, AtView, NoteLack, SendStep, Step, TakeStep, moment_of};
 use crate::owed::Owed;
 use crate::shared::{Seat, Shared};
 use crate::tally::Tally;
@@ -72,6 +72,19 @@ impl<'a, P: Balancer, W, C: Clock, D: Draws> ChannelSeat<'a, P, W, C, D> {
     }
 }
 
+impl<P: Balancer, W: Wait, C: Clock, D: Draws> ChannelSeat<'_, P, W, C, D> {
+    /// Leaves a note in the channel that a worker that keeps it going ended, since it found no memory. From then on looks show SHUTDOWN, and
+    /// who waits for a call for which nothing has come is answered that there is no memory. Makes no entry. May wait for other threads.
+    pub fn note_lack(&mut self)
+        ensures noted { NotesLack self.old.seat self.new.seat }
+        ensures kept { (self.new.clock.now ≡ self.old.clock.now) × (self.new.next ≡ self.old.next) × (self.new.draws ≡ self.old.draws) × (self.new.tally ≡ self.old.tally) }
+        ensures made { entries_of self.new.seat.own ≡ entries_of self.old.seat.own }
+        ensures share { share_of self.new.seat ≡ share_of self.old.seat }
+    {
+        self.lock.turn(self.rt, &mut self.seat, &mut NoteLack);
+    }
+}
+
 /// Notes a link that is given up, where that is wanted.
 fn note_link(note: &Option<GivenUp>, link: u32, is_given_up: bool) {
     if let Some(note) = note {
@@ -127,13 +140,13 @@ impl<P: Balancer, W: Wait, C: Clock, D: Draws> Post for ChannelSeat<'_, P, W, C,
 
 impl<P: Balancer, W: Wait, C: Clock, D: Draws> Glance for ChannelSeat<'_, P, W, C, D> {
     /// The channel's state, and what it waits for. Its state is SHUTDOWN too where nothing more happens in it: a step found no room for
-    /// what came of a link, or for a Shutdown, or ran out of memory half way.
+    /// what came of a link, or for a Shutdown, or ran out of memory half way, or who keeps it going found none.
     fn glance(&mut self) -> View
         ensures made { entries_of self.new.seat.own ≡ entries_of self.old.seat.own }
         ensures errors { (self.new.tally.errors ≡ self.old.tally.errors) × (self.new.tally.last_error ≡ self.old.tally.last_error) }
         ensures looks { (self.new.tally.looks ≡ one_more self.old.tally.looks) × (self.new.tally.last_look ≡ Some (look.Glance result)) }
         ensures share { share_of self.new.seat ≡ share_of self.old.seat }
-        ensures told { Looks (λ core. ShowsView core result) self.old.seat self.new.seat }
+        ensures told { Looks (λ core. (lacks : Bool) × ShowsView lacks core result) self.old.seat self.new.seat }
     {
         let view = self.lock.turn(self.rt, &mut self.seat, &mut AtView);
         self.tally.looked(Look::Glance { view });

@@ -69,11 +69,12 @@ pub struct TakeStep<'b> {
 }
 
 impl<P: Balancer> Job<Shared<P>> for TakeStep<'_> {
+    ghost use Rattle.std.specs.Prelude.{◌≡◌, false, MatchOption};
     ghost use Rattle.shared_channel.specs.Turns.{TakeGives};
 
     type Answer = Option<Result<Reply, PostError>>;
 
-    ghost runs = { λ job state answer job_after after. TakeGives job.moment job.word job.call state.watched.core answer after.watched.core };
+    ghost runs = { λ job state answer job_after after. TakeGives job.moment job.word job.call state.watched.core answer after.watched.core × MatchOption answer (state.watched.lacks ≡ false) (λ _. Unit {0}) };
 
     fn run(&mut self, state: &mut Shared<P>) -> Option<Result<Reply, PostError>> {
         if !state.watched.core().can_take(self.call) {
@@ -102,12 +103,12 @@ pub struct SendStep<'b> {
 }
 
 impl<P: Balancer> Job<Shared<P>> for SendStep<'_> {
-    ghost use Rattle.std.specs.Prelude.{◌≡◌, MatchOption};
+    ghost use Rattle.std.specs.Prelude.{◌≡◌, false, MatchOption};
     ghost use Rattle.shared_channel.specs.Turns.{SendGives};
 
     type Answer = Option<Result<Reply, PostError>>;
 
-    ghost runs = { λ job state answer job_after after. SendGives job.moment job.word job.call job.message state.watched.core answer after.watched.core × MatchOption answer (job_after ≡ job) (λ _. Unit {0}) };
+    ghost runs = { λ job state answer job_after after. SendGives job.moment job.word job.call job.message state.watched.core answer after.watched.core × MatchOption answer ((job_after ≡ job) × (state.watched.lacks ≡ false)) (λ _. Unit {0}) };
 
     fn run(&mut self, state: &mut Shared<P>) -> Option<Result<Reply, PostError>> {
         if let Ok(len) = u32::try_from(self.message.len()) {
@@ -140,10 +141,26 @@ impl<P: Balancer> Job<Shared<P>> for AtView {
 
     type Answer = View;
 
-    ghost runs = { λ job state answer job_after after. (after ≡ state) × ShowsView state.watched.core answer };
+    ghost runs = { λ job state answer job_after after. (after ≡ state) × ShowsView state.watched.lacks state.watched.core answer };
 
     fn run(&mut self, state: &mut Shared<P>) -> View {
         state.watched.view()
+    }
+}
+
+/// Leaves a note that a worker that keeps the channel going ended, since it found no memory.
+#[derive(Drop)]
+pub struct NoteLack;
+
+impl<P: Balancer> Job<Shared<P>> for NoteLack {
+    ghost use Rattle.std.specs.Prelude.{◌≡◌, true};
+
+    type Answer = ();
+
+    ghost runs = { λ job state answer job_after after. after.watched ≡ record state.watched { lacks = true } };
+
+    fn run(&mut self, state: &mut Shared<P>) {
+        state.watched.note_lack();
     }
 }
 

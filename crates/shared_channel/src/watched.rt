@@ -1,10 +1,10 @@
-// The channel under the lock, whether it was shut down, whether it was found nearly full, and whether it is over.
-ghost use Rattle.std.specs.Prelude.{◌≡◌, ◌≤◌, ◌||◌, true, length, IfSome, OnOk, if◌then◌else◌};
+// The channel under the lock, whether it was shut down, whether it was found nearly full, whether memory lacks, and whether it is over.
+ghost use Rattle.std.specs.Prelude.{◌≡◌, ◌≤◌, ◌||◌, ◌&&◌, ◌⊎◌, true, false, length, IfSome, MatchOption, OnOk, if◌then◌else◌};
 ghost use Rattle.grpc_base.specs.declared.event.Conn.TheVariants as conn;
 ghost use Rattle.grpc_base.specs.Posts.{HasNoRoom};
 ghost use Rattle.turn_lock.specs.History.{StartsWith};
 ghost use Rattle.channel_core.specs.Sizes.{counted, journal_bytes};
-ghost use Rattle.shared_channel.specs.Errors.{FindsNearlyFull, error_of};
+ghost use Rattle.shared_channel.specs.Errors.{FindsNearlyFull, error_of, finds_no_memory, is_needed, lacks_for};
 ghost use Rattle.shared_channel.specs.Histories.{IsNearlyFull, has_shutdown, is_shutdown, state_in};
 ghost use Rattle.shared_channel.specs.Running.{HasRun, IsRunning};
 ghost use Rattle.grpc_base.specs.declared.event.Event.{Event};
@@ -35,6 +35,8 @@ pub struct Watched<P: Balancer> {
     nearly_full: bool,
     /// Whether a step found no room for what came of a link or for a Shutdown, or ran out of memory half way.
     stopped: bool,
+    /// Whether a step found no memory for such an event, or a worker that keeps the channel going ended, since it found none.
+    lacks: bool,
     // That of the channel's requests, which the core does not show.
     authority: Text,
 }
@@ -46,7 +48,7 @@ impl<P: Balancer> Model for Watched<P> {
 
     ghost Value = { WatchedSeen };
 
-    ghost view = { λ w. record { core = w.core; authority = w.authority } };
+    ghost view = { λ w. record { core = w.core; authority = w.authority; lacks = w.lacks } };
 
     ghost invariant = { λ w. (w.shut ≡ has_shutdown w.core.journal.entries) × (length w.core.journal.entries ≤ 1048576) × IsRunning w.authority w.core × (w.nearly_full ≡ true → IsNearlyFull w.core.journal.entries) };
 }
@@ -78,9 +80,11 @@ fn has_shutdown(entries: &[Entry]) -> bool
     false
 }
 
-/// Whether nothing more comes to a channel in which this event finds no room: one of a dial, of a link or of the clock, which a worker
-/// posts that keeps links open, or a Shutdown.
-fn is_needed(event: &Event) -> bool {
+/// Whether nothing more comes to a channel in which this event finds no room or no memory: one of a dial, of a link or of the clock, which a
+/// worker posts that keeps links open, or a Shutdown.
+fn is_needed(event: &Event) -> bool
+    ensures { result ≡ is_needed event.now }
+{
     matches!(
         event,
         Event::TakeDial
@@ -100,6 +104,16 @@ fn stops(error: &CoreError, needed: bool) -> bool {
     match error {
         CoreError::NoMemory { spent } => *spent,
         CoreError::SessionFull { .. } => needed,
+    }
+}
+
+/// Whether memory lacks behind a step that failed: it did before, or the step found none for an event that is needed so.
+fn lacks_behind(lacks: bool, error: &CoreError, needed: bool) -> bool
+    ensures { result ≡ (lacks || (finds_no_memory error.now && needed)) }
+{
+    match error {
+        CoreError::NoMemory { spent: _ } => either(lacks, needed),
+        CoreError::SessionFull { .. } => either(lacks, false),
     }
 }
 
@@ -148,7 +162,7 @@ impl<P: Balancer> Watched<P> {
     pub fn new(core: ChannelCore<P>, authority: Text) -> Watched<P>
         requires limit { length core.journal.entries ≤ 1048576 }
         requires run { HasRun authority core }
-        ensures { result ≡ record { core = core; authority = authority } }
+        ensures { result ≡ record { core = core; authority = authority; lacks = false } }
     {
         let shut = has_shutdown(core.journal().entries.as_slice());
         Watched {
@@ -156,6 +170,7 @@ impl<P: Balancer> Watched<P> {
             shut,
             nearly_full: false,
             stopped: false,
+            lacks: false,
             authority,
         }
     }
@@ -174,10 +189,22 @@ impl<P: Balancer> Watched<P> {
         self.nearly_full
     }
 
-    /// Whether the channel can't go on: the session has no room for what its links bring, or a step ran out of memory half way.
-    pub fn is_over(&self) -> bool
-        ensures { result ≡ true → CannotGoOn self.now.core }
+    /// Notes that a worker that keeps the channel going ended, since it found no memory: nobody does its work any more.
+    pub fn note_lack(&mut self)
+        ensures { self.new ≡ record self.old { lacks = true } }
     {
+        self.lacks = true;
+    }
+
+    /// Whether the channel can't go on: the session has no room for what its links bring, a step ran out of memory half way, or who keeps it
+    /// going found none.
+    pub fn is_over(&self) -> bool
+        ensures when { result ≡ true → (self.now.lacks ≡ true) ⊎ CannotGoOn self.now.core }
+        ensures lacks { result ≡ false → self.now.lacks ≡ false }
+    {
+        if self.lacks {
+            return true;
+        }
         if !self.stopped {
             return false;
         }
@@ -189,8 +216,9 @@ impl<P: Balancer> Watched<P> {
 
     /// The error of a call that waits: none as long as the channel can go on.
     pub fn end(&self) -> Option<PostError>
-        ensures when { IfSome result (λ _. CannotGoOn self.now.core) }
+        ensures when { IfSome result (λ _. (self.now.lacks ≡ true) ⊎ CannotGoOn self.now.core) }
         ensures fails { IfSome result (λ error. (e : Event) → Fails e self.now.core error self.now.core) }
+        ensures lacks { MatchOption result (self.now.lacks ≡ false) (λ _. Unit {0}) }
     {
         if !self.is_over() {
             return None;
@@ -201,7 +229,7 @@ impl<P: Balancer> Watched<P> {
 
     /// What a look tells: SHUTDOWN too where the channel can't go on.
     pub fn view(&self) -> View
-        ensures { ShowsView self.now.core result }
+        ensures { ShowsView self.now.lacks self.now.core result }
     {
         shown(self.core.view(), self.is_over())
     }
@@ -244,6 +272,7 @@ impl<P: Balancer> Watched<P> {
         ensures gives { StepGives stamped self.old.core result self.new.core }
         ensures appends { StartsWith self.new.core.journal.entries self.old.core.journal.entries }
         ensures kept { self.new.authority ≡ self.old.authority }
+        ensures lacks { self.new.lacks ≡ (self.old.lacks || lacks_for stamped.event result) }
         ensures room { OnOk result (HasNoRoom (length self.old.core.journal.entries) (counted (journal_bytes self.old.core.journal.entries)) stamped.event → ⊥) }
     {
         let shuts = is_shutdown(&stamped.event);
@@ -256,6 +285,7 @@ impl<P: Balancer> Watched<P> {
             Err(error) => {
                 self.nearly_full = either(self.nearly_full, finds_nearly_full(&error));
                 self.stopped = one_of(self.stopped, stops(&error, needed));
+                self.lacks = lacks_behind(self.lacks, &error, needed);
                 Err(post_error(error))
             }
         }

@@ -6,7 +6,7 @@ pub loop-preserved : goal.loop-preserved
 loop-preserved g c =
     let on = c.loop.invariant in
     let looks = send_looks (λ s. s.watched.core) _ _ _ _ _ _ _ _ _ _ _ c.in_default.is (λ a b ran. ran.0) refl c.turn.ensures.found c.turn.ensures.turn in
-    let same = none_keeps _ _ _ _ c.in_default.is c.turn.ensures.turn.ran.1 in
+    let same = (none_keeps _ _ _ c.in_default.is c.turn.ensures.turn.ran.1).0 in
     record {
       sees = more_looks _ _ _ _ on.sees looks;
       tally = on.tally;

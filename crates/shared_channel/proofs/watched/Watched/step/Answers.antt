@@ -1,12 +1,12 @@
-use Rattle.std.proofs.Common.{◌∙◌, Err, [], ap, append-nil, length, subst, sym}
+use Rattle.std.proofs.Common.{◌≡◌, ◌∙◌, ◌||◌, Bool, false, Err, [], ap, append-nil, length, subst, sym}
 use Rattle.grpc_base.specs.Posts.{HasNoRoom}
 use Rattle.channel_core.specs.Core.{CoreSeen, Steps}
 use Rattle.channel_core.specs.Sizes.{counted, journal_bytes}
 use Rattle.turn_lock.specs.History.{StartsWith}
-use Rattle.shared_channel.specs.Errors.{error_of}
+use Rattle.shared_channel.specs.Errors.{error_of, lacks_for}
 use Rattle.shared_channel.proofs.FullLaws.{full_either, full_found, full_more}
 use Rattle.shared_channel.proofs.RunningLaws.{step_runs, steps_run}
-use Rattle.shared_channel.proofs.StateLaws.{error_as, fails_of, fails_same, had_room, has_one_more, ok_of, watched_now, watched_same}
+use Rattle.shared_channel.proofs.StateLaws.{error_as, fails_of, fails_same, had_room, has_one_more, lacks_err, ok_of, or_false, watched_now, watched_same}
 use Rattle.shared_channel.proofs.watched.Watched.step.Goals as goal
 
 pub invariant_of-self : goal.invariant_of-self
@@ -44,3 +44,14 @@ returns-in-Ok-clause-appends g c =
     let did = ok_of (Steps c.self.inside.core c.step.new.self c.args.stamped) c.step.result c.in-Ok.reply c.in-Ok.is c.step.ensures.ok in
     let P : CoreSeen → Type 0 = λ s. StartsWith c.step.new.self.journal.entries s.journal.entries in
     subst P (ap (λ w. w.core) c.self.view_is) (_, did.journal)
+
+pub returns-in-Ok-clause-lacks : goal.returns-in-Ok-clause-lacks
+returns-in-Ok-clause-lacks g c =
+    let P : Bool → Type 0 = λ b. c.self.inside.lacks ≡ (b || false) in
+    subst P (ap (λ w. w.lacks) c.self.view_is) (sym (or_false c.self.inside.lacks))
+
+pub returns-in-Err-clause-lacks : goal.returns-in-Err-clause-lacks
+returns-in-Err-clause-lacks g c =
+    let P : Bool → Type 0 = λ b. c.lacks_behind-self-inside.result ≡ (b || lacks_for c.args.stamped.event (Err c.post_error.result)) in
+    subst P (ap (λ w. w.lacks) c.self.view_is)
+    (c.lacks_behind-self-inside.ensures ∙ lacks_err c.self.inside.lacks c.is_needed-needed.result c.args.stamped.event c.in-Err.error c.post_error.result c.post_error.ensures c.is_needed-needed.ensures)
