@@ -2,9 +2,10 @@
 ghost use Rattle.std.specs.Prelude.{◌≡◌, ◌<◌, ◌+◌, ℕ, List, length, slice_index_or};
 ghost use Rattle.std.specs.List.{AllByRecursion};
 ghost use Rattle.grpc_base.specs.declared.event.Entry.{Entry};
-ghost use Rattle.live_run.specs.Sides.{LinkDone, seen_by};
+ghost use Rattle.live_run.specs.Sides.{LinkDone, TellsLack, seen_by};
 ghost use Rattle.live_run.specs.declared.link_job.LinkJob.{LinkJob};
 ghost use Rattle.live_run.specs.declared.outcome.Outcome.TheVariants as outcome_is;
+ghost use Rattle.shared_channel.specs.Turns.{NotesLack, entries_of, share_of};
 ghost use Rattle.turn_lock.specs.History.{LockId};
 ghost use Rattle.live_channel.specs.Handles.{Closes, IsFresh, IsKept, IsOne, Leaves, TakesIn, handle_in, owns_of, seats_in};
 ghost use Rattle.live_channel.specs.Keeping.{KeepsDone};
@@ -13,10 +14,35 @@ use dns_watch::Lookup;
 use gate_io::{Clock, Dialer, Draws};
 use grpc_base::{Glance, Post};
 use lb_policy::Balancer;
-use live_run::{LinkJob, Outcome, work_links};
+use live_run::{Ending, LinkJob, Outcome, work_links};
 use shared_channel::{ChannelSeat, Seat};
 use std::sync::Wait;
 use std::thread::Threads;
+
+/// Leaves a note in the channel that a worker found no memory.
+#[derive(Drop)]
+struct TellsChannel;
+
+impl<P: Balancer + Send, R: Wait + Sync, C: Clock, D: Draws> Ending<ChannelSeat<'_, P, R, C, D>>
+    for TellsChannel {
+    ghost use Rattle.shared_channel.specs.Turns.{NotesLack};
+
+    ghost tells = { λ before after. NotesLack before.seat after.seat };
+
+    fn lacks_memory(&self, post: &mut ChannelSeat<'_, P, R, C, D>) {
+        note_lack(post);
+    }
+}
+
+/// Leaves a note in the channel of a handle that memory lacks.
+fn note_lack<P: Balancer, R: Wait, C: Clock, D: Draws>(post: &mut ChannelSeat<'_, P, R, C, D>)
+    ensures noted { NotesLack post.old.seat post.new.seat }
+    ensures made { entries_of post.new.seat.own ≡ entries_of post.old.seat.own }
+    ensures tally { post.new.tally ≡ post.old.tally }
+    ensures share { share_of post.new.seat ≡ share_of post.old.seat }
+{
+    post.note_lack();
+}
 
 /// The workers that keep links open or look a name up.
 #[derive(Drop)]
@@ -33,7 +59,8 @@ impl<
     N: Dialer,
     L: Lookup,
 > Linkers<ChannelSeat<'_, P, R, C, D>, N, L, D> {
-    /// Keeps links open until the channel is shut down.
+    /// Keeps links open until the channel is shut down. A worker that ends for want of memory leaves a note of that in the channel, in which
+    /// nobody waits from then on.
     pub fn keep(&mut self, rt: &R, clock: &C)
         ensures { KeepsDone (λ h. h.seat) self.old self.new }
     {
@@ -51,9 +78,10 @@ fn keep_links<
     L: Lookup,
 >(rt: &R, clock: &C, jobs: &mut Vec<LinkJob<ChannelSeat<'_, P, R, C, D>, N, L, D>>) -> Outcome
     ensures kept { (lock : LockId) → AllByRecursion (IsFresh lock) (seats_in (λ h. h.seat) jobs.old.items) → AllByRecursion (IsKept lock) (seats_in (λ h. h.seat) jobs.new.items) }
+    ensures told { (i : ℕ) (d : _) → i < length jobs.old.items → TellsLack (λ before after. NotesLack before.seat after.seat) (slice_index_or jobs.new.items i d) }
     ensures count { length jobs.new.items ≡ length jobs.old.items }
 {
-    work_links_of(rt, clock, jobs)
+    work_links_of(rt, clock, &TellsChannel, jobs)
 }
 
 /// The work of these workers, each by its place.
@@ -64,11 +92,13 @@ fn work_links_of<
     L: Lookup,
     C: Clock,
     D: Draws,
->(rt: &R, clock: &C, jobs: &mut Vec<LinkJob<H, N, L, D>>) -> Outcome
+    E: Ending<H> + Sync,
+>(rt: &R, clock: &C, ending: &E, jobs: &mut Vec<LinkJob<H, N, L, D>>) -> Outcome
     ensures count { length jobs.new.items ≡ length jobs.old.items }
     ensures each { (i : ℕ) (d : LinkJob H N L D) → i < length jobs.old.items → LinkDone (seen_by H.made H.errors H.last_error) H.share H.last_look N.coming (slice_index_or jobs.old.items i d) (slice_index_or jobs.new.items i d) }
+    ensures told { (i : ℕ) (d : LinkJob H N L D) → i < length jobs.old.items → TellsLack E.tells (slice_index_or jobs.new.items i d) }
 {
-    work_links(rt, clock, jobs.as_mut_slice())
+    work_links(rt, clock, ending, jobs.as_mut_slice())
 }
 
 /// Takes in the handles of workers beside the calls.
