@@ -1,13 +1,19 @@
 // The attempts that a pass serves, as actions of a session; nothing runs.
-ghost use Rattle.channel_cases.specs.ServeSteps.Follows.{AnswersAreNext, AsksStand, PlacesByAgreement, ServesByAnswers};
+ghost use Rattle.channel_cases.specs.ServeSteps.Follows.{AnswersAreNext, AsksStand, PlacedOnesAgree, PlacesByAgreement, PlacesOfInheritors, ServesByAnswers};
 ghost use Rattle.channel_cases.specs.ServeSteps.Laws.{AsksAgree, AsksFollow};
 
 use crate::settling_keeps::early_goes_on;
+use call_actions::calls_apart::{books_are_kept, calls_share_tokens_alone};
+use call_actions::calls_in_turn::attempts_keep_turn;
+use call_actions::{attempts_are_made_alike, calls_go_on_alike};
 use call_core::{calls_are_kept, calls_go_on, takes_leave_rows};
 use channel_actions::kept_sessions::sessions_are_kept;
 use channel_actions::link_frames::{actions_are_untold, links_stay};
-use channel_actions::other_calls::{calls_stay, sets_stay};
+use channel_actions::other_calls::{calls_stay, others_are_same, sets_stay};
 use lb_policy::laws_of_the_table;
+use link_actions::reader_actions::readers_come_and_open;
+use link_actions::steady_links::placings_keep;
+use net_actions::net_frames::nets_stay;
 use net_actions::policy_steps_are_actions;
 use session_order::{attempts_stir, calm_is_exact, queues_stir};
 
@@ -53,6 +59,29 @@ pub fn places_by_agreement()
     answers_are_next();
     attempts_stir();
     calm_is_exact();
+}
+
+/// So it goes out: channel and session agree once it is placed, where nothing was written of the messages of a call that a transparent retry took over (gRFC A6,
+/// "Transparent Retries").
+pub fn attempts_go_out()
+    ensures agree { PlacedOnesAgree }
+    ensures places { PlacesOfInheritors }
+{
+    actions_are_untold();
+    attempts_are_made_alike();
+    attempts_keep_turn();
+    books_are_kept();
+    calls_go_on_alike();
+    calls_share_tokens_alone();
+    calls_stay();
+    links_stay();
+    nets_stay();
+    others_are_same();
+    places_by_agreement();
+    placings_keep();
+    readers_come_and_open();
+    sessions_are_kept();
+    sets_stay();
 }
 
 /// So an attempt that waits is served, where its answer is followed (gRPC, "Load Balancing in gRPC"; "gRPC Wait for Ready Semantics").

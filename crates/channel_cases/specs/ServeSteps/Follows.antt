@@ -151,6 +151,10 @@ PlacedOnesAgree =
 abbrev pub PlacesByAgreement : Type 0
 PlacesByAgreement = PlacedOnesAgree → InheritorsAreWhole → PlacesFollow
 
+-- so where a pick names a subchannel, the attempt is placed
+abbrev pub PlacesOfInheritors : Type 0
+PlacesOfInheritors = InheritorsAreWhole → PlacesFollow
+
 -- while the channel settles its net may ask
 abbrev pub NetsMayAsk : Type 0
 NetsMayAsk =
