@@ -3,9 +3,10 @@ pub mod Answered
 pub mod Downs
 pub mod Ends
 pub mod First
-pub mod Losing
 pub mod News
+pub mod Over
+pub mod OverAgrees
+pub mod OverStarts
 pub mod Stamped
-pub mod Starts
 pub mod Stirred
 pub mod Walk

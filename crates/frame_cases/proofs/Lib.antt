@@ -1,4 +1,5 @@
 pub mod FrameKinds
+pub mod BrokenLinks
 pub mod FirstSettings
 pub mod MessageFrames
 pub mod PassedBytes

@@ -1,6 +1,7 @@
 // What comes on a link is the actions of a session, frame by frame; nothing runs.
 #![tactic(auto)]
 
+pub mod broken_links;
 pub mod first_settings;
 pub mod frame_kinds;
 pub mod message_frames;

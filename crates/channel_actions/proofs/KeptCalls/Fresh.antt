@@ -78,7 +78,7 @@ given_if : (m link : ℕ) (r : ReadFrame) (n : NextRead) (b : Bool) → EndsFrom
 given_if m link r n true h e = given m link r n h e
 given_if m link r n false h e = absurd (cc)
 
-ends_later : (s : Seen) (link : ℕ) (l : Link) (r : ReadFrame) → numbered s.links link ≡ Some l → next_frame_read link s ≡ Some (action.FrameRead link r) → read_bytes l + 1 ≤ r.end
+pub ends_later : (s : Seen) (link : ℕ) (l : Link) (r : ReadFrame) → numbered s.links link ≡ Some l → next_frame_read link s ≡ Some (action.FrameRead link r) → read_bytes l + 1 ≤ r.end
 ends_later s link l r got e =
     given_if (read_bytes l + 1) link r (next_read l s) (is_none l.over) (from_reading l s (reading_of (drop (read_bytes l) l.received)) refl)
     (sym (ap (option_and_then (read_next link s)) got) ∙ e)

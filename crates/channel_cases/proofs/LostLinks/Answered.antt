@@ -6,8 +6,10 @@ use Rattle.channel_actions.specs.Agrees.{Agrees}
 use Rattle.channel_actions.specs.Calm.{IsAt}
 use Rattle.channel_actions.specs.GoingCalls.Laws.{LossesGoOn}
 use Rattle.channel_actions.specs.Stages.{IsAnswered}
-use Rattle.channel_cases.proofs.LostLinks.Losing.{actions, does}
-use Rattle.channel_cases.proofs.LostLinks.Starts.{after_, attempts_same, dn, loss_goes_on, lost, own, q}
+use Rattle.channel_cases.proofs.LostLinks.Downs.{after_, loss_goes_on, lost, lost_over, own, q}
+use Rattle.channel_cases.proofs.LostLinks.Over.{GoesOver}
+use Rattle.channel_cases.proofs.LostLinks.OverAgrees.{actions, dn, does}
+use Rattle.channel_cases.proofs.LostLinks.OverStarts.{attempts_same}
 use Rattle.channel_cases.proofs.LostLinks.Walk.{losses_end_in_turn}
 use Rattle.channel_cases.specs.AttemptEnds.Laws.{EndsStayHeld, OneAttemptEnds}
 use Rattle.channel_cases.specs.LostLinks.Laws.{LostLinksAreAnswered}
@@ -23,10 +25,12 @@ use Rattle.grpc_base.specs.declared.event.Reply.{Reply}
 use Rattle.grpc_base.specs.declared.event.Reply.TheVariants as reply
 use Rattle.session_actions.specs.CallEnds.{is_after_event, next_deadline}
 use Rattle.session_actions.specs.Events.{frame_of_event}
+use Rattle.session_actions.specs.declared.action.Action.TheVariants as action
 use Rattle.session_actions.specs.declared.action.Action.{Action}
 use Rattle.session_actions.specs.declared.attempt.Attempt.{Attempt}
 use Rattle.session_actions.specs.declared.entry.OpenEntry.{OpenEntry}
 use Rattle.session_actions.specs.declared.entry.Stage.TheVariants as stage
+use Rattle.session_actions.specs.declared.link.LinkOver.TheVariants as over
 use Rattle.session_actions.specs.declared.seen.Seen.{Seen}
 use Rattle.session_order.proofs.Calms.{calm_is_exact}
 
@@ -45,14 +49,17 @@ module _ (losses : LossesGoOn) (ends : OneAttemptEnds) (stays : EndsStayHeld) (x
   abbrev p : OpenEntry
   p = q x o s h at timely case.known.own case.known.early link case.event_is case.kept
 
+  abbrev over_ : GoesOver over.Lost (action.LinkLost link) link x o s
+  over_ = lost_over x o s h at timely case.known.own case.known.early link case.event_is case.kept
+
   abbrev those : List Action
-  those = actions x o s h at timely case.known.own case.known.early.boards link case.event_is case.kept
+  those = actions over.Lost (action.LinkLost link) link x o s over_
 
   number : (lost x o s h at timely case.known.own case.known.early link case.event_is case.kept).number ≡ link
   number = own x o s h at timely case.known.own case.known.early link case.event_is case.kept
 
   rows_same : t.attempts ≡ s.attempts
-  rows_same = attempts_same x o s h at timely case.known.own case.known.early link case.event_is case.kept
+  rows_same = attempts_same over.Lost (action.LinkLost link) link x o s over_
 
   few : length t.attempts < 18446744073709551615
   few = subst (λ (xs : List Attempt). length xs < 18446744073709551615) (sym rows_same) case.few
@@ -61,7 +68,7 @@ module _ (losses : LossesGoOn) (ends : OneAttemptEnds) (stays : EndsStayHeld) (x
   ended =
       subst (λ (n : ℕ). HasLost n (buried link x) p t) number
       (losses_end_in_turn losses stays ends (lost x o s h at timely case.known.own case.known.early link case.event_is case.kept) (buried link x) p t
-      (loss_goes_on x o s h at timely case.known.own case.known.early link case.event_is case.kept case.rising case.known.going case.held) few)
+      (loss_goes_on x o s h at timely case.known.own case.known.early link case.event_is case.kept case.known.greeted case.known.streams case.rising case.known.going case.held) few)
 
   pub lost_answered : IsAnswered (lose link true x) reply.Done o s
   lost_answered = record {
@@ -69,14 +76,14 @@ module _ (losses : LossesGoOn) (ends : OneAttemptEnds) (stays : EndsStayHeld) (x
       actions = those ++ ended.actions;
       seen = ended.seen;
       entry = ended.entry;
-      does = does_on those ended.actions s t ended.seen (does x o s h at timely case.known.own case.known.early.boards link case.event_is case.kept) ended.does;
-      posts = none_on those ended.actions (dn x o s h at timely case.known.own case.known.early link case.event_is case.kept).posts ended.posts;
+      does = does_on those ended.actions s t ended.seen (does over.Lost (action.LinkLost link) link x o s over_) ended.does;
+      posts = none_on those ended.actions (dn over.Lost (action.LinkLost link) link x o s over_).posts ended.posts;
       same = record {
         moment = ended.same.moment;
         word = ended.same.word;
         event = ended.same.event;
-        entries = ended.same.entries ∙ ap (λ (z : Seen). z.entries) (dn x o s h at timely case.known.own case.known.early link case.event_is case.kept).boarded;
-        setup = ended.same.setup ∙ ap (λ (z : Seen). z.setup) (dn x o s h at timely case.known.own case.known.early link case.event_is case.kept).boarded;
+        entries = ended.same.entries ∙ ap (λ (z : Seen). z.entries) (dn over.Lost (action.LinkLost link) link x o s over_).boarded;
+        setup = ended.same.setup ∙ ap (λ (z : Seen). z.setup) (dn over.Lost (action.LinkLost link) link x o s over_).boarded;
       };
       at = record { current = ended.current; stage_is = ended.stage_is; calm = of_order calm_is_exact ended.entry ended.seen ended.calm };
       agrees = ended.agrees;

@@ -1,12 +1,12 @@
--- The end of the first attempt on a link that is lost is next: what is asked of the end of one attempt is so.
-use Rattle.std.proofs.Common.{◌≡◌, ◌&&◌, ◌||◌, ◌==◌, ◌∷◌, ap, refl, subst, sym, ◌∙◌, Bool, true, false, List, [], Option, None, Some, ℕ, suc, if◌then◌else◌, is_some, length, map, nat_lt, option_and_then, option_map, slice_get}
+-- The end of the first attempt on a link that is over is next: what is asked of the end of one attempt is so.
+use Rattle.std.proofs.Common.{◌≡◌, ◌&&◌, ◌||◌, ◌++◌, ◌==◌, ◌∷◌, ap, refl, subst, sym, ◌∙◌, Bool, true, false, List, [], Option, None, Some, ℕ, cond, filter, suc, if◌then◌else◌, is_some, length, map, nat_lt, option_and_then, option_map, slice_get}
 use Rattle.std.proofs.lemmas.Bool.{and_parts, eq-eqb, eqb-true}
-use Rattle.std.specs.List.{list_any}
+use Rattle.std.specs.List.{AllByRecursion}
+use Rattle.std.specs.Prelude.{unwrap_or}
 use Rattle.attempt_ledger.specs.Ends.{is_cut}
 use Rattle.attempt_ledger.specs.TransparentRows.{is_unsent}
 use Rattle.attempt_ledger.specs.declared.row.Placed.{Placed}
 use Rattle.attempt_ledger.specs.declared.row.RowEnd.{RowEnd}
-use Rattle.call_actions.proofs.Lists.{filter_none}
 use Rattle.call_actions.specs.Laws.{IsEnding}
 use Rattle.channel_actions.proofs.EndsFollow.Codes.{ended_code}
 use Rattle.channel_actions.proofs.EndsFollow.Steps.{placed_of}
@@ -16,33 +16,38 @@ use Rattle.channel_actions.proofs.LinkFrames.Readers.{readers_still}
 use Rattle.channel_actions.proofs.LinkFrames.Streams.{streams_still}
 use Rattle.channel_actions.proofs.LinkFrames.Untold.{actions_are_untold}
 use Rattle.channel_actions.proofs.Lines.{all_at_places}
-use Rattle.channel_actions.proofs.Stamps.{counted_at}
+use Rattle.channel_actions.proofs.Stamps.{counted_at, map_same}
+use Rattle.channel_actions.specs.GoingCalls.Going.{CallsGoOn}
+use Rattle.channel_actions.specs.GreetedLinks.Greeted.{AreGreeted}
 use Rattle.channel_actions.specs.KeptSessions.Kept.{IsKept}
 use Rattle.channel_actions.specs.LinkFrames.Alike.{CannotTell}
 use Rattle.channel_actions.specs.LinkFrames.Bears.{bears_on, is_placed_on}
-use Rattle.channel_actions.specs.Links.{HasLink, IsGoing, lines_in}
+use Rattle.channel_actions.specs.Links.{lines_in}
+use Rattle.channel_actions.specs.OwnStreams.Own.{AreOwnStreams}
+use Rattle.channel_cases.proofs.AttemptEnds.Unowed.{agrees_ahead}
 use Rattle.channel_cases.proofs.LostLinks.First.{IsHead, head_is}
 use Rattle.channel_cases.proofs.LostLinks.News.{IsPlacedOn, placed_on}
 use Rattle.channel_cases.proofs.LostLinks.Stamped.{stamped_form}
-use Rattle.channel_cases.specs.AttemptEnds.Ahead.{AgreesOffLinks, HasLinkAhead, IsAhead, LinksAhead, is_owed_on, owed_reset, resets_owed}
-use Rattle.channel_cases.specs.AttemptEnds.Ends.{EndNext, gone_with, is_of_ends, may_wait}
+use Rattle.channel_cases.specs.AttemptEnds.Ahead.{AgreesAhead, AgreesOffLinks, HasLinkAhead, IsAhead, LinksAhead, is_owed_on, owed_reset, resets_owed}
+use Rattle.channel_cases.specs.AttemptEnds.Ends.{AreHeld, EndNext, gone_with, is_of_ends, may_wait}
+use Rattle.channel_cases.specs.AttemptEnds.Runs.{RunsRise}
 use Rattle.channel_cases.specs.LostLinks.Losses.{LossGoesOn}
 use Rattle.channel_core.specs.States.{StateSeen}
 use Rattle.channel_core.specs.Steps.{stamped_gone}
 use Rattle.channel_core.specs.declared.state.links.LinkSlot.{LinkSlot}
+use Rattle.lb_policy.specs.Table.{is_one_of}
 use Rattle.link_actions.proofs.Ended.{is_ended}
 use Rattle.link_actions.proofs.LossActions.Losses.{link_is, losses_go_in_order, none_is_reset}
-use Rattle.link_actions.proofs.ResetActions.Cuts.{none_is_ahead}
 use Rattle.link_actions.proofs.Without as lists
-use Rattle.link_actions.specs.LossActions.Laws.{loss_action}
-use Rattle.link_actions.specs.LossActions.Sees.{loss_of}
+use Rattle.link_actions.specs.LossActions.Laws.{IsQuiet, loss_action}
+use Rattle.link_actions.specs.LossActions.Sees.{SeesOver, loss_of}
 use Rattle.link_actions.specs.ResetActions.Ahead.{SeesAhead}
 use Rattle.link_actions.specs.Sees.{ArePlaced, by_stream}
 use Rattle.session_actions.specs.Actions.{after, after_if, following}
-use Rattle.session_actions.specs.AttemptEnds.{attempt_ended, end_of, next_wire_end, reset_code_of, with_end}
+use Rattle.session_actions.specs.AttemptEnds.{attempt_ended, code_at_end, end_of, next_wire_end, reset_code_of, with_end}
 use Rattle.session_actions.specs.Attempts.{call_of, is_of, is_outstanding, is_queued}
 use Rattle.session_actions.specs.Events.{is_loss}
-use Rattle.session_actions.specs.Links.{link_number, link_of}
+use Rattle.session_actions.specs.Links.{link_number, link_of, stream_number}
 use Rattle.session_actions.specs.Reading.{is_outstanding_on, outstanding_on}
 use Rattle.session_actions.specs.Words.{holds, numbered}
 use Rattle.session_actions.specs.declared.action.Action.TheVariants as action
@@ -53,8 +58,7 @@ use Rattle.session_actions.specs.declared.link.Link.{Link}
 use Rattle.session_actions.specs.declared.response.Outcome.{Outcome}
 use Rattle.session_actions.specs.declared.seen.Seen.{Seen}
 use Rattle.session_order.proofs.Calms.{first_line_gives}
-use Rattle.session_order.proofs.Changed.{passes_not}
-use Rattle.session_order.specs.Calm.{is_to_reset}
+use Rattle.session_order.specs.Calm.{IsStill}
 use Rattle.session_order.specs.Lines.{is_line, rank}
 use Rattle.session_order.specs.declared.line.Line.{Line}
 use Rattle.session_order.specs.declared.line.Line.TheVariants as line
@@ -88,7 +92,7 @@ not_end line.Give e = refl
 not_end line.Drop e = refl
 not_end line.Add e = refl
 
-before_end : (loses : Bool) (m : Line) → nat_lt (rank loses m) (rank loses line.WireEnd) ≡ true → is_line m line.WireEnd ≡ false
+pub before_end : (loses : Bool) (m : Line) → nat_lt (rank loses m) (rank loses line.WireEnd) ≡ true → is_line m line.WireEnd ≡ false
 before_end true line.WireEnd e = absurd (cc)
 before_end false line.WireEnd e = absurd (cc)
 before_end loses line.Cut e = refl
@@ -125,7 +129,7 @@ some_call : (o : Option Call) → is_some o ≡ true → (c : Call) × (o ≡ So
 some_call None e = absurd (cc)
 some_call (Some c) e = (c, refl)
 
-lives_by : (own out waits : Bool) → own ≡ true → out ≡ true → (own && (out || waits)) ≡ true
+pub lives_by : (own out waits : Bool) → own ≡ true → out ≡ true → (own && (out || waits)) ≡ true
 lives_by true true waits e f = refl
 lives_by true false waits e f = absurd (cc)
 lives_by false out waits e f = absurd (cc)
@@ -143,7 +147,52 @@ off_by n k (Some q) at e here other = by_number (q.link == n) refl
     by_number true f = absurd (other (sym (eqb-true q.link n f) ∙ (let same : q ≡ at = (cc) in ap (λ (z : Placed). z.link) same) ∙ here))
     by_number false f = refl
 
-module _ (l : Link) (x : StateSeen) (o : OpenEntry) (s : Seen) (is : LossGoesOn l x o s) (a : Attempt) (first : slice_get (outstanding_on l s) 0 ≡ Some a) where
+-- one that passes is kept, where it is as it was
+kept_off : {X : Type 0} (p q : X → Bool) (x y : X) (ys xs : List X) → p y ≡ q x → (q x ≡ true → y ≡ x) → filter p ys ≡ filter q xs → filter p (y ∷ ys) ≡ filter q (x ∷ xs)
+kept_off p q x y ys xs same as_is rest = by (q x) refl
+  where
+    by : (b : Bool) → q x ≡ b → filter p (y ∷ ys) ≡ filter q (x ∷ xs)
+    by true on =
+        ap (λ (b : Bool). cond b (y ∷ filter p ys) (filter p ys)) (same ∙ on) ∙ ap (λ (z : _). z ∷ filter p ys) (as_is on) ∙ ap (λ (zs : List _). x ∷ zs) rest
+        ∙ sym (ap (λ (b : Bool). cond b (x ∷ filter q xs) (filter q xs)) on)
+    by false off =
+        ap (λ (b : Bool). cond b (y ∷ filter p ys) (filter p ys)) (same ∙ off) ∙ rest ∙ sym (ap (λ (b : Bool). cond b (x ∷ filter q xs) (filter q xs)) off)
+
+-- the link is over, the responses of its attempts go on, and nothing but that ends an attempt; these lines may wait until it has ended, and the session owes resets of
+-- streams on other links
+pub record OverGoesOn (waits : Line → Bool) (also : List ℕ) (l : Link) (x : StateSeen) (o : OpenEntry) (s : Seen) : Type 0 where
+  pub current : s.current ≡ Some o
+  pub late : (m : Line) → waits m ≡ true → may_wait m ≡ true
+  pub sooner : (m : Line) → nat_lt (rank (is_loss o.event) m) (rank (is_loss o.event) line.WireEnd) ≡ true → waits m ≡ false
+  pub still : (m : Line) → is_line m line.WireEnd ≡ false → waits m ≡ false → IsStill m o s
+  pub over : SeesOver l s
+  pub quiet : AllByRecursion (IsQuiet l s) s.attempts
+  pub agrees : AgreesAhead also (stamped_gone l.number x) s
+  pub greeted : AreGreeted s
+  pub streams : AreOwnStreams s
+  pub rising : RunsRise s
+  pub going : CallsGoOn x
+  pub held : AreHeld x
+
+-- of a link that is lost no reset is owed between two ends
+pub lost_goes_on : (l : Link) (x : StateSeen) (o : OpenEntry) (s : Seen) → LossGoesOn l x o s → OverGoesOn none_waits [] l x o s
+lost_goes_on l x o s is = record {
+  current = is.current;
+  late = never;
+  sooner = λ m before. refl;
+  still = λ m off waits. is.still m off;
+  over = is.over;
+  quiet = is.quiet;
+  agrees = agrees_ahead [] (stamped_gone l.number x) s is.agrees is.unreset (is.still line.Reset refl);
+  greeted = is.greeted;
+  streams = is.streams;
+  rising = is.rising;
+  going = is.going;
+  held = is.held;
+}
+
+module _ (waits : Line → Bool) (also : List ℕ) (l : Link) (x : StateSeen) (o : OpenEntry) (s : Seen) (is : OverGoesOn waits also l x o s) (a : Attempt)
+    (first : slice_get (outstanding_on l s) 0 ≡ Some a) where
   abbrev pub out : Outcome
   out = loss_of a.row.stream
 
@@ -157,7 +206,7 @@ module _ (l : Link) (x : StateSeen) (o : OpenEntry) (s : Seen) (is : LossGoesOn 
   head = head_is (is_outstanding_on l) s.attempts a first
 
   kept : IsKept s
-  kept = is.agrees.kept
+  kept = is.agrees.books.kept
 
   pub places : ArePlaced 1 s.attempts
   places = is.over.places
@@ -200,7 +249,7 @@ module _ (l : Link) (x : StateSeen) (o : OpenEntry) (s : Seen) (is : LossGoesOn 
   pub next : following s ≡ Some (action.AttemptEnds a.place e)
   next =
       first_line_gives line.WireEnd (action.AttemptEnds a.place e) o s is.current
-      (λ m before. is.still m (before_end (is_loss o.event) m before)) gives
+      (λ m before. is.still m (before_end (is_loss o.event) m before) (is.sooner m before)) gives
 
   after_is : after (action.AttemptEnds a.place e) s ≡ t
   after_is = ap (λ (q : Option OpenEntry). after_if q (action.AttemptEnds a.place e) s) is.current
@@ -213,25 +262,7 @@ module _ (l : Link) (x : StateSeen) (o : OpenEntry) (s : Seen) (is : LossGoesOn 
   books =
       subst (λ (z : StateSeen). AgreesOffLinks z s)
       (sym (ap (λ (q : Option Placed). gone_with q x) p.placed ∙ ap (λ (n : ℕ). stamped_gone n x) p.link))
-      (record {
-        clock = is.agrees.clock;
-        columns = is.agrees.columns;
-        configs = is.agrees.configs;
-        buckets = is.agrees.buckets;
-        calls = is.agrees.calls;
-        net = is.agrees.net;
-        orderly = is.agrees.orderly;
-        sets = record {
-          queue = is.agrees.sets.queue;
-          patient = is.agrees.sets.patient;
-          dues = is.agrees.sets.dues;
-          deadlines = is.agrees.sets.deadlines;
-          bare = is.agrees.sets.bare;
-          impatient = is.agrees.sets.impatient;
-          outstanding = is.agrees.sets.outstanding;
-        };
-        kept = is.agrees.kept;
-      })
+      is.agrees.books
 
   -- no reset is owed: the stream of the attempt is on a link that is over
   links_same : t.links ≡ s.links
@@ -250,39 +281,37 @@ module _ (l : Link) (x : StateSeen) (o : OpenEntry) (s : Seen) (is : LossGoesOn 
   own_code : reset_code_of t (with_end e a) ≡ None
   own_code = none_is_reset l t (with_end e a) ended_link is.over.over
 
-  quiet_reset : list_any (is_to_reset s) s.attempts ≡ false
-  quiet_reset = is.still line.Reset refl
-
-  none_here : (b : Attempt) (c : Bool) → (b.place == a.place) ≡ c → numbered s.attempts b.place ≡ Some b → is_to_reset s b ≡ false
-      → is_to_reset t (if c then with_end e b else b) ≡ false
-  none_here b true same at none =
+  -- what is owed is as before: the attempt goes on, and owes none then
+  owed_by : (m : Link) (b : Attempt) (c : Bool) → (b.place == a.place) ≡ c → numbered s.attempts b.place ≡ Some b
+      → (is_owed_on m t (if c then with_end e b else b) ≡ is_owed_on m s b) × (is_owed_on m s b ≡ true → c ≡ false)
+  owed_by m b true same at =
       let one : b ≡ a = one_of b same at in
-      ap (λ (q : Option ℕ). is_some q) (ap (λ (z : Attempt). reset_code_of t (with_end e z)) one ∙ own_code)
+      let none_t : is_owed_on m t (with_end e b) ≡ false
+      = ap (λ (q : Option ℕ). is_some q && (link_number b == m.number)) (ap (λ (z : Attempt). reset_code_of t (with_end e z)) one ∙ own_code) in
+      let none_s : is_owed_on m s b ≡ false
+      = ap (λ (q : Option ℕ). is_some q && (link_number b == m.number))
+      (ap (reset_code_of s) one ∙ ap (λ (q : Option RowEnd). option_and_then (code_at_end a s) q) p.going) in
+      (none_t ∙ sym none_s, λ on. absurd (let bad : true ≡ false = sym on ∙ none_s in (cc)))
     where
       one_of : (b : Attempt) → (b.place == a.place) ≡ true → numbered s.attempts b.place ≡ Some b → b ≡ a
       one_of b same at =
           let both : Some b ≡ Some a = sym at ∙ ap (numbered s.attempts) (eqb-true b.place a.place same) ∙ there in let z : b ≡ a = (cc) in z
-  none_here b false same at none = ap (λ (q : Option ℕ). is_some q) (code_of b) ∙ none
+  owed_by m b false same at = (ap (λ (q : Option ℕ). is_some q && (link_number b == m.number)) (code_of b), λ on. refl)
 
-  none_all : (xs : List Attempt) → ((i : ℕ) (b : Attempt) → slice_get xs i ≡ Some b → (numbered s.attempts b.place ≡ Some b) × (is_to_reset s b ≡ false))
-      → list_any (is_to_reset t) (map (lists.at_place (with_end e) a.place) xs) ≡ false
-  none_all [] each = refl
-  none_all (b ∷ xs) each =
-      let k = each 0 b refl in
-      ap (λ (z : Bool). z || list_any (is_to_reset t) (map (lists.at_place (with_end e) a.place) xs)) (none_here b (b.place == a.place) refl k.0 k.1)
-      ∙ none_all xs (λ i d at. each (suc i) d at)
+  owed_all : (m : Link) (xs : List Attempt) → ((i : ℕ) (b : Attempt) → slice_get xs i ≡ Some b → numbered s.attempts b.place ≡ Some b)
+      → filter (is_owed_on m t) (map (lists.at_place (with_end e) a.place) xs) ≡ filter (is_owed_on m s) xs
+  owed_all m [] each = refl
+  owed_all m (b ∷ xs) each =
+      let k = owed_by m b (b.place == a.place) refl (each 0 b refl) in
+      kept_off (is_owed_on m t) (is_owed_on m s) b (lists.at_place (with_end e) a.place b) (map (lists.at_place (with_end e) a.place) xs) xs k.0
+      (λ on. ap (λ (c : Bool). if c then with_end e b else b) (k.1 on)) (owed_all m xs (λ i d at. each (suc i) d at))
 
-  pub unowed : list_any (is_to_reset t) t.attempts ≡ false
-  unowed =
-      ap (list_any (is_to_reset t)) attempts_are
-      ∙ none_all s.attempts (λ i b at.
-      let place_b : b.place ≡ suc i = lists.place_is (suc i) s.attempts b places at in
-      (ap (numbered s.attempts) place_b ∙ at, passes_not (is_to_reset s) s.attempts (suc i) b quiet_reset at))
-
-  none_owed : (m : Link) → resets_owed m t ≡ []
-  none_owed m =
-      ap (λ (xs : List Attempt). map (owed_reset t) (by_stream xs))
-      (filter_none (is_owed_on m t) (is_to_reset t) (λ b f. ap (λ (z : Bool). z && (link_number b == m.number)) f) t.attempts unowed)
+  pub owed_same : (m : Link) → resets_owed m t ≡ resets_owed m s
+  owed_same m =
+      ap (λ (xs : List Attempt). map (owed_reset t) (by_stream (filter (is_owed_on m t) xs))) attempts_are
+      ∙ ap (λ (xs : List Attempt). map (owed_reset t) (by_stream xs)) (owed_all m s.attempts (λ i b at.
+      let place_b : b.place ≡ suc i = lists.place_is (suc i) s.attempts b places at in ap (numbered s.attempts) place_b ∙ at))
+      ∙ map_same (owed_reset t) (owed_reset s) (λ b. ap (λ (q : Option ℕ). (stream_number b, unwrap_or q 0)) (code_of b)) (by_stream (filter (is_owed_on m s) s.attempts))
 
   -- the links
   x_links : (stamped_gone l.number x).links ≡ x.links
@@ -297,18 +326,22 @@ module _ (l : Link) (x : StateSeen) (o : OpenEntry) (s : Seen) (is : LossGoesOn 
   apart : (m : Link) → (m.number ≡ l.number → ⊥) → bears_on (action.AttemptEnds a.place e) s m.number ≡ false
   apart m other = ap (holds (is_placed_on m.number)) there ∙ off_by m.number l.number a.row.placed p.at p.placed p.link other
 
-  ahead_one : (m : Link) (slot : LinkSlot) → numbered s.links m.number ≡ Some m → m.over ≡ None → IsGoing m s slot → IsAhead m t slot
+  ahead_one : (m : Link) (slot : LinkSlot) → numbered s.links m.number ≡ Some m → m.over ≡ None → IsAhead m s slot → IsAhead m t slot
   ahead_one m slot at goes k =
       let other : m.number ≡ l.number → ⊥ = is_other m at goes in
       let at_t : numbered t.links m.number ≡ Some m = ap (λ (ls : List Link). numbered ls m.number) links_same ∙ at in
       record {
-        streams = subst (λ (rs : List (ℕ × ℕ)). SeesAhead rs m t slot.link.link.wire (lines_in m t)) (sym (none_owed m))
-            (none_is_ahead m t slot.link.link.wire (lines_in m t)
-            (streams_still m m s t (bears_on (action.AttemptEnds a.place e) s) (apart m other) kept.owned (all_at_places t.attempts kept_t.attempts) untold.attempts
-            slot.link.link.wire (lines_in m s) (record { number = refl; traffic_ = refl; owed = refl }) k.streams at_t placed_t));
+        streams = subst (λ (rs : List (ℕ × ℕ)). SeesAhead rs m t slot.link.link.wire (lines_in m t)) (sym (owed_same m))
+            (record {
+              wire = k.streams.wire;
+              sees = streams_still m m s t (bears_on (action.AttemptEnds a.place e) s) (apart m other) kept.owned (all_at_places t.attempts kept_t.attempts) untold.attempts
+                  k.streams.wire (lines_in m s) (record { number = refl; traffic_ = refl; owed = refl }) k.streams.sees at_t placed_t;
+              same = k.streams.same;
+              queue = k.streams.queue;
+            });
         readers = readers_still (bears_on (action.AttemptEnds a.place e) s) m m s t refl refl at at_t (apart m other) slot.link.readers kept.owned untold.attempts k.readers;
         rest = k.rest;
-        fresh = k.closed ∙ sym (ap (λ (rs : List (ℕ × ℕ)). length rs) (none_owed m));
+        fresh = k.fresh ∙ sym (ap (λ (rs : List (ℕ × ℕ)). length rs) (owed_same m));
       }
     where
       is_other : (m : Link) → numbered s.links m.number ≡ Some m → m.over ≡ None → m.number ≡ l.number → ⊥
@@ -321,7 +354,7 @@ module _ (l : Link) (x : StateSeen) (o : OpenEntry) (s : Seen) (is : LossGoesOn 
   has_ahead : (n : ℕ) (m : Link) → numbered t.links n ≡ Some m → HasLinkAhead x t m n
   has_ahead n m at =
       let at_s : numbered s.links n ≡ Some m = ap (λ (ls : List Link). numbered ls n) (sym links_same) ∙ at in
-      let h : HasLink (stamped_gone l.number x) s m n = is.agrees.links.each n m at_s in
+      let h : HasLinkAhead (stamped_gone l.number x) s m n = is.agrees.links.each n m at_s in
       let own_n : m.number ≡ n = counted_at (λ (q : Link). q.number) s.links n m kept.links at_s in
       record {
         slot = h.slot;
@@ -333,25 +366,31 @@ module _ (l : Link) (x : StateSeen) (o : OpenEntry) (s : Seen) (is : LossGoesOn 
         };
       }
 
-  links : LinksAhead [] x t
+  x_resets : (stamped_gone l.number x).resets ≡ x.resets
+  x_resets = ap (λ (z : StateSeen). z.resets) (stamped_form l.number x)
+
+  links : LinksAhead also x t
   links = record {
     count = ap (λ (ls : List Link). length ls) links_same ∙ is.agrees.links.count ∙ ap (λ (ls : List LinkSlot). length ls) x_links;
     each = has_ahead;
-    closing = λ n m at off. none_owed m;
+    closing = λ n m at off.
+        owed_same m
+        ∙ is.agrees.links.closing n m (ap (λ (ls : List Link). numbered ls n) (sym links_same) ∙ at)
+        (ap (λ (rs : List ℕ). is_one_of (also ++ rs) n) x_resets ∙ off);
   }
 
-  pub end_next : EndNext none_waits [] a out x o s
+  pub end_next : EndNext waits also a out x o s
   end_next = record {
-    late = never;
+    late = is.late;
     current = is.current;
     call = c;
     there = its_call.1;
     ending = ending;
     next = next;
-    still = λ m off waits. is.still m (not_end m off);
+    still = λ m off waits. is.still m (not_end m off) waits;
     books = books;
     links = links;
-    unreset = is.unreset;
+    unreset = is.agrees.unreset;
     rising = is.rising;
     going = is.going;
     held = λ follows. is.held;

@@ -9,8 +9,8 @@ use Rattle.attempt_ledger.specs.declared.row.Row.{Row}
 use Rattle.attempt_ledger.specs.declared.row.RowEnd.{RowEnd}
 use Rattle.call_actions.proofs.Ranks.{numbered_map}
 use Rattle.call_actions.specs.Laws.{news_of}
-use Rattle.channel_actions.specs.Agrees.{Agrees}
 use Rattle.channel_actions.proofs.Stamps.{stamp_keeps}
+use Rattle.channel_actions.specs.Columns.{SeesColumns}
 use Rattle.channel_cases.proofs.LostLinks.Stamped.{read_stays, seen_at, stamped_form}
 use Rattle.channel_cases.specs.AttemptEnds.Ends.{ended_in, gone_with, taken_off}
 use Rattle.channel_core.specs.Arrivals.{ended_on, lost_row}
@@ -57,7 +57,7 @@ ended_by link row e x o at going =
     ap (λ (q : Option Row). if has_ended q then x else stamped_gone link (told row (news.Ended row e) (left_behind link row x))) at
     ∙ ap (λ (b : Bool). if b then x else stamped_gone link (told row (news.Ended row e) (left_behind link row x))) going
 
-module _ (l : Link) (x : StateSeen) (s : Seen) (h : Agrees (stamped_gone l.number x) s) (at : numbered s.links l.number ≡ Some l) (a : Attempt)
+module _ (l : Link) (x : StateSeen) (s : Seen) (columns : SeesColumns (stamped_gone l.number x).book.ledger s) (at : numbered s.links l.number ≡ Some l) (a : Attempt)
     (there : numbered s.attempts a.place ≡ Some a) (out : is_outstanding_on l a ≡ true) where
   p : IsPlacedOn l a
   p = placed_on l a out
@@ -65,13 +65,13 @@ module _ (l : Link) (x : StateSeen) (s : Seen) (h : Agrees (stamped_gone l.numbe
   pub row_is : row_at x.book a.place ≡ Some a.row
   row_is =
       ap (λ (z : StateSeen). numbered z.book.ledger.rows a.place) (sym (stamped_form l.number x))
-      ∙ ap (λ (rows : List Row). numbered rows a.place) (sym h.columns.rows)
+      ∙ ap (λ (rows : List Row). numbered rows a.place) (sym columns.rows)
       ∙ numbered_map (λ (q : Attempt). q.row) s.attempts a.place ∙ ap (option_map (λ (q : Attempt). q.row)) there
 
   read_is : channel.read_of (link_at x.book l.number) ≡ read_bytes l
   read_is =
       sym (read_stays l.number x)
-      ∙ ap channel.read_of (seen_at l s (stamped_gone l.number x).book.ledger.links h.columns.links l.number at)
+      ∙ ap channel.read_of (seen_at l s (stamped_gone l.number x).book.ledger.links columns.links l.number at)
       ∙ stamp_keeps (λ (k : Link). is_gone k s) (λ k z. refl) read_bytes (λ k z. refl) (entry s) l
 
   loss_is : channel.loss_of l.number a.place x ≡ news_of a (loss_of a.row.stream) s
@@ -92,7 +92,9 @@ module _ (l : Link) (x : StateSeen) (s : Seen) (h : Agrees (stamped_gone l.numbe
       ap (λ (q : Option Placed). gone_with q (told a.place (news.Ended a.place end) (taken_off a.row.call a.place q x))) p.placed
       ∙ ap (λ (n : ℕ). stamped_gone n (told a.place (news.Ended a.place end) (left_behind n a.place x))) p.link
 
+  pub ended_is : lost_row l.number false a.place x ≡ ended_in a end x
+  ended_is =
+      ap (λ (e : EndNews). ended_on l.number a.place e x) loss_is ∙ ended_by l.number a.place end x (Some a.row) row_is going ∙ sym off_is
+
   pub lost_is : lost_row l.number true a.place x ≡ sealed (ended_in a end x)
-  lost_is =
-      ap sealed
-      (ap (λ (e : EndNews). ended_on l.number a.place e x) loss_is ∙ ended_by l.number a.place end x (Some a.row) row_is going ∙ sym off_is)
+  lost_is = ap sealed ended_is

@@ -7,7 +7,9 @@ use Rattle.call_actions.proofs.Ranks.{numbered_map}
 use Rattle.call_actions.specs.Laws.{news_of}
 use Rattle.channel_actions.proofs.Does.{does_on, none_on}
 use Rattle.channel_actions.proofs.EndsFollow.Steps.{placed_of}
+use Rattle.channel_actions.proofs.GreetedLinks.Along.{greeted_along}
 use Rattle.channel_actions.proofs.KeptSessions.Along.{kept_stays}
+use Rattle.channel_actions.proofs.OwnStreams.Along.{streams_along}
 use Rattle.channel_actions.specs.Agrees.{Agrees}
 use Rattle.channel_actions.specs.GoingCalls.Going.{CallsGoOn}
 use Rattle.channel_actions.specs.GoingCalls.Laws.{LossesGoOn}
@@ -16,7 +18,7 @@ use Rattle.channel_actions.specs.Points.{IsSameEntry}
 use Rattle.channel_actions.specs.Sets.{AreExactly, is_in_outstanding}
 use Rattle.channel_cases.proofs.AttemptEnds.Rising.{runs_stay}
 use Rattle.channel_cases.proofs.LostLinks.After.{link_by, over_still, quiet_still}
-use Rattle.channel_cases.proofs.LostLinks.Ends.{e, end_next, head, none_waits, out, there}
+use Rattle.channel_cases.proofs.LostLinks.Ends.{OverGoesOn, e, end_next, head, lost_goes_on, none_waits, out, there}
 use Rattle.channel_cases.proofs.LostLinks.First.{IsHead, IsIn, first_next, head_is, in_set, none_next, of_set}
 use Rattle.channel_cases.proofs.LostLinks.News.{lost_is}
 use Rattle.channel_cases.proofs.LostLinks.Stamped.{stamped_again, stamped_form}
@@ -89,18 +91,18 @@ ends_wait o link is line.Drop e = absurd (cc)
 ends_wait o link is line.Add e = absurd (cc)
 
 -- the runs of configs rise along
-rises : (actions : List Action) (s t : Seen) → IsKept s → RunsRise s → Does actions s t → RunsRise t
+pub rises : (actions : List Action) (s t : Seen) → IsKept s → RunsRise s → Does actions s t → RunsRise t
 rises [] s t kept up does = subst RunsRise (sym does) up
 rises (a ∷ actions) s t kept up does = rises actions (after a s) t (kept_stays s a kept does.0) (runs_stay s a kept.book up) does.1
 
 -- numbers
-not_past : (row k n : ℕ) → nat_lt row k ≡ true → nat_le k n ≡ true → nat_le n (row + 0) ≡ true → ⊥
+pub not_past : (row k n : ℕ) → nat_lt row k ≡ true → nat_le k n ≡ true → nat_le n (row + 0) ≡ true → ⊥
 not_past row k n e f h = grind (arith, nat_tests, e, f, h)
 
-one_more : (n row most k : ℕ) → nat_le n (row + suc most) ≡ true → nat_lt row k ≡ true → nat_le n (k + most) ≡ true
+pub one_more : (n row most k : ℕ) → nat_le n (row + suc most) ≡ true → nat_lt row k ≡ true → nat_le n (k + most) ≡ true
 one_more n row most k e f = grind (arith, nat_tests, e, f)
 
-beyond : (row k m : ℕ) → nat_lt row k ≡ false → nat_lt k row ≡ false → k ≡ row
+pub beyond : (row k m : ℕ) → nat_lt row k ≡ false → nat_lt k row ≡ false → k ≡ row
 beyond row k m e f = grind (arith, nat_tests, e, f)
 
 -- the rows that may still end: beyond one, and up to the last that was made at the begin
@@ -128,14 +130,17 @@ one_only x a b e f = let both : Some a ≡ Some b = sym e ∙ f in (cc)
 
 module _ (ends : OneAttemptEnds) (stays : EndsStayHeld) (going : LossesGoOn) where
   module _ (l : Link) (x : StateSeen) (o : OpenEntry) (s : Seen) (is : LossGoesOn l x o s) (a : Attempt) (first : slice_get (outstanding_on l s) 0 ≡ Some a) where
-    abbrev act : Action
-    act = action.AttemptEnds a.place (e l x o s is a first)
+    abbrev over_ : OverGoesOn none_waits [] l x o s
+    over_ = lost_goes_on l x o s is
 
-    pub he : HasEnded none_waits [] a (out l x o s is a first) x o s
-    he = ends none_waits [] a (out l x o s is a first) x o s (end_next l x o s is a first) tt
+    abbrev act : Action
+    act = action.AttemptEnds a.place (e none_waits [] l x o s over_ a first)
+
+    pub he : HasEnded none_waits [] a (out none_waits [] l x o s over_ a first) x o s
+    he = ends none_waits [] a (out none_waits [] l x o s over_ a first) x o s (end_next none_waits [] l x o s over_ a first) tt
 
     abbrev y : StateSeen
-    y = ended_in a (news_of a (out l x o s is a first) s) x
+    y = ended_in a (news_of a (out none_waits [] l x o s over_ a first) s) x
 
     pub event_then : he.entry.event ≡ event.LinkLost l.number
     event_then = he.same.event ∙ is.event_is
@@ -213,11 +218,11 @@ module _ (ends : OneAttemptEnds) (stays : EndsStayHeld) (going : LossesGoOn) whe
     fewer link row on = he.fewer link row (hr.fewer link row on)
 
     -- the attempt has ended
-    ended_there : numbered s1.attempts a.place ≡ Some (with_end (e l x o s is a first) a)
+    ended_there : numbered s1.attempts a.place ≡ Some (with_end (e none_waits [] l x o s over_ a first) a)
     ended_there =
         ap (λ (q : Option OpenEntry). numbered (after_if q act s).attempts a.place) is.current
-        ∙ ap (λ (v : Seen). numbered v.attempts a.place) (is_ended s a.place (e l x o s is a first) a is.over.places (there l x o s is a first))
-        ∙ changed_here (with_end (e l x o s is a first)) a.place s.attempts a (there l x o s is a first)
+        ∙ ap (λ (v : Seen). numbered v.attempts a.place) (is_ended s a.place (e none_waits [] l x o s over_ a first) a is.over.places (there none_waits [] l x o s over_ a first))
+        ∙ changed_here (with_end (e none_waits [] l x o s over_ a first)) a.place s.attempts a (there none_waits [] l x o s over_ a first)
 
     ended_out : (b : Attempt) → is_some b.row.ended ≡ true → is_outstanding b ≡ false
     ended_out b done = out_by (is_some b.row.placed) b.row.ended done
@@ -229,7 +234,7 @@ module _ (ends : OneAttemptEnds) (stays : EndsStayHeld) (going : LossesGoOn) whe
 
     pub gone : (link : ℕ) → is_in_outstanding t link a.place ≡ false
     gone link =
-        let h : HasStream (with_end (e l x o s is a first) a) (numbered t.attempts a.place) = rest_passed.attempts a.place (with_end (e l x o s is a first) a) ended_there in
+        let h : HasStream (with_end (e none_waits [] l x o s over_ a first) a) (numbered t.attempts a.place) = rest_passed.attempts a.place (with_end (e none_waits [] l x o s over_ a first) a) ended_there in
         ap (holds (λ (b : Attempt). is_outstanding b && (link_number b == link))) h.there
         ∙ ap (λ (z : Bool). z && (link_number h.now == link)) (ended_out h.now (h.over refl))
 
@@ -253,7 +258,7 @@ module _ (ends : OneAttemptEnds) (stays : EndsStayHeld) (going : LossesGoOn) whe
 
     pub lost_then : lost_row l.number true a.place x ≡ sealed y
     lost_then =
-        lost_is l x s is.agrees is.over.at a (there l x o s is a first) (head l x o s is a first).passes
+        lost_is l x s is.agrees.columns is.over.at a (there none_waits [] l x o s over_ a first) (head none_waits [] l x o s over_ a first).passes
 
     again : stamped_gone m.number (sealed y) ≡ sealed y
     again =
@@ -275,9 +280,11 @@ module _ (ends : OneAttemptEnds) (stays : EndsStayHeld) (going : LossesGoOn) whe
           quiet = quiet_still s t is.agrees.kept kept_t passed fewer (is.still line.Cut refl) (hr.still line.Cut refl) l m number_is is.quiet;
           agrees = subst (λ (z : StateSeen). Agrees z t) (sym again) hr.agrees;
           unreset = hr.unreset;
+          greeted = greeted_along these s t is.agrees.kept is.greeted does;
+          streams = streams_along these s t is.agrees.kept is.greeted is.streams does;
           rising = rises these s t is.agrees.kept is.rising does;
           going = subst CallsGoOn lost_then (going l.number a.place true x is.going);
-          held = subst AreHeld (sym (all_sealed_is [] y)) (held_y (stays a (news_of a (out l x o s is a first) s) x is.held));
+          held = subst AreHeld (sym (all_sealed_is [] y)) (held_y (stays a (news_of a (out none_waits [] l x o s over_ a first) s) x is.held));
         })
 
     -- the rows beyond
@@ -297,7 +304,7 @@ module _ (ends : OneAttemptEnds) (stays : EndsStayHeld) (going : LossesGoOn) whe
         not_first k b at on false e = refl
         not_first zero b at on true e = absurd (cc)
         not_first (suc i) b at on true e =
-            let h : IsHead (is_outstanding_on l) s.attempts a = head l x o s is a first in
+            let h : IsHead (is_outstanding_on l) s.attempts a = head none_waits [] l x o s over_ a first in
             let place : a.place ≡ suc h.index = lists.place_is (suc h.index) s.attempts a is.over.places h.there in
             absurd (both_ways (is_outstanding_on l b) (h.none i b at (up i h.index (ap (nat_lt (suc i)) (sym place) ∙ e))) on)
 
@@ -400,10 +407,10 @@ module _ (ends : OneAttemptEnds) (stays : EndsStayHeld) (going : LossesGoOn) whe
   walk most row n l x o s is past_ enough None first =
       rests l x o s is first most row (rests_of most l.number row x (row_none l x o s is row past_.above first))
   walk zero row n l x o s is past_ enough (Some a) first =
-      let on : is_in_outstanding s l.number a.place ≡ true = in_set l s a (there l x o s is a first) (head l x o s is a first).passes in
+      let on : is_in_outstanding s l.number a.place ≡ true = in_set l s a (there none_waits [] l x o s (lost_goes_on l x o s is) a first) (head none_waits [] l x o s (lost_goes_on l x o s is) a first).passes in
       absurd (not_past row a.place n (past_.above a.place on) (past_.within a.place on) enough)
   walk (suc most) row n l x o s is past_ enough (Some a) first =
-      let on_ : is_in_outstanding s l.number a.place ≡ true = in_set l s a (there l x o s is a first) (head l x o s is a first).passes in
+      let on_ : is_in_outstanding s l.number a.place ≡ true = in_set l s a (there none_waits [] l x o s (lost_goes_on l x o s is) a first) (head none_waits [] l x o s (lost_goes_on l x o s is) a first).passes in
       let turns : rows_lost (suc most) l.number true row x ≡ rows_lost most l.number true a.place (lost_row l.number true a.place x)
       = ap (λ (q : Option ℕ). rows_lost_on (rows_lost most l.number true) l.number true q x) (row_first l x o s is row past_.above a first) in
       joined l x o s is a first most row turns

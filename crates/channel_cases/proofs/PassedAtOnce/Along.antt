@@ -18,11 +18,11 @@ use Rattle.session_actions.specs.declared.entry.Stage.TheVariants as stage
 use Rattle.session_actions.specs.declared.seen.Seen.{Seen}
 
 -- nothing is posted by the first, nor by the others
-first_none : (o : Option Stamped) (rest : List Stamped) → option_to_list o ++ rest ≡ [] → (o ≡ None) × (rest ≡ [])
+pub first_none : (o : Option Stamped) (rest : List Stamped) → option_to_list o ++ rest ≡ [] → (o ≡ None) × (rest ≡ [])
 first_none None rest e = (refl, e)
 first_none (Some p) rest e = absurd (cc)
 
-follows : (a : Action) (s : Seen) → posted_by a ≡ None → IsNext a s → following s ≡ Some a
+pub follows : (a : Action) (s : Seen) → posted_by a ≡ None → IsNext a s → following s ≡ Some a
 follows (action.EntryOpens posted word e) s none h = absurd (cc)
 follows a s none h = h
 
@@ -63,7 +63,7 @@ settling_by a actions o p s t false e does posts current at last settles rest =
     let k : IsOpenAs (staged o) (after a s) = goes_on a o s current settles e in
     rest k.entry k.current (ap (λ (z : Staged). z.stage_) k.stage_is ∙ at)
 
-settling_stays : (actions : List Action) (o p : OpenEntry) (s t : Seen) → Does actions s t → posted_in actions ≡ [] → s.current ≡ Some o → o.stage ≡ stage.Settling → t.current ≡ Some p
+pub settling_stays : (actions : List Action) (o p : OpenEntry) (s t : Seen) → Does actions s t → posted_in actions ≡ [] → s.current ≡ Some o → o.stage ≡ stage.Settling → t.current ≡ Some p
     → p.stage ≡ stage.Settling
 settling_stays [] o p s t does posts current at last =
     let both : Some o ≡ Some p = sym current ∙ sym (ap (λ (v : Seen). v.current) does) ∙ last in
@@ -74,30 +74,34 @@ settling_stays (a ∷ actions) o p s t does posts current at last =
     (λ q here settles. settling_stays actions q p (after a s) t does.1 none.1 here settles last)
 
 -- what follows a reply
-only_begins : (a : Action) → is_of_reply a ≡ true → is_at_once a ≡ false → a ≡ action.SettlingBegins
+pub only_begins : (a : Action) → is_of_reply a ≡ true → is_at_once a ≡ false → a ≡ action.SettlingBegins
 only_begins action.SettlingBegins e f = refl
 only_begins _ e f = absurd (cc)
 
-once_open : (a : Action) → is_at_once a ≡ true → is_closing a ≡ false
+pub once_open : (a : Action) → is_at_once a ≡ true → is_closing a ≡ false
 once_open action.EntryCloses e = absurd (cc)
 once_open _ e = refl
 
-begins_as : (o : OpenEntry) (s : Seen) → s.current ≡ Some o → (after action.SettlingBegins s).current ≡ Some (record o { stage = stage.Settling })
+pub begins_as : (o : OpenEntry) (s : Seen) → s.current ≡ Some o → (after action.SettlingBegins s).current ≡ Some (record o { stage = stage.Settling })
 begins_as o s current =
     ap (λ (q : Option OpenEntry). (after_if q action.SettlingBegins s).current) current
     ∙ ap (option_map (λ (q : OpenEntry). record q { stage = stage.Settling })) current
 
-not_both : (p : OpenEntry) → p.stage ≡ stage.Replied → p.stage ≡ stage.Settling → ⊥
+pub not_both : (p : OpenEntry) → p.stage ≡ stage.Replied → p.stage ≡ stage.Settling → ⊥
 not_both p e f = (let bad : stage.Replied ≡ stage.Settling = sym e ∙ f in (cc))
 
-module _ (link : ℕ) (p : OpenEntry) (t : Seen) (last : t.current ≡ Some p) (replied_ : p.stage ≡ stage.Replied) where
+-- each of these actions is one that follows at once, or the channel begins to settle: whatever holds by then says so
+module _ (Holds : OpenEntry → Seen → Type 0) (p : OpenEntry) (t : Seen) (last : t.current ≡ Some p) (replied_ : p.stage ≡ stage.Replied)
+    (replies : (a : Action) (actions : List Action) (o : OpenEntry) (s : Seen) → Holds o s → s.current ≡ Some o → o.stage ≡ stage.Replied → following s ≡ Some a → Does actions (after a s) t
+    → posted_in actions ≡ [] → is_of_reply a ≡ true) (stays : (o q : OpenEntry) (s v : Seen) → Holds o s → q.event ≡ o.event → IsPassedStill s v → Holds q v) where
   step_by : (a : Action) (actions : List Action) (o : OpenEntry) (s : Seen) (b : Bool) → is_at_once a ≡ b → is_of_reply a ≡ true → Does actions (after a s) t → posted_in actions ≡ []
-      → s.current ≡ Some o → o.stage ≡ stage.Replied → o.event ≡ event.LinkLost link
-      → ((q : OpenEntry) → (after a s).current ≡ Some q → q.stage ≡ stage.Replied → q.event ≡ event.LinkLost link → IsPassedStill (after a s) t) → IsPassedStill s t
+      → s.current ≡ Some o → o.stage ≡ stage.Replied → Holds o s
+      → ((q : OpenEntry) → (after a s).current ≡ Some q → q.stage ≡ stage.Replied → Holds q (after a s) → IsPassedStill (after a s) t) → IsPassedStill s t
   step_by a actions o s true e of does posts current at is rest =
       let k : IsOpenAs (staged o) (after a s) = goes_on a o s current (at_once_settles a e) (once_open a e) in
-      passed_then s (after a s) t (actions_leave_passed a o s current e)
-      (rest k.entry k.current (ap (λ (z : Staged). z.stage_) k.stage_is ∙ at) (ap (λ (z : Staged). z.event_) k.stage_is ∙ is))
+      let one : IsPassedStill s (after a s) = actions_leave_passed a o s current e in
+      passed_then s (after a s) t one
+      (rest k.entry k.current (ap (λ (z : Staged). z.stage_) k.stage_is ∙ at) (stays o k.entry s (after a s) is (ap (λ (z : Staged). z.event_) k.stage_is) one))
   step_by a actions o s false e of does posts current at is rest =
       let begins : a ≡ action.SettlingBegins = only_begins a of e in
       absurd
@@ -105,13 +109,15 @@ module _ (link : ℕ) (p : OpenEntry) (t : Seen) (last : t.current ≡ Some p) (
       (settling_stays actions (record o { stage = stage.Settling }) p (after a s) t does posts
       (ap (λ (x : Action). (after x s).current) begins ∙ begins_as o s current) refl last))
 
-  pub passed_along : (actions : List Action) (o : OpenEntry) (s : Seen) → Does actions s t → posted_in actions ≡ [] → s.current ≡ Some o → o.stage ≡ stage.Replied
-      → o.event ≡ event.LinkLost link → IsPassedStill s t
+  pub passed_along : (actions : List Action) (o : OpenEntry) (s : Seen) → Does actions s t → posted_in actions ≡ [] → s.current ≡ Some o → o.stage ≡ stage.Replied → Holds o s
+      → IsPassedStill s t
   passed_along [] o s does posts current at is = subst (IsPassedStill s) (sym does) (passed_self s)
   passed_along (a ∷ actions) o s does posts current at is =
       let none : (posted_by a ≡ None) × (posted_in actions ≡ []) = first_none (posted_by a) (posted_in actions) posts in
-      step_by a actions o s (is_at_once a) refl (replies_by s o link a current at is (follows a s none.0 does.0)) does.1 none.1 current at is
-      (λ q here replied lost. passed_along actions q (after a s) does.1 none.1 here replied lost)
+      step_by a actions o s (is_at_once a) refl (replies a actions o s is current at (follows a s none.0 does.0) does.1 none.1) does.1 none.1 current at is
+      (λ q here replied holds. passed_along actions q (after a s) does.1 none.1 here replied holds)
 
 pub losses_leave_passed : LossesLeavePassed
-losses_leave_passed actions link o p s t does current last is at replied posts = passed_along link p t last replied actions o s does posts current at is
+losses_leave_passed actions link o p s t does current last is at replied posts =
+    passed_along (λ q v. q.event ≡ event.LinkLost link) p t last replied (λ a others q v lost here stage_is next does_ none. replies_by v q link a here stage_is lost next)
+    (λ q r v w lost same still. same ∙ lost) actions o s does posts current at is

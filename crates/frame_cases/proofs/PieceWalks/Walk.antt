@@ -77,7 +77,7 @@ same_event o s link whole at done is =
 pub read_at : (s : Seen) (link : ℕ) (l : Link) → numbered s.links link ≡ Some l → next_frame_read link s ≡ (if is_none l.over then read_action link (next_read l s) else None)
 read_at s link l here = ap (λ (k : Option Link). option_and_then (read_next link s) k) here
 
-none_over : (over : Option LinkOver) (a : Option Action) → is_some over ≡ true → (if is_none over then a else None) ≡ None
+pub none_over : (over : Option LinkOver) (a : Option Action) → is_some over ≡ true → (if is_none over then a else None) ≡ None
 none_over None a e = absurd (cc)
 none_over (Some why) a e = refl
 

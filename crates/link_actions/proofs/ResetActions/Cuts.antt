@@ -119,7 +119,8 @@ cuts_go_ahead resets l s w g n number a e cut_ on =
     let u : Wire = record v { queue = sealed v.queue } in
     let sees : SeesStreams l s u g = queue_keeps l s v g (sealed v.queue) is.sees refl in
     let but : SeesBut a.place l s u g = record { sees = sees.sees; heard = but_all a.place l s u.live bs sees.heard; unheard = sees.unheard; begun = sees.begun } in
-    let left : SeesStreams l (attempt_ended a.place e s) (cut_wire u i u.queue) g = ends_follow l s u g n i a y None but on refl z.there z.live.tag e in
+    let left : SeesStreams l (attempt_ended a.place e s) (cut_wire u i u.queue) g
+    = none_is_left l (attempt_ended a.place e s) (cut_wire u i u.queue) g (ends_follow l s u g n i a y None but on refl z.there z.live.tag e).0 in
     let q : Queue = reset_queued n number w.queue in
     let live : w.live ≡ v.live = ap (λ (x : Wire). x.live) is.same in
     let cut_is : cut w a.place number ≡ cut_wire w i q

@@ -1,5 +1,5 @@
--- The attempt of a stream ends, and its stream is reset: link and session agree again.
-use Rattle.std.proofs.Common.{◌≡◌, ◌∷◌, ◌++◌, ◌&&◌, ◌==◌, not, ap, arith, refl, subst, sym, ◌∙◌, Bool, true, false, List, [], Option, None, Some, ℕ, ◌+◌, zero, suc, cond, filter, is_none, is_some, map, slice_get}
+-- The attempt of a stream ends, and the link queues the reset of its stream: link and session agree again but for that.
+use Rattle.std.proofs.Common.{◌≡◌, ◌∷◌, ◌++◌, ◌&&◌, ◌==◌, not, ap, arith, refl, subst, sym, ◌∙◌, Bool, true, false, List, [], Option, None, Some, ℕ, ◌+◌, zero, suc, append-nil, cond, filter, is_none, is_some, length, map, slice_get}
 use Rattle.std.specs.List.{remove}
 use Rattle.std.specs.Option.{option_map_or}
 use Rattle.std.proofs.lemmas.Bool.{eqb-true}
@@ -25,7 +25,8 @@ use Rattle.link_actions.proofs.Queued.{changed_out, is_reset_seen, reset_keeps_,
 use Rattle.link_actions.proofs.Without.{is_other, is_other_attempt, is_other_stream}
 use Rattle.link_actions.proofs.Written.{changed_here}
 use Rattle.link_actions.specs.Laws.{with_owed, without_tag}
-use Rattle.link_actions.specs.StreamActions.Laws.{CutsKeep, Ends, Follows, IsOn}
+use Rattle.link_actions.specs.StreamActions.Laws.{CutsKeep, Ends, Follows, IsOn, reset_for}
+use Rattle.link_actions.specs.ResetActions.Ahead.{SeesAhead}
 use Rattle.link_actions.specs.Sees.{AreDistinct, AreFed, AreLive, IsFed, by_stream}
 use Rattle.link_actions.specs.StreamActions.Sees.{AreHeard, AreHeardBut, IsHeard, SeesBut, SeesStreams, response_of}
 use Rattle.session_actions.specs.AttemptEnds.{attempt_ended, stream_reset, with_end, with_end_in_run, with_reset_queued}
@@ -137,6 +138,16 @@ reset_heard l s w g t n code a e q is there ended stream on items =
       begun = is.begun;
     }
 
+-- the link has its reset queued behind all else
+reset_ahead : (l : Link) (u : Seen) (v : Wire) (g : ℕ → Line) (n i : ℕ) (code : Option ℕ) → v.queue.fresh ≡ 0 → SeesStreams l u (record v { live = remove v.live i }) g
+    → SeesAhead (reset_for n code) l u (record v { live = remove v.live i; queue = reset_after n code v.queue }) g × ((reset_after n code v.queue).fresh ≡ length (reset_for n code))
+reset_ahead l u v g n i None none sees =
+    (record { wire = record v { live = remove v.live i }; sees = sees; same = refl; queue = sym (append-nil v.queue.items) }, none)
+reset_ahead l u v g n i (Some code) none sees = (
+  record { wire = record v { live = remove v.live i }; sees = sees; same = refl; queue = reset_last n code v.queue none },
+  ap (λ (k : ℕ). k + 1) none,
+)
+
 -- both, one after the other
 pub on_link : (n : ℕ) (o : Option Placed) (c : Bool) → (c && holds (λ (at : Placed). at.link == n) o) ≡ true → option_map_or (λ (at : Placed). at.link) o 0 ≡ n
 on_link n (Some at) true e = eqb-true at.link n e
@@ -145,33 +156,18 @@ on_link n o false e = absurd (cc)
 
 pub ends_follow : (l : Link) (s : Seen) (v : Wire) (g : ℕ → Line) (n i : ℕ) (a : Attempt) (y : LiveStream) (code : Option ℕ) → SeesBut a.place l s v g → IsOn l s n a
     → v.queue.fresh ≡ 0 → slice_get v.live i ≡ Some y → y.tag ≡ a.place → Follows l s a n (Ends code) (record v { live = remove v.live i; queue = reset_after n code v.queue }) g
-ends_follow l s v g n i a y None is on none there tag = λ e.
+ends_follow l s v g n i a y code is on none there tag = λ e.
     let t : ℕ = a.place in
     let u : Seen = attempt_ended t e s in
     let gone : filter (is_other_stream t) v.live ≡ remove v.live i
     = ap (λ (k : ℕ). filter (is_other_stream k) v.live) (sym tag) ∙ removed i v.live y v.waiting there is.sees.tags in
     let waits : filter (is_other t) v.waiting ≡ v.waiting
     = waits_kept t v.waiting (subst (λ (k : ℕ). is_one_of v.waiting k ≡ false) tag (tag_apart i v.live y v.waiting there is.sees.tags)) in
-    subst (λ (xs : List LiveStream). SeesStreams l u (record v { live = xs; waiting = v.waiting }) g) gone
+    let sees : SeesStreams l u (record v { live = remove v.live i; waiting = v.waiting }) g
+    = subst (λ (xs : List LiveStream). SeesStreams l u (record v { live = xs; waiting = v.waiting }) g) gone
     (subst (λ (ns : List ℕ). SeesStreams l u (record v { live = filter (is_other_stream t) v.live; waiting = ns }) g) waits
-    (ends_heard l s v g t a e is on.there))
-ends_follow l s v g n i a y (Some code) is on none there tag = λ e.
-    let t : ℕ = a.place in
-    let u : Seen = attempt_ended t e s in
-    let m : Link = with_owed (rst_stream_frame n code ∷ []) l in
-    let z : Seen = stream_reset t code u in
-    let q : Queue = reset_queued n code v.queue in
-    let b : Attempt = with_end e a in
-    let gone : filter (is_other_stream t) v.live ≡ remove v.live i
-    = ap (λ (k : ℕ). filter (is_other_stream k) v.live) (sym tag) ∙ removed i v.live y v.waiting there is.sees.tags in
-    let waits : filter (is_other t) v.waiting ≡ v.waiting
-    = waits_kept t v.waiting (subst (λ (k : ℕ). is_one_of v.waiting k ≡ false) tag (tag_apart i v.live y v.waiting there is.sees.tags)) in
-    let here : numbered u.attempts t ≡ Some b
-    = ap (λ (x : Seen). numbered x.attempts t) (is_ended s t e a is.sees.places on.there) ∙ changed_here (with_end e) t s.attempts a on.there in
-    let linked : link_number b ≡ l.number = on_link l.number a.row.placed (is_some a.row.placed && is_none a.row.ended) on.out in
-    subst (λ (xs : List LiveStream). SeesStreams m z (record v { live = xs; waiting = v.waiting; queue = q }) g) gone
-    (subst (λ (ns : List ℕ). SeesStreams m z (record v { live = filter (is_other_stream t) v.live; waiting = ns; queue = q }) g) waits
-    (reset_heard l u (without_tag t v) g t n code b e q (ends_heard l s v g t a e is on.there) here refl on.stream linked (reset_last n code v.queue none)))
+    (ends_heard l s v g t a e is on.there)) in
+    reset_ahead l u v g n i code none sees
 
 -- an attempt is cut off
 turned : (k t : ℕ) → (k == t) ≡ false → (t == k) ≡ false

@@ -28,6 +28,7 @@ use Rattle.h2_link.specs.Steps.{cut, told}
 use Rattle.h2_link.specs.Wire.{Wire, fresh_wire}
 use Rattle.link_actions.specs.Laws.{IsApart, with_owed, with_written}
 use Rattle.lb_policy.specs.Table.{is_one_of}
+use Rattle.link_actions.specs.ResetActions.Ahead.{SeesAhead}
 use Rattle.link_actions.specs.Sees.{ArePlaced, by_stream, outgoing_of}
 use Rattle.session_actions.specs.AttemptEnds.{attempt_ended, code_to_reset, stream_reset}
 use Rattle.session_actions.specs.Links.{has_written_end, read_bytes, stream_number}
@@ -90,14 +91,18 @@ pub data Then : Type 0 where
   GoesOn : Then
   Ends : Option ℕ → Then
 
--- so link and session agree again, after these actions. (Where its response has an end though the link goes on, as by a message that breaks a rule, the
--- link is told to cut it off: that is the next law.)
+-- so link and session agree again, once the attempt has ended, but that the link is ahead by that reset, if any. Once the session queues it too they agree
+-- (`reset_actions`). (Where its response has an end though the link goes on, as by a message that breaks a rule, the link is told to cut it off: that is the
+-- next law.)
+abbrev pub reset_for : ℕ → Option ℕ → List (ℕ × ℕ)
+reset_for n None = []
+reset_for n (Some code) = (n, code) ∷ []
+
 abbrev pub Follows : Link → Seen → Attempt → ℕ → Then → Wire → (ℕ → Line) → Type 0
 Follows l s a n GoesOn w g =
     SeesBut a.place l s w g × ((response_of l s n a).end ≡ None → (response_of l s n a).large ≡ false → SeesStreams l s w g)
-Follows l s a n (Ends None) w g = (e : RowEnd) → SeesStreams l (attempt_ended a.place e s) w g
-Follows l s a n (Ends (Some code)) w g =
-    (e : RowEnd) → SeesStreams (with_owed (rst_stream_frame n code ∷ []) l) (stream_reset a.place code (attempt_ended a.place e s)) w g
+Follows l s a n (Ends code) w g =
+    (e : RowEnd) → SeesAhead (reset_for n code) l (attempt_ended a.place e s) w g × (w.queue.fresh ≡ length (reset_for n code))
 
 -- the stream of an attempt that ends, for whatever cause, is reset with a code (RFC 9113, section 5.4.2; gRPC over HTTP/2, "Errors"). This is of one such
 -- end at a time: where no other reset stands at the end of the queue that was queued by the same frame
