@@ -1,6 +1,7 @@
 pub mod FrameKinds
 pub mod FirstSettings
 pub mod MessageFrames
+pub mod OwnFrames
 pub mod PassedBytes
 pub mod PieceWalks
 pub mod QuietFrames
