@@ -2,6 +2,8 @@
 use Rattle.std.proofs.Common.{◌≡◌, ◌++◌, ◌<◌, ap, refl, subst, sym, ◌∙◌, Bool, true, false, List, Option, None, ℕ, if◌then◌else◌, length}
 use Rattle.channel_actions.proofs.BoardActions.Calm.{of_order}
 use Rattle.channel_actions.proofs.Does.{does_on, none_on}
+use Rattle.channel_actions.proofs.GreetedLinks.Along.{greeted_along}
+use Rattle.channel_actions.proofs.OwnStreams.Along.{streams_along}
 use Rattle.channel_actions.specs.Agrees.{Agrees}
 use Rattle.channel_actions.specs.Calm.{IsAt}
 use Rattle.channel_actions.specs.GoingCalls.Laws.{LossesGoOn}
@@ -23,6 +25,7 @@ use Rattle.grpc_base.specs.declared.event.Reply.{Reply}
 use Rattle.grpc_base.specs.declared.event.Reply.TheVariants as reply
 use Rattle.session_actions.specs.CallEnds.{is_after_event, next_deadline}
 use Rattle.session_actions.specs.Events.{frame_of_event}
+use Rattle.session_actions.specs.Sessions.{Does}
 use Rattle.session_actions.specs.declared.action.Action.{Action}
 use Rattle.session_actions.specs.declared.attempt.Attempt.{Attempt}
 use Rattle.session_actions.specs.declared.entry.OpenEntry.{OpenEntry}
@@ -57,11 +60,15 @@ module _ (losses : LossesGoOn) (ends : OneAttemptEnds) (stays : EndsStayHeld) (x
   few : length t.attempts < 18446744073709551615
   few = subst (λ (xs : List Attempt). length xs < 18446744073709551615) (sym rows_same) case.few
 
+  does_first : Does those s t
+  does_first = does x o s h at timely case.known.own case.known.early.boards link case.event_is case.kept
+
   ended : HasLost link (buried link x) p t
   ended =
       subst (λ (n : ℕ). HasLost n (buried link x) p t) number
       (losses_end_in_turn losses stays ends (lost x o s h at timely case.known.own case.known.early link case.event_is case.kept) (buried link x) p t
-      (loss_goes_on x o s h at timely case.known.own case.known.early link case.event_is case.kept case.rising case.known.going case.held) few)
+      (loss_goes_on x o s h at timely case.known.own case.known.early link case.event_is case.kept case.rising case.known.going case.held
+      (greeted_along those s t h.kept case.known.greeted does_first) (streams_along those s t h.kept case.known.greeted case.known.streams does_first)) few)
 
   pub lost_answered : IsAnswered (lose link true x) reply.Done o s
   lost_answered = record {
@@ -69,7 +76,7 @@ module _ (losses : LossesGoOn) (ends : OneAttemptEnds) (stays : EndsStayHeld) (x
       actions = those ++ ended.actions;
       seen = ended.seen;
       entry = ended.entry;
-      does = does_on those ended.actions s t ended.seen (does x o s h at timely case.known.own case.known.early.boards link case.event_is case.kept) ended.does;
+      does = does_on those ended.actions s t ended.seen does_first ended.does;
       posts = none_on those ended.actions (dn x o s h at timely case.known.own case.known.early link case.event_is case.kept).posts ended.posts;
       same = record {
         moment = ended.same.moment;

@@ -352,6 +352,7 @@ module _ (l : Link) (x : StateSeen) (o : OpenEntry) (s : Seen) (is : LossGoesOn 
     books = books;
     links = links;
     unreset = is.unreset;
+    apart = is.streams.apart;
     rising = is.rising;
     going = is.going;
     held = λ follows. is.held;

@@ -9,8 +9,10 @@ use Rattle.channel_actions.specs.Agrees.{Agrees}
 use Rattle.channel_actions.specs.Calm.{IsAt}
 use Rattle.channel_actions.specs.EndsFollow.Cuts.{AreUnreset}
 use Rattle.channel_actions.specs.GoingCalls.Going.{CallsGoOn}
+use Rattle.channel_actions.specs.GreetedLinks.Greeted.{AreGreeted}
 use Rattle.channel_actions.specs.KeptCalls.Early.{IsEarlyKept}
 use Rattle.channel_actions.specs.KeptSessions.Kept.{IsKept}
+use Rattle.channel_actions.specs.OwnStreams.Own.{AreOwnStreams}
 use Rattle.channel_actions.specs.Links.{HasLink, IsGoing, lines_in}
 use Rattle.channel_actions.specs.OwnLinks.Own.{AreOwnLinks}
 use Rattle.channel_actions.specs.Sets.{is_in_outstanding}
@@ -169,7 +171,7 @@ module _ (x : StateSeen) (o : OpenEntry) (s : Seen) (h : Agrees x s) (at : IsAt 
   quiet_mid : AllByRecursion (IsQuiet lost mid) mid.attempts
   quiet_mid = all_quiet s.attempts (λ i a here. quiet_one (suc i) a here)
 
-  module _ (rising : RunsRise s) (go : CallsGoOn x) (held : AreHeld x) where
+  module _ (rising : RunsRise s) (go : CallsGoOn x) (held : AreHeld x) (greeted : AreGreeted after_) (streams : AreOwnStreams after_) where
     pub loss_goes_on : LossGoesOn lost (buried link x) q after_
     loss_goes_on = record {
       current = dn.current;
@@ -180,6 +182,8 @@ module _ (x : StateSeen) (o : OpenEntry) (s : Seen) (h : Agrees x s) (at : IsAt 
       quiet = quiet_still mid after_ kept_mid kept_after dn.passed fewer uncut_mid (dn.still line.Cut refl) lost lost refl quiet_mid;
       agrees = subst (λ (n : ℕ). Agrees (stamped_gone n (buried link x)) after_) (sym own) (agrees x o s h at timely own_links early.boards link is kept);
       unreset = subst AreUnreset (sym dn.boarded) early.resets;
+      greeted = greeted;
+      streams = streams;
       rising = subst RunsRise (sym dn.boarded) rising;
       going = record { calls = go.calls; allows = go.allows };
       held = held;

@@ -7,7 +7,9 @@ use Rattle.call_actions.proofs.Ranks.{numbered_map}
 use Rattle.call_actions.specs.Laws.{news_of}
 use Rattle.channel_actions.proofs.Does.{does_on, none_on}
 use Rattle.channel_actions.proofs.EndsFollow.Steps.{placed_of}
+use Rattle.channel_actions.proofs.GreetedLinks.Along.{greeted_along}
 use Rattle.channel_actions.proofs.KeptSessions.Along.{kept_stays}
+use Rattle.channel_actions.proofs.OwnStreams.Along.{streams_along}
 use Rattle.channel_actions.specs.Agrees.{Agrees}
 use Rattle.channel_actions.specs.GoingCalls.Going.{CallsGoOn}
 use Rattle.channel_actions.specs.GoingCalls.Laws.{LossesGoOn}
@@ -275,6 +277,8 @@ module _ (ends : OneAttemptEnds) (stays : EndsStayHeld) (going : LossesGoOn) whe
           quiet = quiet_still s t is.agrees.kept kept_t passed fewer (is.still line.Cut refl) (hr.still line.Cut refl) l m number_is is.quiet;
           agrees = subst (λ (z : StateSeen). Agrees z t) (sym again) hr.agrees;
           unreset = hr.unreset;
+          greeted = greeted_along these s t is.agrees.kept is.greeted does;
+          streams = streams_along these s t is.agrees.kept is.greeted is.streams does;
           rising = rises these s t is.agrees.kept is.rising does;
           going = subst CallsGoOn lost_then (going l.number a.place true x is.going);
           held = subst AreHeld (sym (all_sealed_is [] y)) (held_y (stays a (news_of a (out l x o s is a first) s) x is.held));

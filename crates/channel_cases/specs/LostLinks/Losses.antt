@@ -7,7 +7,9 @@ use Rattle.std.specs.Prelude.{List, None, Some, [], false, length, true, â„•, â—
 use Rattle.channel_actions.specs.Agrees.{Agrees}
 use Rattle.channel_actions.specs.EndsFollow.Cuts.{AreUnreset}
 use Rattle.channel_actions.specs.GoingCalls.Going.{CallsGoOn}
+use Rattle.channel_actions.specs.GreetedLinks.Greeted.{AreGreeted}
 use Rattle.channel_actions.specs.Known.{IsKnown}
+use Rattle.channel_actions.specs.OwnStreams.Own.{AreOwnStreams}
 use Rattle.channel_actions.specs.Points.{IsSameEntry}
 use Rattle.channel_cases.specs.AttemptEnds.Ends.{AreHeld}
 use Rattle.channel_cases.specs.AttemptEnds.Runs.{RunsRise}
@@ -41,6 +43,9 @@ pub record LossGoesOn (l : Link) (x : StateSeen) (o : OpenEntry) (s : Seen) : Ty
   pub quiet : AllByRecursion (IsQuiet l s) s.attempts
   pub agrees : Agrees (stamped_gone l.number x) s
   pub unreset : AreUnreset s
+  -- attempts are only on links with SETTINGS, and no two of a link have one stream (`greeted_links`, `own_streams`)
+  pub greeted : AreGreeted s
+  pub streams : AreOwnStreams s
   pub rising : RunsRise s
   -- of the channel alone (`going_calls`), and what its buffers hold
   pub going : CallsGoOn x
