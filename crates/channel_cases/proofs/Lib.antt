@@ -9,12 +9,15 @@ pub mod CommitsFollow
 pub mod ConfigActions
 pub mod ConfigReads
 pub mod ConfiguredCalls
+pub mod CutEnds
 pub mod DialEvents
 pub mod DrainEvents
 pub mod DrainedCalls
 pub mod DrainedLines
 pub mod EndCases
 pub mod EndRetries
+pub mod EndedHeads
+pub mod FailedPicks
 pub mod FirstShutdowns
 pub mod FullSends
 pub mod GenerationStamps
@@ -23,6 +26,7 @@ pub mod HeldKinds
 pub mod HeldResults
 pub mod KnownNets
 pub mod KnownStages
+pub mod LastHedges
 pub mod LeftLinks
 pub mod LongSends
 pub mod LostLinks

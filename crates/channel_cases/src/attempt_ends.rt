@@ -1,5 +1,5 @@
 // One attempt that ends; nothing runs.
-ghost use Rattle.channel_cases.specs.AttemptEnds.Laws.{CallsGoOnAfterEnds, CommittedEndsClose, EndsByCases, EndsByCuts, EndsStayHeld, LoneLastEndsClose, NoneIsOwed, RetriesFollowEnds};
+ghost use Rattle.channel_cases.specs.AttemptEnds.Laws.{CallsGoOnAfterEnds, CommittedEndsClose, EndsByCases, EndsByCuts, EndsStayHeld, LastEndsCutOff, LoneLastEndsClose, NoneIsOwed, OneAttemptEnds, RetriesFollowEnds};
 ghost use Rattle.channel_cases.specs.AttemptEnds.Runs.{RunsOfSessions, RunsStay};
 
 /// Where an attempt ends, by its pick or by the wire, and its call goes on, since a retry is licensed, or another attempt of the hedged call goes on or is due,
@@ -33,6 +33,19 @@ pub fn retries_follow_ends()
 pub fn ends_are_by_cases()
     ensures cases { EndsByCases }
     ensures cuts { EndsByCuts }
+{}
+
+/// Where a hedged call's attempt ends by a code that its policy does not name, and other attempts of the call go on, the call is committed to it next, each of the
+/// others is cut off in its turn, and the call ends; then nothing follows at once but resets, and channel and session agree (gRFC A6, "Hedging Policy" and "When
+/// Retries are Valid").
+pub fn last_ends_cut_off()
+    ensures { LastEndsCutOff }
+{}
+
+/// So one attempt ends, by its pick or by the wire, for whatever cause but that it is cut off: its end is the next action, what follows from it is alike in channel
+/// and session, and the two agree but for resets (gRFC A6, "Retry Policy", "Hedging Policy", "Transparent Retries" and "When Retries are Valid").
+pub fn one_attempt_ends()
+    ensures { OneAttemptEnds }
 {}
 
 /// An attempt that ends leaves it so that what buffers hold for rows is for those that are there (gRFC A6, "Memory Management (Buffering)").

@@ -43,6 +43,7 @@ use Rattle.session_actions.specs.declared.response.Outcome.{Outcome}
 use Rattle.session_actions.specs.declared.seen.Seen.{Seen}
 use Rattle.session_order.specs.Calm.{IsStill}
 use Rattle.session_order.specs.declared.line.Line.{Line}
+use Rattle.session_order.specs.declared.line.Line.TheVariants as line
 
 module _ (waits : Line → Bool) (also : List ℕ) (a : Attempt) (out : Outcome) (x : StateSeen) (o : OpenEntry) (s : Seen) (is : EndNext waits also a out x o s)
     (case : IsCommittedEnd s (c waits also a out x o s is) a out) where
@@ -197,6 +198,7 @@ module _ (waits : Line → Bool) (also : List ℕ) (a : Attempt) (out : Outcome)
     over = over_row;
     still = still_then;
     late = ends.late_after waits also a out x o s is case.counting;
+    wire = λ h. first.plain waits also a out x o s is line.WireEnd refl h;
   }
 
   has_ended : HasEnded waits also a out x o s

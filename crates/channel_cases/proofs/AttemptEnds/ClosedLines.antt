@@ -40,7 +40,7 @@ use Rattle.session_order.specs.declared.line.Line.{Line}
 use Rattle.session_order.specs.declared.line.Line.TheVariants as line
 
 -- what comes before the end of a call by its attempt
-before_row : (loses : Bool) (m : Line) → nat_lt (rank loses m) (rank loses line.Row) ≡ true → (X : Line → Type 0) → X line.Cut → X line.Transparent → X line.Inherited → X m
+pub before_row : (loses : Bool) (m : Line) → nat_lt (rank loses m) (rank loses line.Row) ≡ true → (X : Line → Type 0) → X line.Cut → X line.Transparent → X line.Inherited → X m
 before_row loses line.Cut e X a b c = a
 before_row loses line.Transparent e X a b c = b
 before_row loses line.Inherited e X a b c = c
@@ -240,6 +240,7 @@ module _ (waits : Line → Bool) (also : List ℕ) (a : Attempt) (out : Outcome)
       current = now_open;
       still = still_then;
       late = late_then;
+      wire = λ h. leaves line.WireEnd refl (goes.wire h);
       fewer = goes.fewer;
       agrees = agrees_then;
     }

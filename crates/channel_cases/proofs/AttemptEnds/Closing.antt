@@ -249,6 +249,7 @@ module _ (waits : Line → Bool) (also : List ℕ) (a : Attempt) (out : Outcome)
     pub over : is_over_by_row (mid b) (its b) ≡ true
     pub still : (l : Line) → is_of_closing l ≡ false → may_wait l ≡ false → IsStill l entry_then (mid b)
     pub late : (l : Line) → is_late l ≡ true → waits l ≡ false → IsStill l entry_then (mid b)
+    pub wire : IsStill line.WireEnd o s → IsStill line.WireEnd entry_then (mid b)
 
   pub closed_here : (b : Between) → Goes b → numbered (closed b).calls n ≡ Some (ended b)
   closed_here b goes = closed_at b goes.here

@@ -54,7 +54,7 @@ unended_by true false true false over lives = absurd (cc)
 unended_by true false false false over lives = absurd (cc)
 unended_by false some un false over lives = absurd (cc)
 
-apart_places : (m n : ℕ) → (m == n) ≡ false → nat_lt m n ≡ false → nat_lt n m ≡ true
+pub apart_places : (m n : ℕ) → (m == n) ≡ false → nat_lt m n ≡ false → nat_lt n m ≡ true
 apart_places m n off e = grind (arith, nat_tests, off, e)
 
 same_places : (m n : ℕ) → nat_lt m n ≡ false → nat_lt n m ≡ false → m ≡ n
@@ -148,11 +148,11 @@ module _ (waits : Line → Bool) (also : List ℕ) (a : Attempt) (out : Outcome)
   pub unended_of : (q : Attempt) → is_live s k q ≡ true → is_none q.row.ended ≡ true
   unended_of q lives = unended_by (is_of k q) (is_some q.row.placed) (is_none q.row.placed) (is_none q.row.ended) (is_over q s) lives
 
-  mine_of : (q : Attempt) → is_live s k q ≡ true → is_of k q ≡ true
+  pub mine_of : (q : Attempt) → is_live s k q ≡ true → is_of k q ≡ true
   mine_of q lives = (and_parts (is_of k q) (is_outstanding q || is_queued q s) lives).0
 
   -- two that go on with one number are one
-  later : (p q : Attempt) (m i : ℕ) → numbered s.attempts m ≡ Some p → slice_get s.attempts i ≡ Some q → is_of k p ≡ true → is_of k q ≡ true → q.row.number ≡ p.row.number
+  pub later : (p q : Attempt) (m i : ℕ) → numbered s.attempts m ≡ Some p → slice_get s.attempts i ≡ Some q → is_of k p ≡ true → is_of k q ≡ true → q.row.number ≡ p.row.number
       → is_none p.row.ended ≡ true → nat_lt p.place q.place ≡ true → ⊥
   later p q m i there at mine yours number going less =
       let calls : q.row.call ≡ p.row.call = eqb-true q.row.call k.number yours ∙ sym (eqb-true p.row.call k.number mine) in
@@ -165,7 +165,7 @@ module _ (waits : Line → Bool) (also : List ℕ) (a : Attempt) (out : Outcome)
       let both : true ≡ false = sym on ∙ numbered_not (goes_on_followed s k) s.attempts m p turn.unfollowed there in
       (cc)
 
-  index_of : (q : Attempt) (m : ℕ) → numbered s.attempts m ≡ Some q → (i : ℕ) × (slice_get s.attempts i ≡ Some q)
+  pub index_of : (q : Attempt) (m : ℕ) → numbered s.attempts m ≡ Some q → (i : ℕ) × (slice_get s.attempts i ≡ Some q)
   index_of q zero there = absurd (cc)
   index_of q (suc i) there = (i, there)
 

@@ -225,6 +225,7 @@ module _ (waits : Line → Bool) (also : List ℕ) (a : Attempt) (out : Outcome)
     over = last.over_two waits also a out x o s is counting free case.last.last;
     still = last.still_two waits also a out x o s is counting free case.last.last;
     late = last.late_two waits also a out x o s is counting free case.last.last;
+    wire = last.wire_two waits also a out x o s is counting free case.last.last;
   }
 
   has_ended : HasEnded waits also a out x o s

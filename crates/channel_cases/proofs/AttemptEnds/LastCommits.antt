@@ -90,7 +90,7 @@ use Rattle.session_order.specs.declared.line.Line.{Line}
 use Rattle.session_order.specs.declared.line.Line.TheVariants as line
 
 -- what comes before the commitment to an end
-before_final : (loses : Bool) (m : Line) → nat_lt (rank loses m) (rank loses line.Final) ≡ true → (X : Line → Type 0)
+pub before_final : (loses : Bool) (m : Line) → nat_lt (rank loses m) (rank loses line.Final) ≡ true → (X : Line → Type 0)
     → X line.Cut → X line.Transparent → X line.Inherited → X line.Row → X m
 before_final loses line.Cut e X a b c r = a
 before_final loses line.Transparent e X a b c r = b
@@ -200,7 +200,7 @@ module _ (waits : Line → Bool) (also : List ℕ) (a : Attempt) (out : Outcome)
       counted_parts true true r e = absurd (cc)
       counted_parts false q r e = absurd (cc)
 
-  unfollowed : is_followed then_ v ≡ false
+  pub unfollowed : is_followed then_ v ≡ false
   unfollowed = not_so (is_followed then_ v) parts.0
     where
       not_so : (q : Bool) → not q ≡ true → q ≡ false
@@ -208,7 +208,7 @@ module _ (waits : Line → Bool) (also : List ℕ) (a : Attempt) (out : Outcome)
       not_so true e = absurd (cc)
 
   -- in turn then
-  steady_two : IsBook f → StaysSteady f n
+  pub steady_two : IsBook f → StaysSteady f n
   steady_two book =
       subst (λ (q : Seen). StaysSteady q n) f_is
       (committing_keeps v dk a.place then_ (subst IsBook (sym f_is) book)
@@ -302,7 +302,7 @@ module _ (waits : Line → Bool) (also : List ℕ) (a : Attempt) (out : Outcome)
     does_two : Does (then_commits ∷ []) v f
     does_two = (next_commit, sym after_two)
 
-    kept_two : IsKept f
+    pub kept_two : IsKept f
     kept_two = kept_along (then_commits ∷ []) v f kept_one does_two
 
     pub apart_two : AreOfCall n (then_commits ∷ []) v
@@ -376,6 +376,9 @@ module _ (waits : Line → Bool) (also : List ℕ) (a : Attempt) (out : Outcome)
     late_two line.Link late off = absurd (cc)
     late_two line.WireEnd late off = absurd (cc)
     late_two line.Reset late off = absurd (cc)
+
+    pub wire_two : IsStill line.WireEnd o s → IsStill line.WireEnd p f
+    wire_two h = moves line.WireEnd refl refl (first.plain waits also a out x o s is line.WireEnd refl h)
 
     -- it has the call
     pub has_it : commitment fk f ≡ Some b.one

@@ -82,14 +82,14 @@ module _ (waits : Line → Bool) (also : List ℕ) (a : Attempt) (out : Outcome)
   waiting_of : (b : Bool) (row : ℕ) → (is_waiting s n row && b) ≡ true → is_waiting s n row ≡ true
   waiting_of b row e = (and_parts (is_waiting s n row) b e).0
 
-  queue_then : AreExactly (queue_off a.row.call a.place a.row.placed x.queue) (is_in_queue then_)
+  pub queue_then : AreExactly (queue_off a.row.call a.place a.row.placed x.queue) (is_in_queue then_)
   queue_then =
       queue_left waits also a out x o s is (is_in_queue s) (is_in_queue then_)
       (λ row. ap (λ (b : Bool). b && not (is_patient then_ n)) (wait_same row) ∙ ap (λ (b : Bool). (is_waiting s n row && not (row == a.place)) && not b) patient_same
       ∙ queue_by (not (is_patient s n)) row)
       (λ k row e. others.queue k row e) (λ some row e. not_waiting some row (row == a.place) refl (waiting_of (not (is_patient s n)) row e)) x.queue sets.queue
 
-  patient_then : AreExactly (queue_off a.row.call a.place a.row.placed x.patient) (is_in_patient then_)
+  pub patient_then : AreExactly (queue_off a.row.call a.place a.row.placed x.patient) (is_in_patient then_)
   patient_then =
       queue_left waits also a out x o s is (is_in_patient s) (is_in_patient then_)
       (λ row. ap (λ (b : Bool). b && is_patient then_ n) (wait_same row) ∙ ap (λ (b : Bool). (is_waiting s n row && not (row == a.place)) && b) patient_same ∙ queue_by (is_patient s n) row)

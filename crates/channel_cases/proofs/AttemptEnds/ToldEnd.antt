@@ -33,22 +33,22 @@ module _ (place : ℕ) (end : EndNews) (n : ℕ) (z : StateSeen) (slot : CallSlo
   abbrev r : Stepped
   r = step_of place end z slot
 
-  abbrev v : CallSlot
+  abbrev pub v : CallSlot
   v = with_call r.call slot
 
-  abbrev b : Book
+  abbrev pub b : Book
   b = book_with n r slot v z.book
 
-  acted_so : book_acted f n z.book ≡ record { book = b; acts = r.acts }
+  pub acted_so : book_acted f n z.book ≡ record { book = b; acts = r.acts }
   acted_so =
       ap (λ (o : Option CallSlot). acted_in f n (bucket_at o) z.book) there
       ∙ ap (λ (a : Acted). record { book = book_after slot.bucket a.tokens a z.book; acts = a.acts })
       (acted_is f z.book.calls n z.book.ledger (tokens_in z.book.buckets slot.bucket) slot there)
 
-  slot_is : slot_at b n ≡ Some v
+  pub slot_is : slot_at b n ≡ Some v
   slot_is = put_there z.book.calls n slot v there
 
-  abbrev drawn_on : StateSeen
+  abbrev pub drawn_on : StateSeen
   drawn_on = record (drawn_if (has_drawn (row_at b place)) z) { book = b }
 
   timed : timers_moved_to n (Some v) (clothed n drawn_on) ≡ closed_form place n r slot z

@@ -109,6 +109,7 @@ module _ (waits : Line → Bool) (also : List ℕ) (a : Attempt) (out : Outcome)
     current = current_then waits also a out x o s is case;
     still = still_then;
     late = late_then;
+    wire = λ h. plain waits also a out x o s is case line.WireEnd refl h;
     fewer = λ link row e. fewer_by (is_in_outstanding s link row) (not (row == a.place)) (sym (in_out waits also a out x o s is link row) ∙ e);
     agrees = agrees_then;
   }

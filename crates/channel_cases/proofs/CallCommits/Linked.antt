@@ -62,7 +62,7 @@ stamped_by entry rows place k true e =
 stamped_by entry rows place k false e = ap link_of (number_other (committed_row entry) rows place k (eqb-false k place e))
 
 -- a property of all that pass, by their places
-all_passing : (P : LiveRow → Type 0) (p : Attempt → Bool) (xs : List Attempt) → ((i : ℕ) (a : Attempt) → slice_get xs i ≡ Some a → P (live_row a)) → AllByRecursion P (map live_row (filter p xs))
+pub all_passing : (P : LiveRow → Type 0) (p : Attempt → Bool) (xs : List Attempt) → ((i : ℕ) (a : Attempt) → slice_get xs i ≡ Some a → P (live_row a)) → AllByRecursion P (map live_row (filter p xs))
 all_passing P p [] each = tt
 all_passing P p (a ∷ xs) each = passing_by P a (filter p xs) (p a) (each 0 a refl) (all_passing P p xs (λ i b at. each (suc i) b at))
   where

@@ -53,7 +53,7 @@ rest_cut n j v act o one =
     (record { entries = refl; setup = refl; asks = refl; policies = refl; subs = refl; configs = refl; runs = refl; answered = refl; shut = refl })
 
 -- nothing comes before cuts; and nothing late before resets
-before_cut : (loses : Bool) (m : Line) → nat_lt (rank loses m) (rank loses line.Cut) ≡ true → ⊥
+pub before_cut : (loses : Bool) (m : Line) → nat_lt (rank loses m) (rank loses line.Cut) ≡ true → ⊥
 before_cut loses line.Cut e = (cc)
 before_cut loses line.Transparent e = (cc)
 before_cut loses line.Inherited e = (cc)
@@ -109,7 +109,7 @@ first_by : (f : Attempt → Option Action) (x : Attempt) (xs : List Attempt) (ow
 first_by f x xs own true e none rest = ap (option_or (f x)) rest
 first_by f x xs own false e none rest = ap (λ (o : Option Action). option_or o (first_of f xs)) (none refl) ∙ rest
 
-first_own : (f : Attempt → Option Action) (own : Attempt → Bool) (xs : List Attempt) → ((i : ℕ) (x : Attempt) → slice_get xs i ≡ Some x → own x ≡ false → f x ≡ None)
+pub first_own : (f : Attempt → Option Action) (own : Attempt → Bool) (xs : List Attempt) → ((i : ℕ) (x : Attempt) → slice_get xs i ≡ Some x → own x ≡ false → f x ≡ None)
     → first_of f xs ≡ first_of f (filter own xs)
 first_own f own [] none = refl
 first_own f own (x ∷ xs) none =

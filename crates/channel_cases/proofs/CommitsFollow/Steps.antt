@@ -66,7 +66,7 @@ away_from : (k m n : ℕ) → (k == n) ≡ false → m ≡ n → k ≡ m → ⊥
 away_from k m n e f g = grind (arith, nat_tests, e, f, g)
 
 -- a thing of a list of which one was changed
-at_by : {X : Type 0} (f : X → X) (k p : ℕ) (xs : List X) (y x : X) (q : Bool) → (p == k) ≡ q → numbered xs k ≡ Some y → numbered (changed f k xs) p ≡ Some x
+pub at_by : {X : Type 0} (f : X → X) (k p : ℕ) (xs : List X) (y x : X) (q : Bool) → (p == k) ≡ q → numbered xs k ≡ Some y → numbered (changed f k xs) p ≡ Some x
     → (q ≡ true → x ≡ f y) × (q ≡ false → numbered xs p ≡ Some x)
 at_by f k p xs y x true e there at =
     let two : Some x ≡ Some (f y) = sym at ∙ ap (numbered (changed f k xs)) (eqb-true p k e) ∙ changed_here f k xs y there in
@@ -112,7 +112,7 @@ last_set T k (x ∷ xs) (suc i) a b at other same is = later_by (find_last T xs)
         let found : Some z ≡ Some k = sym (ap (λ (o : Option _). option_or o (if T x then Some x else None)) some) ∙ is in
         ap (λ (o : Option _). option_or o (if T x then Some x else None)) (next (some ∙ found))
 
-last_changed : {X : Type 0} (T : X → Bool) (k : X) (f : X → X) (n : ℕ) (xs : List X) (a : X) → numbered xs n ≡ Some a → (a ≡ k → ⊥) → T (f a) ≡ T a → find_last T xs ≡ Some k
+pub last_changed : {X : Type 0} (T : X → Bool) (k : X) (f : X → X) (n : ℕ) (xs : List X) (a : X) → numbered xs n ≡ Some a → (a ≡ k → ⊥) → T (f a) ≡ T a → find_last T xs ≡ Some k
     → find_last T (changed f n xs) ≡ Some k
 last_changed T k f zero xs a at other same is = absurd (cc)
 last_changed T k f (suc i) xs a at other same is = ap (λ (o : Option _). find_last T (changed_if f (suc i) xs o)) at ∙ last_set T k xs i a (f a) at other same is

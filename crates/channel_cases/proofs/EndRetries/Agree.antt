@@ -421,6 +421,7 @@ module _ (waits : Line → Bool) (also : List ℕ) (a : Attempt) (out : Outcome)
     current = first.current_one waits also a out x o s is;
     still = lines.still_two waits also a out x o s is going follows r leads;
     late = lines.late_two waits also a out x o s is going follows r leads;
+    wire = lines.wire_two waits also a out x o s is going follows r leads;
     fewer = λ link row h. first.fewer_one waits also a out x o s is link row (sym (sets.out_more waits also a out x o s is going follows r leads others link row) ∙ h);
     agrees = agrees_then;
   }

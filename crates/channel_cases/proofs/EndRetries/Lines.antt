@@ -22,6 +22,7 @@ use Rattle.channel_cases.specs.AttemptEnds.Ends.{EndNext, is_of_ends, may_wait}
 use Rattle.channel_core.specs.States.{StateSeen}
 use Rattle.grpc_base.specs.declared.kind.Pick.{Pick}
 use Rattle.grpc_base.specs.declared.kind.Pick.TheVariants as pick
+use Rattle.session_actions.specs.AttemptEnds.{outcome_of}
 use Rattle.session_actions.specs.Attempts.{is_of, is_outstanding, is_to_follow, wants_follower}
 use Rattle.session_actions.specs.CallEnds.{has_long_response, is_over_by_row}
 use Rattle.session_actions.specs.Commitments.{has_head_in, is_final_end, is_final_in, is_free_call, is_headed}
@@ -41,7 +42,7 @@ use Rattle.session_order.proofs.Aside.{aside_request}
 use Rattle.session_order.proofs.Begun.{numbered_more}
 use Rattle.session_order.proofs.Changed.{none_more}
 use Rattle.session_order.proofs.Lists.{any_same, holds_same}
-use Rattle.session_order.specs.Calm.{IsStill, can_follow, has_outstanding, is_overflowing, is_to_cut, is_to_follow_pick, is_unplaced}
+use Rattle.session_order.specs.Calm.{IsStill, can_follow, has_outstanding, is_overflowing, is_to_cut, is_to_end, is_to_follow_pick, is_unplaced}
 use Rattle.session_order.specs.Stirs.{stirs}
 use Rattle.session_order.specs.declared.line.Line.{Line}
 use Rattle.session_order.specs.declared.line.Line.TheVariants as line
@@ -186,6 +187,13 @@ module _ (waits : Line → Bool) (also : List ℕ) (a : Attempt) (out : Outcome)
   still_two line.Give may = absurd (cc)
   still_two line.Drop may = absurd (cc)
   still_two line.Add may = absurd (cc)
+
+  pub wire_two : IsStill line.WireEnd o s → IsStill line.WireEnd p t
+  wire_two h =
+      leads.told line.WireEnd refl
+      (none_more (is_to_end added) v.attempts new
+      (any_same (is_to_end added) (is_to_end v) (λ q. ap (λ (b : Bool). (is_outstanding q && not b) && is_some (outcome_of q v)) (leads.over q)) v.attempts
+      ∙ first.plain waits also a out x o s is line.WireEnd refl h) refl)
 
   late_one : (l : Line) → stirs act l ≡ false → is_of_ends l ≡ false → waits l ≡ false → IsStill l p v
   late_one l off ends wait = first.plain waits also a out x o s is l off (is.still l ends wait)

@@ -391,6 +391,7 @@ module _ (waits : Line → Bool) (also : List ℕ) (l : Link) (x : StateSeen) (o
     books = books;
     links = links;
     unreset = is.agrees.unreset;
+    apart = is.streams.apart;
     rising = is.rising;
     going = is.going;
     held = λ follows. is.held;

@@ -72,7 +72,7 @@ any_by : (p : Attempt → Bool) (a : Attempt) (xs : List Attempt) (b : Bool) →
 any_by p a xs true is rest e = absurd (let bad : Some a ≡ None = e in (cc))
 any_by p a xs false is rest e = ap (λ (b : Bool). b || list_any p xs) is ∙ rest e
 
-any_none : (p : Attempt → Bool) (xs : List Attempt) → find p xs ≡ None → list_any p xs ≡ false
+pub any_none : (p : Attempt → Bool) (xs : List Attempt) → find p xs ≡ None → list_any p xs ≡ false
 any_none p [] e = refl
 any_none p (a ∷ xs) e = any_by p a xs (p a) refl (any_none p xs) e
 
@@ -90,7 +90,7 @@ any_less : (p q : Attempt → Bool) (xs : List Attempt) → list_any q xs ≡ fa
 any_less p q [] e = refl
 any_less p q (a ∷ xs) e = less_by p q a xs (q a) refl (any_less p q xs) e
 
-unmapped : {X Y : Type 0} (g : X → Y) (o : Option X) → option_map g o ≡ None → o ≡ None
+pub unmapped : {X Y : Type 0} (g : X → Y) (o : Option X) → option_map g o ≡ None → o ≡ None
 unmapped g None e = refl
 unmapped g (Some x) e = absurd (let bad : Some (g x) ≡ None = e in (cc))
 

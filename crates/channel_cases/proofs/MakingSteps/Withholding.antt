@@ -132,11 +132,11 @@ made_not : (n m k d : ℕ) (w : RowKind) → action.HedgeWithheld n ≡ action.A
 made_not n m k d w e = (cc)
 
 -- which rows a call has
-abbrev some_row : List LiveRow → Bool
+abbrev pub some_row : List LiveRow → Bool
 some_row [] = false
 some_row (r ∷ rows) = true
 
-any_live : (p : Attempt → Bool) (xs : List Attempt) → list_any p xs ≡ some_row (map live_row (filter p xs))
+pub any_live : (p : Attempt → Bool) (xs : List Attempt) → list_any p xs ≡ some_row (map live_row (filter p xs))
 any_live p [] = refl
 any_live p (a ∷ xs) = by_test (p a) (any_live p xs)
   where

@@ -51,7 +51,7 @@ module _ (ls : List LinkSeen) (moment : ℕ) (tokens : Option ℕ) where
   links_cut place None ledger = refl
   links_cut place (Some link) ledger = refl
 
-  all_relent : (live : List LiveRow) (ledger : Ledger) → AreReadAlike ls ledger.links
+  pub all_relent : (live : List LiveRow) (ledger : Ledger) → AreReadAlike ls ledger.links
       → cut_all None moment tokens live (with_links ls ledger) ≡ with_links ls (cut_all None moment tokens live ledger)
   all_relent [] ledger same = refl
   all_relent (r ∷ live) ledger same =

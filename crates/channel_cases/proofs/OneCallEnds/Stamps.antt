@@ -35,7 +35,7 @@ again : (b : Bool) (entry : ℕ) (m : LinkSeen) → gone_link entry (stamped_if 
 again true entry m = ap (λ (o : Option ℕ). record m { gone = o }) (stamped_twice entry m.gone)
 again false entry m = refl
 
-again_in : (b : Bool) (entry : ℕ) (o : Option LinkSeen) → option_map (gone_link entry) (option_map (stamped_if b entry) o) ≡ option_map (gone_link entry) o
+pub again_in : (b : Bool) (entry : ℕ) (o : Option LinkSeen) → option_map (gone_link entry) (option_map (stamped_if b entry) o) ≡ option_map (gone_link entry) o
 again_in b entry None = refl
 again_in b entry (Some m) = ap (λ (z : LinkSeen). Some z) (again b entry m)
 
@@ -54,13 +54,13 @@ retiring_stays : (f : LinkSlot → LinkSlot) → ((z : LinkSlot) → (f z).retir
 retiring_stays f same None = refl
 retiring_stays f same (Some z) = same z
 
-dead_by : (link row k : ℕ) (links : List LinkSlot) (b : Bool) → (k == link) ≡ b → is_dead (reset_in link row links) k ≡ is_dead links k
+pub dead_by : (link row k : ℕ) (links : List LinkSlot) (b : Bool) → (k == link) ≡ b → is_dead (reset_in link row links) k ≡ is_dead links k
 dead_by link row k links true e =
     ap (λ (n : ℕ). is_dead (reset_in link row links) n) (eqb-true k link e) ∙ ap is_dead_at (number_changed (with_link (reset_link row)) links link)
     ∙ dead_stays (with_link (reset_link row)) (λ z. refl) (numbered links link) ∙ ap (λ (n : ℕ). is_dead links n) (sym (eqb-true k link e))
 dead_by link row k links false e = ap is_dead_at (number_other (with_link (reset_link row)) links link k (eqb-false k link e))
 
-retiring_by : (link row k : ℕ) (links : List LinkSlot) (b : Bool) → (k == link) ≡ b → is_retiring (reset_in link row links) k ≡ is_retiring links k
+pub retiring_by : (link row k : ℕ) (links : List LinkSlot) (b : Bool) → (k == link) ≡ b → is_retiring (reset_in link row links) k ≡ is_retiring links k
 retiring_by link row k links true e =
     ap (λ (n : ℕ). is_retiring (reset_in link row links) n) (eqb-true k link e) ∙ ap is_retiring_at (number_changed (with_link (reset_link row)) links link)
     ∙ retiring_stays (with_link (reset_link row)) (λ z. refl) (numbered links link) ∙ ap (λ (n : ℕ). is_retiring links n) (sym (eqb-true k link e))
@@ -80,7 +80,7 @@ fewer_by p q k pairs false rest e = or_turn (is_of_link k q) (list_any (is_of_li
     or_turn true b c turn e = refl
     or_turn false b c turn e = turn e
 
-fewer : (p : ℕ × ℕ) (k : ℕ) (pairs : List (ℕ × ℕ)) → list_any (is_of_link k) (remove_key (is_same p) pairs) ≡ true → list_any (is_of_link k) pairs ≡ true
+pub fewer : (p : ℕ × ℕ) (k : ℕ) (pairs : List (ℕ × ℕ)) → list_any (is_of_link k) (remove_key (is_same p) pairs) ≡ true → list_any (is_of_link k) pairs ≡ true
 fewer p k [] e = e
 fewer p k (q ∷ pairs) e = fewer_by p q k pairs (is_same p q) (fewer p k pairs) e
 
@@ -96,7 +96,7 @@ others_by : (link row k : ℕ) (q : ℕ × ℕ) (pairs : List (ℕ × ℕ)) (b :
 others_by link row k q pairs true e off rest = sym (ap (λ (z : Bool). z || list_any (is_of_link k) pairs) (not_of link row k q off e))
 others_by link row k q pairs false e off rest = ap (λ (z : Bool). is_of_link k q || z) rest
 
-others : (link row k : ℕ) (pairs : List (ℕ × ℕ)) → (k == link) ≡ false
+pub others : (link row k : ℕ) (pairs : List (ℕ × ℕ)) → (k == link) ≡ false
     → list_any (is_of_link k) (remove_key (is_same (link, row)) pairs) ≡ list_any (is_of_link k) pairs
 others link row k [] off = refl
 others link row k (q ∷ pairs) off = others_by link row k q pairs (is_same (link, row) q) refl off (others link row k pairs off)

@@ -14,6 +14,7 @@ use Rattle.call_actions.specs.Laws.{IsEnding, news_of}
 use Rattle.channel_actions.specs.EndsFollow.Cuts.{AreUnreset}
 use Rattle.channel_actions.specs.EndsFollow.Laws.{is_late}
 use Rattle.channel_actions.specs.GoingCalls.Going.{CallsGoOn}
+use Rattle.channel_actions.specs.OwnStreams.Own.{AreApart}
 use Rattle.channel_actions.specs.Points.{IsSameEntry}
 use Rattle.channel_actions.specs.Sets.{is_in_outstanding}
 use Rattle.channel_cases.specs.AttemptEnds.Ahead.{AgreesAhead, AgreesOffLinks, LinksAhead}
@@ -84,6 +85,8 @@ pub record EndNext (waits : Line → Bool) (also : List ℕ) (a : Attempt) (out 
   pub books : AgreesOffLinks (gone_with a.row.placed x) s
   pub links : LinksAhead also x (attempt_ended a.place (end_of a out s) s)
   pub unreset : AreUnreset s
+  -- no two attempts of a link have one stream (every session keeps this: `own_streams`)
+  pub apart : AreApart s.attempts
   pub rising : RunsRise s
   -- of the channel alone (`going_calls`)
   pub going : CallsGoOn x
@@ -106,6 +109,8 @@ pub record HasEnded (waits : Line → Bool) (also : List ℕ) (a : Attempt) (out
   pub current : seen.current ≡ Some entry
   pub still : (l : Line) → may_wait l ≡ false → IsStill l entry seen
   pub late : (l : Line) → is_late l ≡ true → waits l ≡ false → IsStill l entry seen
+  -- where no attempt ended by the wire, none does
+  pub wire : IsStill line.WireEnd o s → IsStill line.WireEnd entry seen
   -- no attempt is outstanding that was not
   pub fewer : (link row : ℕ) → is_in_outstanding seen link row ≡ true → is_in_outstanding s link row ≡ true
   pub agrees : AgreesAhead also (ended_in a (news_of a out s) x) seen

@@ -1,0 +1,10 @@
+pub mod Acts
+pub mod Ahead
+pub mod Call
+pub mod Ends
+pub mod Noted
+pub mod Pairs
+pub mod Rows
+pub mod Stamped
+pub mod Walk
+pub mod Whole
