@@ -1,5 +1,5 @@
 // The attempts of a round, as actions of a session; nothing runs.
-ghost use Rattle.channel_cases.specs.MakingSteps.Laws.{AttemptsGetRows, LastIsWithheld, MakesByCases, OneIsMade, OneIsWithheld, RoundsMake};
+ghost use Rattle.channel_cases.specs.MakingSteps.Laws.{AttemptsGetRows, MakesByCases, OneIsMade, OneIsWithheld, RoundsMake};
 
 use crate::settling_keeps::early_goes_on;
 use call_actions::calls_apart::{books_are_kept, calls_share_tokens_alone};
@@ -63,11 +63,6 @@ pub fn one_is_withheld()
     sets_stay();
     subchannel_steps_are_actions();
 }
-
-/// Where none goes on, the call is committed to the attempt whose end counted last, and ends by it ("Throttling Retry Attempts and Hedged RPCs").
-pub fn last_is_withheld()
-    ensures { LastIsWithheld }
-{}
 
 /// So whatever is due of a call is done alike, where a hedge that is withheld when none of its call goes on is.
 pub fn makes_by_cases()

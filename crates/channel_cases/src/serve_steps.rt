@@ -1,5 +1,5 @@
 // The attempts that a pass serves, as actions of a session; nothing runs.
-ghost use Rattle.channel_cases.specs.ServeSteps.Follows.{AnswersAreNext, AsksStand, FailsFollow, PlacedOnesAgree, PlacesByAgreement, PlacesOfInheritors, ServesByAnswers};
+ghost use Rattle.channel_cases.specs.ServeSteps.Follows.{AnswersAreNext, AsksStand, PlacedOnesAgree, PlacesByAgreement, PlacesOfInheritors, ServesByAnswers};
 ghost use Rattle.channel_cases.specs.ServeSteps.Laws.{AsksAgree, AsksFollow};
 
 use crate::settling_keeps::early_goes_on;
@@ -51,12 +51,6 @@ pub fn answers_are_next()
 {
     calm_is_exact();
 }
-
-/// Where its pick fails, its end is followed: what its call does then is alike in channel and session, streams are reset, and the pass goes on after it (gRPC, "Load
-/// Balancing in gRPC"; "gRPC Wait for Ready Semantics"; gRFC A6, "Retry Policy" and "Hedging Policy").
-pub fn fails_follow()
-    ensures { FailsFollow }
-{}
 
 /// Where it is placed, and the placing leaves channel and session in agreement, nothing follows from it, and the pass goes on after it.
 pub fn places_by_agreement()
