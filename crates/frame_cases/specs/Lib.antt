@@ -1,5 +1,6 @@
 pub mod FrameKinds
 pub mod FirstSettings
+pub mod HeadFrames
 pub mod MessageFrames
 pub mod PassedBytes
 pub mod PieceWalks
