@@ -1,6 +1,7 @@
 pub mod FrameKinds
 pub mod BrokenLinks
 pub mod FirstSettings
+pub mod HeadFrames
 pub mod MessageFrames
 pub mod OwnFrames
 pub mod PassedBytes

@@ -1,5 +1,6 @@
 pub mod Answered
 pub mod Arrives
+pub mod Coming
 pub mod Cuts
 pub mod Knows
 pub mod Slots

@@ -4,6 +4,7 @@
 pub mod broken_links;
 pub mod first_settings;
 pub mod frame_kinds;
+pub mod head_frames;
 pub mod message_frames;
 pub mod passed_bytes;
 pub mod piece_walks;

@@ -13,7 +13,7 @@ use Rattle.channel_actions.specs.Calls.{HasSlot}
 use Rattle.channel_actions.specs.EndsFollow.Cuts.{AreUnreset, is_unreset}
 use Rattle.channel_actions.specs.Calm.{IsCalm as Calm}
 use Rattle.channel_cases.proofs.CallCommits.Accepting.{no_overflow}
-use Rattle.channel_cases.proofs.CallCommits.Calm.{committed_still, no_head}
+use Rattle.channel_cases.proofs.CallCommits.Calm.{committed_still, no_head, no_large}
 use Rattle.channel_cases.proofs.CallCommits.Whole.{one_call_commits}
 use Rattle.channel_cases.proofs.CommitsFollow.Begun.{IsToCommit}
 use Rattle.channel_cases.proofs.FullSends.Bare.{no_items}
@@ -28,6 +28,7 @@ use Rattle.channel_core.specs.declared.state.slots.CallSlot.{CallSlot}
 use Rattle.grpc_base.specs.declared.event.Reply.{Reply}
 use Rattle.session_actions.specs.Actions.{after, after_if, following, following_in}
 use Rattle.session_actions.specs.Attempts.{commitment, is_commitment, is_of, is_outstanding}
+use Rattle.session_actions.specs.Commitments.{is_headed}
 use Rattle.session_actions.specs.Deliveries.{response_items, with_message}
 use Rattle.session_actions.specs.Responses.{response}
 use Rattle.session_actions.specs.Words.{changed, find_last, numbered}
@@ -135,7 +136,7 @@ module _ (n : ℕ) (why : CommitCause) (x y : StateSeen) (r : Reply) (o : OpenEn
 
   -- what came of it: nothing
   headless : (response k t).head ≡ None
-  headless = no_head n p t to_commit has.sees.turn led.still others
+  headless = no_head n p t to_commit (led.still line.Head refl)
 
   abbrev inbox : Inbox
   inbox = has.slot.call.inbox
@@ -169,7 +170,9 @@ module _ (n : ℕ) (why : CommitCause) (x y : StateSeen) (r : Reply) (o : OpenEn
     next = led.next;
     uncut = led.still line.Cut refl;
     unfollowed = led.still line.Transparent refl;
-    still = λ l e w. committed_still n p t to_commit has.sees.turn led.still others l e;
+    still = λ l e w.
+        committed_still n p t to_commit has.sees.turn (no_large n p t to_commit (led.still line.Head refl)) (λ m over head. led.still m over) others
+        (λ i a at off. passes_not (is_headed t) t.attempts i a (led.still line.Head refl) at) l e;
   }
 
   abbrev done : HasCommitted never n k.place why inbox z p t

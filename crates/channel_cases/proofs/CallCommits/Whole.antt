@@ -11,6 +11,7 @@ use Rattle.channel_actions.specs.Columns.{SeesColumns}
 use Rattle.channel_actions.specs.OtherCalls.Others.{BooksApart, GoesApart}
 use Rattle.channel_actions.specs.Sets.{SeesSets}
 use Rattle.channel_cases.proofs.CallCommits.Alone.{buckets_on, goes_apart}
+use Rattle.channel_cases.proofs.CallCommits.Along.{same}
 use Rattle.channel_cases.proofs.CallCommits.Gone as gone
 use Rattle.channel_cases.proofs.CallCommits.Linked.{clock_on, configs_on, links_on, slot, w, whole}
 use Rattle.channel_cases.proofs.CallCommits.On as on_
@@ -93,6 +94,7 @@ module _ (waits : Line → Bool) (n : ℕ) (why : CommitCause) (inbox : Inbox) (
     current = (on waits n why inbox x o s is).current;
     still = (on waits n why inbox x o s is).still;
     unreset = (resets waits n why inbox x o s is).unreset;
+    links = (same waits n why inbox x o s is).links;
     agrees = agrees;
   }
 

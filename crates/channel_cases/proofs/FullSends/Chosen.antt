@@ -61,22 +61,9 @@ none_some : {X : Type 0} (o : Option X) → is_none o ≡ not (is_some o)
 none_some None = refl
 none_some (Some x) = refl
 
-module _ (s : Seen) (c : Call) (book : IsBook s) (turn : IsInTurn s c) (going : c.end ≡ None) (uncommitted : commitment c s ≡ None) (k : Attempt) (far : furthest c s ≡ Some k) where
-  abbrev mine_out : Attempt → Bool
-  mine_out a = is_of c a && is_outstanding a
-
-  there_filtered : IsIn (filter mine_out s.attempts) k
-  there_filtered = foremost_in (is_further s) (filter mine_out s.attempts) k far
-
-  pub there : IsIn s.attempts k
-  there = in_filter mine_out s.attempts there_filtered.index k there_filtered.here
-
-  both : (is_of c k ≡ true) × (is_outstanding k ≡ true)
-  both = and_parts (is_of c k) (is_outstanding k) (filter_passes mine_out s.attempts there_filtered.index k there_filtered.here)
-
-  pub at : numbered s.attempts k.place ≡ Some k
-  at = at_place s.attempts k book.places there
-
+-- an attempt that is outstanding, where its call is open and not committed
+module _ (s : Seen) (c : Call) (turn : IsInTurn s c) (going : c.end ≡ None) (uncommitted : commitment c s ≡ None) (k : Attempt) (at : numbered s.attempts k.place ≡ Some k)
+    (own : is_of c k ≡ true) (out : is_outstanding k ≡ true) where
   -- no other attempt that goes on has its number
   unfollowed : (n : ℕ) (a : Attempt) → numbered s.attempts n ≡ Some a → goes_on_followed s c a ≡ false
   unfollowed n a e = passes_not (goes_on_followed s c) s.attempts n a turn.unfollowed e
@@ -101,10 +88,10 @@ module _ (s : Seen) (c : Call) (book : IsBook s) (turn : IsInTurn s c) (going : 
       )
 
   out_goes : is_none k.row.ended ≡ true
-  out_goes = (and_parts (is_some k.row.placed) (is_none k.row.ended) both.1).1
+  out_goes = (and_parts (is_some k.row.placed) (is_none k.row.ended) out).1
 
   calls_same : (a : Attempt) → is_of c a ≡ true → a.row.call ≡ k.row.call
-  calls_same a mine = eqb-true a.row.call c.number mine ∙ sym (eqb-true k.row.call c.number both.0)
+  calls_same a mine = eqb-true a.row.call c.number mine ∙ sym (eqb-true k.row.call c.number own)
 
   later_than : (a b : Attempt) → b.row.call ≡ a.row.call → b.row.number ≡ a.row.number → nat_lt a.place b.place ≡ true → is_later_of a b ≡ true
   later_than a b call number place =
@@ -115,7 +102,7 @@ module _ (s : Seen) (c : Call) (book : IsBook s) (turn : IsInTurn s c) (going : 
   twin_by n a e live number other true lower =
       later_any k a n e
       (later_than k a (calls_same a (live_goes a live).0) (sym (eqb-true k.row.number a.row.number number)) lower)
-      (followed_not k k.place at both.0 out_goes (is_followed k s) refl)
+      (followed_not k k.place at own out_goes (is_followed k s) refl)
   twin_by n a e live number other false lower =
       let above : nat_lt a.place k.place ≡ true = grind (arith, nat_tests) in
       later_any a k k.place at
@@ -134,12 +121,32 @@ module _ (s : Seen) (c : Call) (book : IsBook s) (turn : IsInTurn s c) (going : 
       turned true e = absurd (cc)
       turned false e = refl
 
-  pub can : CanCommit s c k
-  can = record {
+  pub can_commit : CanCommit s c k
+  can_commit = record {
     at = at;
-    mine = both.0;
-    outstanding = both.1;
+    mine = own;
+    outstanding = out;
     open_now = going;
     free = uncommitted;
     alone = none_from (is_twin s c k) s.attempts (λ n a e. twin_not n a e (is_twin s c k a) refl);
   }
+
+-- the one that was drained furthest
+module _ (s : Seen) (c : Call) (book : IsBook s) (turn : IsInTurn s c) (going : c.end ≡ None) (uncommitted : commitment c s ≡ None) (k : Attempt) (far : furthest c s ≡ Some k) where
+  abbrev mine_out : Attempt → Bool
+  mine_out a = is_of c a && is_outstanding a
+
+  there_filtered : IsIn (filter mine_out s.attempts) k
+  there_filtered = foremost_in (is_further s) (filter mine_out s.attempts) k far
+
+  pub there : IsIn s.attempts k
+  there = in_filter mine_out s.attempts there_filtered.index k there_filtered.here
+
+  both : (is_of c k ≡ true) × (is_outstanding k ≡ true)
+  both = and_parts (is_of c k) (is_outstanding k) (filter_passes mine_out s.attempts there_filtered.index k there_filtered.here)
+
+  pub at : numbered s.attempts k.place ≡ Some k
+  at = at_place s.attempts k book.places there
+
+  pub can : CanCommit s c k
+  can = can_commit s c turn going uncommitted k at both.0 both.1

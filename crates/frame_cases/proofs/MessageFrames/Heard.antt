@@ -1,5 +1,5 @@
 -- Messages are heard: they came for the application of the call that is committed to their attempt, and nothing follows at once.
-use Rattle.std.proofs.Common.{◌≡◌, ◌++◌, ◌&&◌, ◌==◌, ◌∷◌, append_assoc, ap, refl, subst, sym, ◌∙◌, Bool, true, false, List, [], Option, None, Some, ℕ, drop, is_none, is_some, length, map}
+use Rattle.std.proofs.Common.{◌≡◌, ◌++◌, ◌==◌, ◌∷◌, append_assoc, ap, refl, subst, sym, ◌∙◌, Bool, true, false, List, [], Option, None, Some, ℕ, drop, is_some, map}
 use Rattle.std.proofs.lemmas.Bool.{eqb-true}
 use Rattle.std.proofs.lemmas.List.{map-append}
 use Rattle.std.specs.Option.{option_map, option_map_or, option_to_list}
@@ -27,7 +27,7 @@ use Rattle.frame_cases.proofs.PassedBytes.Agreeing.{HasCame, nothing_came, recal
 use Rattle.frame_cases.proofs.QuietFrames.Heard as quiet
 use Rattle.frame_cases.proofs.QuietFrames.Lines as lines
 use Rattle.frame_cases.proofs.QuietFrames.ReadStill as read
-use Rattle.frame_cases.specs.FrameKinds.Laws.{FrameKind, Messages, MessagesAreHeard, Quiet, kind_of}
+use Rattle.frame_cases.specs.FrameKinds.Laws.{Messages, MessagesAreHeard, Quiet, kind_of}
 use Rattle.frame_cases.specs.MessageFrames.Laws.{HasMessages, IsReadWithMessages}
 use Rattle.frame_cases.specs.PassedBytes.Laws.{relinked}
 use Rattle.frame_cases.specs.PieceWalks.Points.{HasHeard, IsHearing, coming}

@@ -1,5 +1,5 @@
 -- The channel is told messages of a response: they stand in the inbox of their call, and nothing else changes.
-use Rattle.std.proofs.Common.{◌≡◌, ◌-◌, ◌==◌, ◌∷◌, ◌++◌, append-nil, append_assoc, ap, refl, sym, ◌∙◌, Bool, true, false, List, [], Option, None, Some, ℕ, zero, suc, if◌then◌else◌, map, slice_get, slice_set}
+use Rattle.std.proofs.Common.{◌≡◌, ◌-◌, ◌∷◌, ◌++◌, append-nil, append_assoc, ap, refl, sym, ◌∙◌, Bool, true, false, List, [], Option, None, Some, ℕ, zero, suc, if◌then◌else◌, map, slice_get, slice_set}
 use Rattle.std.proofs.lemmas.Bool.{eq-eqb}
 use Rattle.std.specs.Option.{option_map_or}
 use Rattle.a6_numbers.specs.Throttling.{Bucket}
@@ -18,7 +18,6 @@ use Rattle.channel_core.specs.States.{StateSeen}
 use Rattle.channel_core.specs.Steps.{drawn_if, ends_kept, links_sealed, next_word, resets_taken, sealed, sealed_one, timers_moved_to, told, told_acts, told_to, with_book}
 use Rattle.channel_core.specs.Tables.{Acted, BucketsSeen, Heard, acted_as, sealed_in, tokens_in, with_call, with_timers, with_tokens}
 use Rattle.channel_core.specs.Timing.{is_same_moment, timer_moved, timer_off, timer_on}
-use Rattle.channel_core.specs.declared.state.book.Book.{Book}
 use Rattle.channel_core.specs.declared.state.slots.CallSlot.{CallSlot}
 use Rattle.frame_cases.proofs.PassedBytes.Agreeing.{recalled}
 use Rattle.frame_cases.specs.PassedBytes.Laws.{relinked}

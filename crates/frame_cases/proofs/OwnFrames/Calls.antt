@@ -1,6 +1,6 @@
 -- An attempt that goes on where nothing follows at once: its call is open, and where it is committed, it is to this attempt; so it is where a head came.
 use Rattle.std.proofs.Common.{◌≡◌, ◌&&◌, ◌||◌, ◌==◌, ◌∷◌, ap, refl, subst, sym, ◌∙◌, Bool, true, false, List, [], Option, None, Some, ℕ, zero, suc, cond, filter, is_none, is_some, map, slice_get}
-use Rattle.std.proofs.lemmas.Bool.{and_parts, eq-eqb}
+use Rattle.std.proofs.lemmas.Bool.{eq-eqb}
 use Rattle.std.specs.Option.{option_map}
 use Rattle.std.specs.Prelude.{find}
 use Rattle.call_actions.proofs.Lists.{numbered_not}

@@ -1,5 +1,5 @@
 -- A frame of the stream of an attempt is read: what session and channel have of this attempt, its response and its call, and that nothing came of any other attempt.
-use Rattle.std.proofs.Common.{◌≡◌, ◌&&◌, ◌==◌, ap, refl, subst, sym, ◌∙◌, Bool, true, false, List, Option, None, Some, ℕ, is_none, is_some}
+use Rattle.std.proofs.Common.{◌≡◌, ◌==◌, ap, refl, subst, sym, ◌∙◌, Bool, true, false, List, Option, None, Some, ℕ, is_none, is_some}
 use Rattle.std.proofs.lemmas.Bool.{and_parts, eq-eqb, eqb-true}
 use Rattle.std.specs.Option.{option_map}
 use Rattle.attempt_ledger.specs.declared.row.Row.{Row}
@@ -30,7 +30,7 @@ use Rattle.link_actions.specs.StreamActions.Laws.{IsOn}
 use Rattle.link_actions.specs.StreamActions.Sees.{response_of}
 use Rattle.session_actions.specs.Attempts.{commitment, is_commitment, is_of, is_outstanding}
 use Rattle.session_actions.specs.Responses.{response}
-use Rattle.session_actions.specs.Words.{holds, numbered}
+use Rattle.session_actions.specs.Words.{numbered}
 use Rattle.session_actions.specs.Writing.{frame_read, next_frame_read, owed_for}
 use Rattle.session_actions.specs.declared.action.Action.TheVariants as action
 use Rattle.session_actions.specs.declared.attempt.Attempt.{Attempt}

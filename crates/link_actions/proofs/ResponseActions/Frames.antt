@@ -255,6 +255,7 @@ is_reported l s w g readers r a (Ends number) t q ns true done is =
     record {
       news = is.told_.news ∙ is.step.news ∙ ap (gained a.place (seen_at r) p) (sym is.after);
       goes = λ never. absurd (let no : false ≡ true = sym never ∙ ap is_done is.after ∙ done in let out : ⊥ = (cc) in out);
+      unreset = λ never. absurd (let no : false ≡ true = sym never ∙ ap is_done is.after ∙ done in let out : ⊥ = (cc) in out);
       ends = λ e. ends_with l s w v g readers r a (Ends number) t q ns is done wire is.follows;
     }
 is_reported l s w g readers r a stream.GoesOn t q ns true done is =
@@ -267,6 +268,7 @@ is_reported l s w g readers r a stream.GoesOn t q ns true done is =
     record {
       news = is.told_.news ∙ is.step.news ∙ ap (gained a.place (seen_at r) p) (sym is.after);
       goes = λ never. absurd (let no : false ≡ true = sym never ∙ ap is_done is.after ∙ done in let out : ⊥ = (cc) in out);
+      unreset = λ never. absurd (let no : false ≡ true = sym never ∙ ap is_done is.after ∙ done in let out : ⊥ = (cc) in out);
       ends = λ e. ends_with l s w (cut v a.place cancel) g readers r a stream.GoesOn t q ns is done wire
           (cuts_keep m u v g r.frame.stream cancel a is.follows.0 (on_after l s r r.frame.stream a is.on) (is.tells.fresh refl));
     }
@@ -285,6 +287,7 @@ is_reported l s w g readers r a stream.GoesOn t q ns false going is =
     record {
       news = is.told_.news ∙ is.step.news ∙ ap (gained a.place (seen_at r) p) (sym is.after);
       goes = λ e. (subst (λ (x : Wire). SeesStreams m u x g) (sym wire) sees, goes_with l s w g readers r a stream.GoesOn t q ns is going);
+      unreset = λ e. ap (λ (x : Wire). x.queue.fresh) wire ∙ is.tells.fresh refl;
       ends = λ never. absurd (let no : true ≡ false = sym never ∙ ap is_done is.after ∙ going in let out : ⊥ = (cc) in out);
     }
   where

@@ -63,10 +63,11 @@ pub record IsEnded (l : Link) (s : Seen) (w : Wire) (g : ℕ → Line) (readers 
   pub by_cut : (e : RowEnd) → (response_of l s n a).end ≡ None → is_cut e.cause ≡ true → code_to_reset a e n s l ≡ code
   pub readers_are : SeesReadersBut a.place l s readers
 
--- of a frame of its stream: what is reported is what the response gained, and where it goes on, link and readers agree with the session
+-- of a frame of its stream: what is reported is what the response gained, and where it goes on, link and readers agree with the session, and no reset was queued by it
 pub record IsReported (l : Link) (s : Seen) (m : Link) (u : Seen) (t : Reported) (g : ℕ → Line) (n seen : ℕ) (a : Attempt) : Type 0 where
   pub news : t.news ≡ gained a.place seen (response_of l s n a) (response_of m u n a)
   pub goes : is_done (response_of m u n a) ≡ false → SeesStreams m u t.link.link.wire g × SeesReaders m u t.link.readers
+  pub unreset : is_done (response_of m u n a) ≡ false → t.link.link.wire.queue.fresh ≡ 0
   pub ends : is_done (response_of m u n a) ≡ true → IsEnded m u t.link.link.wire g t.link.readers n a
 
 -- frames of an attempt's stream, by what they are
