@@ -15,6 +15,7 @@ pub mod DrainedCalls
 pub mod DrainedLines
 pub mod EndCases
 pub mod EndRetries
+pub mod FewStreams
 pub mod FirstShutdowns
 pub mod FullSends
 pub mod GenerationStamps
@@ -27,6 +28,7 @@ pub mod LeftLinks
 pub mod LongSends
 pub mod LostLinks
 pub mod MakingSteps
+pub mod NearDeadlines
 pub mod NetChains
 pub mod NetResults
 pub mod NetSettlings
