@@ -23,7 +23,10 @@ use Rattle.channel_actions.specs.OwnLinks.Own.{AreOwnLinks}
 use Rattle.channel_actions.specs.OwnStreams.Own.{AreOwnStreams}
 use Rattle.channel_actions.specs.SoundBuffers.Held.{BuffersAreSound}
 use Rattle.channel_actions.specs.SoundCalls.Sound.{AreSoundCalls}
+use Rattle.channel_actions.proofs.Posted.{fewer, none_posted, posted_after}
 use Rattle.channel_actions.specs.Points.{IsSameEntry, Rests}
+use Rattle.channel_actions.specs.Posted.{ArePosted, FewAttempts, IsPosted}
+use Rattle.channel_actions.specs.SoundCalls.Laws.{AnswersKeepRows, SettlingsKeepRows, StepsKeepCalls, StepsKeepRows}
 use Rattle.channel_actions.specs.Stages.{Closings, Deadlines, Events, IsAnswered, IsSettled, IsTimely, Openings, Settlings}
 use Rattle.channel_actions.specs.TheirLinks.Theirs.{AreTheirs}
 use Rattle.channel_core.specs.Applying.{AnswersBy, Stepped, begun_at, conn_of, refusal_of}
@@ -37,6 +40,9 @@ use Rattle.grpc_base.specs.declared.event.Refusal.{Refusal}
 use Rattle.grpc_base.specs.declared.event.Reply.{Reply}
 use Rattle.grpc_base.specs.declared.event.Reply.TheVariants as reply
 use Rattle.grpc_base.specs.declared.event.Stamped.{Stamped}
+use Rattle.grpc_base.specs.Kinds.{has_kind}
+use Rattle.grpc_base.specs.declared.kind.Kind.TheVariants as kind
+use Rattle.session_actions.specs.Configs.{kinds_in}
 use Rattle.net_actions.specs.Laws.{StatesAreSame}
 use Rattle.session_actions.specs.Actions.{after, after_if}
 use Rattle.session_actions.specs.Closing.{entry_made, made_entry}
@@ -67,14 +73,20 @@ pub record IsCarried (x : StateSeen) (s : Seen) : Type 0 where
   pub greeted : AreGreeted s
   pub streams : AreOwnStreams s
   pub reached : IsReached s
+  pub posted : ArePosted (posted_in reached.actions)
+  pub first : has_kind (kinds_in reached.setup.policies) kind.PickFirst ≡ true
 
--- what keeps it: each stage of the channel, and each action
+-- what keeps it: each stage of the channel, and each action; and no stage forgets an attempt
 pub record Carrying : Type 0 where
   pub deadlines : (x : StateSeen) → KeepsOn x → KeepsOn (overdue_ended x)
   pub answers : (refused : Option Refusal) (e : Event) (x y : StateSeen) (r : Reply) → AnswersBy refused e x y r → KeepsOn x → KeepsOn y
   pub settlings : (x : StateSeen) → KeepsOn x → KeepsOn (settled x)
   pub early : EarlyAlong
   pub own : OwnAlong
+  pub rows_answered : AnswersKeepRows
+  pub rows_settled : SettlingsKeepRows
+  pub rows_stepped : StepsKeepRows
+  pub calls_stepped : StepsKeepCalls
 
 -- the session goes on to the point behind an entry
 pub record Enters (y : StateSeen) (s : Seen) (e : Stamped) (r : Reply) : Type 0 where
@@ -98,7 +110,7 @@ same_on o s p t q u a b = record {
 
 module _ (states : StatesAreSame) (openings : Openings) (deadlines : Deadlines) (events : Events) (settlings : Settlings) (closings : Closings)
     (carrying : Carrying) (x y : StateSeen) (s : Seen) (e : Stamped) (r : Reply) (h : Rests x s) (c : IsCarried x s) (room : has_room e.event s ≡ true)
-    (step : Stepped (length s.entries + 1) (max e.moment (last_moment s)) e.word e.event x y r) where
+    (step : Stepped (length s.entries + 1) (max e.moment (last_moment s)) e.word e.event x y r) (allowed : IsPosted e.event) (few : FewAttempts y.book.ledger) where
   abbrev begun : StateSeen
   begun = begun_at (length s.entries + 1) (max (last_moment s) e.moment) e.word x
 
@@ -118,8 +130,8 @@ module _ (states : StatesAreSame) (openings : Openings) (deadlines : Deadlines) 
   agrees_first = openings x s e.moment e.word e.event h
 
   -- what is carried, after actions from a session that is kept
-  carried_on : (actions : List Action) (w z : StateSeen) (t u : Seen) → IsKept t → IsCarried w t → Does actions t u → KeepsOn z → IsCarried z u
-  carried_on actions w z t u kept k does keeps = record {
+  carried_on : (actions : List Action) (w z : StateSeen) (t u : Seen) → IsKept t → IsCarried w t → Does actions t u → ArePosted (posted_in actions) → KeepsOn z → IsCarried z u
+  carried_on actions w z t u kept k does posts keeps = record {
     keeps = keeps;
     early = carrying.early actions t u kept k.early does;
     own = carrying.own actions t u kept k.own does;
@@ -127,6 +139,8 @@ module _ (states : StatesAreSame) (openings : Openings) (deadlines : Deadlines) 
     greeted = greeted_along actions t u kept k.greeted does;
     streams = streams_along actions t u kept k.greeted k.streams does;
     reached = reached_on t u actions k.reached does;
+    posted = posted_after k.reached.actions actions k.posted posts;
+    first = k.first;
   }
 
   -- and so it is known, while no entry was made
@@ -142,11 +156,13 @@ module _ (states : StatesAreSame) (openings : Openings) (deadlines : Deadlines) 
     streams = k.streams;
     reached = k.reached;
     few = ap (λ (l : List Entry). nat_lt (length l) 1048576) same ∙ (and_parts (nat_lt (length s.entries) 1048576) _ room).0;
+    posted = k.posted;
+    first = k.first;
   }
 
   carried_first : IsCarried begun first
   carried_first =
-      carried_on (action.EntryOpens e.moment e.word e.event ∷ []) x begun s first h.agrees.kept c (may, sym opens_to)
+      carried_on (action.EntryOpens e.moment e.word e.event ∷ []) x begun s first h.agrees.kept c (may, sym opens_to) (allowed, tt)
       (record {
         going = record { calls = c.keeps.going.calls; allows = c.keeps.going.allows };
         calls = record { slots = c.keeps.calls.slots; plans = c.keeps.calls.plans };
@@ -161,7 +177,7 @@ module _ (states : StatesAreSame) (openings : Openings) (deadlines : Deadlines) 
   carried_timely : IsCarried (overdue_ended begun) timely.reaches.seen
   carried_timely =
       carried_on timely.reaches.actions begun (overdue_ended begun) first timely.reaches.seen agrees_first.kept carried_first timely.reaches.does
-      (carrying.deadlines begun carried_first.keeps)
+      (none_posted timely.reaches.actions timely.reaches.posts) (carrying.deadlines begun carried_first.keeps)
 
   answers : AnswersBy (refusal_of timely.reaches.entry.event (overdue_ended begun)) timely.reaches.entry.event (overdue_ended begun) step.answered r
   answers =
@@ -170,15 +186,29 @@ module _ (states : StatesAreSame) (openings : Openings) (deadlines : Deadlines) 
       (overdue_ended (begun_at (length s.entries + 1) m e.word x)) step.answered r) (max_comm e.moment (last_moment s)) step.answers in
       subst (λ (v : Event). AnswersBy (refusal_of v (overdue_ended begun)) v (overdue_ended begun) step.answered r) (sym timely.reaches.same.event) was
 
+  keeps_answered : KeepsOn step.answered
+  keeps_answered = carrying.answers _ timely.reaches.entry.event (overdue_ended begun) step.answered r answers carried_timely.keeps
+
+  -- no stage of the entry forgets an attempt, so that few were made before each
+  few_answered : FewAttempts step.answered.book.ledger
+  few_answered =
+      fewer step.answered.book.ledger (settled step.answered).book.ledger (carrying.rows_settled step.answered keeps_answered.calls)
+      (subst (λ (z : StateSeen). FewAttempts z.book.ledger) step.settles few)
+
+  few_timely : FewAttempts (overdue_ended begun).book.ledger
+  few_timely =
+      fewer (overdue_ended begun).book.ledger step.answered.book.ledger
+      (carrying.rows_answered _ timely.reaches.entry.event (overdue_ended begun) step.answered r answers carried_timely.keeps.calls) few_answered
+
   answered : IsAnswered step.answered r timely.reaches.entry timely.reaches.seen
   answered =
       events (overdue_ended begun) step.answered r timely.reaches.entry timely.reaches.seen timely.reaches.agrees timely.reaches.at timely.fresh timely.none
-      (known_of (overdue_ended begun) timely.reaches.seen carried_timely timely.reaches.same.entries) answers
+      (subst IsPosted (sym timely.reaches.same.event) allowed, few_timely, known_of (overdue_ended begun) timely.reaches.seen carried_timely timely.reaches.same.entries) answers
 
   carried_answered : IsCarried step.answered answered.reaches.seen
   carried_answered =
       carried_on answered.reaches.actions (overdue_ended begun) step.answered timely.reaches.seen answered.reaches.seen timely.reaches.agrees.kept carried_timely
-      answered.reaches.does (carrying.answers _ timely.reaches.entry.event (overdue_ended begun) step.answered r answers carried_timely.keeps)
+      answered.reaches.does (none_posted answered.reaches.actions answered.reaches.posts) keeps_answered
 
   settling_begins : Settles step.answered answered.reaches.entry answered.reaches.seen
   settling_begins = begins step.answered answered.reaches.entry answered.reaches.seen answered.reaches.agrees answered.reaches.at answered.none
@@ -186,13 +216,13 @@ module _ (states : StatesAreSame) (openings : Openings) (deadlines : Deadlines) 
   carried_begins : IsCarried step.answered settling_begins.reaches.seen
   carried_begins =
       carried_on settling_begins.reaches.actions step.answered step.answered answered.reaches.seen settling_begins.reaches.seen answered.reaches.agrees.kept
-      carried_answered settling_begins.reaches.does carried_answered.keeps
+      carried_answered settling_begins.reaches.does (none_posted settling_begins.reaches.actions settling_begins.reaches.posts) carried_answered.keeps
 
   done : IsSettled step.answered settling_begins.reaches.entry settling_begins.reaches.seen
   done =
       settlings step.answered settling_begins.reaches.entry settling_begins.reaches.seen settling_begins.reaches.agrees settling_begins.reaches.at
       (settling_begins.turn ∙ answered.fresh)
-      (known_of step.answered settling_begins.reaches.seen carried_begins (settling_begins.reaches.same.entries ∙ answered.reaches.same.entries ∙ timely.reaches.same.entries))
+      (few_answered, known_of step.answered settling_begins.reaches.seen carried_begins (settling_begins.reaches.same.entries ∙ answered.reaches.same.entries ∙ timely.reaches.same.entries))
 
   abbrev last_entry : OpenEntry
   last_entry = done.reaches.entry
@@ -246,12 +276,12 @@ module _ (states : StatesAreSame) (openings : Openings) (deadlines : Deadlines) 
   carried_done : IsCarried y last_seen
   carried_done =
       carried_on done.reaches.actions step.answered y settling_begins.reaches.seen last_seen settling_begins.reaches.agrees.kept carried_begins
-      done.reaches.does (subst KeepsOn (sym step.settles) (carrying.settlings step.answered carried_begins.keeps))
+      done.reaches.does (none_posted done.reaches.actions done.reaches.posts) (subst KeepsOn (sym step.settles) (carrying.settlings step.answered carried_begins.keeps))
 
   carried_last : IsCarried y (entry_made last_entry last_seen)
   carried_last =
       carried_on (action.EntryCloses ∷ []) y y last_seen (entry_made last_entry last_seen) agrees_last.kept carried_done
-      (done.closes, sym after_last) carried_done.keeps
+      (done.closes, sym after_last) tt carried_done.keeps
 
   pub entered : Enters y s e r
   entered = record {

@@ -2,6 +2,7 @@ pub mod ActionsFit
 pub mod ActsFollowed
 pub mod Answering
 pub mod BoardActions
+pub mod Changes
 pub mod Closing
 pub mod Dialling
 pub mod Does
@@ -32,6 +33,7 @@ pub mod Outstanding
 pub mod OwnLinks
 pub mod OwnStreams
 pub mod Pinging
+pub mod Posted
 pub mod Quiet
 pub mod Refusing
 pub mod Relinked

@@ -1,5 +1,5 @@
--- What is known at each stage of an entry, beside that channel and session agree: what each step of a channel keeps, what every session keeps, and that the
--- journal is below its limit. It holds of a new channel and a new session, and is carried along a run.
+-- What is known at each stage of an entry, beside that channel and session agree: what each step of a channel keeps, what every session keeps, that the journal is
+-- below its limit, and that what was posted is what types allow. It holds of a new channel and a new session, and is carried along a run.
 -- Example: the deadline of call 1 has come. That no stream was reset of an attempt of it that goes on is no part of the agreement; every session keeps it.
 use Rattle.std.specs.Prelude.{length, nat_lt, true, ◌≡◌}
 use Rattle.channel_actions.specs.FewCalls.Reached.{IsReached}
@@ -8,10 +8,15 @@ use Rattle.channel_actions.specs.GreetedLinks.Greeted.{AreGreeted}
 use Rattle.channel_actions.specs.KeptCalls.Early.{IsEarlyKept}
 use Rattle.channel_actions.specs.OwnLinks.Own.{AreOwnLinks}
 use Rattle.channel_actions.specs.OwnStreams.Own.{AreOwnStreams}
+use Rattle.channel_actions.specs.Posted.{ArePosted}
 use Rattle.channel_actions.specs.SoundBuffers.Held.{BuffersAreSound}
 use Rattle.channel_actions.specs.SoundCalls.Sound.{AreSoundCalls}
 use Rattle.channel_actions.specs.TheirLinks.Theirs.{AreTheirs}
 use Rattle.channel_core.specs.States.{StateSeen}
+use Rattle.grpc_base.specs.Kinds.{has_kind}
+use Rattle.grpc_base.specs.declared.kind.Kind.TheVariants as kind
+use Rattle.session_actions.specs.Configs.{kinds_in}
+use Rattle.session_actions.specs.Laws.{posted_in}
 use Rattle.session_actions.specs.declared.seen.Seen.{Seen}
 
 pub record IsKnown (x : StateSeen) (s : Seen) : Type 0 where
@@ -31,3 +36,6 @@ pub record IsKnown (x : StateSeen) (s : Seen) : Type 0 where
   pub reached : IsReached s
   -- so numbers of calls and links do not end
   pub few : nat_lt (length s.entries) 1048576 ≡ true
+  -- what was posted is what the types of an event allow, and pick_first is among the policies
+  pub posted : ArePosted (posted_in reached.actions)
+  pub first : has_kind (kinds_in reached.setup.policies) kind.PickFirst ≡ true

@@ -27,6 +27,7 @@ pub mod OtherCalls
 pub mod OwnLinks
 pub mod OwnStreams
 pub mod Points
+pub mod Posted
 pub mod Readers
 pub mod ResetCalls
 pub mod SetFrames

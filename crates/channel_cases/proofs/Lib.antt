@@ -18,6 +18,7 @@ pub mod EndCases
 pub mod EndRetries
 pub mod EndedHeads
 pub mod FailedPicks
+pub mod FewStreams
 pub mod FirstShutdowns
 pub mod FullSends
 pub mod GenerationStamps
@@ -31,6 +32,7 @@ pub mod LeftLinks
 pub mod LongSends
 pub mod LostLinks
 pub mod MakingSteps
+pub mod NearDeadlines
 pub mod NetChains
 pub mod NetResults
 pub mod NetSettlings

@@ -14,6 +14,7 @@ pub mod DrainEvents
 pub mod DrainedCalls
 pub mod DrainedLines
 pub mod EndedCalls
+pub mod FewStreams
 pub mod FirstShutdowns
 pub mod FullSends
 pub mod GenerationStamps
@@ -26,6 +27,7 @@ pub mod LeftLinks
 pub mod LongSends
 pub mod LostLinks
 pub mod MakingSteps
+pub mod NearDeadlines
 pub mod NetChains
 pub mod NetResults
 pub mod NetSettlings

@@ -8,15 +8,18 @@ use crate::call_ends::late_cancels_are_refused;
 use crate::call_posts::{finishes_are_answered, takes_are_answered};
 use crate::dial_events::dials_are_answered;
 use crate::ended_calls::open_cancels_are_answered;
+use crate::few_streams::{nets_may_ask, streams_are_few};
 use crate::held_calls::known_drains_are_answered;
-use crate::known_nets::take_overs_are_steps;
+use crate::known_nets::{known_results_are_answered, take_overs_are_steps};
 use crate::known_stages::{
     clocks_and_wishes_are_steps, deadlines_are_done, known_shutdowns_are_answered,
 };
 use crate::lost_links::lost_links_are_answered;
+use crate::near_deadlines::deadlines_are_near;
 use crate::result_events::some_results_are_answered;
 use crate::serve_steps::places_by_agreement;
 use crate::settling_parts::settlings_stand;
+use channel_actions::few_calls::links_are_few;
 use channel_actions::sound_buffers::buffers_stay_sound;
 use channel_actions::{pings_are_queued, runs_are_sessions};
 
@@ -29,13 +32,17 @@ pub fn runs_are_sessions_but()
     buffers_stay_sound();
     clocks_and_wishes_are_steps();
     deadlines_are_done();
+    deadlines_are_near();
     dials_are_answered();
     ends_are_by_cases();
     finishes_are_answered();
     known_drains_are_answered();
+    known_results_are_answered();
     known_shutdowns_are_answered();
     late_cancels_are_refused();
+    links_are_few();
     lost_links_are_answered();
+    nets_may_ask();
     open_cancels_are_answered();
     pings_are_queued();
     places_by_agreement();
@@ -43,6 +50,7 @@ pub fn runs_are_sessions_but()
     runs_rise();
     settlings_stand();
     some_results_are_answered();
+    streams_are_few();
     take_overs_are_steps();
     takes_are_answered();
 }

@@ -6,3 +6,4 @@ pub mod MessageFrames
 pub mod PassedBytes
 pub mod PieceWalks
 pub mod QuietFrames
+pub mod ReadOut

@@ -1,5 +1,6 @@
 -- The state of the channel, and pick requests, are the same in the session and in the net.
-use Rattle.std.proofs.Common.{◌≡◌, ◌<◌, ◌+◌, ◌∷◌, ◌++◌, ◌==◌, ◌&&◌, nat_lt, ap, arith, refl, subst, sym, ◌∙◌, Bool, true, false, List, [], Option, None, Some, ℕ, if◌then◌else◌, is_some, length, cond}
+use Rattle.std.proofs.Common.{◌≡◌, ◌≤◌, ◌<◌, ◌+◌, ◌∷◌, ◌++◌, ◌==◌, ◌&&◌, nat_lt, ap, arith, refl, subst, sym, ◌∙◌, Bool, true, false, List, [], Option, None, Some, ℕ, if◌then◌else◌, is_some, length, cond}
+use Rattle.std.proofs.lemmas.List.{length-append}
 use Rattle.std.proofs.lemmas.Bool.{eq-eqb}
 use Rattle.std.proofs.lemmas.Option.{same_Some}
 use Rattle.std.specs.Prelude.{fold, sum_by}
@@ -151,6 +152,9 @@ asked_beyond s a g h is of_it none number less =
     ∙ ap (λ (k : ℕ). k + cond (a.generation == number) 1 0) (none number less) ∙ from_zero (cond (a.generation == number) 1 0)
     ∙ none_if (a.generation == number) other
 
+one_counted : (n m k : ℕ) → n ≤ m → k ≡ m + 1 → n + 1 ≤ k
+one_counted n m k e f = omega (arith, e, f)
+
 -- a pick request of the current policy
 pub asks_are_answered : AsksAreAnswered
 asks_are_answered s n g row answer h beside few is =
@@ -168,6 +172,7 @@ asks_are_answered s n g row answer h beside few is =
       made = h.made;
       kinds_are = kinds_changed_of turned (plain turned (λ p. (refl, refl))) s.setup.policies n.asker.rack.policies n.asker.rack.current h.kinds_are;
       unasked = asked_beyond s a g h.uses_are is refl h.unasked;
+      counted = one_counted n.asker.asks (length s.asks) (length (s.asks ++ a ∷ [])) h.counted (length-append s.asks (a ∷ []));
       current_is = turned_current s a (current_policy s) n.asker.rack.current n.current n.asker.rack.policies
           (λ x e. (let one : g ≡ x = same_Some g x (sym is ∙ e) in eq-eqb g.number x.number (ap (λ (y : PolicyUse). y.number) one))) h.current_is;
       pending_is = still_pending s a (pending_policy s) n.asker.rack.pending n.asker.rack.current n.pending n.asker.rack.policies

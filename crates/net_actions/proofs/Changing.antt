@@ -209,6 +209,7 @@ module _ (f : Subchannel → Subchannel) (g : SubRecord → SubRecord) (place : 
             (kinds_changed_of (noted (suc place) (g c.r).state) (plain (noted (suc place) (g c.r).state) (λ p. (refl, refl))) s.setup.policies
             n.asker.rack.policies n.asker.rack.current h.kinds_are);
         unasked = subst (λ (k : ℕ). NoneAskedBeyond k s.asks) (sym (length-map s.policies (noted_state t (f c.b)))) h.unasked;
+        counted = h.counted;
         current_is = current_now (current_policy s) n.asker.rack.current n.asker.rack.pending n.current n.asker.rack.policies h.subs_are
             (λ x e. first_true (is_live_policy x) (is_some x.generation.activated) (found_passes is_current s.policies x e)) h.apart h.current_is;
         pending_is = pending_now (pending_policy s) n.asker.rack.pending n.asker.rack.current n.pending n.asker.rack.policies h.subs_are

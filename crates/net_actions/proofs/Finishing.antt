@@ -1,5 +1,5 @@
 -- Once the policies of a session have the lists of a net, subchannels go and come, and session and net agree.
-use Rattle.std.proofs.Common.{◌≡◌, ◌++◌, ap, subst, sym, ◌∙◌, List, Option, length, option_to_list}
+use Rattle.std.proofs.Common.{◌≡◌, ◌≤◌, ◌++◌, ap, subst, sym, ◌∙◌, List, Option, length, option_to_list}
 use Rattle.std.specs.List.{flat_map}
 use Rattle.std.specs.Option.{option_map}
 use Rattle.grpc_base.specs.Addresses.{IsWithoutRepeats}
@@ -69,11 +69,11 @@ pub finished : (o : OpenEntry) (s : Seen) (uses : List PolicyUse) (c p : Option 
     → AreSubs 1 s.subs n.board n.links → NoneBeyond (length s.subs) n.links → UsesNow o s uses c p
     → flat_map (λ (g : PolicyUse). g.addresses) (option_to_list c ++ option_to_list p) ≡ current ++ pending
     → IsWithoutRepeats current → IsWithoutRepeats pending → r.made ≡ length uses → AreKinds s.setup.policies r.policies
-    → NoneAskedBeyond (length uses) s.asks → AreApart r.current r.pending
+    → NoneAskedBeyond (length uses) s.asks → n.asker.asks ≤ length s.asks → AreApart r.current r.pending
     → FitsNow s uses current pending n (λ t. IsUse c (use_in c t) r.current current r.policies)
     → FitsNow s uses current pending n (λ t. IsUse p (use_in p t) r.pending pending r.policies)
     → Becomes o s (net_with r current pending n)
-finished o s uses c p r current pending n subs beyond given list one two made kinds unasked apart first second =
+finished o s uses c p r current pending n subs beyond given list one two made kinds unasked counted apart first second =
     let u : Seen = with_uses uses s in
     let m : NetSeen = net_with r current pending n in
     let are : listed u ≡ current ++ pending
@@ -88,6 +88,7 @@ finished o s uses c p r current pending n subs beyond given list one two made ki
       made = made;
       kinds_are = kinds;
       unasked = unasked;
+      counted = counted;
       current_is = first kept_now.subs kept_now.are;
       pending_is = second kept_now.subs kept_now.are;
       apart = apart;

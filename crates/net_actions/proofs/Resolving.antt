@@ -180,7 +180,7 @@ module _ (o : OpenEntry) (s : Seen) (k : Kind) (addresses : List Address) (ps : 
       let becomes : Becomes o s (net_with r addresses [] n)
       = finished o s uses (Some (give addresses s c)) None r addresses [] n b.sees.subs_are b.sees.beyond given_by refl
       b.list.no_repeats tt (b.sees.made ∙ sym same_length) (kinds_given view s.setup.policies ps pl place b.sees.kinds_are)
-      (subst (λ (j : ℕ). NoneAskedBeyond j s.asks) (sym same_length) b.sees.unasked) tt
+      (subst (λ (j : ℕ). NoneAskedBeyond j s.asks) (sym same_length) b.sees.unasked) b.sees.counted tt
       (λ subs after. (let same : given view (policy_of c s) ≡ policy_of (give addresses s c) (with_subs subs (with_uses uses s))
       = given_same s uses subs board links (live_links (kept addresses [] board) links) addresses [] addresses c b.sees.subs_are after (first_wanted addresses []) sound in
       (u.0, refl, got ∙ ap (λ (x : PolicySeen). Some x) same, subst IsSound same (given_sound (kept addresses [] board) addresses (policy_of c s) b.list))))
@@ -220,7 +220,7 @@ module _ (o : OpenEntry) (s : Seen) (k : Kind) (addresses : List Address) (ps : 
       = finished o s uses (Some c) (Some (give addresses s p)) r current addresses n b.sees.subs_are b.sees.beyond given_by
       (ap (λ (l : List Address). l ++ (addresses ++ [])) u.1 ∙ ap (λ (l : List Address). current ++ l) (append-nil addresses))
       b.orderly.current b.list.no_repeats (b.sees.made ∙ sym same_length) (kinds_changed (given view) (plain (given view) (given_keeps view)) s.setup.policies ps place b.sees.kinds_are)
-      (subst (λ (j : ℕ). NoneAskedBeyond j s.asks) (sym same_length) b.sees.unasked) b.sees.apart
+      (subst (λ (j : ℕ). NoneAskedBeyond j s.asks) (sym same_length) b.sees.unasked) b.sees.counted b.sees.apart
       (λ subs after. (let same : policy_of c s ≡ policy_of c (with_subs subs (with_uses uses s))
       = still_same s uses subs board links (live_links (kept current addresses board) links) current addresses current b.sees.subs_are after (stays_live (Some cl) (Some live) b addresses) c u.1 in
       (u.0, u.1, stays ∙ ap (λ (x : PolicySeen). Some x) same, subst IsSound same u.3)))
@@ -292,7 +292,7 @@ module _ (o : OpenEntry) (s : Seen) (k : Kind) (addresses : List Address) (ps : 
       = finished o s uses (Some c) (Some (give addresses s g)) r current addresses n b.sees.subs_are b.sees.beyond given_by
       (ap (λ (l : List Address). l ++ (addresses ++ [])) u.1 ∙ ap (λ (l : List Address). current ++ l) (append-nil addresses))
       b.orderly.current b.list.no_repeats made_now (kinds_given view s.setup.policies ps pl place b.sees.kinds_are)
-      (λ j less. b.sees.unasked j (omega (arith, less, made_now, is_made))) ((λ x. eqb-false cl.place place away x), (λ x. omega (arith, x, low)))
+      (λ j less. b.sees.unasked j (omega (arith, less, made_now, is_made))) b.sees.counted ((λ x. eqb-false cl.place place away x), (λ x. omega (arith, x, low)))
       (λ subs after. (let same : policy_of c s ≡ policy_of c (with_subs subs (with_uses uses s))
       = still_same s uses subs board links (live_links (kept current addresses board) links) current addresses current b.sees.subs_are after (stays_live (Some cl) pl b addresses) c u.1 in
       (u.0, u.1, stays ∙ ap (λ (x : PolicySeen). Some x) same, subst IsSound same u.3)))
@@ -327,7 +327,7 @@ module _ (o : OpenEntry) (s : Seen) (k : Kind) (addresses : List Address) (ps : 
       let becomes : Becomes o s (net_with r addresses [] n)
       = finished o s uses (Some (give addresses s g)) None r addresses [] n b.sees.subs_are b.sees.beyond given_by refl
       b.list.no_repeats tt made_now (kinds_given view s.setup.policies ps None place b.sees.kinds_are)
-      (λ j less. b.sees.unasked j (omega (arith, less, made_now, is_made))) tt
+      (λ j less. b.sees.unasked j (omega (arith, less, made_now, is_made))) b.sees.counted tt
       (λ subs after. (let same : given view (policy_of g s) ≡ policy_of (give addresses s g) (with_subs subs (with_uses uses s))
       = given_same s uses subs board links (live_links (kept addresses [] board) links) addresses [] addresses g b.sees.subs_are after (first_wanted addresses []) refl in
       (number ∙ ap (λ (j : ℕ). j + 1) (sym is_made), refl, got ∙ ap (λ (x : PolicySeen). Some x) same, subst IsSound same (given_sound (kept addresses [] board) addresses (policy_of g s) b.list))))

@@ -62,4 +62,4 @@ shuts_all o s n h shut ended none =
     finished o s uses None None (all_retired n.asker.rack) [] [] n h.subs_are h.beyond now refl tt tt (h.made ∙ sym same)
     (kinds_changed_of emptied (plain emptied (λ p. (refl, refl))) s.setup.policies (changed_of emptied n.asker.rack.current n.asker.rack.policies) n.asker.rack.pending
     (kinds_changed_of emptied (plain emptied (λ p. (refl, refl))) s.setup.policies n.asker.rack.policies n.asker.rack.current h.kinds_are))
-    (subst (λ (k : ℕ). NoneAskedBeyond k s.asks) (sym same) h.unasked) tt (λ subs after. refl) (λ subs after. refl)
+    (subst (λ (k : ℕ). NoneAskedBeyond k s.asks) (sym same) h.unasked) h.counted tt (λ subs after. refl) (λ subs after. refl)

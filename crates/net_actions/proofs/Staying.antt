@@ -84,6 +84,7 @@ module _ (f : Subchannel → Subchannel) (g : SubRecord → SubRecord) (place : 
     made = h.made;
     kinds_are = h.kinds_are;
     unasked = h.unasked;
+    counted = h.counted;
     current_is = used_still (current_policy s) n.asker.rack.current n.current n.asker.rack.policies h.subs_are h.current_is;
     pending_is = used_still (pending_policy s) n.asker.rack.pending n.pending n.asker.rack.policies h.subs_are h.pending_is;
     apart = h.apart;

@@ -127,7 +127,7 @@ over_at o s n p h order shut ended none there =
     let same : length uses ≡ length s.policies = length-map s.policies (over e) in
     finished o u uses (Some q) None (taken_over n.asker.rack) n.pending [] n h.subs_are h.beyond now (ap (λ (l : List Address). l ++ []) addresses) order.pending tt
     (h.made ∙ sym same) (kinds_changed_of emptied (plain emptied (λ x. (refl, refl))) s.setup.policies n.asker.rack.policies n.asker.rack.current h.kinds_are)
-    (subst (λ (k : ℕ). NoneAskedBeyond k s.asks) (sym same) h.unasked) (apart_none n.asker.rack.pending)
+    (subst (λ (k : ℕ). NoneAskedBeyond k s.asks) (sym same) h.unasked) h.counted (apart_none n.asker.rack.pending)
     (λ subs after. used_over e s (with_subs subs u) p n.asker.rack.pending n.asker.rack.current n.pending n.asker.rack.policies h.apart
     (still_same s uses subs n.board n.links (live_links (kept n.pending [] n.board) n.links) n.pending [] n.pending h.subs_are after (stays n order) p addresses) used)
     (λ subs after. refl)

@@ -1,5 +1,5 @@
 -- When a pending policy takes over is the same in the session and in the net; and a new net is what a new session has done.
-use Rattle.std.proofs.Common.{◌≡◌, ◌||◌, not, ap, refl, sym, ◌∙◌, Bool, List, Option, None, Some, ℕ, if◌then◌else◌}
+use Rattle.std.proofs.Common.{◌≡◌, ◌≤◌, ◌||◌, not, ap, arith, refl, sym, ◌∙◌, Bool, List, Option, None, Some, ℕ, if◌then◌else◌}
 use Rattle.std.specs.Option.{option_and_then, option_map}
 use Rattle.grpc_base.specs.declared.address.Address.{Address}
 use Rattle.grpc_base.specs.declared.event.Conn.{Conn}
@@ -26,6 +26,7 @@ new_ones_agree setup policies same = record {
   made = refl;
   kinds_are = kinds_emptied setup.policies policies same;
   unasked = λ number less. refl;
+  counted = (let none : 0 ≤ 0 = omega arith in none);
   current_is = refl;
   pending_is = refl;
   apart = tt;

@@ -4,7 +4,7 @@
 -- nobody looks at.
 use Rattle.std.specs.Option.{option_map}
 use Rattle.std.specs.List.{list_any}
-use Rattle.std.specs.Prelude.{Bool, List, None, Option, Some, [], count_by, false, is_some, length, slice_get, true, ℕ, ◌+◌, ◌<◌, ◌==◌, ◌||◌, ◌∷◌, ◌≡◌}
+use Rattle.std.specs.Prelude.{Bool, List, None, Option, Some, [], count_by, false, is_some, length, slice_get, true, ℕ, ◌+◌, ◌<◌, ◌==◌, ◌||◌, ◌∷◌, ◌≡◌, ◌≤◌}
 use Rattle.attempt_ledger.specs.declared.ledger.Ask.{Ask}
 use Rattle.channel_net.specs.Lists.{link_of}
 use Rattle.channel_net.specs.Steps.{NetSeen}
@@ -99,6 +99,8 @@ pub record SeesBy (kinds : List PolicyKind) (asks : List Ask) (uses : List Polic
   pub made : n.asker.rack.made ≡ length uses
   pub kinds_are : AreKinds kinds n.asker.rack.policies
   pub unasked : NoneAskedBeyond (length uses) asks
+  -- (the net counts no more pick requests than were made)
+  pub counted : n.asker.asks ≤ length asks
   pub current_is : IsUse current p n.asker.rack.current n.current n.asker.rack.policies
   pub pending_is : IsUse pending q n.asker.rack.pending n.pending n.asker.rack.policies
   pub apart : AreApart n.asker.rack.current n.asker.rack.pending

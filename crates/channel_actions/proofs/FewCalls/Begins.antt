@@ -1,4 +1,5 @@
--- A call begins by an event: no line gives it, and no other stage of an entry.
+-- A call begins by an event: no line gives it, and no other stage of an entry. So it is with a dial that is taken, a link
+-- that comes up, bytes that come, and an answer.
 use Rattle.attempt_ledger.specs.declared.ledger.Ask.{Ask}
 use Rattle.grpc_base.specs.declared.address.Address.{Address}
 use Rattle.grpc_base.specs.declared.event.EndCause.TheVariants as ending
@@ -48,18 +49,40 @@ use Rattle.std.proofs.Common.{Bool, List, None, Option, Some, [], ap, false, fil
 use Rattle.std.specs.List.{list_any}
 use Rattle.std.specs.Option.{option_or}
 
-abbrev is_begin : Action → Bool
+abbrev pub is_begin : Action → Bool
 is_begin action.CallBegins = true
+is_begin (action.DialTaken sub again until) = true
+is_begin (action.LinkUp sub) = true
+is_begin (action.BytesArrive link) = true
+is_begin (action.EventRefused why) = true
+is_begin (action.EventAnswered r) = true
+is_begin (action.ItemTaken call item) = true
 is_begin _ = false
+
+-- these, and others that the stage of an entry alone gives: none of them follows at once
+abbrev pub is_of_stage : Action → Bool
+is_of_stage action.CallBegins = true
+is_of_stage (action.DialTaken sub again until) = true
+is_of_stage (action.LinkUp sub) = true
+is_of_stage (action.BytesArrive link) = true
+is_of_stage (action.EventRefused why) = true
+is_of_stage (action.EventAnswered r) = true
+is_of_stage (action.ItemTaken call item) = true
+is_of_stage (action.FrameRead link r) = true
+is_of_stage (action.FrameWritten link x) = true
+is_of_stage action.SettlingBegins = true
+is_of_stage (action.PickRequested row generation answer) = true
+is_of_stage action.EntryCloses = true
+is_of_stage _ = false
 
 abbrev pub is_at_event : Stage → Bool
 is_at_event stage.Event = true
 is_at_event _ = false
 
--- what is given, if anything, is no begin of a call
+-- what is given, if anything, is none of these
 abbrev Never : Option Action → Type 0
 Never None = Unit {0}
-Never (Some a) = is_begin a ≡ false
+Never (Some a) = is_of_stage a ≡ false
 
 abbrev AllNever : List (Option Action) → Type 0
 AllNever [] = Unit {0}
@@ -73,7 +96,7 @@ never_first : (os : List (Option Action)) → AllNever os → Never (first_actio
 never_first [] all = tt
 never_first (o ∷ os) all = never_or o (first_action os) all.0 (never_first os all.1)
 
-never_map : {X : Type 0} (f : X → Action) → ((x : X) → is_begin (f x) ≡ false) → (o : Option X) → Never (option_map f o)
+never_map : {X : Type 0} (f : X → Action) → ((x : X) → is_of_stage (f x) ≡ false) → (o : Option X) → Never (option_map f o)
 never_map f each None = tt
 never_map f each (Some x) = each x
 
@@ -89,9 +112,51 @@ never_if : (b : Bool) (o p : Option Action) → Never o → Never p → Never (i
 never_if true o p f g = f
 never_if false o p f g = g
 
-neither : (b : Bool) (a c : Action) → is_begin a ≡ false → is_begin c ≡ false → is_begin (if b then a else c) ≡ false
+neither : (b : Bool) (a c : Action) → is_of_stage a ≡ false → is_of_stage c ≡ false → is_of_stage (if b then a else c) ≡ false
 neither true a c f g = f
 neither false a c f g = g
+
+-- what is given, if anything, begins nothing
+abbrev Unbegun : Option Action → Type 0
+Unbegun None = Unit {0}
+Unbegun (Some a) = is_begin a ≡ false
+
+narrow : (a : Action) → is_of_stage a ≡ false → is_begin a ≡ false
+narrow action.CallBegins e = absurd (cc)
+narrow (action.DialTaken sub again until) e = absurd (cc)
+narrow (action.LinkUp sub) e = absurd (cc)
+narrow (action.BytesArrive link) e = absurd (cc)
+narrow (action.EventRefused why) e = absurd (cc)
+narrow (action.EventAnswered r) e = absurd (cc)
+narrow (action.ItemTaken call item) e = absurd (cc)
+narrow a e = refl
+
+unbegun_of : (o : Option Action) → Never o → Unbegun o
+unbegun_of None n = tt
+unbegun_of (Some a) n = narrow a n
+
+unbegun_or : (o p : Option Action) → Unbegun o → Unbegun p → Unbegun (option_or o p)
+unbegun_or None p f g = g
+unbegun_or (Some a) p f g = f
+
+unbegun_map : {X : Type 0} (f : X → Action) → ((x : X) → is_begin (f x) ≡ false) → (o : Option X) → Unbegun (option_map f o)
+unbegun_map f each None = tt
+unbegun_map f each (Some x) = each x
+
+unbegun_then : {X : Type 0} (f : X → Option Action) → ((x : X) → Unbegun (f x)) → (o : Option X) → Unbegun (option_and_then f o)
+unbegun_then f each None = tt
+unbegun_then f each (Some x) = each x
+
+unbegun_if : (b : Bool) (o : Option Action) → Unbegun o → Unbegun (if b then o else None)
+unbegun_if true o f = f
+unbegun_if false o f = tt
+
+-- what the stage alone gives: nothing follows at once
+pub record IsOfStage (s : Seen) (o : OpenEntry) (a : Action) : Type 0 where
+  pub calls : of_calls o s ≡ None
+  pub links : of_links o s ≡ None
+  pub policies : of_policies o s ≡ None
+  pub gives : of_stage o s o.stage ≡ Some a
 
 module _ (s : Seen) where
   never_cut : (a : Attempt) → Never (cut s a)
@@ -127,24 +192,24 @@ module _ (s : Seen) where
   never_due : (c : Call) → Never (due_action s c)
   never_due c = never_if (is_open_call c) (option_and_then (due_if_past c s) (next_due c s)) None (never_then (due_if_past c s) (never_past c) (next_due c s)) tt
 
-  never_asked : (test : Attempt → Bool) → Never (next_asked test s)
-  never_asked test =
-      never_then (asking s)
-      (λ a. never_map (λ (g : PolicyUse). action.PickRequested a.place g.number (pick_of (policy_of g s))) (λ g. refl) (current_policy s))
+  unbegun_asked : (test : Attempt → Bool) → Unbegun (next_asked test s)
+  unbegun_asked test =
+      unbegun_then (asking s)
+      (λ a. unbegun_map (λ (g : PolicyUse). action.PickRequested a.place g.number (pick_of (policy_of g s))) (λ g. refl) (current_policy s))
       (foremost is_queued_before (filter (λ (a : Attempt). is_served s a && test a) s.attempts))
 
-  never_read : (link : ℕ) (n : NextRead) → Never (read_action link n)
-  never_read link nextread.Nothing = tt
-  never_read link (nextread.Frame r) = refl
-  never_read link (nextread.Broken number) = refl
+  unbegun_read : (link : ℕ) (n : NextRead) → Unbegun (read_action link n)
+  unbegun_read link nextread.Nothing = tt
+  unbegun_read link (nextread.Frame r) = refl
+  unbegun_read link (nextread.Broken number) = refl
 
-  never_frame : (o : OpenEntry) (e : Event) → Never (frame_of_event e o s)
-  never_frame o (event.Arrived link piece) =
-      never_then (read_next link s) (λ l. never_if (is_none l.over) (read_action link (next_read l s)) None (never_read link (next_read l s)) tt) (numbered s.links link)
-  never_frame o (event.Drain link most) =
-      never_then (λ (l : Link). option_and_then (frame_to_write link most o s) (sendable l s))
-      (λ l. never_then (frame_to_write link most o s) (λ x. never_if (fits_drain most o x) (Some (action.FrameWritten link x)) None refl tt) (sendable l s)) (numbered s.links link)
-  never_frame o _ = tt
+  unbegun_frame : (o : OpenEntry) (e : Event) → Unbegun (frame_of_event e o s)
+  unbegun_frame o (event.Arrived link piece) =
+      unbegun_then (read_next link s) (λ l. unbegun_if (is_none l.over) (read_action link (next_read l s)) (unbegun_read link (next_read l s))) (numbered s.links link)
+  unbegun_frame o (event.Drain link most) =
+      unbegun_then (λ (l : Link). option_and_then (frame_to_write link most o s) (sendable l s))
+      (λ l. unbegun_then (frame_to_write link most o s) (λ x. unbegun_if (fits_drain most o x) (Some (action.FrameWritten link x)) refl) (sendable l s)) (numbered s.links link)
+  unbegun_frame o _ = tt
 
   never_clock : (b : Subchannel) → Never (clock_action s b)
   never_clock b =
@@ -237,46 +302,48 @@ module _ (s : Seen) where
         ),
       )
 
-  never_settling : (o : OpenEntry) → Never (of_settling o s)
-  never_settling o =
-      never_first (
-      next_of_clock s ∷ next_take_over s ∷ next_connected s ∷ first_of (config_action s) s.calls ∷ next_of_pass o s
-      ∷ next_due_attempt s ∷ next_of_queue s ∷ Some action.EntryCloses ∷ []) (
-        never_each (clock_action s) never_clock s.subs,
-        (
-          never_then (λ (g : PolicyUse). if may_take_over s g then Some (action.PolicyTakesOver g.number) else None)
-              (λ g. never_if (may_take_over s g) (Some (action.PolicyTakesOver g.number)) None refl tt) (pending_policy s),
-          (
-            never_map (λ (b : Subchannel). action.SubchannelConnects b.number) (λ b. refl) (find (λ (b : Subchannel). is_idle b.state && is_wished s b) s.subs),
-            (
-              never_each (config_action s) never_config s.calls,
-              (
-                never_then (λ (t : Turn). next_asked (is_after t) s) (λ t. never_asked (is_after t)) o.turn,
-                (
-                  never_each (due_action s) never_due s.calls,
-                  (never_asked (λ (a : Attempt). true), (refl, tt)),
-                ),
-              ),
-            ),
-          ),
-        ),
-      )
+  unbegun_settling : (o : OpenEntry) → Unbegun (of_settling o s)
+  unbegun_settling o =
+      unbegun_or (next_of_clock s) _ (unbegun_of (next_of_clock s) (never_each (clock_action s) never_clock s.subs))
+      (unbegun_or (next_take_over s) _
+      (unbegun_then (λ (g : PolicyUse). if may_take_over s g then Some (action.PolicyTakesOver g.number) else None)
+      (λ g. unbegun_if (may_take_over s g) (Some (action.PolicyTakesOver g.number)) refl) (pending_policy s))
+      (unbegun_or (next_connected s) _ (unbegun_map (λ (b : Subchannel). action.SubchannelConnects b.number) (λ b. refl) (find (λ (b : Subchannel). is_idle b.state && is_wished s b) s.subs))
+      (unbegun_or (first_of (config_action s) s.calls) _ (unbegun_of (first_of (config_action s) s.calls) (never_each (config_action s) never_config s.calls))
+      (unbegun_or (next_of_pass o s) _ (unbegun_then (λ (t : Turn). next_asked (is_after t) s) (λ t. unbegun_asked (is_after t)) o.turn)
+      (unbegun_or (next_due_attempt s) _ (unbegun_of (next_due_attempt s) (never_each (due_action s) never_due s.calls))
+      (unbegun_or (next_of_queue s) _ (unbegun_asked (λ (a : Attempt). true)) refl))))))
 
-  never_stage : (o : OpenEntry) (g : Stage) → is_at_event g ≡ false → Never (of_stage o s g)
-  never_stage o stage.Event e = absurd (cc)
-  never_stage o stage.Replied e =
-      never_first (frame_action o s ∷ Some action.SettlingBegins ∷ [])
-      (never_if (is_after_event o) (frame_of_event o.event o s) None (never_frame o o.event) tt, (refl, tt))
-  never_stage o stage.Settling e = never_settling o
+  unbegun_stage : (o : OpenEntry) (g : Stage) → is_at_event g ≡ false → Unbegun (of_stage o s g)
+  unbegun_stage o stage.Event e = absurd (cc)
+  unbegun_stage o stage.Replied e =
+      unbegun_or (frame_action o s) _ (unbegun_if (is_after_event o) (frame_of_event o.event o s) (unbegun_frame o o.event)) refl
+  unbegun_stage o stage.Settling e = unbegun_settling o
 
-  never_in : (o : OpenEntry) → is_at_event o.stage ≡ false → Never (following_in s o)
-  never_in o e =
-      never_first (of_calls o s ∷ of_links o s ∷ of_policies o s ∷ of_stage o s o.stage ∷ [])
-      (never_calls o, (never_links o, (never_policies o, (never_stage o o.stage e, tt))))
+  -- what the stage alone gives follows only where nothing follows at once
+  past_none : (p q : Option Action) (a : Action) → Never p → is_of_stage a ≡ true → option_or p q ≡ Some a → (p ≡ None) × (q ≡ Some a)
+  past_none None q a n is e = (refl, e)
+  past_none (Some b) q a n is e =
+      absurd (let one : b ≡ a = (cc) in let bad : true ≡ false = sym is ∙ ap (λ (c : Action). is_of_stage c) (sym one) ∙ n in let no : ⊥ = (cc) in no)
 
-  at_event : (o : OpenEntry) (b : Bool) → is_at_event o.stage ≡ b → following_in s o ≡ Some action.CallBegins → is_at_event o.stage ≡ true
-  at_event o true e next = e
-  at_event o false e next = (let no : true ≡ false = subst Never next (never_in o e) in absurd (cc))
+  of_stage_in : (o : OpenEntry) (a : Action) → is_of_stage a ≡ true → following_in s o ≡ Some a → IsOfStage s o a
+  of_stage_in o a is next =
+      let one = past_none (of_calls o s) (first_action (of_links o s ∷ of_policies o s ∷ of_stage o s o.stage ∷ [])) a (never_calls o) is next in
+      let two = past_none (of_links o s) (first_action (of_policies o s ∷ of_stage o s o.stage ∷ [])) a (never_links o) is one.1 in
+      let three = past_none (of_policies o s) (first_action (of_stage o s o.stage ∷ [])) a (never_policies o) is two.1 in
+      record { calls = one.0; links = two.0; policies = three.0; gives = last_one (of_stage o s o.stage) a three.1 }
+    where
+      last_one : (q : Option Action) (b : Action) → option_or q None ≡ Some b → q ≡ Some b
+      last_one None b e = absurd (let no : None ≡ Some b = e in (cc))
+      last_one (Some c) b e = e
 
-pub begins_at_event : (s : Seen) (o : OpenEntry) → s.current ≡ Some o → following s ≡ Some action.CallBegins → is_at_event o.stage ≡ true
-begins_at_event s o at next = at_event s o (is_at_event o.stage) refl (sym (ap (option_and_then (following_in s)) at) ∙ next)
+  at_event : (o : OpenEntry) (a : Action) (b : Bool) → is_begin a ≡ true → is_at_event o.stage ≡ b → of_stage o s o.stage ≡ Some a → is_at_event o.stage ≡ true
+  at_event o a true is e next = e
+  at_event o a false is e next =
+      (let none : is_begin a ≡ false = subst Unbegun next (unbegun_stage o o.stage e) in let no : true ≡ false = sym is ∙ none in absurd (cc))
+
+pub is_stage_next : (s : Seen) (o : OpenEntry) (a : Action) → is_of_stage a ≡ true → s.current ≡ Some o → following s ≡ Some a → IsOfStage s o a
+is_stage_next s o a is at next = of_stage_in s o a is (sym (ap (option_and_then (following_in s)) at) ∙ next)
+
+pub begins_at_event : (s : Seen) (o : OpenEntry) (a : Action) → is_begin a ≡ true → is_of_stage a ≡ true → s.current ≡ Some o → following s ≡ Some a → is_at_event o.stage ≡ true
+begins_at_event s o a is of_stage_is at next = at_event s o a (is_at_event o.stage) is refl (is_stage_next s o a of_stage_is at next).gives

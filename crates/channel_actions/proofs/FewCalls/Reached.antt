@@ -6,7 +6,7 @@ use Rattle.session_actions.specs.Sessions.{Does, new_session}
 use Rattle.session_actions.specs.declared.action.Action.{Action}
 use Rattle.session_actions.specs.declared.seen.Seen.{Seen}
 
-pub reached_on : (s t : Seen) (actions : List Action) → IsReached s → Does actions s t → IsReached t
+abbrev pub reached_on : (s t : Seen) (actions : List Action) → IsReached s → Does actions s t → IsReached t
 reached_on s t actions k does = record {
   setup = k.setup;
   actions = k.actions ++ actions;

@@ -409,7 +409,7 @@ passes_in o action.ChannelShuts s is =
 
 few_in : (o : OpenEntry) (a : Action) (s : Seen) → s.current ≡ Some o → IsNext a s → AreFew s → AreFew (after_in o a s)
 few_in o action.EntryCloses s at next h = closes_now o s at h
-few_in o action.CallBegins s at next h = begun_now o.event o s at (begins_at_event s o at next) h
+few_in o action.CallBegins s at next h = begun_now o.event o s at (begins_at_event s o action.CallBegins refl refl at next) h
 few_in o (action.PickRequested row generation answer) s at next h =
     let t : Seen = pick_requested row generation answer s in
     let u : Seen = record s { asks = t.asks } in few_after u t (turned_now (turn_at row s) u) h

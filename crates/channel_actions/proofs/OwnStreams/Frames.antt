@@ -26,20 +26,20 @@ use Rattle.std.specs.Prelude.{nat_lt}
 use Rattle.grpc_frame.specs.Messages.{framed_all}
 
 -- how many streams were opened
-abbrev is_opening : FrameSeen → Bool
+abbrev pub is_opening : FrameSeen → Bool
 is_opening f = f.kind == headers_type
 
-abbrev opening : List Traffic → List FrameSeen
+abbrev pub opening : List Traffic → List FrameSeen
 opening ts = filter is_opening (filter_map written_in ts)
 
-counted : (l : Link) → length (opened_streams l) ≡ length (opening l.traffic)
+pub counted : (l : Link) → length (opened_streams l) ≡ length (opening l.traffic)
 counted l = length-map (opening l.traffic) (λ (f : FrameSeen). f.stream)
 
 opening_more : (ts : List Traffic) (t : Traffic) → opening (ts ++ t ∷ []) ≡ opening ts ++ opening (t ∷ [])
 opening_more ts t =
     ap (filter is_opening) (filter_map-append written_in ts (t ∷ [])) ∙ filter-append is_opening (filter_map written_in ts) (filter_map written_in (t ∷ []))
 
-total : (ts : List Traffic) (t : Traffic) → length (opening (ts ++ t ∷ [])) ≡ length (opening ts) + length (opening (t ∷ []))
+pub total : (ts : List Traffic) (t : Traffic) → length (opening (ts ++ t ∷ [])) ≡ length (opening ts) + length (opening (t ∷ []))
 total ts t = ap (λ (fs : List FrameSeen). length fs) (opening_more ts t) ∙ length-append (opening ts) (opening (t ∷ []))
 
 below : (n c d e : ℕ) → d ≡ c + e → nat_lt n (2 * c + 1) ≡ true → nat_lt n (2 * d + 1) ≡ true
@@ -88,7 +88,7 @@ next_then : {X : Type 0} (l : Link) (f : X → Option Sent) → ((x : X) → Nex
 next_then l f each None = tt
 next_then l f each (Some x) = each x
 
-control_by : (kind : ℕ) (c b : Bool) → (kind == headers_type) ≡ b
+pub control_by : (kind : ℕ) (c b : Bool) → (kind == headers_type) ≡ b
     → ((kind == settings_type) || (kind == ping_type) || (kind == window_update_type) || (kind == rst_stream_type)) ≡ true → (not b || c) ≡ true
 control_by kind c false e control = refl
 control_by kind c true e control =

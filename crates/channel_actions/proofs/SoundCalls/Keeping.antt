@@ -1,9 +1,9 @@
 -- The calls of a channel are sound along whole steps.
 use Rattle.std.proofs.Common.{ℕ, zero, suc, List, [], None, Option, Some, refl, arith, length, ◌∷◌, ◌≡◌}
 use Rattle.channel_actions.proofs.GoingCalls.Arms.{CallLaws}
-use Rattle.channel_actions.proofs.SoundCalls.Carried.{AreSound, Keeps, Settles, carries, configures, rests}
+use Rattle.channel_actions.proofs.SoundCalls.Carried.{AreSound, Keeps, Kept, Settles, carries, configures, rests}
 use Rattle.channel_actions.proofs.SoundCalls.Tables.{AllSound, of_slot, sound_each, sound_last, sound_numbered, to_slot}
-use Rattle.channel_actions.specs.SoundCalls.Laws.{AnswersKeepCalls, DeadlinesKeepCalls, NewCallsAreSound, SettlingsKeepCalls, StepsKeepCalls}
+use Rattle.channel_actions.specs.SoundCalls.Laws.{AnswersKeepCalls, AnswersKeepRows, DeadlinesKeepCalls, NewCallsAreSound, SettlingsKeepCalls, SettlingsKeepRows, StepsKeepCalls, StepsKeepRows}
 use Rattle.channel_actions.specs.GoingCalls.Going.{AllowsAttempts, CallsGoOn, GoesOn}
 use Rattle.channel_actions.specs.SoundCalls.Sound.{AllowsPlans, AreSoundCalls}
 use Rattle.service_config.specs.declared.config.Config.{Config}
@@ -12,7 +12,7 @@ use Rattle.channel_core.proofs.Carrying.{Carried, overdue}
 use Rattle.channel_core.proofs.CarryingSteps.{answered, carried}
 use Rattle.channel_core.proofs.RestingSteps.{settle}
 use Rattle.channel_core.proofs.Resting.{with_book}
-use Rattle.channel_core.specs.Applying.{begun_at}
+use Rattle.channel_core.specs.Applying.{AnswersBy, Stepped, begun_at}
 use Rattle.channel_core.specs.Books.{book_begun}
 use Rattle.channel_core.specs.Settling.{settled}
 use Rattle.channel_core.specs.States.{StateSeen}
@@ -22,6 +22,8 @@ use Rattle.channel_core.specs.declared.state.slots.CallSlot.{CallSlot}
 use Rattle.grpc_base.specs.Requests.{RequestSeen}
 use Rattle.grpc_base.specs.declared.event.Event.{Event}
 use Rattle.grpc_base.specs.declared.event.Event.TheVariants as event
+use Rattle.grpc_base.specs.declared.event.Refusal.{Refusal}
+use Rattle.grpc_base.specs.declared.event.Reply.{Reply}
 use Rattle.link_laws.proofs.Knowing.{allowed}
 
 pub sound_of : (x : StateSeen) → AreSoundCalls x → AreSound x
@@ -95,13 +97,31 @@ module _ (laws : CallLaws) where
   pub deadlines_keep : DeadlinesKeepCalls
   deadlines_keep x k = sound_to (overdue_ended x) (overdue Keeps (carries laws) x (sound_of x k)).sound
 
+  answers_kept : (refused : Option Refusal) (e : Event) (x y : StateSeen) (r : Reply) → AnswersBy refused e x y r → AreSoundCalls x → Kept x y
+  answers_kept refused e x y r by k = answered Keeps (carries laws) refused e x y r (events e) by (sound_of x k)
+
   pub answers_keep : AnswersKeepCalls
-  answers_keep refused e x y r by k = sound_to y (answered Keeps (carries laws) refused e x y r (events e) by (sound_of x k)).sound
+  answers_keep refused e x y r by k = sound_to y (answers_kept refused e x y r by k).sound
+
+  pub answers_rows : AnswersKeepRows
+  answers_rows refused e x y r by k = (answers_kept refused e x y r by k).rows
+
+  settlings_kept : (x : StateSeen) → AreSoundCalls x → Kept x (settled x)
+  settlings_kept x k = (settle Settles (rests laws) x (configures laws) (sound_of x k)).kept
 
   pub settlings_keep : SettlingsKeepCalls
-  settlings_keep x k = sound_to (settled x) (settle Settles (rests laws) x (configures laws) (sound_of x k)).kept.sound
+  settlings_keep x k = sound_to (settled x) (settlings_kept x k).sound
+
+  pub settlings_rows : SettlingsKeepRows
+  settlings_rows x k = (settlings_kept x k).rows
+
+  steps_kept : (entry moment word : ℕ) (e : Event) (old new : StateSeen) (r : Reply) → Stepped entry moment word e old new r → AreSoundCalls old → Kept (begun_at entry moment word old) new
+  steps_kept entry moment word e old new r steps k =
+      carried Keeps (carries laws) entry moment word e old new r (λ chosen number s is sound. (configures laws chosen number s is sound).kept) (events e) steps
+      (sound_of (begun_at entry moment word old) (record { slots = k.slots; plans = k.plans }))
 
   pub steps_keep : StepsKeepCalls
-  steps_keep entry moment word e old new r steps k =
-      sound_to new (carried Keeps (carries laws) entry moment word e old new r (λ chosen number s is sound. (configures laws chosen number s is sound).kept) (events e) steps
-      (sound_of (begun_at entry moment word old) (record { slots = k.slots; plans = k.plans }))).sound
+  steps_keep entry moment word e old new r steps k = sound_to new (steps_kept entry moment word e old new r steps k).sound
+
+  pub steps_rows : StepsKeepRows
+  steps_rows entry moment word e old new r steps k = (steps_kept entry moment word e old new r steps k).rows

@@ -33,7 +33,7 @@ use Rattle.session_actions.specs.declared.seen.Setup.{Setup}
 use Rattle.session_order.proofs.SessionLaws.Same.{is_quiet, made_keeps, same_if, same_self}
 
 -- of each config
-abbrev Each : (HeldConfig → Type 0) → List HeldConfig → Type 0
+abbrev pub Each : (HeldConfig → Type 0) → List HeldConfig → Type 0
 Each P configs = (k : ℕ) (h : HeldConfig) → numbered configs k ≡ Some h → P h
 
 each_at : (P : HeldConfig → Type 0) (configs : List HeldConfig) (g : HeldConfig) → ((i : ℕ) (h : HeldConfig) → slice_get configs i ≡ Some h → P h) → P g
@@ -69,14 +69,14 @@ module _ (P : HeldConfig → Type 0) where
   begun_by (event.Begin request) s all = all
   begun_by e s all = all
 
-  same_by : (s t : Seen) → t.configs ≡ s.configs → Each P s.configs → Each P t.configs
+  pub same_by : (s t : Seen) → t.configs ≡ s.configs → Each P s.configs → Each P t.configs
   same_by s t e all = subst (Each P) (sym e) all
 
   quiet_by : (o : OpenEntry) (a : Action) (s : Seen) → is_quiet a ≡ true → Each P s.configs → Each P (after_in o a s).configs
   quiet_by o a s quiet all = same_by s (after_in o a s) (same_if (Some o) a s (same_self s) quiet).configs all
 
   -- a config that is read has what it says of those that may be read
-  abbrev Reads : Action → Type 0
+  abbrev pub Reads : Action → Type 0
   Reads (action.ConfigRead r) = (config : Config) → r ≡ Ok config → (run : Option ℕ) → is_some run ≡ is_some config.throttle → P (record { config = config; run = run })
   Reads _ = Unit {0}
 
@@ -104,7 +104,7 @@ throttled_along : (actions : List Action) (s t : Seen) → Each HasRun s.configs
 throttled_along [] s t all does = same_by HasRun s t (ap (λ (v : Seen). v.configs) does) all
 throttled_along (a ∷ actions) s t all does = throttled_along actions (after a s) t (each_if HasRun s.current a s (runs_read a) all) does.1
 
-none_held : (P : HeldConfig → Type 0) → Each P []
+pub none_held : (P : HeldConfig → Type 0) → Each P []
 none_held P zero h e = absurd (cc)
 none_held P (suc i) h e = absurd (cc)
 

@@ -15,7 +15,7 @@ use Rattle.channel_cases.proofs.ConfigReads.Read.{read_by, read_is, read_mid, re
 use Rattle.channel_cases.proofs.ConfigReads.Stirred.{reads_stir_policies}
 use Rattle.channel_cases.proofs.HeldResults.Given.{IsRead, given}
 use Rattle.channel_cases.proofs.HeldResults.Mid.{IsMid, mid_of}
-use Rattle.channel_cases.proofs.ResultEvents.BadConfigs.{kinds_same}
+use Rattle.channel_actions.proofs.Posted.{kinds_same}
 use Rattle.channel_cases.proofs.ResultEvents.BadConfigs as bad
 use Rattle.channel_cases.specs.ConfigReads.Throttled.{AreThrottled}
 use Rattle.channel_cases.specs.HeldResults.Cases.{IsHeldResult, held_after}

@@ -2,7 +2,8 @@
 use Rattle.channel_actions.specs.Agrees.{Agrees}
 use Rattle.channel_actions.specs.FewCalls.Reached.{IsReached}
 use Rattle.channel_cases.proofs.HeldKinds.Along.{read_of, setup_stays}
-use Rattle.channel_cases.proofs.ResultEvents.BadConfigs.{kinds_same, read_by}
+use Rattle.channel_actions.proofs.Posted.{kinds_same}
+use Rattle.channel_cases.proofs.ResultEvents.BadConfigs.{read_by}
 use Rattle.channel_cases.specs.HeldKinds.Laws.{ConfigsAreThrottled, HeldKindsAreThere}
 use Rattle.channel_cases.specs.HeldResults.Cases.{IsHeldResult, held_after}
 use Rattle.channel_cases.specs.HeldResults.Laws.{HeldResultsAreAnswered}
@@ -28,7 +29,7 @@ use Rattle.std.proofs.Common.{Err, List, None, Ok, Option, Result, Some, [], ap,
 use Rattle.std.specs.Option.{option_map}
 use Rattle.std.specs.Prelude.{is_ok}
 
-setup_along : (actions : List Action) (s t : Seen) → Does actions s t → t.setup ≡ s.setup
+pub setup_along : (actions : List Action) (s t : Seen) → Does actions s t → t.setup ≡ s.setup
 setup_along [] s t does = ap (λ (v : Seen). v.setup) does
 setup_along (a ∷ actions) s t does = setup_along actions (after a s) t does.1 ∙ setup_stays s a
 

@@ -9,10 +9,10 @@ use Rattle.session_actions.specs.declared.seen.Seen.{Seen}
 use Rattle.std.proofs.lemmas.Bool.Decides.{nat_tests}
 use Rattle.std.proofs.Common.{Bool, arith, if◌then◌else◌, is_some, length, true, false, ℕ, ◌<◌, ◌≡◌, ◌≤◌, nat_lt}
 
-below : (n m : ℕ) → nat_lt n m ≡ true → n < m
+pub below : (n m : ℕ) → nat_lt n m ≡ true → n < m
 below n m e = grind (arith, nat_tests)
 
-one_more : (b : Bool) → (if b then 1 else 0) ≤ 1
+pub one_more : (b : Bool) → (if b then 1 else 0) ≤ 1
 one_more true = omega arith
 one_more false = omega arith
 

@@ -6,6 +6,7 @@ use Rattle.std.specs.Prelude.{slice_set}
 use Rattle.channel_actions.proofs.Answering.{event_next}
 use Rattle.channel_actions.proofs.Dialling.{applied_next, open_in, unshut_by}
 use Rattle.channel_actions.proofs.Moved.{agrees_moved}
+use Rattle.channel_actions.proofs.Posted.{kinds_same}
 use Rattle.channel_actions.proofs.Settles.{is_with_open, with_open}
 use Rattle.channel_actions.specs.Agrees.{Agrees}
 use Rattle.channel_actions.specs.Calm.{IsAt}
@@ -51,22 +52,6 @@ use Rattle.session_order.specs.Calm.{IsStill, lacks_kind}
 use Rattle.session_order.specs.Laws.{CalmIsExact}
 use Rattle.session_order.specs.declared.line.Line.{Line}
 use Rattle.session_order.specs.declared.line.Line.TheVariants as line
-
--- the kinds of the policies that channel and session were made with
-kind_more : (k : Kind) (a b c : Bool)
-    → slice_set (a ∷ b ∷ c ∷ []) (kind_number k) true
-    ≡ ((kind_number k == 0) || a) ∷ ((kind_number k == 1) || b) ∷ ((kind_number k == 2) || c) ∷ []
-kind_more kind.PickFirst a b c = refl
-kind_more kind.RoundRobin a b c = refl
-kind_more kind.Priority a b c = refl
-
-pub kinds_same : (kinds : List PolicyKind) (policies : List PolicySeen) → AreKinds kinds policies → kinds_in kinds ≡ kinds_of policies
-kinds_same [] [] h = refl
-kinds_same (k ∷ kinds) (p ∷ policies) h =
-    ap (λ (ks : KindsSeen). with_kind ks k.kind) (kinds_same kinds policies h.2) ∙ kind_more k.kind (has_policy kind.PickFirst policies) (has_policy kind.RoundRobin policies) (has_policy kind.Priority policies)
-    ∙ ap (λ (j : Kind). ((kind_number j == 0) || has_policy kind.PickFirst policies) ∷ ((kind_number j == 1) || has_policy kind.RoundRobin policies) ∷ ((kind_number j == 2) || has_policy kind.Priority policies) ∷ []) h.0
-kinds_same [] (p ∷ policies) h = absurd h
-kinds_same (k ∷ kinds) [] h = absurd h
 
 pub read_by : (text : Option (List ℕ)) (s : Seen) (kinds : KindsSeen) → kinds_in s.setup.policies ≡ kinds → read_config text s ≡ config_read kinds text
 read_by None s kinds e = refl

@@ -3,10 +3,13 @@ use Rattle.channel_actions.specs.Agrees.{Agrees}
 use Rattle.channel_actions.specs.Calm.{IsAt}
 use Rattle.channel_actions.specs.Cases.{DoesSomething, does_something}
 use Rattle.channel_actions.specs.Known.{IsKnown}
+use Rattle.channel_actions.specs.FewCalls.Laws.{DialsAreFew, LinksAreFew}
 use Rattle.channel_actions.specs.Laws.{PingsAreQueued}
+use Rattle.channel_actions.specs.Posted.{FewAttempts, IsPosted}
 use Rattle.channel_actions.specs.SoundBuffers.Laws.{EachHoldsSoundly}
 use Rattle.channel_actions.specs.Stages.{IsAnswered}
 use Rattle.channel_cases.proofs.CallPosts.Answered.{posted}
+use Rattle.channel_cases.proofs.WholeRuns.Counts.{dials_known, first_known, links_known}
 use Rattle.channel_cases.proofs.WholeRuns.Losses.{losses_known}
 use Rattle.channel_cases.specs.AttemptEnds.Laws.{EndsByCuts}
 use Rattle.channel_cases.specs.AttemptEnds.Runs.{RunsOfSessions}
@@ -15,11 +18,14 @@ use Rattle.channel_cases.specs.CallCommits.Laws.{SendsAreAnswered}
 use Rattle.channel_cases.specs.CallEnds.Laws.{IsCancelled, LateCancels, OpenCancels}
 use Rattle.channel_cases.specs.CallPosts.Laws.{FinishesAreAnswered, TakesAreAnswered}
 use Rattle.channel_cases.specs.DialEvents.Laws.{FailedDialsAreAnswered, LinksUpAreAnswered, TakenDialsAreAnswered}
+use Rattle.channel_cases.specs.FewStreams.Laws.{StreamsAreFew}
 use Rattle.channel_cases.specs.HeldCalls.Laws.{KnownDrainsAreAnswered}
+use Rattle.channel_cases.specs.KnownNets.Laws.{KnownResultsAreAnswered}
 use Rattle.channel_cases.specs.KnownStages.Laws.{KnownShutdownsAreAnswered}
 use Rattle.channel_cases.specs.LostLinks.Laws.{LostLinksAreAnswered}
+use Rattle.channel_cases.specs.NearDeadlines.Laws.{KnownDeadlinesAreNear}
 use Rattle.channel_cases.specs.ResultEvents.Laws.{FirstBadConfigsAreAnswered, SecondShutdownsAreAnswered}
-use Rattle.channel_cases.specs.WholeRuns.Parts.{OpenCounts, OpenEvents}
+use Rattle.channel_cases.specs.WholeRuns.Parts.{OpenEvents}
 use Rattle.channel_core.specs.Applying as channel
 use Rattle.channel_core.specs.Applying.{AnswersBy, Applies, config_read}
 use Rattle.channel_core.specs.Books.{lacks_call, slot_at}
@@ -53,6 +59,7 @@ pub record EventLaws : Type 0 where
   pub cancels : OpenCancels
   pub late_cancels : LateCancels
   pub bad_results : FirstBadConfigsAreAnswered
+  pub results : KnownResultsAreAnswered
   pub dials : TakenDialsAreAnswered
   pub failures : FailedDialsAreAnswered
   pub links : LinksUpAreAnswered
@@ -64,6 +71,10 @@ pub record EventLaws : Type 0 where
   pub cuts : EndsByCuts
   pub rise : RunsOfSessions
   pub each : EachHoldsSoundly
+  pub near : KnownDeadlinesAreNear
+  pub up : LinksAreFew
+  pub dialled : DialsAreFew
+  pub streams : StreamsAreFew
 
 some_there : {X : Type 0} (o : Option X) → is_some o ≡ true → (x : X) × (o ≡ Some x)
 some_there None e = absurd (let bad : false ≡ true = e in (cc))
@@ -77,8 +88,8 @@ unshut : (b : Bool) (q : Option Refusal) → (if b then Some refusal.Shut else q
 unshut true q e = absurd (let bad : Some refusal.Shut ≡ None = e in (cc))
 unshut false q e = e
 
-module _ (laws : EventLaws) (events : OpenEvents) (counts : OpenCounts) (x y : StateSeen) (r : Reply) (o : OpenEntry) (s : Seen) (h : Agrees x s) (at : IsAt stage.Event o s) (fresh : o.turn ≡ None)
-    (timely : next_deadline s ≡ None) (case : DoesSomething o.event x s) (known : IsKnown x s) (answers : AnswersBy (channel.refusal_of o.event x) o.event x y r) where
+module _ (laws : EventLaws) (events : OpenEvents) (x y : StateSeen) (r : Reply) (o : OpenEntry) (s : Seen) (h : Agrees x s) (at : IsAt stage.Event o s) (fresh : o.turn ≡ None)
+    (timely : next_deadline s ≡ None) (case : DoesSomething o.event x s) (allowed : IsPosted o.event) (few : FewAttempts x.book.ledger) (known : IsKnown x s) (answers : AnswersBy (channel.refusal_of o.event x) o.event x y r) where
   does : (e : Event) → o.event ≡ e → does_something e x ≡ true
   does e is = ap (λ (v : Event). does_something v x) (sym is) ∙ case.does
 
@@ -96,33 +107,32 @@ module _ (laws : EventLaws) (events : OpenEvents) (counts : OpenCounts) (x y : S
   cancel_by c (Some end) e = laws.late_cancels x y r o s h at fresh timely (record { cancelled = c; ended = ap (λ (q : Option CallEnd). is_some q) e }) answers
 
   -- a result: an invalid config where none was held, or another
+  held_result : (addresses : List Address) (config : Option (List ℕ)) → o.event ≡ event.Resolved addresses config
+      → (is_some x.held || is_ok (config_read (kinds_of x.net.asker.rack.policies) config)) ≡ true → IsAnswered y r o s
+  held_result addresses config is counts =
+      laws.results x y r o s h at fresh timely
+      (record {
+        addresses = addresses;
+        config = config;
+        event_is = is;
+        kept = case.kept;
+        counts = counts;
+        list = subst IsPosted is allowed;
+        first = first_known x s h known;
+        known = known;
+      })
+      answers
+
   result_by : (addresses : List Address) (config : Option (List ℕ)) (held : Option Config) (read : Result Config ConfigFault) → o.event ≡ event.Resolved addresses config → x.held ≡ held
       → config_read (kinds_of x.net.asker.rack.policies) config ≡ read → IsAnswered y r o s
   result_by addresses config None (Err fault) is none bad =
       laws.bad_results x y r o s h at fresh timely
       (record { addresses = addresses; config = config; fault = fault; event_is = is; kept = case.kept; none_held = none; bad = bad }) answers
   result_by addresses config None (Ok good) is none read =
-      events.results x y r o s h at fresh timely
-      (record {
-        addresses = addresses;
-        config = config;
-        event_is = is;
-        kept = case.kept;
-        counts = ap (λ (q : Option Config). is_some q || is_ok (config_read (kinds_of x.net.asker.rack.policies) config)) none ∙ ap (λ (q : Result Config ConfigFault). is_ok q) read;
-        known = known;
-      })
-      answers
+      held_result addresses config is
+      (ap (λ (q : Option Config). is_some q || is_ok (config_read (kinds_of x.net.asker.rack.policies) config)) none ∙ ap (λ (q : Result Config ConfigFault). is_ok q) read)
   result_by addresses config (Some held) read is has e =
-      events.results x y r o s h at fresh timely
-      (record {
-        addresses = addresses;
-        config = config;
-        event_is = is;
-        kept = case.kept;
-        counts = ap (λ (q : Option Config). is_some q || is_ok (config_read (kinds_of x.net.asker.rack.policies) config)) has;
-        known = known;
-      })
-      answers
+      held_result addresses config is (ap (λ (q : Option Config). is_some q || is_ok (config_read (kinds_of x.net.asker.rack.policies) config)) has)
 
   -- a drain, with room enough
   drain_few : (link room : ℕ) → o.event ≡ event.Drain link room → IsAnswered y r o s
@@ -134,8 +144,8 @@ module _ (laws : EventLaws) (events : OpenEvents) (counts : OpenCounts) (x y : S
           room = room;
           event_is = is;
           kept = case.kept;
-          near = counts.near x s h known;
-          few = λ z q slot applies there. counts.streams x z s q link room slot h known (subst (λ (e : Event). Applies e x z q) is applies) there;
+          near = laws.near x s known;
+          few = λ z q slot applies there. laws.streams x z s q link room slot h known few (kept (event.Drain link room) is) (subst (λ (e : Event). Applies e x z q) is applies) there;
         };
         known = known;
       })
@@ -157,7 +167,7 @@ module _ (laws : EventLaws) (events : OpenEvents) (counts : OpenCounts) (x y : S
   by_kind event.ResolveFailed is = absurd (let bad : false ≡ true = does event.ResolveFailed is in (cc))
   by_kind event.TakeDial is =
       let d = some_there (first_number is_dialable x.net.board) (does event.TakeDial is) in
-      laws.dials x y r o s h at fresh timely (record { sub = d.0; event_is = is; kept = case.kept; first = d.1; few = counts.dials x s h known }) answers
+      laws.dials x y r o s h at fresh timely (record { sub = d.0; event_is = is; kept = case.kept; first = d.1; few = dials_known laws.dialled x s known }) answers
   by_kind (event.LinkUp sub) is =
       laws.links x y r o s h at fresh timely
       (record {
@@ -165,7 +175,7 @@ module _ (laws : EventLaws) (events : OpenEvents) (counts : OpenCounts) (x y : S
         event_is = is;
         kept = case.kept;
         dial = none_there (dial_refusal (numbered x.net.board sub)) (does (event.LinkUp sub) is);
-        few = counts.links x s h known;
+        few = links_known laws.up x s known;
       })
       answers
   by_kind (event.DialFailed sub) is =
@@ -173,7 +183,8 @@ module _ (laws : EventLaws) (events : OpenEvents) (counts : OpenCounts) (x y : S
       (record { sub = sub; event_is = is; kept = case.kept; dial = none_there (dial_refusal (numbered x.net.board sub)) (does (event.DialFailed sub) is) }) answers
   by_kind (event.Arrived link piece) is =
       events.arrivals x y r o s h at fresh timely (record { link = link; piece = piece; event_is = is; kept = case.kept; known = known }) answers
-  by_kind (event.LinkLost link) is = losses_known laws.each laws.lost laws.rise (laws.cuts events.ends) counts.attempts x y r o s h at fresh timely (record { link = link; event_is = is; kept = case.kept; known = known }) answers
+  by_kind (event.LinkLost link) is =
+      losses_known laws.each laws.lost laws.rise (laws.cuts events.ends) x y r o s h at fresh timely (record { link = link; event_is = is; kept = case.kept; few = few; known = known }) answers
   by_kind (event.Drain link room) is = drain_few link room is
   by_kind (event.Ping link word) is =
       laws.pings x y r o s h at fresh timely (record { link = link; word = word; event_is = is; kept = case.kept }) answers

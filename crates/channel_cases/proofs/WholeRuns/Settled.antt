@@ -2,26 +2,28 @@
 use Rattle.channel_actions.specs.Agrees.{Agrees}
 use Rattle.channel_actions.specs.Calm.{IsAt}
 use Rattle.channel_actions.specs.Known.{IsKnown}
+use Rattle.channel_actions.specs.Posted.{FewAttempts}
 use Rattle.channel_actions.specs.Stages.{IsSettled}
 use Rattle.channel_cases.proofs.KnownStages.Deadlines.{few_calls}
-use Rattle.channel_cases.specs.ServeSteps.Follows.{PlacesByAgreement}
+use Rattle.channel_cases.proofs.WholeRuns.Counts.{attempts_known}
+use Rattle.channel_cases.specs.ServeSteps.Follows.{NetsMayAsk, PlacesByAgreement}
 use Rattle.channel_cases.specs.SettlingActions.Sound.{IsSound}
 use Rattle.channel_cases.specs.SettlingActions.Steps.{ClockSteps, NetSteps}
 use Rattle.channel_cases.specs.SettlingParts.Laws.{SettlingsStand}
-use Rattle.channel_cases.specs.WholeRuns.Parts.{OpenCounts, OpenSteps}
+use Rattle.channel_cases.specs.WholeRuns.Parts.{OpenSteps}
 use Rattle.channel_core.specs.States.{StateSeen}
 use Rattle.session_actions.specs.declared.entry.OpenEntry.{OpenEntry}
 use Rattle.session_actions.specs.declared.entry.Stage.TheVariants as stage
 use Rattle.session_actions.specs.declared.seen.Seen.{Seen}
 use Rattle.std.proofs.Common.{None, ◌≡◌}
 
-pub settlings_done : ClockSteps → NetSteps → PlacesByAgreement → SettlingsStand → OpenSteps → OpenCounts → (x : StateSeen) (o : OpenEntry) (s : Seen) → Agrees x s → IsAt stage.Settling o s
-    → o.turn ≡ None → IsKnown x s → IsSettled x o s
-settlings_done clocks nets places settlings steps counts x o s h at fresh known =
-    settlings clocks nets steps.withheld counts.asks (places steps.placed steps.inheritors) steps.fails x o s h at fresh
+pub settlings_done : ClockSteps → NetSteps → PlacesByAgreement → SettlingsStand → NetsMayAsk → OpenSteps → (x : StateSeen) (o : OpenEntry) (s : Seen) → Agrees x s → IsAt stage.Settling o s
+    → o.turn ≡ None → FewAttempts x.book.ledger → IsKnown x s → IsSettled x o s
+settlings_done clocks nets places settlings asks steps x o s h at fresh few known =
+    settlings clocks nets steps.withheld asks (places steps.placed steps.inheritors) steps.fails x o s h at fresh
     (record {
       few = few_calls x s known;
-      room = counts.attempts x s h known;
+      room = attempts_known x s h known few;
       reached = known.reached;
       early = known.early;
       calls = known.calls;

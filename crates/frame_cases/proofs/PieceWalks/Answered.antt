@@ -97,7 +97,7 @@ module _ (frames : FramesAreHeard) (breaks : BreaksAreHeard) (knows : KnownAlong
     few = (let a = case.few l up.here in let long = length-append l.received piece in omega (arith, a, long));
     part = part_kept;
     agrees = arrives.agrees_now x o s h at timely link piece case.event_is case.kept l up.here out.fair.within;
-    known = known_with x x s t (action.BytesArrive link ∷ []) h.kept case.known (arrives.next x o s h at timely link piece case.event_is case.kept l up.here out.fair.within, sym after_is) refl
+    known = known_with x x s t (action.BytesArrive link ∷ []) h.kept case.known (arrives.next x o s h at timely link piece case.event_is case.kept l up.here out.fair.within, sym after_is) refl refl
         (λ goes. goes) (λ sound. sound) (λ goes held. held);
   }
 

@@ -1,11 +1,12 @@
 -- What is known stays known along a frame, and after BytesArrive.
-use Rattle.std.proofs.Common.{◌≡◌, ◌++◌, ap, refl, sym, ◌∙◌, Bool, true, false, List, Option, None, Some, ℕ, if◌then◌else◌, is_none, is_some, length, nat_lt, take}
+use Rattle.std.proofs.Common.{◌≡◌, ◌++◌, [], ap, refl, sym, ◌∙◌, Bool, true, false, List, Option, None, Some, ℕ, if◌then◌else◌, is_none, is_some, length, nat_lt, take}
 use Rattle.channel_actions.proofs.FewCalls.Reached.{reached_on}
 use Rattle.channel_actions.proofs.GreetedLinks.Along.{greeted_along}
 use Rattle.channel_actions.proofs.KeptCalls.Along.{early_along}
 use Rattle.channel_actions.proofs.KeptSessions.Along.{kept_along}
 use Rattle.channel_actions.proofs.OwnLinks.Owned.{own_along}
 use Rattle.channel_actions.proofs.OwnStreams.Along.{streams_along}
+use Rattle.channel_actions.proofs.Posted.{none_posted, posted_after}
 use Rattle.channel_actions.proofs.TheirLinks.Kept.{theirs_along}
 use Rattle.channel_actions.specs.GoingCalls.Going.{CallsGoOn}
 use Rattle.channel_actions.specs.GoingCalls.Laws.{AnswersGoOn}
@@ -33,6 +34,7 @@ use Rattle.h2_link.specs.Wire.{Told, Wire}
 use Rattle.channel_cases.proofs.DrainEvents.Rooms.{one_some}
 use Rattle.link_actions.proofs.Reading.{reads_are_same}
 use Rattle.link_actions.specs.Laws.{IsSameRead}
+use Rattle.session_actions.specs.Laws.{posted_in}
 use Rattle.session_actions.specs.Reading.{next_read}
 use Rattle.session_actions.specs.Sessions.{Does}
 use Rattle.session_actions.specs.Writing.{next_frame_read, read_action}
@@ -45,9 +47,9 @@ use Rattle.session_actions.specs.declared.link.NextRead.TheVariants as nextread
 use Rattle.session_actions.specs.declared.seen.Seen.{Seen}
 
 -- of the session, along its actions, where the channel keeps what is known of it
-pub known_with : (x y : StateSeen) (s t : Seen) (actions : List Action) → IsKept s → IsKnown x s → Does actions s t → t.entries ≡ s.entries → (CallsGoOn x → CallsGoOn y)
+pub known_with : (x y : StateSeen) (s t : Seen) (actions : List Action) → IsKept s → IsKnown x s → Does actions s t → posted_in actions ≡ [] → t.entries ≡ s.entries → (CallsGoOn x → CallsGoOn y)
     → (AreSoundCalls x → AreSoundCalls y) → (CallsGoOn x → BuffersAreSound x → BuffersAreSound y) → IsKnown y t
-known_with x y s t actions kept known does entries going_on calls_on held_on = record {
+known_with x y s t actions kept known does posts entries going_on calls_on held_on = record {
   going = going_on known.going;
   calls = calls_on known.calls;
   buffers = held_on known.going known.buffers;
@@ -58,6 +60,8 @@ known_with x y s t actions kept known does entries going_on calls_on held_on = r
   streams = streams_along actions s t kept known.greeted known.streams does;
   reached = reached_on s t actions known.reached does;
   few = ap (λ (es : _). nat_lt (length es) 1048576) entries ∙ known.few;
+  posted = posted_after known.reached.actions actions known.posted (none_posted actions posts);
+  first = known.first;
 }
 
 none_by : (b : Bool) (link : ℕ) (n : NextRead) (a : Action) → (if b then read_action link n else None) ≡ Some a → (b ≡ true) × (n ≡ nextread.Nothing → ⊥)
@@ -125,6 +129,6 @@ module _ (link : ℕ) (piece : List ℕ) (x : StateSeen) (o : OpenEntry) (s : Se
       answers None (event.Arrived link (take (heard_by slot link piece x.links).taken piece)) x (frame_heard link h x) reply.Done (sym frame_piece, refl) goes held
 
 pub known_along_frames : AnswersGoOn → AnswersKeepCalls → AnswersHoldSoundly → KnownAlongFrames
-known_along_frames goes keeps holds link piece x o s t a h actions is next hears does entries =
-    known_with x (frame_heard link h x) s t actions is.agrees.kept is.known does entries (goes_on_heard link piece x o s a h is next hears goes)
+known_along_frames goes keeps holds link piece x o s t a h actions is next hears does posts entries =
+    known_with x (frame_heard link h x) s t actions is.agrees.kept is.known does posts entries (goes_on_heard link piece x o s a h is next hears goes)
     (calls_heard link piece x o s a h is next hears keeps) (buffers_heard link piece x o s a h is next hears holds)

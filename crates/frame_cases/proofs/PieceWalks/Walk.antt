@@ -263,7 +263,7 @@ module _ (frames : FramesAreHeard) (breaks : BreaksAreHeard) (knows : KnownAlong
           let more : length slot.link.link.rest < shown.shown.0 = behind w slot.link.link.rest bytes shown.shown (is.part slot kept.there unbroken) shown.is in
           let taken : h.taken ≡ shown.shown.0 - length slot.link.link.rest = ap (λ (f : Option (ℕ × Told)). (heard_with slot.link.link bytes f).taken) shown.is in
           let some : 1 ≤ h.taken = omega (arith, more, taken) in
-          let known : IsKnown (frame_heard link h x) has.seen = knows link bytes x o s has.seen a h has.actions is next hears has.does has.same.entries in
+          let known : IsKnown (frame_heard link h x) has.seen = knows link bytes x o s has.seen a h has.actions is next hears has.does has.posts has.same.entries in
           let point : IsHearing link (drop h.taken bytes) (frame_heard link h x) has.entry has.seen
           = after_heard link (drop h.taken bytes) bytes x (frame_heard link h x) o s is has known in
           let left : IsHearing link (drop (h.taken - 1) piece) (frame_heard link h x) has.entry has.seen

@@ -3,7 +3,7 @@
 -- Example: a piece has a frame of DATA, then PUSH_PROMISE, and a PING. BytesArrive; FrameRead of DATA, with all that follows from it; LinkBreaks, with the end of each
 -- attempt on the link. The PING is read in neither.
 -- The laws, in the order of this file: what is asked of one frame, and of bytes that break the link; a piece.
-use Rattle.std.specs.Prelude.{List, None, Some, drop, length, ◌+◌, ◌≡◌, ◌≤◌, ℕ}
+use Rattle.std.specs.Prelude.{List, None, Some, [], drop, length, ◌+◌, ◌≡◌, ◌≤◌, ℕ}
 use Rattle.channel_actions.specs.Known.{IsKnown}
 use Rattle.channel_actions.specs.Stages.{EventsAnswered}
 use Rattle.channel_core.specs.Applying as channel
@@ -13,6 +13,7 @@ use Rattle.channel_core.specs.Tables.{Heard, heard_in}
 use Rattle.frame_cases.specs.PieceWalks.Points.{HasHeard, IsHearing, IsReadOut}
 use Rattle.grpc_base.specs.declared.event.Event.{Event}
 use Rattle.grpc_base.specs.declared.event.Event.TheVariants as event
+use Rattle.session_actions.specs.Laws.{posted_in}
 use Rattle.session_actions.specs.Sessions.{Does}
 use Rattle.session_actions.specs.Words.{numbered}
 use Rattle.session_actions.specs.Writing.{next_frame_read}
@@ -41,7 +42,8 @@ BreaksAreHeard = HeardOf (λ link s a h. (code : ℕ) × (a ≡ action.LinkBreak
 abbrev pub KnownAlongFrames : Type 0
 KnownAlongFrames =
     (link : ℕ) (piece : List ℕ) (x : StateSeen) (o : OpenEntry) (s t : Seen) (a : Action) (h : Heard) (actions : List Action) → IsHearing link piece x o s
-    → next_frame_read link s ≡ Some a → heard_in link piece x.links ≡ Some h → Does actions s t → t.entries ≡ s.entries → IsKnown (frame_heard link h x) t
+    → next_frame_read link s ≡ Some a → heard_in link piece x.links ≡ Some h → Does actions s t → posted_in actions ≡ [] → t.entries ≡ s.entries
+    → IsKnown (frame_heard link h x) t
 
 -- a piece arrives on a link that is not gone. What was not read of it shows no whole frame, and fewer than 2^64 bytes came on it, as in every session whose journal is
 -- below its limit

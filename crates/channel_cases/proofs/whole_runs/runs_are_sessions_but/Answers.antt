@@ -23,6 +23,11 @@ returns c =
       cuts = c.ends_are_by_cases.ensures.cuts;
       rise = c.runs_rise.ensures.sessions;
       each = c.buffers_stay_sound.ensures.each;
+      results = c.known_results_are_answered.ensures;
+      near = c.deadlines_are_near.ensures.known;
+      up = c.links_are_few.ensures.links;
+      dialled = c.links_are_few.ensures.dials;
+      streams = c.streams_are_few.ensures;
     } in
     runs_are_sessions_but laws c.deadlines_are_done.ensures c.clocks_and_wishes_are_steps.ensures.clock c.take_overs_are_steps.ensures
-    c.places_by_agreement.ensures c.settlings_stand.ensures.settling c.runs_are_sessions.ensures
+    c.places_by_agreement.ensures c.settlings_stand.ensures.settling c.nets_may_ask.ensures c.runs_are_sessions.ensures
