@@ -23,7 +23,11 @@ use Rattle.channel_actions.specs.OwnLinks.Own.{AreOwnLinks}
 use Rattle.channel_actions.specs.OwnStreams.Own.{AreOwnStreams}
 use Rattle.channel_actions.specs.SoundBuffers.Held.{BuffersAreSound}
 use Rattle.channel_actions.specs.SoundCalls.Sound.{AreSoundCalls}
+use Rattle.channel_actions.proofs.HeldTexts.Fits.{deadlines_keep_texts, settlings_keep_texts, texts_on}
+use Rattle.channel_actions.proofs.HeldTexts.Sends.{answers_keep_texts}
+use Rattle.channel_actions.proofs.HeldTexts.Trims.{trimmed_same}
 use Rattle.channel_actions.proofs.Posted.{fewer, none_posted, posted_after}
+use Rattle.channel_actions.specs.HeldTexts.Fits.{TextsFit}
 use Rattle.channel_actions.specs.Points.{IsSameEntry, Rests}
 use Rattle.channel_actions.specs.Posted.{ArePosted, FewAttempts, IsPosted}
 use Rattle.channel_actions.specs.SoundCalls.Laws.{AnswersKeepRows, SettlingsKeepRows, StepsKeepCalls, StepsKeepRows}
@@ -75,6 +79,7 @@ pub record IsCarried (x : StateSeen) (s : Seen) : Type 0 where
   pub reached : IsReached s
   pub posted : ArePosted (posted_in reached.actions)
   pub first : has_kind (kinds_in reached.setup.policies) kind.PickFirst ≡ true
+  pub texts : TextsFit x s
 
 -- what keeps it: each stage of the channel, and each action; and no stage forgets an attempt
 pub record Carrying : Type 0 where
@@ -130,8 +135,8 @@ module _ (states : StatesAreSame) (openings : Openings) (deadlines : Deadlines) 
   agrees_first = openings x s e.moment e.word e.event h
 
   -- what is carried, after actions from a session that is kept
-  carried_on : (actions : List Action) (w z : StateSeen) (t u : Seen) → IsKept t → IsCarried w t → Does actions t u → ArePosted (posted_in actions) → KeepsOn z → IsCarried z u
-  carried_on actions w z t u kept k does posts keeps = record {
+  carried_on : (actions : List Action) (w z : StateSeen) (t u : Seen) → IsKept t → IsCarried w t → Does actions t u → ArePosted (posted_in actions) → KeepsOn z → TextsFit z u → IsCarried z u
+  carried_on actions w z t u kept k does posts keeps texts = record {
     keeps = keeps;
     early = carrying.early actions t u kept k.early does;
     own = carrying.own actions t u kept k.own does;
@@ -141,6 +146,7 @@ module _ (states : StatesAreSame) (openings : Openings) (deadlines : Deadlines) 
     reached = reached_on t u actions k.reached does;
     posted = posted_after k.reached.actions actions k.posted posts;
     first = k.first;
+    texts = texts;
   }
 
   -- and so it is known, while no entry was made
@@ -168,6 +174,7 @@ module _ (states : StatesAreSame) (openings : Openings) (deadlines : Deadlines) 
         calls = record { slots = c.keeps.calls.slots; plans = c.keeps.calls.plans };
         buffers = c.keeps.buffers;
       })
+      (texts_on x s first (action.EntryOpens e.moment e.word e.event ∷ []) h.agrees c.texts (may, sym opens_to) begun (trimmed_same x.book.calls) agrees_first)
 
   timely : IsTimely begun start first
   timely =
@@ -178,6 +185,8 @@ module _ (states : StatesAreSame) (openings : Openings) (deadlines : Deadlines) 
   carried_timely =
       carried_on timely.reaches.actions begun (overdue_ended begun) first timely.reaches.seen agrees_first.kept carried_first timely.reaches.does
       (none_posted timely.reaches.actions timely.reaches.posts) (carrying.deadlines begun carried_first.keeps)
+      (deadlines_keep_texts begun (overdue_ended begun) first timely.reaches.seen timely.reaches.actions refl agrees_first carried_first.texts timely.reaches.does
+      timely.reaches.agrees)
 
   answers : AnswersBy (refusal_of timely.reaches.entry.event (overdue_ended begun)) timely.reaches.entry.event (overdue_ended begun) step.answered r
   answers =
@@ -209,6 +218,8 @@ module _ (states : StatesAreSame) (openings : Openings) (deadlines : Deadlines) 
   carried_answered =
       carried_on answered.reaches.actions (overdue_ended begun) step.answered timely.reaches.seen answered.reaches.seen timely.reaches.agrees.kept carried_timely
       answered.reaches.does (none_posted answered.reaches.actions answered.reaches.posts) keeps_answered
+      (answers_keep_texts (overdue_ended begun) step.answered r timely.reaches.entry answered.reaches.entry timely.reaches.seen answered.reaches.seen answered.reaches.actions
+      timely.reaches.agrees carried_timely.texts timely.reaches.at timely.none answers answered.reaches.does answered.reaches.at answered.reaches.agrees)
 
   settling_begins : Settles step.answered answered.reaches.entry answered.reaches.seen
   settling_begins = begins step.answered answered.reaches.entry answered.reaches.seen answered.reaches.agrees answered.reaches.at answered.none
@@ -217,12 +228,14 @@ module _ (states : StatesAreSame) (openings : Openings) (deadlines : Deadlines) 
   carried_begins =
       carried_on settling_begins.reaches.actions step.answered step.answered answered.reaches.seen settling_begins.reaches.seen answered.reaches.agrees.kept
       carried_answered settling_begins.reaches.does (none_posted settling_begins.reaches.actions settling_begins.reaches.posts) carried_answered.keeps
+      (texts_on step.answered answered.reaches.seen settling_begins.reaches.seen settling_begins.reaches.actions answered.reaches.agrees carried_answered.texts
+      settling_begins.reaches.does step.answered (trimmed_same step.answered.book.calls) settling_begins.reaches.agrees)
 
   done : IsSettled step.answered settling_begins.reaches.entry settling_begins.reaches.seen
   done =
       settlings step.answered settling_begins.reaches.entry settling_begins.reaches.seen settling_begins.reaches.agrees settling_begins.reaches.at
       (settling_begins.turn ∙ answered.fresh)
-      (few_answered, known_of step.answered settling_begins.reaches.seen carried_begins (settling_begins.reaches.same.entries ∙ answered.reaches.same.entries ∙ timely.reaches.same.entries))
+      (few_answered, carried_begins.texts, known_of step.answered settling_begins.reaches.seen carried_begins (settling_begins.reaches.same.entries ∙ answered.reaches.same.entries ∙ timely.reaches.same.entries))
 
   abbrev last_entry : OpenEntry
   last_entry = done.reaches.entry
@@ -277,11 +290,15 @@ module _ (states : StatesAreSame) (openings : Openings) (deadlines : Deadlines) 
   carried_done =
       carried_on done.reaches.actions step.answered y settling_begins.reaches.seen last_seen settling_begins.reaches.agrees.kept carried_begins
       done.reaches.does (none_posted done.reaches.actions done.reaches.posts) (subst KeepsOn (sym step.settles) (carrying.settlings step.answered carried_begins.keeps))
+      (settlings_keep_texts step.answered y settling_begins.reaches.seen last_seen done.reaches.actions step.settles settling_begins.reaches.agrees carried_begins.texts
+      done.reaches.does agrees_last)
 
   carried_last : IsCarried y (entry_made last_entry last_seen)
   carried_last =
       carried_on (action.EntryCloses ∷ []) y y last_seen (entry_made last_entry last_seen) agrees_last.kept carried_done
       (done.closes, sym after_last) tt carried_done.keeps
+      (texts_on y last_seen (entry_made last_entry last_seen) (action.EntryCloses ∷ []) agrees_last carried_done.texts (done.closes, sym after_last) y
+      (trimmed_same y.book.calls) rests_last.agrees)
 
   pub entered : Enters y s e r
   entered = record {

@@ -18,6 +18,7 @@ pub mod Fresh
 pub mod GoingCalls
 pub mod Gone
 pub mod GreetedLinks
+pub mod HeldTexts
 pub mod Idle
 pub mod IdleCalls
 pub mod IdleNet

@@ -11,6 +11,8 @@ use Rattle.attempt_ledger.specs.declared.ledger.Ledger.{Ledger}
 use Rattle.attempt_ledger.specs.declared.ledger.LinkSeen.{LinkSeen}
 use Rattle.attempt_ledger.specs.declared.row.Row.{Row}
 use Rattle.channel_actions.proofs.Does.{does_on, posted_on}
+use Rattle.channel_actions.proofs.HeldTexts.Fits.{new_texts_fit}
+use Rattle.channel_actions.specs.HeldTexts.Fits.{TextsFit}
 use Rattle.channel_actions.proofs.Entered.{Carrying, Enters, IsCarried, KeepsOn, entered, entry_as}
 use Rattle.channel_actions.proofs.GreetedLinks.Along.{greeted_begins}
 use Rattle.channel_actions.proofs.OwnStreams.Along.{streams_begin}
@@ -192,6 +194,7 @@ runs_are_sessions states none_to_dial clocks overs wishes news openings closings
       reached = record { setup = setup; actions = []; does = refl };
       posted = tt;
       first = first_there setup.policies policies kinds ready;
+      texts = subst (λ (x : StateSeen). TextsFit x (new_session setup)) (sym is_new.state) (new_texts_fit alloc setup.authority policies setup);
     } in
     let ran = run states openings (deadlines_split overdue) (events_split none_to_dial does) (settlings_split clocks overs wishes states due) closings carrying events new core (new_session setup) begins carried (sym is_new.journal) runs room posted few in
     record {

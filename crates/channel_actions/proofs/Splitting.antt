@@ -7,6 +7,7 @@ use Rattle.channel_actions.proofs.Timely.{in_time}
 use Rattle.channel_actions.specs.Agrees.{Agrees}
 use Rattle.channel_actions.specs.Calm.{IsAt}
 use Rattle.channel_actions.specs.Cases.{DoesSomething, HasDue, HasOverdue, does_something, has_due}
+use Rattle.channel_actions.specs.HeldTexts.Fits.{TextsFit}
 use Rattle.channel_actions.specs.Known.{IsKnown}
 use Rattle.channel_actions.specs.Posted.{FewAttempts, IsPosted}
 use Rattle.channel_actions.specs.Stages.{Deadlines, DeadlinesOf, Events, EventsAnswered, IsAnswered, IsSettled, IsTimely, Settlings, SettlingsOf}
@@ -88,10 +89,10 @@ or_none : (a b : Bool) → (a || b) ≡ false → (a ≡ false) × (b ≡ false)
 or_none true b e = absurd (cc)
 or_none false b e = (refl, e)
 
-module _ (clocks : ClockChanges) (overs : TakeOversAreSame) (wishes : WishesConnect) (states : StatesAreSame) (rest : SettlingsOf (λ x s. HasDue x s × FewAttempts x.book.ledger × IsKnown x s)) (x : StateSeen) (o : OpenEntry)
-    (s : Seen) (h : Agrees x s) (at : IsAt stage.Settling o s) (fresh : o.turn ≡ None) (few : FewAttempts x.book.ledger) (known : IsKnown x s) where
+module _ (clocks : ClockChanges) (overs : TakeOversAreSame) (wishes : WishesConnect) (states : StatesAreSame) (rest : SettlingsOf (λ x s. HasDue x s × FewAttempts x.book.ledger × TextsFit x s × IsKnown x s)) (x : StateSeen) (o : OpenEntry)
+    (s : Seen) (h : Agrees x s) (at : IsAt stage.Settling o s) (fresh : o.turn ≡ None) (few : FewAttempts x.book.ledger) (texts : TextsFit x s) (known : IsKnown x s) where
   settled_by : (b : Bool) → has_due s ≡ b → IsSettled x o s
-  settled_by true e = rest x o s h at fresh (e, few, known)
+  settled_by true e = rest x o s h at fresh (e, few, texts, known)
   settled_by false e =
       let one = or_none (is_some (next_of_clock s)) _ e in
       let two = or_none (is_some (next_take_over s)) _ one.1 in
@@ -107,5 +108,5 @@ module _ (clocks : ClockChanges) (overs : TakeOversAreSame) (wishes : WishesConn
         queue = none_by (next_of_queue s) five.1;
       })
 
-pub settlings_split : ClockChanges → TakeOversAreSame → WishesConnect → StatesAreSame → SettlingsOf (λ x s. HasDue x s × FewAttempts x.book.ledger × IsKnown x s) → Settlings
-settlings_split clocks overs wishes states rest x o s h at fresh case = settled_by clocks overs wishes states rest x o s h at fresh case.0 case.1 (has_due s) refl
+pub settlings_split : ClockChanges → TakeOversAreSame → WishesConnect → StatesAreSame → SettlingsOf (λ x s. HasDue x s × FewAttempts x.book.ledger × TextsFit x s × IsKnown x s) → Settlings
+settlings_split clocks overs wishes states rest x o s h at fresh case = settled_by clocks overs wishes states rest x o s h at fresh case.0 case.1 case.2 (has_due s) refl

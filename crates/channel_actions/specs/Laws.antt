@@ -4,6 +4,7 @@
 use Rattle.std.specs.Prelude.{List, [], length, nat_le, nat_lt, true, ◌&&◌, ◌++◌, ◌+◌, ◌∷◌, ◌≡◌, Bool}
 use Rattle.std.specs.Global.{Global}
 use Rattle.channel_actions.specs.Cases.{DoesSomething, HasDue, HasOverdue, IsIdle, IsInTime, IsNoDial, IsPing, IsRefused, IsRefusedDial, IsTick, IsUnresolved}
+use Rattle.channel_actions.specs.HeldTexts.Fits.{TextsFit}
 use Rattle.channel_actions.specs.Known.{IsKnown}
 use Rattle.channel_actions.specs.Points.{Rests}
 use Rattle.channel_actions.specs.Posted.{ArePosted, FewAttempts, IsPosted}
@@ -51,7 +52,7 @@ EveryRunIsASession =
 abbrev pub RunsAreSessions : Type 0
 RunsAreSessions =
     DeadlinesOf (λ x s. HasOverdue x s × IsKnown x s) → EventsAnswered (λ e x s. DoesSomething e x s × IsPosted e × FewAttempts x.book.ledger × IsKnown x s)
-    → SettlingsOf (λ x s. HasDue x s × FewAttempts x.book.ledger × IsKnown x s) → EveryRunIsASession
+    → SettlingsOf (λ x s. HasDue x s × FewAttempts x.book.ledger × TextsFit x s × IsKnown x s) → EveryRunIsASession
 
 -- What is proved of the stages, case by case.
 -- Events: what the channel refuses before it looks at a call or a subchannel; a Tick; a resolution that failed; a dial where none is to be made, and dials

@@ -16,6 +16,7 @@ pub mod EndsFollow
 pub mod FewCalls
 pub mod GoingCalls
 pub mod GreetedLinks
+pub mod HeldTexts
 pub mod KeptCalls
 pub mod KeptSessions
 pub mod Known

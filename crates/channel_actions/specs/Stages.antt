@@ -5,6 +5,7 @@
 use Rattle.std.specs.Prelude.{None, Some, ℕ, length, max, ◌+◌, ◌≡◌}
 use Rattle.channel_actions.specs.Agrees.{Agrees}
 use Rattle.channel_actions.specs.Calm.{AreCalm, IsAt}
+use Rattle.channel_actions.specs.HeldTexts.Fits.{TextsFit}
 use Rattle.channel_actions.specs.KeptSessions.Kept.{IsKept}
 use Rattle.channel_actions.specs.Known.{IsKnown}
 use Rattle.channel_actions.specs.Points.{Reaches, Rests}
@@ -69,7 +70,7 @@ SettlingsOf Case =
     (x : StateSeen) (o : OpenEntry) (s : Seen) → Agrees x s → IsAt stage.Settling o s → o.turn ≡ None → Case x s → IsSettled x o s
 
 abbrev pub Settlings : Type 0
-Settlings = SettlingsOf (λ x s. FewAttempts x.book.ledger × IsKnown x s)
+Settlings = SettlingsOf (λ x s. FewAttempts x.book.ledger × TextsFit x s × IsKnown x s)
 
 -- the entry is made, with the links that are gone stamped
 abbrev pub Closings : Type 0

@@ -19,6 +19,7 @@ pub mod ends_follow;
 pub mod few_calls;
 pub mod going_calls;
 pub mod greeted_links;
+pub mod held_texts;
 pub mod kept_calls;
 pub mod kept_sessions;
 pub mod link_ends;

@@ -1,5 +1,5 @@
 // The attempts that a pass serves, as actions of a session; nothing runs.
-ghost use Rattle.channel_cases.specs.ServeSteps.Follows.{AnswersAreNext, AsksStand, PlacedOnesAgree, PlacesByAgreement, PlacesOfInheritors, ServesByAnswers};
+ghost use Rattle.channel_cases.specs.ServeSteps.Follows.{AnswersAreNext, AsksStand, PlacedOnesAgree, PlacesByAgreement, PlacesFollow, ServesByAnswers};
 ghost use Rattle.channel_cases.specs.ServeSteps.Laws.{AsksAgree, AsksFollow};
 
 use crate::settling_keeps::early_goes_on;
@@ -61,11 +61,11 @@ pub fn places_by_agreement()
     calm_is_exact();
 }
 
-/// So it goes out: channel and session agree once it is placed, where nothing was written of the messages of a call that a transparent retry took over (gRFC A6,
-/// "Transparent Retries").
+/// So it goes out: channel and session agree once it is placed. Of a call that a transparent retry took over nothing was written (gRFC A6, "Transparent Retries"), so
+/// all its messages are held for it.
 pub fn attempts_go_out()
     ensures agree { PlacedOnesAgree }
-    ensures places { PlacesOfInheritors }
+    ensures places { PlacesFollow }
 {
     actions_are_untold();
     attempts_are_made_alike();

@@ -17,7 +17,7 @@ use crate::known_stages::{
 use crate::lost_links::lost_links_are_answered;
 use crate::near_deadlines::deadlines_are_near;
 use crate::result_events::some_results_are_answered;
-use crate::serve_steps::places_by_agreement;
+use crate::serve_steps::attempts_go_out;
 use crate::settling_parts::settlings_stand;
 use channel_actions::few_calls::links_are_few;
 use channel_actions::sound_buffers::buffers_stay_sound;
@@ -28,6 +28,7 @@ pub fn runs_are_sessions_but()
     ensures { RunsAreSessionsBut }
 {
     all_sends_are_answered();
+    attempts_go_out();
     begins_are_answered();
     buffers_stay_sound();
     clocks_and_wishes_are_steps();
@@ -45,7 +46,6 @@ pub fn runs_are_sessions_but()
     nets_may_ask();
     open_cancels_are_answered();
     pings_are_queued();
-    places_by_agreement();
     runs_are_sessions();
     runs_rise();
     settlings_stand();

@@ -61,7 +61,7 @@ shorter_by taken m ms true less =
     let whole : length (concat (m ∷ ms)) ≡ length m + length (concat ms) = length-append m (concat ms) in omega (arith, less, whole)
 shorter_by taken m ms false less = le_refl (length (concat (m ∷ ms)))
 
-shorter : (taken : ℕ) (ms : List (List ℕ)) → length (concat (unpassed taken ms)) ≤ length (concat ms)
+pub shorter : (taken : ℕ) (ms : List (List ℕ)) → length (concat (unpassed taken ms)) ≤ length (concat ms)
 shorter taken [] = le_refl 0
 shorter taken (m ∷ ms) = shorter_by taken m ms (nat_le (length m) taken) (shorter (taken - length m) ms)
 

@@ -20,6 +20,7 @@ use Rattle.channel_cases.proofs.MakingSteps.Keys.{AreAscending, ArePlain, is_key
 use Rattle.channel_cases.proofs.MakingSteps.Strips.{made_calls, made_dues, made_moment, made_too, slot_after, with_dues}
 use Rattle.channel_cases.proofs.RoundSteps.Strict.{DuePair, due_from}
 use Rattle.channel_cases.proofs.SettlingActions.Composed.{leads_on, stays_at}
+use Rattle.channel_actions.proofs.HeldTexts.Carried.{Trims, rests_trim}
 use Rattle.channel_actions.proofs.SoundBuffers.Carried.{Stay, stay_rests}
 use Rattle.channel_actions.proofs.SoundCalls.Carried.{Settles, rests}
 use Rattle.channel_cases.proofs.SettlingKeeps.Keeping.{stays_by}
@@ -385,9 +386,12 @@ module _ (one : OneMakes) (laws : CallLaws) (along : EarlyAlong) (n : ℕ) (rest
   one_stays : (z : StateSeen) → Stay z (made_one n z)
   one_stays z = subst (λ (m : ℕ). Stay z (made_one m z)) low (make_all Stay (stay_rests laws) (n ∷ []) z)
 
+  one_trims : (z : StateSeen) → Trims z (made_one n z)
+  one_trims z = subst (λ (m : ℕ). Trims z (made_one m z)) low (make_all Trims rests_trim (n ∷ []) z)
+
   sound_now : IsSound y1 s1
   sound_now =
-      stays_by (made_one n) one_settles one_stays along y s s1 lead.reaches.actions l.agrees l.sound lead.reaches.does lead.reaches.agrees
+      stays_by (made_one n) one_settles one_stays one_trims along y s s1 lead.reaches.actions l.agrees l.sound lead.reaches.does lead.reaches.agrees
 
   pub loop_on : Loop rest dues1 calls1 y1 lead.reaches.entry s1
   loop_on = record {

@@ -1,16 +1,17 @@
 -- An attempt that asked for a pick is placed: channel and session agree after it, and no end is final that was not.
-use Rattle.std.proofs.Common.{◌≡◌, ◌≤◌, ◌==◌, ◌&&◌, ◌||◌, ◌∷◌, ◌∙◌, not, ap, arith, eq-eqb, eqb-true, refl, subst, sym, Bool, true, false, List, [], Option, None, Some, ℕ, suc, is_none, is_some, length, option_map, slice_get}
+use Rattle.std.proofs.Common.{◌≡◌, ◌≤◌, ◌==◌, ◌&&◌, ◌||◌, ◌∙◌, not, ap, arith, eq-eqb, eqb-true, refl, subst, sym, Bool, true, false, List, Option, None, Some, ℕ, suc, is_none, is_some, length, option_map, slice_get}
 use Rattle.std.proofs.lemmas.Bool.{and_parts}
 use Rattle.std.proofs.lemmas.Bool.Decides.{nat_tests}
 use Rattle.std.specs.Option.{option_map_or}
-use Rattle.std.specs.Prelude.{drop, nat_lt}
+use Rattle.std.specs.Prelude.{nat_lt}
 use Rattle.attempt_buffer.specs.Buffers.{Committed, text_of}
 use Rattle.attempt_ledger.specs.declared.ledger.CallEnd.{CallEnd}
 use Rattle.attempt_ledger.specs.declared.row.Placed.{Placed}
-use Rattle.call_actions.specs.TakeActions.Serves.{Holds, IsAt, drained_so_far}
+use Rattle.call_actions.specs.TakeActions.Serves.{drained_so_far}
 use Rattle.channel_actions.proofs.ActionsFit.Held.{linked_open}
 use Rattle.channel_actions.proofs.Gone.{all_numbered}
 use Rattle.channel_actions.proofs.GreetedLinks.Along.{greeted_begins}
+use Rattle.channel_actions.proofs.HeldTexts.Fits.{unwritten_texts_are_whole}
 use Rattle.channel_actions.proofs.KeptCalls.Along.{early_along, early_begins}
 use Rattle.channel_actions.proofs.KeptSessions.Along.{kept_along, kept_begins}
 use Rattle.channel_actions.proofs.OwnLinks.Owned.{own_along, own_begins}
@@ -20,6 +21,7 @@ use Rattle.channel_actions.proofs.Stamps.{counted_at}
 use Rattle.channel_actions.specs.Agrees.{Agrees}
 use Rattle.channel_actions.specs.Calls.{HasSlot}
 use Rattle.channel_actions.specs.FewCalls.Reached.{IsReached}
+use Rattle.channel_actions.specs.HeldTexts.Fits.{TextsFit}
 use Rattle.channel_actions.specs.KeptCalls.Early.{IsEarlyKept, is_linked_up, is_past}
 use Rattle.channel_actions.specs.OwnLinks.Own.{AreOwnLinks}
 use Rattle.channel_actions.specs.OwnStreams.Own.{AreOwnStreams, is_below_next, is_opened}
@@ -29,7 +31,8 @@ use Rattle.channel_cases.proofs.ServeSteps.Lasts.{none_of, not_true, unsome}
 use Rattle.channel_cases.proofs.ServeSteps.OutAgrees.{agrees_now, final_now}
 use Rattle.channel_cases.proofs.ServeSteps.OutBase as base
 use Rattle.channel_cases.proofs.ServeSteps.OutBase.{OutLaws, OutNext}
-use Rattle.channel_cases.specs.ServeSteps.Follows.{GoesOut, InheritorsAreWhole, IsAsked, IsHeldWhole, PlaceNext, PlacedOnesAgree}
+use Rattle.channel_cases.proofs.ServeSteps.OutThis.{is_this}
+use Rattle.channel_cases.specs.ServeSteps.Follows.{GoesOut, IsAsked, IsHeldWhole, PlaceNext, PlacedOnesAgree}
 use Rattle.channel_core.specs.Books.{limit_at, slot_at}
 use Rattle.channel_core.specs.Settling.{offered, place_at, placed, settled_in}
 use Rattle.channel_core.specs.States.{StateSeen}
@@ -38,7 +41,9 @@ use Rattle.grpc_frame.specs.Messages.{framed_all}
 use Rattle.lb_policy.specs.Table.{is_ready}
 use Rattle.session_actions.specs.Attempts.{call_of, commitment, is_of, is_over, is_over_in, is_queued}
 use Rattle.session_actions.specs.Commitments.{is_free_call}
+use Rattle.session_actions.specs.Links.{link_of}
 use Rattle.session_actions.specs.Policies.{attempt_placed, is_shutdown}
+use Rattle.session_actions.specs.Reading.{used}
 use Rattle.session_actions.specs.Refusals.{is_shutdown_sub}
 use Rattle.session_actions.specs.Sessions.{new_session}
 use Rattle.session_actions.specs.Subchannels.{is_connecting}
@@ -62,10 +67,6 @@ or_second : (a b : Bool) → a ≡ false → (a || b) ≡ true → b ≡ true
 or_second true b e f = absurd (let bad : true ≡ false = e in (cc))
 or_second false b e f = f
 
-none_not : {X : Type 0} (o : Option X) → is_some o ≡ true → is_none o ≡ false
-none_not None e = absurd (let bad : false ≡ true = e in (cc))
-none_not (Some x) e = refl
-
 no_first : (a b : Bool) → ((a && false) && b) ≡ false
 no_first true b = refl
 no_first false b = refl
@@ -77,10 +78,6 @@ room_by : (b : Bool) (n : ℕ) → n ≤ 262144 → (b && nat_lt 262144 n) ≡ f
 room_by true n e = not_above n e
 room_by false n e = refl
 
-drop_none : (l : List ℕ) → drop 0 l ≡ l
-drop_none [] = refl
-drop_none (x ∷ l) = refl
-
 -- an attempt on no link has no stream
 streamless_by : (s : Seen) (placed : Option Placed) (stream : Option ℕ) → placed ≡ None
     → option_map_or (λ (n : ℕ). holds (λ (at : Placed). is_below_next s.links n at.link) placed) stream true ≡ true → stream ≡ None
@@ -88,7 +85,7 @@ streamless_by s placed None off e = refl
 streamless_by s None (Some n) off e = absurd (let bad : false ≡ true = e in (cc))
 streamless_by s (Some at) (Some n) off e = absurd (let bad : Some at ≡ None = off in (cc))
 
-module _ (p : ℕ × ℕ) (g : PolicyUse) (sub : ℕ) (a : Attempt) (x : StateSeen) (o : OpenEntry) (s : Seen) (h : Agrees x s) (reached : IsReached s) (sound : BuffersAreSound x) (asked : IsAsked p o s)
+module _ (p : ℕ × ℕ) (g : PolicyUse) (sub : ℕ) (a : Attempt) (x : StateSeen) (o : OpenEntry) (s : Seen) (h : Agrees x s) (reached : IsReached s) (sound : BuffersAreSound x) (texts : TextsFit x s) (asked : IsAsked p o s)
     (there : numbered s.attempts p.1 ≡ Some a) (call : a.row.call ≡ p.0) (queued : is_queued a s ≡ true) (k : PlaceNext p g sub x s) where
   abbrev at : Placed
   at = place_at g.number sub k.link x
@@ -153,51 +150,36 @@ module _ (p : ℕ × ℕ) (g : PolicyUse) (sub : ℕ) (a : Attempt) (x : StateSe
       ∙ all_numbered is_linked_up s.subs sub k.picked k.is_picked early.boards)
 
   -- what its call holds
-  was_held : Holds s c has.slot.call.buffer
-  was_held = has.sees.serves.holds is_open
-
   own_held : HoldsSoundly has.slot.call
   own_held = each_holds_soundly x p.0 has.slot sound has.there
 
   row_of : (m : Committed) → has.slot.call.buffer.committed ≡ Some m → m.is_open ≡ true → option_map (λ (z : Attempt). z.place) (commitment c s) ≡ Some m.row
   row_of m is goes = has.sees.serves.sees.attempts.committed ∙ own_held.row m is goes
 
-  free_held : has.slot.call.buffer.committed ≡ None → IsHeldWhole s c has.slot.call.buffer
-  free_held none =
-      let free : commitment c s ≡ None = unsome (commitment c s) (sym was_held.committed ∙ ap (λ (q : Option Committed). is_some q) none) in
-      let uncommitted : has.slot.call.attempts.committed ≡ None = sym has.sees.serves.sees.attempts.committed ∙ ap (option_map (λ (z : Attempt). z.place)) free in
-      let start : IsAt 0 (text_of has.slot.call.buffer) 0 (framed_all c.messages)
-      = subst (λ (n : ℕ). IsAt 0 (text_of has.slot.call.buffer) n (framed_all c.messages)) (ap (λ (q : Option Attempt). option_map_or (λ (z : Attempt). drained z s) q 0) free)
-      (subst (λ (n : ℕ). IsAt n (text_of has.slot.call.buffer) (drained_so_far c s) (framed_all c.messages)) (ap (λ (q : Option Committed). option_map_or (λ (z : Committed). z.taken) q 0) none)
-      was_held.held) in
-      let text : text_of has.slot.call.buffer ≡ framed_all c.messages = sym (drop_none (text_of has.slot.call.buffer)) ∙ start.left ∙ drop_none (framed_all c.messages) in
-      record {
-        whole = own_held.whole uncommitted;
-        text = text;
-        room = room_by (is_free_call s c) (accepted_bytes c) (subst (λ (l : List ℕ). length l ≤ 262144) text (own_held.room uncommitted));
-        row = row_of;
-        alone = own_held.alone;
-      }
+  -- the attempt to which it is committed is this one, of which nothing was written
+  unwritten_by : (q : Option Attempt) → commitment c s ≡ q → drained_so_far c s ≡ 0
+  unwritten_by None e = ap (λ (o : Option Attempt). option_map_or (λ (z : Attempt). drained z s) o 0) e
+  unwritten_by (Some z) e =
+      let this : z ≡ a
+      = is_this s c p.1 a (ap (numbered s.calls) number_is ∙ at_call) there own queued has.sees.order.places has.sees.turn.unfollowed (asked.calm line.Inherited refl) z e in
+      ap (λ (o : Option Attempt). option_map_or (λ (v : Attempt). drained v s) o 0) (e ∙ ap (λ (v : Attempt). Some v) this)
+      ∙ ap (λ (o : Option ℕ). option_map_or (λ (stream : ℕ). option_map_or (used stream) (link_of a s) 0) o 0) streamless
 
-  inherited_held : InheritorsAreWhole → (m : Committed) → has.slot.call.buffer.committed ≡ Some m → IsHeldWhole s c has.slot.call.buffer
-  inherited_held inherit m is =
-      let both = inherit p a c has.slot m x o s h reached sound asked there call queued at_call has.there is in
-      record {
-        whole = both.0;
-        text = both.1;
-        room =
-            ap (λ (q : Bool). (is_none c.end && q) && nat_lt 262144 (accepted_bytes c)) (none_not (commitment c s) (sym was_held.committed ∙ ap (λ (q : Option Committed). is_some q) is))
-            ∙ no_first (is_none c.end) (nat_lt 262144 (accepted_bytes c));
-        row = row_of;
-        alone = own_held.alone;
-      }
+  all_held : (has.slot.call.buffer.is_whole ≡ true) × (text_of has.slot.call.buffer ≡ framed_all c.messages)
+  all_held = unwritten_texts_are_whole x s p.0 c has.slot h texts at_call has.there is_open (unwritten_by (commitment c s) refl)
 
-  held_by : InheritorsAreWhole → (q : Option Committed) → has.slot.call.buffer.committed ≡ q → IsHeldWhole s c has.slot.call.buffer
-  held_by inherit None e = free_held e
-  held_by inherit (Some m) e = inherited_held inherit m e
+  -- a call that is not committed holds no more than is kept for attempts to come
+  roomy_by : (q : Option Attempt) → commitment c s ≡ q → (is_free_call s c && nat_lt 262144 (accepted_bytes c)) ≡ false
+  roomy_by None e =
+      let uncommitted : has.slot.call.attempts.committed ≡ None = sym has.sees.serves.sees.attempts.committed ∙ ap (option_map (λ (z : Attempt). z.place)) e in
+      room_by (is_free_call s c) (accepted_bytes c) (subst (λ (l : List ℕ). length l ≤ 262144) all_held.1 (own_held.room uncommitted))
+  roomy_by (Some z) e = ap (λ (o : Option Attempt). (is_none c.end && is_none o) && nat_lt 262144 (accepted_bytes c)) e ∙ no_first (is_none c.end) (nat_lt 262144 (accepted_bytes c))
+
+  held_now : IsHeldWhole s c has.slot.call.buffer
+  held_now = record { whole = all_held.0; text = all_held.1; room = roomy_by (commitment c s) refl; row = row_of; alone = own_held.alone }
 
   -- so it goes out
-  module _ (held : IsHeldWhole s c has.slot.call.buffer) where
+  module _ (laws : OutLaws) where
     here : numbered s.calls c.number ≡ Some c
     here = ap (numbered s.calls) number_is ∙ at_call
 
@@ -212,7 +194,7 @@ module _ (p : ℕ × ℕ) (g : PolicyUse) (sub : ℕ) (a : Attempt) (x : StateSe
       slot_there = ap (slot_at x.book) number_is ∙ has.there;
       sees = has.sees;
       configured = configured;
-      held = held;
+      held = held_now;
       row = p.1;
       attempt = a;
       here = there;
@@ -244,7 +226,7 @@ module _ (p : ℕ × ℕ) (g : PolicyUse) (sub : ℕ) (a : Attempt) (x : StateSe
         let number : d.number ≡ suc i = counted_at (λ (e : Call). e.number) s.calls (suc i) d h.kept.calls got in
         let same : suc i ≡ c.number = sym number ∙ sym (eqb-true a.row.call d.number mine) ∙ eqb-true a.row.call c.number own in
         let one : Some d ≡ Some c = sym got ∙ ap (numbered s.calls) same ∙ here in
-        let it : d ≡ c = (cc) in subst (λ (e : Call). (is_free_call s e && nat_lt 262144 (accepted_bytes e)) ≡ false) (sym it) held.room
+        let it : d ≡ c = (cc) in subst (λ (e : Call). (is_free_call s e && nat_lt 262144 (accepted_bytes e)) ≡ false) (sym it) held_now.room
 
     fits : IsPlaceable p.1 at s
     fits = record {
@@ -259,8 +241,8 @@ module _ (p : ℕ × ℕ) (g : PolicyUse) (sub : ℕ) (a : Attempt) (x : StateSe
       room = room_at;
     }
 
-    pub goes_out : OutLaws → GoesOut p (place_at g.number sub k.link x) (placed p.0 p.1 g.number sub x).state o s
-    goes_out laws = record {
+    pub goes_out : GoesOut p (place_at g.number sub k.link x) (placed p.0 p.1 g.number sub x).state o s
+    goes_out = record {
       fits = fits;
       agrees =
           subst (λ (v : StateSeen). Agrees v (attempt_placed p.1 at s)) (sym (ap (λ (m : Moved). m.state) k.channel ∙ is_z))
@@ -269,6 +251,4 @@ module _ (p : ℕ × ℕ) (g : PolicyUse) (sub : ℕ) (a : Attempt) (x : StateSe
     }
 
 pub placed_ones_agree : OutLaws → PlacedOnesAgree
-placed_ones_agree laws inherit p g sub a x o s h reached sound asked there call queued k =
-    goes_out p g sub a x o s h reached sound asked there call queued k
-    (held_by p g sub a x o s h reached sound asked there call queued k inherit (has p g sub a x o s h reached sound asked there call queued k).slot.call.buffer.committed refl) laws
+placed_ones_agree laws p g sub a x o s h reached sound texts asked there call queued k = goes_out p g sub a x o s h reached sound texts asked there call queued k laws

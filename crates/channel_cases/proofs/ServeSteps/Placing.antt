@@ -15,8 +15,9 @@ use Rattle.channel_actions.specs.Calm.{IsAt}
 use Rattle.channel_cases.proofs.MakingSteps.Step.{none_at}
 use Rattle.channel_cases.proofs.ServeSteps.Answering.{last_more}
 use Rattle.channel_cases.specs.PassActions.Serves.{IsPassing}
-use Rattle.channel_cases.specs.ServeSteps.Follows.{AnswersAreNext, GoesOut, IsAsked, IsFollowed, IsPlace, PlaceNext, PlacedOnesAgree, PlacesByAgreement, InheritorsAreWhole, passed_by, request_made}
+use Rattle.channel_cases.specs.ServeSteps.Follows.{AnswersAreNext, GoesOut, IsAsked, IsFollowed, IsPlace, PlaceNext, PlacedOnesAgree, PlacesByAgreement, passed_by, request_made}
 use Rattle.channel_cases.specs.ServeSteps.Laws.{AskNext, answer_for, asked_for}
+use Rattle.channel_actions.specs.HeldTexts.Fits.{TextsFit}
 use Rattle.channel_actions.specs.SoundBuffers.Held.{BuffersAreSound}
 use Rattle.channel_cases.specs.SettlingActions.Sound.{IsSound}
 use Rattle.channel_core.specs.Settling.{picked, place_at, placed}
@@ -52,7 +53,7 @@ call_there : (s : Seen) (n : ℕ) (q : Option Call) → numbered s.calls n ≡ q
 call_there s n None is e = absurd (let bad : false ≡ true = e in (cc))
 call_there s n (Some c) is e = (c, is)
 
-module _ (exact : CalmIsExact) (stir : AttemptsStir) (next : AnswersAreNext) (goes : PlacedOnesAgree) (held : InheritorsAreWhole) (p : ℕ × ℕ) (sub : ℕ) (x : StateSeen) (o : OpenEntry) (s0 : Seen) where
+module _ (exact : CalmIsExact) (stir : AttemptsStir) (next : AnswersAreNext) (goes : PlacedOnesAgree) (p : ℕ × ℕ) (sub : ℕ) (x : StateSeen) (o : OpenEntry) (s0 : Seen) where
   abbrev s : Seen
   s = with_open o s0
 
@@ -73,6 +74,9 @@ module _ (exact : CalmIsExact) (stir : AttemptsStir) (next : AnswersAreNext) (go
     sound_buffers : BuffersAreSound y
     sound_buffers = sound.buffers
 
+    sound_texts : TextsFit y t
+    sound_texts = sound.texts
+
     reached : IsReached t
     reached = reached_on s t (action.PickRequested p.1 g.number (answer_for g s) ∷ []) sound.reached (k.next, refl)
 
@@ -92,7 +96,7 @@ module _ (exact : CalmIsExact) (stir : AttemptsStir) (next : AnswersAreNext) (go
     u = attempt_placed p.1 at t
 
     out : GoesOut p at z q t
-    out = goes held p g sub k.attempt y q t h reached sound_buffers after k.there k.call k.queued place
+    out = goes p g sub k.attempt y q t h reached sound_buffers sound_texts after k.there k.call k.queued place
 
     -- the session after it
     owned : (c : Call) × (numbered t.calls k.attempt.row.call ≡ Some c)
@@ -216,9 +220,9 @@ module _ (exact : CalmIsExact) (stir : AttemptsStir) (next : AnswersAreNext) (go
     follows = subst (λ (a : Pick). IsFollowed p (picked p.0 p.1 g.number a y) q t) (sym is) followed
 
 pub places_by_agreement : CalmIsExact → AttemptsStir → AnswersAreNext → PlacesByAgreement
-places_by_agreement exact stir next goes held p x o s h sound at k is agrees after =
+places_by_agreement exact stir next goes p x o s h sound at k is agrees after =
     let P : Seen → Type 0 = λ w. IsSound x w → (k : AskNext p w) → IsPlace (answer_for k.policy w) → Agrees (asked_for p.1 k.policy w x) (request_made p k.policy w)
     → IsAsked p (passed_by p o) (request_made p k.policy w)
     → IsFollowed p (picked p.0 p.1 k.policy.number (answer_for k.policy w) (asked_for p.1 k.policy w x)) (passed_by p o) (request_made p k.policy w) in
-    let whole : P (with_open o s) = λ a b c d e. follows exact stir next goes held p c.0 x o s a b c.1 d e in
+    let whole : P (with_open o s) = λ a b c d e. follows exact stir next goes p c.0 x o s a b c.1 d e in
     subst P (sym (is_with_open o s at.current)) whole sound k is agrees after

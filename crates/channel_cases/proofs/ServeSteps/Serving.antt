@@ -6,6 +6,7 @@ use Rattle.channel_actions.specs.Agrees.{Agrees}
 use Rattle.channel_actions.specs.Calm.{IsAt}
 use Rattle.channel_actions.specs.KeptCalls.Laws.{EarlyAlong}
 use Rattle.channel_actions.proofs.GoingCalls.Arms.{CallLaws}
+use Rattle.channel_actions.proofs.HeldTexts.Carried.{Trims, rests_trim}
 use Rattle.channel_actions.proofs.SoundBuffers.Carried.{Stay, stay_rests}
 use Rattle.channel_actions.proofs.SoundCalls.Carried.{Settles, rests}
 use Rattle.channel_cases.proofs.SettlingKeeps.Keeping.{stays_by}
@@ -107,8 +108,8 @@ module _ (table : PicksFollowState) (follow : AsksFollow) (agree : AsksAgree) (s
       leads = got.0;
       turn = got.1;
       sound =
-          stays_by (λ z. (served p.0 p.1 z).state) (λ z. serve Settles (rests laws) p.0 p.1 z) (λ z. serve Stay (stay_rests laws) p.0 p.1 z) along x s got.0.reaches.seen got.0.reaches.actions h sound
-          got.0.reaches.does got.0.reaches.agrees;
+          stays_by (λ z. (served p.0 p.1 z).state) (λ z. serve Settles (rests laws) p.0 p.1 z) (λ z. serve Stay (stay_rests laws) p.0 p.1 z)
+          (λ z. serve Trims rests_trim p.0 p.1 z) along x s got.0.reaches.seen got.0.reaches.actions h sound got.0.reaches.does got.0.reaches.agrees;
       moved = got.2;
     }
 

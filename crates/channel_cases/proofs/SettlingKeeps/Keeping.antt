@@ -2,6 +2,8 @@
 use Rattle.std.proofs.Common.{◌≡◌, ◌≤◌, ℕ, List, arith, length}
 use Rattle.channel_actions.proofs.FewCalls.Reached.{reached_on}
 use Rattle.channel_actions.proofs.GoingCalls.Arms.{CallLaws}
+use Rattle.channel_actions.proofs.HeldTexts.Carried.{Trims, chosen_trims, rests_trim}
+use Rattle.channel_actions.proofs.HeldTexts.Fits.{texts_on}
 use Rattle.channel_actions.proofs.SoundBuffers.Carried.{Stay, go_chosen, stay_in, stay_rests}
 use Rattle.channel_actions.proofs.SoundCalls.Carried.{Settled, Settles, configures, rests}
 use Rattle.channel_actions.proofs.SoundCalls.Keeping.{goes_on, sound_of, sound_to}
@@ -17,8 +19,8 @@ use Rattle.channel_core.specs.Steps.{bare_served, clocked, net_settled}
 use Rattle.session_actions.specs.declared.action.Action.{Action}
 use Rattle.session_actions.specs.declared.seen.Seen.{Seen}
 
-pub stays_by : (step : StateSeen → StateSeen) → ((x : StateSeen) → Settles x (step x)) → ((x : StateSeen) → Stay x (step x)) → EarlyAlong → SoundStays step
-stays_by step settles stays along x s t actions h sound does after =
+pub stays_by : (step : StateSeen → StateSeen) → ((x : StateSeen) → Settles x (step x)) → ((x : StateSeen) → Stay x (step x)) → ((x : StateSeen) → Trims x (step x)) → EarlyAlong → SoundStays step
+stays_by step settles stays trims along x s t actions h sound does after =
     let r : Settled x (step x) = settles x (sound_of x sound.calls) in
     let before : length s.calls ≡ length x.book.calls = h.calls.count in
     let now : length t.calls ≡ length (step x).book.calls = after.calls.count in
@@ -33,6 +35,7 @@ stays_by step settles stays along x s t actions h sound does after =
       early = along actions s t h.kept sound.early does;
       calls = sound_to (step x) r.kept.sound;
       buffers = stay_in x (step x) (stays x) (goes_on x sound.calls) sound.buffers;
+      texts = texts_on x s t actions h sound.texts does (step x) (trims x) after;
     }
   where
     le_on : (a b : ℕ) → a ≤ b → b ≤ 4294967294 → a ≤ 4294967294
@@ -40,10 +43,10 @@ stays_by step settles stays along x s t actions h sound does after =
 
 pub settling_keeps : CallLaws → EarlyAlong → SettlingKeeps
 settling_keeps laws along = record {
-  clocks = stays_by clocked (λ x. clock Settles (rests laws) x) (λ x. clock Stay (stay_rests laws) x) along;
-  nets = stays_by net_settled (λ x. settle_net Settles (rests laws) x) (λ x. settle_net Stay (stay_rests laws) x) along;
-  configs = stays_by bare_served (λ x. serve_bare Settles (rests laws) x (configures laws)) (λ x. serve_bare Stay (stay_rests laws) x (go_chosen laws)) along;
-  making = stays_by round_made_state (λ x. make_round Settles (rests laws) x) (λ x. make_round Stay (stay_rests laws) x) along;
+  clocks = stays_by clocked (λ x. clock Settles (rests laws) x) (λ x. clock Stay (stay_rests laws) x) (λ x. clock Trims rests_trim x) along;
+  nets = stays_by net_settled (λ x. settle_net Settles (rests laws) x) (λ x. settle_net Stay (stay_rests laws) x) (λ x. settle_net Trims rests_trim x) along;
+  configs = stays_by bare_served (λ x. serve_bare Settles (rests laws) x (configures laws)) (λ x. serve_bare Stay (stay_rests laws) x (go_chosen laws)) (λ x. serve_bare Trims rests_trim x chosen_trims) along;
+  making = stays_by round_made_state (λ x. make_round Settles (rests laws) x) (λ x. make_round Stay (stay_rests laws) x) (λ x. make_round Trims rests_trim x) along;
   queue =
-      stays_by queue_served_state (λ x. pass Settles (rests laws) most (0, 0) (stays x)) (λ x. pass Stay (stay_rests laws) most (0, 0) (stays x)) along;
+      stays_by queue_served_state (λ x. pass Settles (rests laws) most (0, 0) (stays x)) (λ x. pass Stay (stay_rests laws) most (0, 0) (stays x)) (λ x. pass Trims rests_trim most (0, 0) (stays x)) along;
 }

@@ -1,12 +1,13 @@
 -- A settling, with what runs keep, and what is left of its steps.
 use Rattle.channel_actions.specs.Agrees.{Agrees}
 use Rattle.channel_actions.specs.Calm.{IsAt}
+use Rattle.channel_actions.specs.HeldTexts.Fits.{TextsFit}
 use Rattle.channel_actions.specs.Known.{IsKnown}
 use Rattle.channel_actions.specs.Posted.{FewAttempts}
 use Rattle.channel_actions.specs.Stages.{IsSettled}
 use Rattle.channel_cases.proofs.KnownStages.Deadlines.{few_calls}
 use Rattle.channel_cases.proofs.WholeRuns.Counts.{attempts_known}
-use Rattle.channel_cases.specs.ServeSteps.Follows.{NetsMayAsk, PlacesByAgreement}
+use Rattle.channel_cases.specs.ServeSteps.Follows.{NetsMayAsk, PlacesFollow}
 use Rattle.channel_cases.specs.SettlingActions.Sound.{IsSound}
 use Rattle.channel_cases.specs.SettlingActions.Steps.{ClockSteps, NetSteps}
 use Rattle.channel_cases.specs.SettlingParts.Laws.{SettlingsStand}
@@ -17,10 +18,10 @@ use Rattle.session_actions.specs.declared.entry.Stage.TheVariants as stage
 use Rattle.session_actions.specs.declared.seen.Seen.{Seen}
 use Rattle.std.proofs.Common.{None, ◌≡◌}
 
-pub settlings_done : ClockSteps → NetSteps → PlacesByAgreement → SettlingsStand → NetsMayAsk → OpenSteps → (x : StateSeen) (o : OpenEntry) (s : Seen) → Agrees x s → IsAt stage.Settling o s
-    → o.turn ≡ None → FewAttempts x.book.ledger → IsKnown x s → IsSettled x o s
-settlings_done clocks nets places settlings asks steps x o s h at fresh few known =
-    settlings clocks nets steps.withheld asks (places steps.placed steps.inheritors) steps.fails x o s h at fresh
+pub settlings_done : ClockSteps → NetSteps → PlacesFollow → SettlingsStand → NetsMayAsk → OpenSteps → (x : StateSeen) (o : OpenEntry) (s : Seen) → Agrees x s → IsAt stage.Settling o s
+    → o.turn ≡ None → FewAttempts x.book.ledger → TextsFit x s → IsKnown x s → IsSettled x o s
+settlings_done clocks nets places settlings asks steps x o s h at fresh few texts known =
+    settlings clocks nets steps.withheld asks places steps.fails x o s h at fresh
     (record {
       few = few_calls x s known;
       room = attempts_known x s h known few;
@@ -28,4 +29,5 @@ settlings_done clocks nets places settlings asks steps x o s h at fresh few know
       early = known.early;
       calls = known.calls;
       buffers = known.buffers;
+      texts = texts;
     })

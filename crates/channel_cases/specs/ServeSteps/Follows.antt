@@ -16,8 +16,8 @@ use Rattle.channel_core.specs.Settling.{moves, offered, picked, place_at, placed
 use Rattle.channel_core.specs.States.{StateSeen}
 use Rattle.channel_core.specs.Steps.{Moved, next_served}
 use Rattle.channel_core.specs.Tables.{takes_rows}
-use Rattle.channel_core.specs.declared.state.slots.CallSlot.{CallSlot}
 use Rattle.channel_actions.specs.FewCalls.Reached.{IsReached}
+use Rattle.channel_actions.specs.HeldTexts.Fits.{TextsFit}
 use Rattle.grpc_frame.specs.Messages.{framed_all}
 use Rattle.grpc_base.specs.declared.kind.Pick.{Pick}
 use Rattle.grpc_base.specs.declared.kind.Pick.TheVariants as pick
@@ -134,26 +134,16 @@ pub record IsHeldWhole (s : Seen) (c : Call) (b : Buffered) : Type 0 where
   pub row : (m : Committed) → b.committed ≡ Some m → m.is_open ≡ true → option_map (λ k. k.place) (commitment c s) ≡ Some m.row
   pub alone : (m : Committed) → b.committed ≡ Some m → b.cursors ≡ []
 
--- it is so of a call that is not committed. One that is, and whose attempt waits, is committed to a transparent retry, of an attempt that was never sent: nothing was
--- written of its messages
-abbrev pub InheritorsAreWhole : Type 0
-InheritorsAreWhole =
-    (p : ℕ × ℕ) (a : Attempt) (c : Call) (slot : CallSlot) (m : Committed) (x : StateSeen) (o : OpenEntry) (s : Seen) → Agrees x s → IsReached s → BuffersAreSound x → IsAsked p o s
-    → numbered s.attempts p.1 ≡ Some a → a.row.call ≡ p.0 → is_queued a s ≡ true → numbered s.calls p.0 ≡ Some c → slot_at x.book p.0 ≡ Some slot
-    → slot.call.buffer.committed ≡ Some m → (slot.call.buffer.is_whole ≡ true) × (text_of slot.call.buffer ≡ framed_all c.messages)
-
+-- (It is so of a call that is not committed. One that is, and whose attempt waits, is committed to a transparent retry, of an attempt that was never sent: nothing was
+-- written of its messages, and what calls hold fits what was accepted, so all is held.)
 abbrev pub PlacedOnesAgree : Type 0
 PlacedOnesAgree =
-    InheritorsAreWhole → (p : ℕ × ℕ) (g : PolicyUse) (sub : ℕ) (a : Attempt) (x : StateSeen) (o : OpenEntry) (s : Seen) → Agrees x s → IsReached s → BuffersAreSound x → IsAsked p o s
+    (p : ℕ × ℕ) (g : PolicyUse) (sub : ℕ) (a : Attempt) (x : StateSeen) (o : OpenEntry) (s : Seen) → Agrees x s → IsReached s → BuffersAreSound x → TextsFit x s → IsAsked p o s
     → numbered s.attempts p.1 ≡ Some a → a.row.call ≡ p.0 → is_queued a s ≡ true → (k : PlaceNext p g sub x s)
     → GoesOut p (place_at g.number sub k.link x) (placed p.0 p.1 g.number sub x).state o s
 
 abbrev pub PlacesByAgreement : Type 0
-PlacesByAgreement = PlacedOnesAgree → InheritorsAreWhole → PlacesFollow
-
--- so where a pick names a subchannel, the attempt is placed
-abbrev pub PlacesOfInheritors : Type 0
-PlacesOfInheritors = InheritorsAreWhole → PlacesFollow
+PlacesByAgreement = PlacedOnesAgree → PlacesFollow
 
 -- while the channel settles its net may ask
 abbrev pub NetsMayAsk : Type 0

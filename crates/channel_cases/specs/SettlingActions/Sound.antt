@@ -4,6 +4,7 @@
 use Rattle.std.specs.Prelude.{List, length, ◌≤◌}
 use Rattle.channel_actions.specs.Agrees.{Agrees}
 use Rattle.channel_actions.specs.FewCalls.Reached.{IsReached}
+use Rattle.channel_actions.specs.HeldTexts.Fits.{TextsFit}
 use Rattle.channel_actions.specs.KeptCalls.Early.{IsEarlyKept}
 use Rattle.channel_actions.specs.SoundBuffers.Held.{BuffersAreSound}
 use Rattle.channel_actions.specs.SoundCalls.Sound.{AreSoundCalls, all_attempts}
@@ -23,6 +24,8 @@ pub record IsSound (x : StateSeen) (s : Seen) : Type 0 where
   pub calls : AreSoundCalls x
   -- and of the channel alone, what its calls hold of their messages
   pub buffers : BuffersAreSound x
+  -- which are no more than the session accepted
+  pub texts : TextsFit x s
 
 -- a step of the channel, with the actions that lead to a point at which both agree again, keeps it
 abbrev pub SoundStays : (StateSeen → StateSeen) → Type 0

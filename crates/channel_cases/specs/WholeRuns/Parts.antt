@@ -5,7 +5,7 @@ use Rattle.channel_actions.specs.Posted.{FewAttempts}
 use Rattle.channel_actions.specs.Stages.{EventsAnswered}
 use Rattle.channel_cases.specs.AttemptEnds.Laws.{LastEndsCutOff, OneAttemptEnds}
 use Rattle.channel_cases.specs.MakingSteps.Laws.{LastIsWithheld}
-use Rattle.channel_cases.specs.ServeSteps.Follows.{FailsFollow, InheritorsAreWhole, PlacedOnesAgree}
+use Rattle.channel_cases.specs.ServeSteps.Follows.{FailsFollow}
 use Rattle.channel_core.specs.Applying as channel
 use Rattle.channel_core.specs.States.{StateSeen}
 use Rattle.grpc_base.specs.declared.event.Event.TheVariants as event
@@ -39,6 +39,4 @@ pub record OpenEvents : Type 0 where
 -- Settlings
 pub record OpenSteps : Type 0 where
   pub withheld : LastIsWithheld
-  pub placed : PlacedOnesAgree
-  pub inheritors : InheritorsAreWhole
   pub fails : FailsFollow

@@ -30,4 +30,4 @@ returns c =
       streams = c.streams_are_few.ensures;
     } in
     runs_are_sessions_but laws c.deadlines_are_done.ensures c.clocks_and_wishes_are_steps.ensures.clock c.take_overs_are_steps.ensures
-    c.places_by_agreement.ensures c.settlings_stand.ensures.settling c.nets_may_ask.ensures c.runs_are_sessions.ensures
+    c.attempts_go_out.ensures.places c.settlings_stand.ensures.settling c.nets_may_ask.ensures c.runs_are_sessions.ensures
