@@ -1,19 +1,21 @@
 // Whole runs; nothing runs.
 ghost use Rattle.channel_cases.specs.WholeRuns.Laws.{RunsAreSessionsBut};
 
-use crate::attempt_ends::{ends_are_by_cases, runs_rise};
+use crate::attempt_ends::{one_attempt_ends, runs_rise};
 use crate::begin_actions::begins_are_answered;
 use crate::call_commits::all_sends_are_answered;
 use crate::call_ends::late_cancels_are_refused;
 use crate::call_posts::{finishes_are_answered, takes_are_answered};
 use crate::dial_events::dials_are_answered;
 use crate::ended_calls::open_cancels_are_answered;
+use crate::failed_picks::fails_follow;
 use crate::few_streams::{nets_may_ask, streams_are_few};
 use crate::held_calls::known_drains_are_answered;
 use crate::known_nets::{known_results_are_answered, take_overs_are_steps};
 use crate::known_stages::{
     clocks_and_wishes_are_steps, deadlines_are_done, known_shutdowns_are_answered,
 };
+use crate::last_hedges::last_is_withheld;
 use crate::lost_links::lost_links_are_answered;
 use crate::near_deadlines::deadlines_are_near;
 use crate::result_events::some_results_are_answered;
@@ -35,15 +37,17 @@ pub fn runs_are_sessions_but()
     deadlines_are_done();
     deadlines_are_near();
     dials_are_answered();
-    ends_are_by_cases();
+    fails_follow();
     finishes_are_answered();
     known_drains_are_answered();
     known_results_are_answered();
     known_shutdowns_are_answered();
+    last_is_withheld();
     late_cancels_are_refused();
     links_are_few();
     lost_links_are_answered();
     nets_may_ask();
+    one_attempt_ends();
     open_cancels_are_answered();
     pings_are_queued();
     runs_are_sessions();

@@ -11,7 +11,7 @@ use Rattle.channel_actions.specs.Stages.{IsAnswered}
 use Rattle.channel_cases.proofs.CallPosts.Answered.{posted}
 use Rattle.channel_cases.proofs.WholeRuns.Counts.{dials_known, first_known, links_known}
 use Rattle.channel_cases.proofs.WholeRuns.Losses.{losses_known}
-use Rattle.channel_cases.specs.AttemptEnds.Laws.{EndsByCuts}
+use Rattle.channel_cases.specs.AttemptEnds.Laws.{OneAttemptEnds}
 use Rattle.channel_cases.specs.AttemptEnds.Runs.{RunsOfSessions}
 use Rattle.channel_cases.specs.BeginActions.Laws.{BeginsAreAnswered}
 use Rattle.channel_cases.specs.CallCommits.Laws.{SendsAreAnswered}
@@ -68,7 +68,7 @@ pub record EventLaws : Type 0 where
   pub shutdowns : KnownShutdownsAreAnswered
   pub second_shutdowns : SecondShutdownsAreAnswered
   pub lost : LostLinksAreAnswered
-  pub cuts : EndsByCuts
+  pub ends : OneAttemptEnds
   pub rise : RunsOfSessions
   pub each : EachHoldsSoundly
   pub near : KnownDeadlinesAreNear
@@ -184,7 +184,7 @@ module _ (laws : EventLaws) (events : OpenEvents) (x y : StateSeen) (r : Reply) 
   by_kind (event.Arrived link piece) is =
       events.arrivals x y r o s h at fresh timely (record { link = link; piece = piece; event_is = is; kept = case.kept; known = known }) answers
   by_kind (event.LinkLost link) is =
-      losses_known laws.each laws.lost laws.rise (laws.cuts events.ends) x y r o s h at fresh timely (record { link = link; event_is = is; kept = case.kept; few = few; known = known }) answers
+      losses_known laws.each laws.lost laws.rise laws.ends x y r o s h at fresh timely (record { link = link; event_is = is; kept = case.kept; few = few; known = known }) answers
   by_kind (event.Drain link room) is = drain_few link room is
   by_kind (event.Ping link word) is =
       laws.pings x y r o s h at fresh timely (record { link = link; word = word; event_is = is; kept = case.kept }) answers

@@ -1,11 +1,9 @@
 -- What is left of the theorem that every run of a channel is a session, as one list: each part by its name. All else is proved.
--- Example: a run of Begin, Finish, TakeDial, DialFailed and Cancel asks nothing of this list but, of its settlings, what becomes of attempts that are placed.
+-- Example: a run of Begin, Finish, TakeDial, LinkUp, LinkLost and Cancel asks nothing of this list: no bytes come in it.
 use Rattle.channel_actions.specs.Known.{IsKnown}
 use Rattle.channel_actions.specs.Posted.{FewAttempts}
 use Rattle.channel_actions.specs.Stages.{EventsAnswered}
-use Rattle.channel_cases.specs.AttemptEnds.Laws.{LastEndsCutOff, OneAttemptEnds}
-use Rattle.channel_cases.specs.MakingSteps.Laws.{LastIsWithheld}
-use Rattle.channel_cases.specs.ServeSteps.Follows.{FailsFollow}
+use Rattle.channel_cases.specs.AttemptEnds.Laws.{OneAttemptEnds}
 use Rattle.channel_core.specs.Applying as channel
 use Rattle.channel_core.specs.States.{StateSeen}
 use Rattle.grpc_base.specs.declared.event.Event.TheVariants as event
@@ -21,7 +19,7 @@ pub record IsArrival (e : Event) (x : StateSeen) (s : Seen) : Type 0 where
   pub kept : channel.refusal_of e x ≡ None
   pub known : IsKnown x s
 
--- a link that is not gone is lost; proved where one attempt ends alike, of which one case is open (`ends`): a last end of a hedged call while other attempts of it go on
+-- a link that is not gone is lost (proved)
 pub record IsLoss (e : Event) (x : StateSeen) (s : Seen) : Type 0 where
   pub link : ℕ
   pub event_is : e ≡ event.LinkLost link
@@ -34,9 +32,3 @@ KnownLossesAreAnswered = OneAttemptEnds → EventsAnswered IsLoss
 
 pub record OpenEvents : Type 0 where
   pub arrivals : EventsAnswered IsArrival
-  pub ends : LastEndsCutOff
-
--- Settlings
-pub record OpenSteps : Type 0 where
-  pub withheld : LastIsWithheld
-  pub fails : FailsFollow

@@ -20,7 +20,7 @@ returns c =
       shutdowns = c.known_shutdowns_are_answered.ensures;
       second_shutdowns = c.some_results_are_answered.ensures.shut;
       lost = c.lost_links_are_answered.ensures;
-      cuts = c.ends_are_by_cases.ensures.cuts;
+      ends = c.one_attempt_ends.ensures;
       rise = c.runs_rise.ensures.sessions;
       each = c.buffers_stay_sound.ensures.each;
       results = c.known_results_are_answered.ensures;
@@ -30,4 +30,4 @@ returns c =
       streams = c.streams_are_few.ensures;
     } in
     runs_are_sessions_but laws c.deadlines_are_done.ensures c.clocks_and_wishes_are_steps.ensures.clock c.take_overs_are_steps.ensures
-    c.attempts_go_out.ensures.places c.settlings_stand.ensures.settling c.nets_may_ask.ensures c.runs_are_sessions.ensures
+    c.attempts_go_out.ensures.places c.settlings_stand.ensures.settling c.nets_may_ask.ensures c.last_is_withheld.ensures c.fails_follow.ensures c.runs_are_sessions.ensures
