@@ -1,5 +1,5 @@
 -- What was not read of a link shows no whole frame, but while the entry reads it.
-use Rattle.channel_actions.proofs.Changes.{Small, asked_in, noted_now, placed_in, read_in, small_in, sub_now, written_in}
+use Rattle.channel_actions.proofs.Changes.{Small, asked_in, noted_now, placed_in, small_in, sub_now, written_in}
 use Rattle.channel_actions.proofs.FewCalls.Begins.{begins_at_event, is_at_event}
 use Rattle.channel_actions.proofs.KeptSessions.Along.{kept_begins, kept_stays}
 use Rattle.channel_actions.proofs.KeptSessions.Lists.{all_more}
@@ -345,7 +345,7 @@ busy_at link o s at arrives answered =
 
 read_by : (link : ℕ) (r : ReadFrame) (o : OpenEntry) (s : Seen) → s.current ≡ Some o → IsKept s → ReadsNext o.event o s link (action.FrameRead link r) → AreOut s → (q : Option Link) → numbered s.links link ≡ q
     → AreOut (option_map_or (frame_read_on r s) q s)
-read_by link r o s at in_order reads k None got = k
+read_by link r o s at in_order reads k None got m l there = k m l there
 read_by link r o s at in_order reads k (Some a) got m l there = by (linked (with_frame_read r (owed_for r.frame a s)) a.number s m l there)
   where
     frames : List FrameSeen
