@@ -44,11 +44,8 @@ use Rattle.session_order.specs.Stirs.{SawLess, stirs}
 use Rattle.session_order.specs.declared.line.Line.{Line}
 use Rattle.session_order.specs.declared.line.Line.TheVariants as line
 
-new_self : (p : Response) → HasNothingNew p p
+pub new_self : (p : Response) → HasNothingNew p p
 new_self p = record { head = refl; messages = refl; large = refl; end = refl }
-
-pub new_same : (p q : Response) → q ≡ p → HasNothingNew p q
-new_same p q e = subst (HasNothingNew p) (sym e) (new_self p)
 
 -- what an end saw of a link is not more by a frame that came after it
 by_seen : (seen : ℕ) (r : ReadFrame) (ts : List Traffic) → seen < r.end → traffic_by seen (ts ++ traffic.Read r ∷ []) ≡ traffic_by seen ts
@@ -77,25 +74,30 @@ module _ (s : Seen) (link : ℕ) (l : Link) (here : numbered s.links link ≡ So
   pub there : numbered t.links link ≡ Some m
   there = changed_here f link s.links l here
 
-  module _ (new : (n : ℕ) (a : Attempt) → IsOn l s n a → HasNothingNew (response_of l s n a) (response_of m t n a)) where
+  -- what is so of each attempt that goes on there, and of what stays as it was, is so of each attempt
+  module _ (Q : Attempt → Type 0) (R : Response → Response → Type 0) (self : (p : Response) → R p p)
+      (new : (n : ℕ) (a : Attempt) → IsOn l s n a → Q a → R (response_of l s n a) (response_of m t n a)) where
+    same_new : (p q : Response) → q ≡ p → R p q
+    same_new p q e = subst (R p) (sym e) (self p)
+
     -- an attempt on the link
-    on_link_by : (i : ℕ) (a : Attempt) (n : ℕ) (at : Placed) → numbered s.attempts i ≡ Some a → a.row.stream ≡ Some n → a.row.placed ≡ Some at → at.link ≡ link
-        → (e : Option RowEnd) → a.row.ended ≡ e → HasNothingNew (response a s) (response a t)
-    on_link_by i a n at got stream placed same None ended =
+    on_link_by : (i : ℕ) (a : Attempt) (n : ℕ) (at : Placed) → numbered s.attempts i ≡ Some a → Q a → a.row.stream ≡ Some n → a.row.placed ≡ Some at → at.link ≡ link
+        → (e : Option RowEnd) → a.row.ended ≡ e → R (response a s) (response a t)
+    on_link_by i a n at got its stream placed same None ended =
         let there_is : numbered s.attempts a.place ≡ Some a = ap (numbered s.attempts) (places i a got) ∙ got in
         let out : is_outstanding_on l a ≡ true = is_on_by l a at placed ended (same ∙ sym own) in
         let on : IsOn l s n a = record { there = there_is; out = out; stream = stream } in
         let before : response a s ≡ response_of l s n a = response_is l s n a (ap (numbered s.links) own ∙ here) out stream in
         let after : response a t ≡ response_of m t n a = response_is m t n a (ap (numbered t.links) own ∙ there) out stream in
-        subst (λ (p : Response). HasNothingNew p (response a t)) (sym before) (subst (HasNothingNew (response_of l s n a)) (sym after) (new n a on))
-    on_link_by i a n at got stream placed same (Some e) ended =
+        subst (λ (p : Response). R p (response a t)) (sym before) (subst (R (response_of l s n a)) (sym after) (new n a on its))
+    on_link_by i a n at got its stream placed same (Some e) ended =
         let saw : e.seen < r.end = less i a e at got ended placed (same ∙ sym own) in
         let link_s : link_of a s ≡ Some l = ap (option_and_then (λ (p : Placed). numbered s.links p.link)) placed ∙ ap (numbered s.links) same ∙ here in
         let link_t : link_of a t ≡ Some m = ap (option_and_then (λ (p : Placed). numbered t.links p.link)) placed ∙ ap (numbered t.links) same ∙ there in
         let traffic_same : traffic_of a m.traffic ≡ traffic_of a l.traffic
         = ap (λ (o : Option RowEnd). option_map_or (λ (x : RowEnd). traffic_by x.seen m.traffic) o m.traffic) ended
         ∙ by_seen e.seen r l.traffic saw ∙ sym (ap (λ (o : Option RowEnd). option_map_or (λ (x : RowEnd). traffic_by x.seen l.traffic) o l.traffic) ended) in
-        new_same (response a s) (response a t)
+        same_new (response a s) (response a t)
         (ap (response_by a t) stream ∙ ap (λ (o : Option Link). option_map_or (response_on a n t) o no_response) link_t
         ∙ ap (λ (ts : List Traffic). response_in (limit_of_attempt a s) n ts) traffic_same
         ∙ sym (ap (response_by a s) stream ∙ ap (λ (o : Option Link). option_map_or (response_on a n s) o no_response) link_s))
@@ -106,99 +108,84 @@ module _ (s : Seen) (link : ℕ) (l : Link) (here : numbered s.links link ≡ So
         let same : link_of a t ≡ link_of a s
         = ap (option_and_then (λ (p : Placed). numbered t.links p.link)) placed ∙ changed_away f link at.link s.links (eqb-false at.link link other)
         ∙ sym (ap (option_and_then (λ (p : Placed). numbered s.links p.link)) placed) in
-        ap (response_by a t) stream ∙ ap (λ (o : Option Link). option_map_or (response_on a n s) o no_response) same ∙ sym (ap (response_by a s) stream)
+        ap (response_by a t) stream ∙ ap (λ (o : Option Link). option_map_or (response_on a n t) o no_response) same ∙ sym (ap (response_by a s) stream)
 
-    placed_by : (i : ℕ) (a : Attempt) (n : ℕ) → numbered s.attempts i ≡ Some a → a.row.stream ≡ Some n → (p : Option Placed) → a.row.placed ≡ p → HasNothingNew (response a s) (response a t)
-    placed_by i a n got stream None placed =
-        new_same (response a s) (response a t)
+    placed_by : (i : ℕ) (a : Attempt) (n : ℕ) → numbered s.attempts i ≡ Some a → Q a → a.row.stream ≡ Some n → (p : Option Placed) → a.row.placed ≡ p → R (response a s) (response a t)
+    placed_by i a n got its stream None placed =
+        same_new (response a s) (response a t)
         (ap (response_by a t) stream ∙ ap (λ (p : Option Placed). option_map_or (response_on a n t) (option_and_then (λ (q : Placed). numbered t.links q.link) p) no_response) placed
         ∙ sym (ap (response_by a s) stream ∙ ap (λ (p : Option Placed). option_map_or (response_on a n s) (option_and_then (λ (q : Placed). numbered s.links q.link) p) no_response) placed))
-    placed_by i a n got stream (Some at) placed = by_link (at.link == link) refl
+    placed_by i a n got its stream (Some at) placed = by_link (at.link == link) refl
       where
-        by_link : (b : Bool) → (at.link == link) ≡ b → HasNothingNew (response a s) (response a t)
-        by_link true e = on_link_by i a n at got stream placed (eqb-true at.link link e) a.row.ended refl
-        by_link false e = new_same (response a s) (response a t) (off_link a n at stream placed e)
+        by_link : (b : Bool) → (at.link == link) ≡ b → R (response a s) (response a t)
+        by_link true e = on_link_by i a n at got its stream placed (eqb-true at.link link e) a.row.ended refl
+        by_link false e = same_new (response a s) (response a t) (off_link a n at stream placed e)
 
-    stream_by : (i : ℕ) (a : Attempt) → numbered s.attempts i ≡ Some a → (o : Option ℕ) → a.row.stream ≡ o → HasNothingNew (response a s) (response a t)
-    stream_by i a got None stream = new_same (response a s) (response a t) (ap (response_by a t) stream ∙ sym (ap (response_by a s) stream))
-    stream_by i a got (Some n) stream = placed_by i a n got stream a.row.placed refl
+    stream_by : (i : ℕ) (a : Attempt) → numbered s.attempts i ≡ Some a → Q a → (o : Option ℕ) → a.row.stream ≡ o → R (response a s) (response a t)
+    stream_by i a got its None stream = same_new (response a s) (response a t) (ap (response_by a t) stream ∙ sym (ap (response_by a s) stream))
+    stream_by i a got its (Some n) stream = placed_by i a n got its stream a.row.placed refl
 
-    pub all_new : (i : ℕ) (a : Attempt) → numbered s.attempts i ≡ Some a → HasNothingNew (response a s) (response a t)
-    all_new i a got = stream_by i a got a.row.stream refl
+    pub each_new : (i : ℕ) (a : Attempt) → numbered s.attempts i ≡ Some a → Q a → R (response a s) (response a t)
+    each_new i a got its = stream_by i a got its a.row.stream refl
 
-    -- so nothing came for an application
-    items_same : (p q : Response) → HasNothingNew p q → response_items q ≡ response_items p
-    items_same p q is =
-        ap (λ (h : _). response_items (record q { head = h })) is.head ∙ ap (λ (ms : List (List ℕ)). response_items (record q { head = p.head; messages = ms })) is.messages
+  -- the lines stay still: that of heads, and that of messages which are too long
+  module _ (heads : (i : ℕ) (a : Attempt) → numbered s.attempts i ≡ Some a → is_some (response a t).head ≡ is_some (response a s).head) where
+    head_one : (i : ℕ) (a : Attempt) → numbered s.attempts i ≡ Some a → is_headed t a ≡ is_headed s a
+    head_one i a got = ap (λ (b : Bool). is_outstanding a && holds (λ (c : Call). is_free_call s c && b) (numbered s.calls a.row.call)) (heads i a got)
 
-    came_by : (c : Call) (o : Option Attempt) → commitment c s ≡ o
-        → option_map_or (λ (k : Attempt). response_items (response k t)) o [] ≡ option_map_or (λ (k : Attempt). response_items (response k s)) o []
-    came_by c None e = refl
-    came_by c (Some k) e =
+    pub heads_stay : (o : OpenEntry) → IsStill line.Head o s → IsStill line.Head o t
+    heads_stay o h = any_in (is_headed t) (is_headed s) s.attempts head_one ∙ h
+
+  module _ (larges : (i : ℕ) (a : Attempt) → numbered s.attempts i ≡ Some a → (response a t).large ≡ (response a s).large) where
+    large_by : (c : Call) (o : Option Attempt) → commitment c s ≡ o
+        → holds (λ (k : Attempt). is_outstanding k && (response k t).large) o ≡ holds (λ (k : Attempt). is_outstanding k && (response k s).large) o
+    large_by c None e = refl
+    large_by c (Some k) e =
         let one : (i : ℕ) × (slice_get s.attempts i ≡ Some k) = last_in (is_commitment c) s.attempts k e in
-        items_same (response k s) (response k t) (all_new (suc one.0) k one.1)
+        ap (λ (b : Bool). is_outstanding k && b) (larges (suc one.0) k one.1)
 
-    pub came_same : (c : Call) → came c t ≡ came c s
-    came_same c = came_by c (commitment c s) refl
+    long_one : (c : Call) → has_long_response t c ≡ has_long_response s c
+    long_one c = ap (λ (b : Bool). is_open_call c && b) (large_by c (commitment c s) refl)
 
-    -- and the lines stay still
-    module _ (retiring : is_retiring m ≡ is_retiring l) where
-      head_one : (i : ℕ) (a : Attempt) → numbered s.attempts i ≡ Some a → is_headed t a ≡ is_headed s a
-      head_one i a got =
-          let same : is_some (response a t).head ≡ is_some (response a s).head = ap (λ (h : _). is_some h) (all_new i a got).head in
-          ap (λ (b : Bool). is_outstanding a && holds (λ (c : Call). is_free_call s c && b) (numbered s.calls a.row.call)) same
+    pub larges_stay : (o : OpenEntry) → IsStill line.Response o s → IsStill line.Response o t
+    larges_stay o h = any_in (has_long_response t) (has_long_response s) s.calls (λ i c got. long_one c) ∙ h
 
-      large_by : (c : Call) (o : Option Attempt) → commitment c s ≡ o
-          → holds (λ (k : Attempt). is_outstanding k && (response k t).large) o ≡ holds (λ (k : Attempt). is_outstanding k && (response k s).large) o
-      large_by c None e = refl
-      large_by c (Some k) e =
-          let one : (i : ℕ) × (slice_get s.attempts i ≡ Some k) = last_in (is_commitment c) s.attempts k e in
-          ap (λ (b : Bool). is_outstanding k && b) (all_new (suc one.0) k one.1).large
+  -- those of links and of ends by the wire
+  module _ (retiring : is_retiring m ≡ is_retiring l) where
+    through : {Y : Type 0} (F : Link → Y) (d : Y) → F m ≡ F l → (k : ℕ) (b : Bool) → (k == link) ≡ b → option_map_or F (numbered t.links k) d ≡ option_map_or F (numbered s.links k) d
+    through F d same k true e =
+        let one : k ≡ link = eqb-true k link e in
+        ap (λ (j : ℕ). option_map_or F (numbered t.links j) d) one ∙ ap (λ (o : Option Link). option_map_or F o d) there ∙ same
+        ∙ sym (ap (λ (j : ℕ). option_map_or F (numbered s.links j) d) one ∙ ap (λ (o : Option Link). option_map_or F o d) here)
+    through F d same k false e = ap (λ (o : Option Link). option_map_or F o d) (changed_away f link k s.links (eqb-false k link e))
 
-      long_one : (c : Call) → has_long_response t c ≡ has_long_response s c
-      long_one c = ap (λ (b : Bool). is_open_call c && b) (large_by c (commitment c s) refl)
+    as_or : {X : Type 0} (test : X → Bool) (o : Option X) → holds test o ≡ option_map_or test o false
+    as_or test None = refl
+    as_or test (Some x) = refl
 
-      -- links
-      through : {Y : Type 0} (F : Link → Y) (d : Y) → F m ≡ F l → (k : ℕ) (b : Bool) → (k == link) ≡ b → option_map_or F (numbered t.links k) d ≡ option_map_or F (numbered s.links k) d
-      through F d same k true e =
-          let one : k ≡ link = eqb-true k link e in
-          ap (λ (j : ℕ). option_map_or F (numbered t.links j) d) one ∙ ap (λ (o : Option Link). option_map_or F o d) there ∙ same
-          ∙ sym (ap (λ (j : ℕ). option_map_or F (numbered s.links j) d) one ∙ ap (λ (o : Option Link). option_map_or F o d) here)
-      through F d same k false e = ap (λ (o : Option Link). option_map_or F o d) (changed_away f link k s.links (eqb-false k link e))
+    holds_link : (test : Link → Bool) → test m ≡ test l → (o : Option ℕ)
+        → holds test (option_and_then (λ (k : ℕ). numbered t.links k) o) ≡ holds test (option_and_then (λ (k : ℕ). numbered s.links k) o)
+    holds_link test same None = refl
+    holds_link test same (Some k) =
+        as_or test (numbered t.links k) ∙ through test false same k (k == link) refl ∙ sym (as_or test (numbered s.links k))
 
-      as_or : {X : Type 0} (test : X → Bool) (o : Option X) → holds test o ≡ option_map_or test o false
-      as_or test None = refl
-      as_or test (Some x) = refl
+    going_same : is_going_down m ≡ is_going_down l
+    going_same = ap (λ (b : Bool). is_some l.over || b) retiring
 
-      holds_link : (test : Link → Bool) → test m ≡ test l → (o : Option ℕ)
-          → holds test (option_and_then (λ (k : ℕ). numbered t.links k) o) ≡ holds test (option_and_then (λ (k : ℕ). numbered s.links k) o)
-      holds_link test same None = refl
-      holds_link test same (Some k) =
-          as_or test (numbered t.links k) ∙ through test false same k (k == link) refl ∙ sym (as_or test (numbered s.links k))
+    pub down_stays : (b : Subchannel) → is_to_go_down t b ≡ is_to_go_down s b
+    down_stays b = holds_link is_going_down going_same b.link
 
-      going_same : is_going_down m ≡ is_going_down l
-      going_same = ap (λ (b : Bool). is_some l.over || b) retiring
+    new_one : has_settings m ≡ has_settings l → (b : Subchannel) → is_link_new t b ≡ is_link_new s b
+    new_one settings b =
+        ap (λ (z : Bool). (is_connecting b.state && z) || is_to_go_down t b) (holds_link has_settings settings b.link) ∙ ap (λ (z : Bool). is_to_be_ready s b || z) (down_stays b)
 
-      pub down_same : (b : Subchannel) → is_to_go_down t b ≡ is_to_go_down s b
-      down_same b = holds_link is_going_down going_same b.link
+    pub links_stay : has_settings m ≡ has_settings l → (o : OpenEntry) → IsStill line.Link o s → IsStill line.Link o t
+    links_stay settings o h = any_in (is_link_new t) (is_link_new s) s.subs (λ i b got. new_one settings b) ∙ h
 
-      new_one : has_settings m ≡ has_settings l → (b : Subchannel) → is_link_new t b ≡ is_link_new s b
-      new_one settings b =
-          ap (λ (z : Bool). (is_connecting b.state && z) || is_to_go_down t b) (holds_link has_settings settings b.link) ∙ ap (λ (z : Bool). is_to_be_ready s b || z) (down_same b)
+    over_same : (k : ℕ) → option_map_or (λ (q : Link). is_some q.over) (numbered t.links k) false ≡ option_map_or (λ (q : Link). is_some q.over) (numbered s.links k) false
+    over_same k = through (λ (q : Link). is_some q.over) false refl k (k == link) refl
 
-      -- a subchannel that has another link, or none
-      other_link : (o : Option ℕ) → is_number link o ≡ false → option_and_then (λ (k : ℕ). numbered t.links k) o ≡ option_and_then (λ (k : ℕ). numbered s.links k) o
-      other_link None e = refl
-      other_link (Some k) e = changed_away f link k s.links (eqb-false k link e)
-
-      pub new_other : (b : Subchannel) → is_number link b.link ≡ false → is_link_new t b ≡ is_link_new s b
-      new_other b e =
-          ap (λ (q : Option Link). (is_connecting b.state && holds has_settings q) || holds is_going_down q) (other_link b.link e)
-
-      -- ends by the wire
-      over_same : (k : ℕ) → option_map_or (λ (q : Link). is_some q.over) (numbered t.links k) false ≡ option_map_or (λ (q : Link). is_some q.over) (numbered s.links k) false
-      over_same k = through (λ (q : Link). is_some q.over) false refl k (k == link) refl
-
+    module _ (ends : (i : ℕ) (a : Attempt) → numbered s.attempts i ≡ Some a → (response a t).end ≡ (response a s).end) where
       outcome_by_link : (i : ℕ) (a : Attempt) → numbered s.attempts i ≡ Some a → (o : Option ℕ) → a.row.stream ≡ o → (p : Option Placed)
           → option_and_then (outcome_on a t o) (option_and_then (λ (q : Placed). numbered t.links q.link) p) ≡ option_and_then (outcome_on a s o) (option_and_then (λ (q : Placed). numbered s.links q.link) p)
       outcome_by_link i a got o stream None = refl
@@ -206,11 +193,11 @@ module _ (s : Seen) (link : ℕ) (l : Link) (here : numbered s.links link ≡ So
         where
           same_outcome : (o : Option ℕ) → a.row.stream ≡ o → (q : Link) → outcome_on a t o q ≡ outcome_on a s o q
           same_outcome None stream q = refl
-          same_outcome (Some n) stream q = ap (λ (e : Option Outcome). option_or e (if is_some q.over then Some lost_end else None)) (all_new i a got).end
+          same_outcome (Some n) stream q = ap (λ (e : Option Outcome). option_or e (if is_some q.over then Some lost_end else None)) (ends i a got)
 
           own_outcome : (o : Option ℕ) → a.row.stream ≡ o → outcome_on a t o m ≡ outcome_on a s o l
           own_outcome None stream = ap (λ (b : Bool). if is_some l.over || b then Some unsent_end else None) retiring
-          own_outcome (Some n) stream = ap (λ (e : Option Outcome). option_or e (if is_some l.over then Some lost_end else None)) (all_new i a got).end
+          own_outcome (Some n) stream = ap (λ (e : Option Outcome). option_or e (if is_some l.over then Some lost_end else None)) (ends i a got)
 
           on_number : (o : Option ℕ) → a.row.stream ≡ o → (k : ℕ) (b : Bool) → (k == link) ≡ b
               → option_and_then (outcome_on a t o) (numbered t.links k) ≡ option_and_then (outcome_on a s o) (numbered s.links k)
@@ -228,19 +215,58 @@ module _ (s : Seen) (link : ℕ) (l : Link) (here : numbered s.links link ≡ So
       end_one : (i : ℕ) (a : Attempt) → numbered s.attempts i ≡ Some a → is_to_end t a ≡ is_to_end s a
       end_one i a got = ap (λ (o : Option Outcome). (is_outstanding a && not (is_over a s)) && is_some o) (outcome_by_link i a got a.row.stream refl a.row.placed)
 
+      pub ends_stay : (o : OpenEntry) → IsStill line.WireEnd o s → IsStill line.WireEnd o t
+      ends_stay o h = any_in (is_to_end t) (is_to_end s) s.attempts end_one ∙ h
+
+  -- what came for an application, where it is of an attempt that gained nothing
+  items_same : (p q : Response) → HasNothingNew p q → response_items q ≡ response_items p
+  items_same p q is =
+      ap (λ (h : _). response_items (record q { head = h })) is.head ∙ ap (λ (ms : List (List ℕ)). response_items (record q { head = p.head; messages = ms })) is.messages
+
+  came_by : (c : Call) (o : Option Attempt) → commitment c s ≡ o → ((i : ℕ) (k : Attempt) → numbered s.attempts i ≡ Some k → o ≡ Some k → HasNothingNew (response k s) (response k t))
+      → option_map_or (λ (k : Attempt). response_items (response k t)) o [] ≡ option_map_or (λ (k : Attempt). response_items (response k s)) o []
+  came_by c None e each = refl
+  came_by c (Some k) e each =
+      let one : (i : ℕ) × (slice_get s.attempts i ≡ Some k) = last_in (is_commitment c) s.attempts k e in
+      items_same (response k s) (response k t) (each (suc one.0) k one.1 refl)
+
+  pub came_alike : (c : Call) → ((i : ℕ) (k : Attempt) → numbered s.attempts i ≡ Some k → commitment c s ≡ Some k → HasNothingNew (response k s) (response k t)) → came c t ≡ came c s
+  came_alike c each = came_by c (commitment c s) refl each
+
+  -- where nothing is new at all
+  module _ (new : (n : ℕ) (a : Attempt) → IsOn l s n a → HasNothingNew (response_of l s n a) (response_of m t n a)) where
+    pub all_new : (i : ℕ) (a : Attempt) → numbered s.attempts i ≡ Some a → HasNothingNew (response a s) (response a t)
+    all_new i a got = each_new (λ (z : Attempt). Unit {0}) HasNothingNew new_self (λ n z on its. new n z on) i a got tt
+
+    pub came_same : (c : Call) → came c t ≡ came c s
+    came_same c = came_alike c (λ i k got is. all_new i k got)
+
+    module _ (retiring : is_retiring m ≡ is_retiring l) where
       pub head_line : (o : OpenEntry) → IsStill line.Head o s → IsStill line.Head o t
-      head_line o h = any_in (is_headed t) (is_headed s) s.attempts head_one ∙ h
+      head_line o h = heads_stay (λ i a got. ap (λ (p : _). is_some p) (all_new i a got).head) o h
 
       pub response_line : (o : OpenEntry) → IsStill line.Response o s → IsStill line.Response o t
-      response_line o h = any_in (has_long_response t) (has_long_response s) s.calls (λ i c got. long_one c) ∙ h
+      response_line o h = larges_stay (λ i a got. (all_new i a got).large) o h
 
       pub end_line : (o : OpenEntry) → IsStill line.WireEnd o s → IsStill line.WireEnd o t
-      end_line o h = any_in (is_to_end t) (is_to_end s) s.attempts end_one ∙ h
+      end_line o h = ends_stay retiring (λ i a got. (all_new i a got).end) o h
+
+      pub down_same : (b : Subchannel) → is_to_go_down t b ≡ is_to_go_down s b
+      down_same b = down_stays retiring b
+
+      -- a subchannel that has another link, or none
+      other_link : (o : Option ℕ) → is_number link o ≡ false → option_and_then (λ (k : ℕ). numbered t.links k) o ≡ option_and_then (λ (k : ℕ). numbered s.links k) o
+      other_link None e = refl
+      other_link (Some k) e = changed_away f link k s.links (eqb-false k link e)
+
+      pub new_other : (b : Subchannel) → is_number link b.link ≡ false → is_link_new t b ≡ is_link_new s b
+      new_other b e =
+          ap (λ (q : Option Link). (is_connecting b.state && holds has_settings q) || holds is_going_down q) (other_link b.link e)
 
       pub stirred_still : has_settings m ≡ has_settings l → (k : Line) (o : OpenEntry) → stirs (action.FrameRead link r) k ≡ true → IsStill k o s → IsStill k o t
       stirred_still settings line.Head o e h = head_line o h
       stirred_still settings line.Response o e h = response_line o h
-      stirred_still settings line.Link o e h = any_in (is_link_new t) (is_link_new s) s.subs (λ i b got. new_one settings b) ∙ h
+      stirred_still settings line.Link o e h = links_stay retiring settings o h
       stirred_still settings line.WireEnd o e h = end_line o h
       stirred_still settings line.Cut o e h = absurd (cc)
       stirred_still settings line.Transparent o e h = absurd (cc)

@@ -1,5 +1,5 @@
 -- A frame is read that leaves all responses without anything new: channel and session agree after it, but for what its news bring.
-use Rattle.std.proofs.Common.{◌≡◌, ◌+◌, ◌-◌, ◌++◌, ◌==◌, ◌∷◌, ◌≤◌, ◌<◌, ap, arith, refl, subst, sym, ◌∙◌, List, [], Option, None, Some, ℕ, drop, is_some, length, min}
+use Rattle.std.proofs.Common.{◌≡◌, ◌+◌, ◌-◌, ◌++◌, ◌==◌, ◌∷◌, ◌≤◌, ◌<◌, ap, arith, false, refl, subst, sym, ◌∙◌, List, [], Option, None, Some, ℕ, drop, is_some, length, min}
 use Rattle.std.proofs.lemmas.Bool.{eqb-false}
 use Rattle.std.proofs.lemmas.List.{length-drop}
 use Rattle.std.proofs.Math.Nat.{min-eq_left}
@@ -14,11 +14,13 @@ use Rattle.channel_actions.proofs.LinkFrames.Untold.{actions_are_untold}
 use Rattle.channel_actions.proofs.Settles.{follows_by, is_with_open}
 use Rattle.channel_actions.proofs.Stamps.{counted_at}
 use Rattle.channel_actions.specs.Agrees.{Agrees}
+use Rattle.channel_actions.specs.Calls.{SeesCall}
 use Rattle.channel_actions.specs.Calm.{IsAt}
 use Rattle.channel_actions.specs.Columns.{links_noted}
 use Rattle.channel_actions.specs.KeptSessions.Kept.{IsKept}
 use Rattle.channel_actions.specs.LinkFrames.Alike.{CannotTell}
 use Rattle.channel_actions.specs.Links.{HasLink, IsGoing, SeesLinkOf, lines_in}
+use Rattle.call_actions.specs.TakeActions.Serves.{came}
 use Rattle.channel_cases.proofs.DrainEvents.Links.{own_lines, read_then}
 use Rattle.channel_cases.proofs.DrainEvents.Rooms.{length_changed, one_some}
 use Rattle.channel_core.proofs.BookLaws.{number_changed, number_other}
@@ -27,7 +29,9 @@ use Rattle.channel_core.specs.Arrivals.{frame_heard}
 use Rattle.channel_core.specs.States.{StateSeen}
 use Rattle.channel_core.specs.Tables.{Heard, heard_by, heard_in, sealed_in}
 use Rattle.channel_core.specs.declared.state.links.LinkSlot.{LinkSlot}
-use Rattle.frame_cases.proofs.PassedBytes.Agreeing.{passed_bytes_keep}
+use Rattle.channel_core.specs.Books.{slot_at}
+use Rattle.channel_core.specs.declared.state.slots.CallSlot.{CallSlot}
+use Rattle.frame_cases.proofs.PassedBytes.Agreeing.{HasCame, IsToldOn, nothing_came, recalled, told_keeps}
 use Rattle.frame_cases.proofs.PassedBytes.Noted.{IsReadOn, noted_read}
 use Rattle.frame_cases.proofs.PassedBytes.Same.{drained_through}
 use Rattle.frame_cases.proofs.PieceWalks.Slots.{IsSlot, after_slot, hears_now, other_slots, others_coming, own_slot, slot_count, unreported}
@@ -35,7 +39,7 @@ use Rattle.frame_cases.proofs.PieceWalks.Stops.{kept_slot, sees_old}
 use Rattle.frame_cases.proofs.PieceWalks.Walk.{same_event}
 use Rattle.frame_cases.proofs.QuietFrames.Lines as lines
 use Rattle.frame_cases.proofs.QuietFrames.Read.{listed_more, HasCome, IsReading, ShowsFrame, has_come, reads_so, shows_frame}
-use Rattle.frame_cases.specs.PassedBytes.Laws.{IsPassed, relinked}
+use Rattle.frame_cases.specs.PassedBytes.Laws.{relinked}
 use Rattle.frame_cases.specs.PieceWalks.Points.{IsHearing, IsReadFairly, coming, with_rest}
 use Rattle.frame_cases.specs.QuietFrames.Laws.{HasNothingNew, IsReadStill}
 use Rattle.grpc_link.specs.Links as grpc
@@ -61,7 +65,7 @@ use Rattle.link_actions.specs.StreamActions.Laws.{IsOn}
 use Rattle.link_actions.specs.StreamActions.Sees.{SeesStreams, response_of}
 use Rattle.session_actions.specs.Actions.{after, after_if, following, following_in, of_calls, of_links, of_policies, of_stage}
 use Rattle.session_actions.specs.Events.{frame_action}
-use Rattle.session_actions.specs.Links.{read_bytes}
+use Rattle.session_actions.specs.Links.{is_retiring, read_bytes}
 use Rattle.session_actions.specs.Reading.{next_read}
 use Rattle.session_actions.specs.declared.link.NextRead.{NextRead}
 use Rattle.session_actions.specs.declared.link.NextRead.TheVariants as nextread
@@ -70,6 +74,7 @@ use Rattle.session_actions.specs.Writing.{frame_read, frame_read_on, next_frame_
 use Rattle.session_actions.specs.declared.action.Action.{Action}
 use Rattle.session_actions.specs.declared.action.Action.TheVariants as action
 use Rattle.session_actions.specs.declared.attempt.Attempt.{Attempt}
+use Rattle.session_actions.specs.declared.call.Call.{Call}
 use Rattle.session_actions.specs.declared.entry.OpenEntry.{OpenEntry}
 use Rattle.session_actions.specs.declared.entry.Stage.TheVariants as stage
 use Rattle.session_actions.specs.declared.link.Link.{Link}
@@ -271,15 +276,12 @@ module _ (link : ℕ) (piece : List ℕ) (x : StateSeen) (o : OpenEntry) (s : Se
     listed = listed_more l r frames is.fair.listed reading.next;
   }
 
-  -- where the responses gain nothing
-  module _ (quiet : IsReadStill l m s (frame_read l.number r s) out.link.link.wire (lines_in l s) out.link.readers) where
-    pub new : (n : ℕ) (a : Attempt) → IsOn l s n a → HasNothingNew (response_of l s n a) (response_of m t n a)
-    new n a on = subst (λ (z : Seen). HasNothingNew (response_of l s n a) (response_of m z n a)) read_l (quiet.responses n a on)
-
-    -- the link
+  -- where the link agrees but for what its bytes and seals are
+  module _ (streams : SeesStreams m (frame_read l.number r s) out.link.link.wire (lines_in l s)) (reads : responses.SeesReaders m (frame_read l.number r s) out.link.readers)
+      (retiring : is_retiring m ≡ is_retiring l) where
     streams_now : SeesStreams m t (sealed_wire out.link.link.wire) (lines_in m t)
     streams_now =
-        let sees_t : SeesStreams m t out.link.link.wire (lines_in l s) = subst (λ (z : Seen). SeesStreams m z out.link.link.wire (lines_in l s)) read_l quiet.streams in
+        let sees_t : SeesStreams m t out.link.link.wire (lines_in l s) = subst (λ (z : Seen). SeesStreams m z out.link.link.wire (lines_in l s)) read_l streams in
         let sealed_t : SeesStreams m t (sealed_wire out.link.link.wire) (lines_in l s)
         = none_is_left m t (sealed_wire out.link.link.wire) (lines_in l s) (seals_keep [] m t out.link.link.wire (lines_in l s) (none_is_ahead m t out.link.link.wire (lines_in l s) sees_t)) in
         own_lines m t (sealed_wire out.link.link.wire) (lines_in l s) kept_t sealed_t
@@ -288,58 +290,81 @@ module _ (link : ℕ) (piece : List ℕ) (x : StateSeen) (o : OpenEntry) (s : Se
     going_now =
         subst (λ (q : LinkSlot). IsGoing m t (with_rest left q)) (sym slot_is) (record {
           streams = streams_now;
-          readers = read_then m t out.link.readers (subst (λ (z : Seen). responses.SeesReaders m z out.link.readers) read_l quiet.reads);
+          readers = read_then m t out.link.readers (subst (λ (z : Seen). responses.SeesReaders m z out.link.readers) read_l reads);
           rest = left_is ∙ ap (λ (b : List ℕ). b ++ left) (sym rest_now);
           closed = refl;
         })
+
+    sees_now : SeesLinkOf m t (with_rest left slot_now)
+    sees_now = record {
+      over = sees.over ∙ sym (ap (λ (q : LinkSlot). q.dead) slot_is);
+      retiring = retiring ∙ sees.retiring ∙ sym (ap (λ (q : LinkSlot). q.retiring) slot_is);
+      going = λ e. going_now;
+    }
+
+    -- the other links, and what was written
+    others_now : (k : ℕ) → (link == k) ≡ false → numbered (coming link left y).links k ≡ numbered (coming link piece x).links k
+    others_now k e =
+        number_other (with_rest left) y.links link k (λ same. eqb-false link k e (sym same))
+        ∙ other_slots link piece x slot kept.there k e ∙ sym (others_coming link piece x k e)
+
+    count_now : length t.links ≡ length (coming link left y).links
+    count_now =
+        length_changed f link s.links ∙ h0.links.count ∙ changed_length (with_rest piece) x.links link
+        ∙ sym (changed_length (with_rest left) y.links link ∙ slot_count link piece x slot kept.there)
 
     there_now : numbered (coming link left y).links link ≡ Some (with_rest left slot_now)
     there_now =
         number_changed (with_rest left) y.links link
         ∙ ap (option_map (with_rest left)) (own_slot link piece x slot kept.there)
 
-    has_now : HasLink (coming link left y) t m link
-    has_now = record {
-      slot = with_rest left slot_now;
-      there = there_now;
-      sees = record {
-        over = sees.over ∙ sym (ap (λ (q : LinkSlot). q.dead) slot_is);
-        retiring = quiet.retiring ∙ sees.retiring ∙ sym (ap (λ (q : LinkSlot). q.retiring) slot_is);
-        going = λ e. going_now;
-      };
-    }
-
-    -- all
     noted_now : links_noted t ≡ columns
     noted_now =
-        let on : IsReadOn l m r.end = record { number = refl; sub = refl; up = refl; gone = refl; over = refl; retiring = quiet.retiring; read = bytes_more l r frames } in
+        let on : IsReadOn l m r.end = record { number = refl; sub = refl; up = refl; gone = refl; over = refl; retiring = retiring; read = bytes_more l r frames } in
         noted_read o o s f link r.end l is.here on
         ∙ ap (λ (ks : List LinkSeen). changed_at (read_link r.end) ks link) (ap links_noted (sym (is_with_open o s is.at.current)) ∙ h0.columns.links)
         ∙ ap (λ (n : ℕ). changed_at (read_link n) x.book.ledger.links link) (sym read_h)
 
-    abbrev pub z : StateSeen
-    z = coming link left y
+    -- all agrees, with what came for applications
+    module _ (calls : List CallSlot) (long : length calls ≡ length x.book.calls)
+        (heard : (number : ℕ) (c : Call) (held : CallSlot) → numbered s.calls number ≡ Some c → slot_at x.book number ≡ Some held → SeesCall (coming link piece x) s c held
+        → HasCame calls t number c held) where
+      abbrev told_z : StateSeen
+      told_z = coming link left (relinked slots columns (recalled calls x))
 
-    passed : IsPassed link (coming link piece x) z o o s t
-    passed = record {
-      state = refl;
-      current = is.at.current;
-      seen = refl;
-      moment = refl;
-      word = refl;
-      drawn = refl;
-      kept = kept_t;
-      cannot = subst (CannotTell (λ (k : ℕ). link == k) s) after_is (actions_are_untold (action.FrameRead link r) s h0.kept tt);
-      slots = λ k e.
-          number_other (with_rest left) y.links link k (λ same. eqb-false link k e (sym same))
-          ∙ other_slots link piece x slot kept.there k e ∙ sym (others_coming link piece x k e);
-      count = length_changed f link s.links ∙ h0.links.count ∙ changed_length (with_rest piece) x.links link
-          ∙ sym (changed_length (with_rest left) y.links link ∙ slot_count link piece x slot kept.there);
-      came_same = lines.came_same s link l is.here own r frames (Some o) places less new;
-      drained_same = drained_through s f link (Some o) (λ stream k. used_same stream k r frames);
-      noted = noted_now;
-      own = λ k got. subst (λ (q : Link). HasLink z t q link) (one_some m k (numbered t.links link) there got) has_now;
-    }
+      has_now : HasLink told_z t m link
+      has_now = record { slot = with_rest left slot_now; there = there_now; sees = sees_now }
 
-    pub agrees_read : Agrees z t
-    agrees_read = passed_bytes_keep link (coming link piece x) z o o s t h0 passed
+      told_on : IsToldOn link (coming link piece x) told_z o o s t
+      told_on = record {
+        state = refl;
+        current = is.at.current;
+        seen = refl;
+        moment = refl;
+        word = refl;
+        drawn = refl;
+        kept = kept_t;
+        cannot = subst (CannotTell (λ (k : ℕ). link == k) s) after_is (actions_are_untold (action.FrameRead link r) s h0.kept tt);
+        slots = others_now;
+        count = count_now;
+        long = long;
+        heard = heard;
+        drained_same = drained_through s f link (Some o) (λ stream k. used_same stream k r frames);
+        noted = noted_now;
+        own = λ k got. subst (λ (q : Link). HasLink told_z t q link) (one_some m k (numbered t.links link) there got) has_now;
+      }
+
+      pub agrees_told : Agrees told_z t
+      agrees_told = told_keeps link (coming link piece x) told_z o o s t h0 told_on
+
+    -- where nothing came
+    pub agrees_passed : ((c : Call) → came c t ≡ came c s) → Agrees (coming link left y) t
+    agrees_passed same = agrees_told x.book.calls refl (λ number c held got has k. nothing_came x.book.calls s t number c held has (same c) k.serves.left)
+
+  -- where the responses gain nothing
+  module _ (quiet : IsReadStill l m s (frame_read l.number r s) out.link.link.wire (lines_in l s) out.link.readers) where
+    pub new : (n : ℕ) (a : Attempt) → IsOn l s n a → HasNothingNew (response_of l s n a) (response_of m t n a)
+    new n a on = subst (λ (z : Seen). HasNothingNew (response_of l s n a) (response_of m z n a)) read_l (quiet.responses n a on)
+
+    pub agrees_read : Agrees (coming link left y) t
+    agrees_read = agrees_passed quiet.streams quiet.reads quiet.retiring (lines.came_same s link l is.here own r frames (Some o) places less new)

@@ -1,0 +1,308 @@
+-- Messages are heard: they came for the application of the call that is committed to their attempt, and nothing follows at once.
+use Rattle.std.proofs.Common.{◌≡◌, ◌++◌, ◌&&◌, ◌==◌, ◌∷◌, append_assoc, ap, refl, subst, sym, ◌∙◌, Bool, true, false, List, [], Option, None, Some, ℕ, drop, is_none, is_some, length, map}
+use Rattle.std.proofs.lemmas.Bool.{eqb-true}
+use Rattle.std.proofs.lemmas.List.{map-append}
+use Rattle.std.specs.Option.{option_map, option_map_or, option_to_list}
+use Rattle.call_actions.specs.TakeActions.Serves.{IsLeft, came}
+use Rattle.call_core.specs.Laws as call_laws
+use Rattle.call_core.specs.Steps.{is_committed_live}
+use Rattle.channel_actions.specs.Agrees.{Agrees}
+use Rattle.channel_actions.specs.Calls.{HasSlot, SeesCall}
+use Rattle.channel_actions.specs.Calm.{IsAt}
+use Rattle.channel_actions.specs.Links.{lines_in}
+use Rattle.channel_cases.proofs.CallPosts.Asked.{deadline_right, due_right}
+use Rattle.channel_cases.proofs.DrainEvents.Links.{read_so}
+use Rattle.channel_cases.proofs.FullSends.Bare.{no_items}
+use Rattle.channel_core.specs.Arrivals.{frame_heard, heard_all}
+use Rattle.channel_core.specs.Books.{slot_at}
+use Rattle.channel_core.specs.States.{StateSeen}
+use Rattle.channel_core.specs.Tables.{Heard, heard_in, sealed_in}
+use Rattle.channel_core.specs.declared.state.links.LinkSlot.{LinkSlot}
+use Rattle.channel_core.specs.declared.state.slots.CallSlot.{CallSlot}
+use Rattle.frame_cases.proofs.MessageFrames.Alone.{messages_come_alone}
+use Rattle.frame_cases.proofs.MessageFrames.Told as told_
+use Rattle.frame_cases.proofs.MessageFrames.Told.{IsTold, all_told, no_ends, recalled_so, with_more}
+use Rattle.frame_cases.proofs.OwnFrames.Frame as frame
+use Rattle.frame_cases.proofs.PassedBytes.Agreeing.{HasCame, nothing_came, recalled}
+use Rattle.frame_cases.proofs.QuietFrames.Heard as quiet
+use Rattle.frame_cases.proofs.QuietFrames.Lines as lines
+use Rattle.frame_cases.proofs.QuietFrames.ReadStill as read
+use Rattle.frame_cases.specs.FrameKinds.Laws.{FrameKind, Messages, MessagesAreHeard, Quiet, kind_of}
+use Rattle.frame_cases.specs.MessageFrames.Laws.{HasMessages, IsReadWithMessages}
+use Rattle.frame_cases.specs.PassedBytes.Laws.{relinked}
+use Rattle.frame_cases.specs.PieceWalks.Points.{HasHeard, IsHearing, coming}
+use Rattle.grpc_base.specs.declared.event.Reply.{Reply}
+use Rattle.grpc_base.specs.declared.event.Reply.TheVariants as reply
+use Rattle.grpc_base.specs.declared.fields.Field.{Field}
+use Rattle.grpc_link.specs.Links.{Told as Reported}
+use Rattle.grpc_link.specs.Response.{message_news}
+use Rattle.h2_frame.specs.Frames.{FrameSeen}
+use Rattle.h2_frame.specs.Numbers.{goaway_type}
+use Rattle.link_actions.specs.ResponseActions.Laws.{seen_at}
+use Rattle.link_actions.specs.StreamActions.Laws.{IsOn}
+use Rattle.session_actions.specs.Attempts.{commitment}
+use Rattle.session_actions.specs.Deliveries.{response_items}
+use Rattle.session_actions.specs.Responses.{response}
+use Rattle.session_actions.specs.Words.{numbered}
+use Rattle.session_actions.specs.Writing.{frame_read, next_frame_read, owed_for}
+use Rattle.session_actions.specs.declared.action.Action.{Action}
+use Rattle.session_actions.specs.declared.action.Action.TheVariants as action
+use Rattle.session_actions.specs.declared.attempt.Attempt.{Attempt}
+use Rattle.session_actions.specs.declared.call.Call.{Call}
+use Rattle.session_actions.specs.declared.entry.OpenEntry.{OpenEntry}
+use Rattle.session_actions.specs.declared.entry.Stage.TheVariants as stage
+use Rattle.session_actions.specs.declared.link.Link.{Link}
+use Rattle.session_actions.specs.declared.link.ReadFrame.{ReadFrame}
+use Rattle.session_actions.specs.declared.response.Response.{Response}
+use Rattle.session_actions.specs.declared.seen.Seen.{Seen}
+use Rattle.session_order.proofs.Calms.{calm_is_exact}
+use Rattle.session_order.specs.Calm as order
+use Rattle.session_order.specs.Stirs.{stirs}
+use Rattle.session_order.specs.declared.line.Line.{Line}
+use Rattle.session_order.specs.declared.line.Line.TheVariants as line
+
+-- what came for an application is more by the messages
+abbrev pub message_items : List (List ℕ) → List Reply
+message_items ms = map (λ (m : List ℕ). reply.Message m) ms
+
+items_more : (p q : Response) (more : List (List ℕ)) → HasMessages more p q → response_items q ≡ response_items p ++ message_items more
+items_more p q more is =
+    let heads : Option (List Field) → List Reply = λ o. option_to_list (option_map (λ (meta : List Field). reply.Head meta) o) in
+    ap (λ (o : Option (List Field)). heads o ++ message_items q.messages) is.head
+    ∙ ap (λ (ms : List (List ℕ)). heads p.head ++ message_items ms) is.messages
+    ∙ ap (λ (rs : List Reply). heads p.head ++ rs) (map-append (λ (m : List ℕ). reply.Message m) p.messages more)
+    ∙ sym (append_assoc (heads p.head) (message_items p.messages) (message_items more))
+
+pub items_none : (hs : List Reply) (ms : List (List ℕ)) → hs ++ message_items ms ≡ [] → ms ≡ []
+items_none [] [] e = refl
+items_none [] (m ∷ ms) e = absurd (let bad : reply.Message m ∷ message_items ms ≡ [] = e in (cc))
+items_none (r ∷ hs) ms e = absurd (let bad : r ∷ (hs ++ message_items ms) ≡ [] = e in (cc))
+
+behind_none : (xs ys : List (List ℕ)) → xs ++ ys ≡ [] → ys ≡ []
+behind_none [] ys e = e
+behind_none (x ∷ xs) ys e = absurd (let bad : x ∷ (xs ++ ys) ≡ [] = e in (cc))
+
+left_more : (all now : List Reply) (taken : ℕ) (messages more : List (List ℕ)) (heads : List Reply) → now ≡ all ++ message_items more
+    → IsLeft all taken (heads ++ call_laws.message_items messages) → IsLeft now taken (heads ++ call_laws.message_items (messages ++ more))
+left_more all now taken messages more heads e is = record {
+  front = is.front;
+  count = is.count;
+  joined = e ∙ ap (λ (rs : List Reply). rs ++ message_items more) is.joined
+      ∙ append_assoc is.front (heads ++ message_items messages) (message_items more)
+      ∙ ap (λ (rs : List Reply). is.front ++ rs)
+      (append_assoc heads (message_items messages) (message_items more)
+      ∙ ap (λ (rs : List Reply). heads ++ rs) (sym (map-append (λ (m : List ℕ). reply.Message m) messages more)));
+}
+
+-- a response as it was, but for its messages
+record IsAsItWas (p q : Response) : Type 0 where
+  pub head : q.head ≡ p.head
+  pub large : q.large ≡ p.large
+  pub end : q.end ≡ p.end
+
+module _ (link : ℕ) (piece : List ℕ) (x : StateSeen) (o : OpenEntry) (s : Seen) (is : IsHearing link piece x o s) (h : Heard) (r : ReadFrame)
+    (next : next_frame_read link s ≡ Some (action.FrameRead link r)) (hears : heard_in link piece x.links ≡ Some h) (no_goaway : (r.frame.kind == goaway_type) ≡ false)
+    (kind : kind_of h.news ≡ Messages) where
+  abbrev l : Link
+  l = is.l
+
+  abbrev m : Link
+  m = read.m link piece x o s is h r next hears
+
+  abbrev t : Seen
+  t = read.t link piece x o s is h r next hears
+
+  abbrev slot : LinkSlot
+  slot = read.slot link piece x o s is h r next hears
+
+  abbrev left : List ℕ
+  left = drop h.taken piece
+
+  abbrev frames : List FrameSeen
+  frames = owed_for r.frame l s
+
+  abbrev out : Reported
+  out = read.out link piece x o s is h r next hears
+
+  abbrev n : ℕ
+  n = r.frame.stream
+
+  own : l.number ≡ link
+  own = read.own link piece x o s is h r next hears
+
+  places : (i : ℕ) (b : Attempt) → numbered s.attempts i ≡ Some b → b.place ≡ i
+  places = read.places link piece x o s is h r next hears
+
+  calm_s : order.IsCalm o s
+  calm_s = quiet.calm_s link piece x o s is h r next hears
+
+  -- what is reported
+  news_are : h.news ≡ out.news
+  news_are = ap (λ (k : Heard). k.news) (read.h_is link piece x o s is h r next hears) ∙ ap (λ (k : Reported). k.news) (read.told_is link piece x o s is h r next hears)
+
+  alone : IsReadWithMessages l m s (frame_read l.number r s) n (seen_at r) out.news out.link.link.wire (lines_in l s) out.link.readers
+  alone =
+      messages_come_alone l s slot.link.link.wire (lines_in l s) slot.link.readers r (read.going link piece x o s is h r next hears).streams
+      (read_so l s slot.link.readers (read.going link piece x o s is h r next hears).readers) (read.come link piece x o s is h r next hears).comes
+      (read.shown link piece x o s is h r next hears).unbroken is.fair.listed no_goaway (ap kind_of (sym news_are) ∙ kind)
+
+  abbrev a : Attempt
+  a = alone.attempt
+
+  abbrev more : List (List ℕ)
+  more = alone.more
+
+  on : IsOn l s n a
+  on = alone.on
+
+  some_more : more ≡ [] → ⊥
+  some_more e =
+      let bad : Quiet ≡ Messages
+      = sym (ap (λ (ms : List (List ℕ)). kind_of (map (message_news a.place (seen_at r)) ms)) e) ∙ ap kind_of (sym alone.news_are ∙ sym news_are) ∙ kind in
+      (cc)
+
+  -- the response to its attempt
+  its : HasMessages more (response a s) (response a t)
+  its = frame.gained_so link piece x o s is h r next hears a on (HasMessages more) alone.gains
+
+  headed : is_some (response a s).head ≡ true
+  headed = by (response a s).head refl
+    where
+      by : (q : Option (List Field)) → (response a s).head ≡ q → is_some (response a s).head ≡ true
+      by (Some meta) e = ap (λ (q : Option (List Field)). is_some q) e
+      by None e =
+          absurd (some_more (behind_none (response a s).messages more (sym its.messages
+          ∙ items_none (option_to_list (option_map (λ (meta : List Field). reply.Head meta) (response a t).head)) (response a t).messages (no_items a t (its.head ∙ e)))))
+
+  -- its call, which is committed to it
+  abbrev c : Call
+  c = frame.c link piece x o s is h r next hears a on
+
+  abbrev number : ℕ
+  number = a.row.call
+
+  at : numbered s.calls number ≡ Some c
+  at = frame.at link piece x o s is h r next hears a on
+
+  abbrev has : HasSlot (coming link piece x) s c number
+  has = frame.has link piece x o s is h r next hears a on
+
+  committed : commitment c s ≡ Some a
+  committed = frame.committed link piece x o s is h r next hears a on headed
+
+  committed_live : is_committed_live a.place has.slot.call ≡ true
+  committed_live = frame.committed_live link piece x o s is h r next hears a on headed
+
+  -- the channel tells it
+  abbrev x1 : StateSeen
+  x1 = told_.read link h x (map (message_news a.place (seen_at r)) more) (news_are ∙ alone.news_are) (no_ends a.place (seen_at r) more [])
+
+  tells : IsTold number (with_more more has.slot.call) has.slot x1 (heard_all link (map (message_news a.place (seen_at r)) more) x1)
+  tells =
+      all_told link a.place (seen_at r) number more x1 a.row has.slot (frame.row_is link piece x o s is h r next hears a on) refl (frame.ended link piece x o s is h r next hears a on) has.there
+      committed_live (due_right (coming link piece x) s c has.slot has.sees) (deadline_right (coming link piece x) s c has.slot has.sees)
+
+  heard_is : frame_heard link h x ≡ relinked (read.slots link piece x o s is h r next hears) (read.columns link piece x o s is h r next hears) (recalled tells.calls x)
+  heard_is =
+      recalled_so link h x (map (message_news a.place (seen_at r)) more) (news_are ∙ alone.news_are) (no_ends a.place (seen_at r) more []) is.agrees.sets.resets tells.calls tells.is
+      ∙ ap (λ (k : Heard). relinked (sealed_in link k.links) (read.columns link piece x o s is h r next hears) (recalled tells.calls x)) (read.h_is link piece x o s is h r next hears)
+
+  -- each response is as it was, but for its messages
+  each_was : (i : ℕ) (b : Attempt) → numbered s.attempts i ≡ Some b → IsAsItWas (response b s) (response b t)
+  each_was =
+      frame.each_so link piece x o s is h r next hears a on alone.others IsAsItWas (record { head = its.head; large = its.large; end = its.end })
+      (λ p q k. record { head = k.head; large = k.large; end = k.end })
+
+  -- so nothing follows
+  unstirred : (k : Line) → stirs (action.FrameRead link r) k ≡ false → order.IsStill k o t
+  unstirred k e = quiet.unstirred link piece x o s is h r next hears k e
+
+  calm_t : order.IsCalm o t
+  calm_t line.Head =
+      lines.heads_stay s link l is.here own r frames (Some o) places (read.less link piece x o s is h r next hears) (λ i b got. ap (λ (q : Option (List Field)). is_some q) (each_was i b got).head)
+      o (calm_s line.Head)
+  calm_t line.Response =
+      lines.larges_stay s link l is.here own r frames (Some o) places (read.less link piece x o s is h r next hears) (λ i b got. (each_was i b got).large) o (calm_s line.Response)
+  calm_t line.Link =
+      lines.links_stay s link l is.here own r frames (Some o) places (read.less link piece x o s is h r next hears) alone.retiring alone.settings o (calm_s line.Link)
+  calm_t line.WireEnd =
+      lines.ends_stay s link l is.here own r frames (Some o) places (read.less link piece x o s is h r next hears) alone.retiring (λ i b got. (each_was i b got).end) o (calm_s line.WireEnd)
+  calm_t line.Cut = unstirred line.Cut refl
+  calm_t line.Transparent = unstirred line.Transparent refl
+  calm_t line.Inherited = unstirred line.Inherited refl
+  calm_t line.Row = unstirred line.Row refl
+  calm_t line.Final = unstirred line.Final refl
+  calm_t line.Cancelled = unstirred line.Cancelled refl
+  calm_t line.Request = unstirred line.Request refl
+  calm_t line.Overflow = unstirred line.Overflow refl
+  calm_t line.Pick = unstirred line.Pick refl
+  calm_t line.Reset = unstirred line.Reset refl
+  calm_t line.Shut = unstirred line.Shut refl
+  calm_t line.Retire = unstirred line.Retire refl
+  calm_t line.Begin = unstirred line.Begin refl
+  calm_t line.Give = unstirred line.Give refl
+  calm_t line.Drop = unstirred line.Drop refl
+  calm_t line.Add = unstirred line.Add refl
+
+  at_t : IsAt stage.Replied o t
+  at_t =
+      let three = (calm_is_exact o t).1 calm_t in
+      record { current = refl; stage_is = is.at.stage_is; calm = record { calls = three.0; links = three.1; policies = three.2 } }
+
+  -- what came for applications
+  came_own : came c t ≡ came c s ++ message_items more
+  came_own =
+      ap (λ (q : Option Attempt). option_map_or (λ (k : Attempt). response_items (response k t)) q []) committed
+      ∙ items_more (response a s) (response a t) more its
+      ∙ sym (ap (λ (q : Option Attempt). option_map_or (λ (k : Attempt). response_items (response k s)) q [] ++ message_items more) committed)
+
+  own_came : HasCame tells.calls t number c has.slot
+  own_came = record {
+    inbox = record has.slot.call.inbox { messages = has.slot.call.inbox.messages ++ more };
+    there = tells.put.mine;
+    end_taken = refl;
+    left = λ e.
+        left_more (came c s) (came c t) c.taken has.slot.call.inbox.messages more (call_laws.head_items has.slot.call.inbox.head) came_own (has.sees.serves.left e);
+  }
+
+  each_came : (j : ℕ) (d : Call) (held : CallSlot) → numbered s.calls j ≡ Some d → slot_at x.book j ≡ Some held → SeesCall (coming link piece x) s d held → HasCame tells.calls t j d held
+  each_came j d held got there k = by (j == number) refl
+    where
+      by : (e : Bool) → (j == number) ≡ e → HasCame tells.calls t j d held
+      by false e = nothing_came tells.calls s t j d held (tells.put.others j e ∙ there) (frame.came_other link piece x o s is h r next hears a on alone.others j d got e) k.serves.left
+      by true e =
+          let same : number ≡ j = sym (eqb-true j number e) in
+          let two : Some c ≡ Some d = sym at ∙ ap (numbered s.calls) same ∙ got in
+          let slots : Some has.slot ≡ Some held = sym has.there ∙ ap (slot_at x.book) same ∙ there in
+          let call_is : c ≡ d = (cc) in
+          let slot_is : has.slot ≡ held = (cc) in
+          subst (λ (i : ℕ). HasCame tells.calls t i d held) same
+          (subst (λ (z : Call). HasCame tells.calls t number z held) call_is (subst (λ (v : CallSlot). HasCame tells.calls t number c v) slot_is own_came))
+
+  agrees_t : Agrees (coming link left (frame_heard link h x)) t
+  agrees_t =
+      subst (λ (v : StateSeen). Agrees (coming link left v) t) (sym heard_is)
+      (read.agrees_told link piece x o s is h r next hears alone.streams alone.reads alone.retiring tells.calls tells.put.long each_came)
+
+  pub heard_messages : HasHeard link left (frame_heard link h x) o s
+  heard_messages = record {
+    actions = action.FrameRead link r ∷ [];
+    seen = t;
+    entry = o;
+    does = (read.follows link piece x o s is h r next hears, sym (read.after_is link piece x o s is h r next hears));
+    posts = refl;
+    same = record { moment = refl; word = refl; event = refl; entries = refl; setup = refl };
+    at = at_t;
+    reply = refl;
+    fresh = is.fresh;
+    link_ = m;
+    here = read.there link piece x o s is h r next hears;
+    fair = read.fair_now link piece x o s is h r next hears;
+    few = is.few;
+    left = λ e. read.left_is link piece x o s is h r next hears;
+    agrees = agrees_t;
+  }
+
+pub messages_are_heard : MessagesAreHeard
+messages_are_heard link piece x o s a h is next hears case =
+    heard_messages link piece x o s is h case.frame (next ∙ ap (λ (b : Action). Some b) case.is) hears case.stays case.kind_is
