@@ -60,27 +60,29 @@ use Rattle.session_actions.specs.declared.response.Outcome.{Outcome}
 use Rattle.session_actions.specs.declared.response.Response.{Response}
 use Rattle.session_actions.specs.declared.seen.Seen.{Seen}
 
--- a response only grows: its messages stay, and so does its head
+-- a response only grows: its messages stay, and so does its head; and there are messages only behind a head
 pub record HasGrown (p q : Response) : Type 0 where
   pub more : List (List ℕ)
   pub messages : q.messages ≡ p.messages ++ more
   pub head : is_some p.head ≡ true → q.head ≡ p.head
+  pub bare : is_none p.head ≡ true → more ≡ []
 
 same_grown : (p q : Response) → q.messages ≡ p.messages → q.head ≡ p.head → HasGrown p q
-same_grown p q messages head = record { more = []; messages = messages ∙ sym (append-nil p.messages); head = λ e. head }
+same_grown p q messages head = record { more = []; messages = messages ∙ sym (append-nil p.messages); head = λ e. head; bare = λ e. refl }
 
 fault_grown : (p q : Response) (o : Option MessageFault) → HasGrown p q → HasGrown p (with_fault o q)
 fault_grown p q None is =
-    on_if (HasGrown p) q.closes (ended _ q) q (λ e. record { more = is.more; messages = is.messages; head = is.head }) (λ e. is)
-fault_grown p q (Some messagefault.BadFlag) is = record { more = is.more; messages = is.messages; head = is.head }
-fault_grown p q (Some (messagefault.TooLarge len)) is = record { more = is.more; messages = is.messages; head = is.head }
+    on_if (HasGrown p) q.closes (ended _ q) q (λ e. record { more = is.more; messages = is.messages; head = is.head; bare = is.bare }) (λ e. is)
+fault_grown p q (Some messagefault.BadFlag) is = record { more = is.more; messages = is.messages; head = is.head; bare = is.bare }
+fault_grown p q (Some (messagefault.TooLarge len)) is = record { more = is.more; messages = is.messages; head = is.head; bare = is.bare }
 
 data_grown : (limit : ℕ) (p : Response) (f : FrameSeen) → HasGrown p (with_data limit p f)
 data_grown limit p f =
     on_if (HasGrown p) (is_none p.head) (ended _ p) _ (λ e. same_grown p (ended _ p) refl refl)
     (λ e.
     let m = messages_of limit (p.rest ++ content_of f) in
-    fault_grown p (with_messages p m (has_flag f.flags end_stream_flag)) m.fault (record { more = m.whole; messages = refl; head = λ h. refl }))
+    fault_grown p (with_messages p m (has_flag f.flags end_stream_flag)) m.fault
+    (record { more = m.whole; messages = refl; head = λ h. refl; bare = λ h. absurd (let bad : true ≡ false = sym h ∙ e in let no : ⊥ = (cc) in no) }))
 
 update_grown : (p : Response) (by : ℕ) → HasGrown p (with_update p by)
 update_grown p by =
@@ -113,7 +115,7 @@ block_grown p b =
     (λ i.
     let none : is_some p.head ≡ false = or_first (is_some p.head) (is_none (http_status b.fields)) i in
     on_if (HasGrown p) (is_head b.fields) (record p { head = Some (shown_of b.fields) }) _
-    (λ j. record { more = []; messages = sym (append-nil p.messages); head = λ k. never_some p.head _ none k })
+    (λ j. record { more = []; messages = sym (append-nil p.messages); head = λ k. never_some p.head _ none k; bare = λ k. refl })
     (λ j. same_grown p _ refl refl))))
 
 frame_grown : (limit : ℕ) (p : Response) (f : FrameSeen) (o : Option Block) → HasGrown p (with_stream_frame limit p f o)
@@ -315,7 +317,7 @@ module _ (l : Link) (s : Seen) (w : Wire) (g : ℕ → Line) (readers : List Tag
   limit_same a = ap (limit_of_attempt a) (read_is l s r is.sees.at)
 
   -- the response of an attempt after the frame
-  read_on : (n : ℕ) (a : Attempt) → IsOn l s n a → response_of m u n a ≡ with_read (limit_of_attempt a s) n (response_of l s n a) r
+  pub read_on : (n : ℕ) (a : Attempt) → IsOn l s n a → response_of m u n a ≡ with_read (limit_of_attempt a s) n (response_of l s n a) r
   read_on n a on =
       let going : IsGoing (response_of l s n a) = all_go l s w g n a is on in
       ap (λ (k : ℕ). response_in k n m.traffic) (limit_same a) ∙ response_read (limit_of_attempt a s) n l r (owed_for f l s)
