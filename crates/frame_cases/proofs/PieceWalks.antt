@@ -5,4 +5,5 @@ pub mod Cuts
 pub mod Knows
 pub mod Slots
 pub mod Stops
+pub mod Unread
 pub mod Walk

@@ -1,5 +1,6 @@
 pub mod FrameKinds
 pub mod BrokenLinks
+pub mod EndedFrames
 pub mod FirstSettings
 pub mod HeadFrames
 pub mod MessageFrames

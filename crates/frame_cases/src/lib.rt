@@ -2,6 +2,7 @@
 #![tactic(auto)]
 
 pub mod broken_links;
+pub mod ended_frames;
 pub mod first_settings;
 pub mod frame_kinds;
 pub mod head_frames;

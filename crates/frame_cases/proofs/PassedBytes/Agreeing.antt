@@ -27,7 +27,9 @@ use Rattle.channel_actions.specs.KeptSessions.Kept.{IsKept}
 use Rattle.channel_actions.specs.LinkFrames.Alike.{CannotTell, Numbers}
 use Rattle.channel_actions.specs.Links.{HasLink, SeesLinks}
 use Rattle.channel_actions.specs.Columns.{links_noted}
+use Rattle.channel_actions.specs.Sets.{SeesSets}
 use Rattle.channel_cases.proofs.StreamedCalls.Calls.{dues_stay, orders_stay, turns_stay}
+use Rattle.channel_cases.specs.AttemptEnds.Ahead.{AgreesOffLinks}
 use Rattle.channel_core.specs.Books.{slot_at}
 use Rattle.channel_core.specs.States.{StateSeen}
 use Rattle.channel_core.specs.Tables.{numbered as slot_numbered}
@@ -92,11 +94,9 @@ module _ (link : ℕ) (x : StateSeen) (slots : List LinkSlot) (columns : List Li
   abbrev y : StateSeen
   y = relinked slots columns (recalled calls x)
 
-  module _ (kept : IsKept t) (cannot : CannotTell (λ (k : ℕ). link == k) s t) (others : (k : ℕ) → (link == k) ≡ false → numbered slots k ≡ numbered x.links k)
-      (count : length ls ≡ length slots) (long : length calls ≡ length x.book.calls)
+  module _ (kept : IsKept t) (long : length calls ≡ length x.book.calls)
       (heard : (number : ℕ) (c : Call) (slot : CallSlot) → numbered s.calls number ≡ Some c → slot_at x.book number ≡ Some slot → SeesCall x s c slot → HasCame calls t number c slot)
-      (drained_same : (a : Attempt) → drained a t ≡ drained a s)
-      (noted : links_noted t ≡ columns) (own : (m : Link) → numbered ls link ≡ Some m → HasLink y t m link) where
+      (drained_same : (a : Attempt) → drained a t ≡ drained a s) (noted : links_noted t ≡ columns) where
     places : AreNumbered 1 s.attempts
     places = h.kept.book.places
 
@@ -201,18 +201,6 @@ module _ (link : ℕ) (x : StateSeen) (slots : List LinkSlot) (columns : List Li
     calls_still : SeesCalls y t
     calls_still = record { count = h.calls.count ∙ sym long; each = λ number c got. call_still number c got (h.calls.each number c got) }
 
-    -- the links
-    abbrev touched : Numbers
-    touched k = link == k
-
-    these : (k : ℕ) (m : Link) → touched k ≡ true → numbered ls k ≡ Some m → HasLink y t m k
-    these k m e got =
-        let same : link ≡ k = eqb-true link k e in
-        subst (HasLink y t m) same (own m (ap (numbered ls) same ∙ got))
-
-    links_still : SeesLinks y t
-    links_still = links_stay touched x y s t h.links h.kept kept others cannot count these
-
     same_sets : AreSameSets x y
     same_sets = record {
       queue = refl;
@@ -225,8 +213,12 @@ module _ (link : ℕ) (x : StateSeen) (slots : List LinkSlot) (columns : List Li
       resets = sym h.sets.resets;
     }
 
-    pub agrees_relinked : Agrees y t
-    agrees_relinked = record {
+    sets_now : SeesSets y t
+    sets_now = sets_stay x y s t places only same_sets h.sets
+
+    -- all but the links
+    pub books_relinked : AgreesOffLinks y t
+    books_relinked = record {
       clock = record {
         entry_is = h.clock.entry_is;
         moment = moment ∙ h.clock.moment;
@@ -242,12 +234,47 @@ module _ (link : ℕ) (x : StateSeen) (slots : List LinkSlot) (columns : List Li
       };
       buckets = buckets_stay x.book.buckets s t places only h.buckets;
       calls = calls_still;
-      links = links_still;
       net = h.net;
       orderly = h.orderly;
-      sets = sets_stay x y s t places only same_sets h.sets;
+      sets = record {
+        queue = sets_now.queue;
+        patient = sets_now.patient;
+        dues = sets_now.dues;
+        deadlines = sets_now.deadlines;
+        bare = sets_now.bare;
+        impatient = sets_now.impatient;
+        outstanding = sets_now.outstanding;
+      };
       kept = kept;
     }
+
+    -- the links
+    module _ (cannot : CannotTell (λ (k : ℕ). link == k) s t) (others : (k : ℕ) → (link == k) ≡ false → numbered slots k ≡ numbered x.links k)
+        (count : length ls ≡ length slots) (own : (m : Link) → numbered ls link ≡ Some m → HasLink y t m link) where
+      abbrev touched : Numbers
+      touched k = link == k
+
+      these : (k : ℕ) (m : Link) → touched k ≡ true → numbered ls k ≡ Some m → HasLink y t m k
+      these k m e got =
+          let same : link ≡ k = eqb-true link k e in
+          subst (HasLink y t m) same (own m (ap (numbered ls) same ∙ got))
+
+      links_still : SeesLinks y t
+      links_still = links_stay touched x y s t h.links h.kept kept others cannot count these
+
+      pub agrees_relinked : Agrees y t
+      agrees_relinked = record {
+        clock = books_relinked.clock;
+        columns = books_relinked.columns;
+        configs = books_relinked.configs;
+        buckets = books_relinked.buckets;
+        calls = books_relinked.calls;
+        links = links_still;
+        net = books_relinked.net;
+        orderly = books_relinked.orderly;
+        sets = sets_now;
+        kept = kept;
+      }
 
 -- from any such session
 pub record IsToldOn (link : ℕ) (x y : StateSeen) (o p : OpenEntry) (s t : Seen) : Type 0 where
@@ -277,15 +304,46 @@ told_keeps link x y o p s t h is =
     let t_is : t ≡ t1 = is.seen ∙ ap (λ (z : Seen). record z { links = t.links; current = Some p }) s_is in
     let agrees : Agrees y1 t1 =
     agrees_relinked link x y.links y.book.ledger.links y.book.calls o p s t.links (subst (Agrees x) s_is h) is.moment is.word is.drawn
-    (subst IsKept t_is is.kept)
-    (subst (λ (z : Seen). CannotTell (λ (k : ℕ). link == k) z t1) s_is (subst (CannotTell (λ (k : ℕ). link == k) s) t_is is.cannot))
-    is.slots is.count is.long
+    (subst IsKept t_is is.kept) is.long
     (λ number c slot got there k.
     subst (λ (z : Seen). HasCame y.book.calls z number c slot) t_is (is.heard number c slot got there (subst (λ (z : Seen). SeesCall x z c slot) (sym s_is) k)))
     (λ a. ap (drained a) (sym t_is) ∙ is.drained_same a ∙ ap (drained a) s_is)
     (ap links_noted (sym t_is) ∙ is.noted)
+    (subst (λ (z : Seen). CannotTell (λ (k : ℕ). link == k) z t1) s_is (subst (CannotTell (λ (k : ℕ). link == k) s) t_is is.cannot))
+    is.slots is.count
     (λ m got. subst (λ (z : StateSeen). HasLink z t1 m link) is.state (subst (λ (z : Seen). HasLink y z m link) t_is (is.own m got))) in
     subst (λ (z : StateSeen). Agrees z t) (sym is.state) (subst (Agrees y1) (sym t_is) agrees)
+
+-- all but the links, however these stand
+pub record IsToldOff (link : ℕ) (x y : StateSeen) (o p : OpenEntry) (s t : Seen) : Type 0 where
+  pub state : y ≡ relinked y.links y.book.ledger.links (recalled y.book.calls x)
+  pub current : s.current ≡ Some o
+  pub seen : t ≡ record s { links = t.links; current = Some p }
+  pub moment : p.moment ≡ o.moment
+  pub word : p.word ≡ o.word
+  pub drawn : p.drawn ≡ o.drawn
+  pub kept : IsKept t
+  pub long : length y.book.calls ≡ length x.book.calls
+  pub heard : (number : ℕ) (c : Call) (slot : CallSlot) → numbered s.calls number ≡ Some c → slot_at x.book number ≡ Some slot → SeesCall x s c slot
+      → HasCame y.book.calls t number c slot
+  pub drained_same : (a : Attempt) → drained a t ≡ drained a s
+  pub noted : links_noted t ≡ y.book.ledger.links
+
+pub told_books : (link : ℕ) (x y : StateSeen) (o p : OpenEntry) (s t : Seen) → Agrees x s → IsToldOff link x y o p s t → AgreesOffLinks y t
+told_books link x y o p s t h is =
+    let s1 : Seen = with_open o s in
+    let s_is : s ≡ s1 = is_with_open o s is.current in
+    let t1 : Seen = record s1 { links = t.links; current = Some p } in
+    let y1 : StateSeen = relinked y.links y.book.ledger.links (recalled y.book.calls x) in
+    let t_is : t ≡ t1 = is.seen ∙ ap (λ (z : Seen). record z { links = t.links; current = Some p }) s_is in
+    let agrees : AgreesOffLinks y1 t1 =
+    books_relinked link x y.links y.book.ledger.links y.book.calls o p s t.links (subst (Agrees x) s_is h) is.moment is.word is.drawn
+    (subst IsKept t_is is.kept) is.long
+    (λ number c slot got there k.
+    subst (λ (z : Seen). HasCame y.book.calls z number c slot) t_is (is.heard number c slot got there (subst (λ (z : Seen). SeesCall x z c slot) (sym s_is) k)))
+    (λ a. ap (drained a) (sym t_is) ∙ is.drained_same a ∙ ap (drained a) s_is)
+    (ap links_noted (sym t_is) ∙ is.noted) in
+    subst (λ (z : StateSeen). AgreesOffLinks z t) (sym is.state) (subst (AgreesOffLinks y1) (sym t_is) agrees)
 
 -- where nothing came
 pub passed_bytes_keep : PassedBytesKeep

@@ -185,38 +185,41 @@ module _ (s : Seen) (link : ℕ) (l : Link) (here : numbered s.links link ≡ So
     over_same : (k : ℕ) → option_map_or (λ (q : Link). is_some q.over) (numbered t.links k) false ≡ option_map_or (λ (q : Link). is_some q.over) (numbered s.links k) false
     over_same k = through (λ (q : Link). is_some q.over) false refl k (k == link) refl
 
-    module _ (ends : (i : ℕ) (a : Attempt) → numbered s.attempts i ≡ Some a → (response a t).end ≡ (response a s).end) where
-      outcome_by_link : (i : ℕ) (a : Attempt) → numbered s.attempts i ≡ Some a → (o : Option ℕ) → a.row.stream ≡ o → (p : Option Placed)
+    -- of one attempt
+    module _ (a : Attempt) (same_end : (response a t).end ≡ (response a s).end) where
+      outcome_by_link : (o : Option ℕ) → (p : Option Placed)
           → option_and_then (outcome_on a t o) (option_and_then (λ (q : Placed). numbered t.links q.link) p) ≡ option_and_then (outcome_on a s o) (option_and_then (λ (q : Placed). numbered s.links q.link) p)
-      outcome_by_link i a got o stream None = refl
-      outcome_by_link i a got o stream (Some at) = on_number o stream at.link (at.link == link) refl
+      outcome_by_link o None = refl
+      outcome_by_link o (Some at) = on_number o at.link (at.link == link) refl
         where
-          same_outcome : (o : Option ℕ) → a.row.stream ≡ o → (q : Link) → outcome_on a t o q ≡ outcome_on a s o q
-          same_outcome None stream q = refl
-          same_outcome (Some n) stream q = ap (λ (e : Option Outcome). option_or e (if is_some q.over then Some lost_end else None)) (ends i a got)
+          same_outcome : (o : Option ℕ) → (q : Link) → outcome_on a t o q ≡ outcome_on a s o q
+          same_outcome None q = refl
+          same_outcome (Some n) q = ap (λ (e : Option Outcome). option_or e (if is_some q.over then Some lost_end else None)) same_end
 
-          own_outcome : (o : Option ℕ) → a.row.stream ≡ o → outcome_on a t o m ≡ outcome_on a s o l
-          own_outcome None stream = ap (λ (b : Bool). if is_some l.over || b then Some unsent_end else None) retiring
-          own_outcome (Some n) stream = ap (λ (e : Option Outcome). option_or e (if is_some l.over then Some lost_end else None)) (ends i a got)
+          own_outcome : (o : Option ℕ) → outcome_on a t o m ≡ outcome_on a s o l
+          own_outcome None = ap (λ (b : Bool). if is_some l.over || b then Some unsent_end else None) retiring
+          own_outcome (Some n) = ap (λ (e : Option Outcome). option_or e (if is_some l.over then Some lost_end else None)) same_end
 
-          on_number : (o : Option ℕ) → a.row.stream ≡ o → (k : ℕ) (b : Bool) → (k == link) ≡ b
+          on_number : (o : Option ℕ) → (k : ℕ) (b : Bool) → (k == link) ≡ b
               → option_and_then (outcome_on a t o) (numbered t.links k) ≡ option_and_then (outcome_on a s o) (numbered s.links k)
-          on_number o stream k true e =
+          on_number o k true e =
               let one : k ≡ link = eqb-true k link e in
-              ap (λ (j : ℕ). option_and_then (outcome_on a t o) (numbered t.links j)) one ∙ ap (option_and_then (outcome_on a t o)) there ∙ own_outcome o stream
+              ap (λ (j : ℕ). option_and_then (outcome_on a t o) (numbered t.links j)) one ∙ ap (option_and_then (outcome_on a t o)) there ∙ own_outcome o
               ∙ sym (ap (λ (j : ℕ). option_and_then (outcome_on a s o) (numbered s.links j)) one ∙ ap (option_and_then (outcome_on a s o)) here)
-          on_number o stream k false e =
+          on_number o k false e =
               ap (option_and_then (outcome_on a t o)) (changed_away f link k s.links (eqb-false k link e)) ∙ each (numbered s.links k)
             where
               each : (q : Option Link) → option_and_then (outcome_on a t o) q ≡ option_and_then (outcome_on a s o) q
               each None = refl
-              each (Some q) = same_outcome o stream q
+              each (Some q) = same_outcome o q
 
-      end_one : (i : ℕ) (a : Attempt) → numbered s.attempts i ≡ Some a → is_to_end t a ≡ is_to_end s a
-      end_one i a got = ap (λ (o : Option Outcome). (is_outstanding a && not (is_over a s)) && is_some o) (outcome_by_link i a got a.row.stream refl a.row.placed)
+      pub end_same : is_to_end t a ≡ is_to_end s a
+      end_same = ap (λ (o : Option Outcome). (is_outstanding a && not (is_over a s)) && is_some o) (outcome_by_link a.row.stream a.row.placed)
 
+    -- of all
+    module _ (ends : (i : ℕ) (a : Attempt) → numbered s.attempts i ≡ Some a → (response a t).end ≡ (response a s).end) where
       pub ends_stay : (o : OpenEntry) → IsStill line.WireEnd o s → IsStill line.WireEnd o t
-      ends_stay o h = any_in (is_to_end t) (is_to_end s) s.attempts end_one ∙ h
+      ends_stay o h = any_in (is_to_end t) (is_to_end s) s.attempts (λ i a got. end_same a (ends i a got)) ∙ h
 
   -- what came for an application, where it is of an attempt that gained nothing
   items_same : (p q : Response) → HasNothingNew p q → response_items q ≡ response_items p

@@ -241,7 +241,7 @@ module _ (link : ℕ) (piece : List ℕ) (x : StateSeen) (o : OpenEntry) (s : Se
   slot_is : slot_now ≡ record slot { link = record out.link { link = record out.link.link { wire = sealed_wire out.link.link.wire } } }
   slot_is = ap (λ (q : Reported). record slot { link = record q.link { link = record q.link.link { wire = sealed_wire q.link.link.wire } } }) told_is
 
-  rest_now : out.link.link.rest ≡ []
+  pub rest_now : out.link.link.rest ≡ []
   rest_now = rest_all (record { link = record { wire = (told w r.frame).wire; rest = [] }; readers = slot.link.readers }) (told w r.frame).news
 
   -- how far it was read
@@ -275,6 +275,14 @@ module _ (link : ℕ) (piece : List ℕ) (x : StateSeen) (o : OpenEntry) (s : Se
     within = subst (λ (n : ℕ). n ≤ length l.received) (sym (bytes_more l r frames)) end_within;
     listed = listed_more l r frames is.fair.listed reading.next;
   }
+
+  -- what is noted of it
+  pub noted_as : is_retiring m ≡ is_retiring l → links_noted t ≡ columns
+  noted_as retiring =
+      let on : IsReadOn l m r.end = record { number = refl; sub = refl; up = refl; gone = refl; over = refl; retiring = retiring; read = bytes_more l r frames } in
+      noted_read o o s f link r.end l is.here on
+      ∙ ap (λ (ks : List LinkSeen). changed_at (read_link r.end) ks link) (ap links_noted (sym (is_with_open o s is.at.current)) ∙ h0.columns.links)
+      ∙ ap (λ (n : ℕ). changed_at (read_link n) x.book.ledger.links link) (sym read_h)
 
   -- where the link agrees but for what its bytes and seals are
   module _ (streams : SeesStreams m (frame_read l.number r s) out.link.link.wire (lines_in l s)) (reads : responses.SeesReaders m (frame_read l.number r s) out.link.readers)
@@ -318,13 +326,6 @@ module _ (link : ℕ) (piece : List ℕ) (x : StateSeen) (o : OpenEntry) (s : Se
         number_changed (with_rest left) y.links link
         ∙ ap (option_map (with_rest left)) (own_slot link piece x slot kept.there)
 
-    noted_now : links_noted t ≡ columns
-    noted_now =
-        let on : IsReadOn l m r.end = record { number = refl; sub = refl; up = refl; gone = refl; over = refl; retiring = retiring; read = bytes_more l r frames } in
-        noted_read o o s f link r.end l is.here on
-        ∙ ap (λ (ks : List LinkSeen). changed_at (read_link r.end) ks link) (ap links_noted (sym (is_with_open o s is.at.current)) ∙ h0.columns.links)
-        ∙ ap (λ (n : ℕ). changed_at (read_link n) x.book.ledger.links link) (sym read_h)
-
     -- all agrees, with what came for applications
     module _ (calls : List CallSlot) (long : length calls ≡ length x.book.calls)
         (heard : (number : ℕ) (c : Call) (held : CallSlot) → numbered s.calls number ≡ Some c → slot_at x.book number ≡ Some held → SeesCall (coming link piece x) s c held
@@ -350,7 +351,7 @@ module _ (link : ℕ) (piece : List ℕ) (x : StateSeen) (o : OpenEntry) (s : Se
         long = long;
         heard = heard;
         drained_same = drained_through s f link (Some o) (λ stream k. used_same stream k r frames);
-        noted = noted_now;
+        noted = noted_as retiring;
         own = λ k got. subst (λ (q : Link). HasLink told_z t q link) (one_some m k (numbered t.links link) there got) has_now;
       }
 

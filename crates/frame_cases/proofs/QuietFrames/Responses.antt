@@ -317,7 +317,7 @@ module _ (l : Link) (s : Seen) (w : Wire) (g : ℕ → Line) (readers : List Tag
   limit_same a = ap (limit_of_attempt a) (read_is l s r is.sees.at)
 
   -- the response of an attempt after the frame
-  read_on : (n : ℕ) (a : Attempt) → IsOn l s n a → response_of m u n a ≡ with_read (limit_of_attempt a s) n (response_of l s n a) r
+  pub read_on : (n : ℕ) (a : Attempt) → IsOn l s n a → response_of m u n a ≡ with_read (limit_of_attempt a s) n (response_of l s n a) r
   read_on n a on =
       let going : IsGoing (response_of l s n a) = all_go l s w g n a is on in
       ap (λ (k : ℕ). response_in k n m.traffic) (limit_same a) ∙ response_read (limit_of_attempt a s) n l r (owed_for f l s)
