@@ -11,7 +11,6 @@ pub mod DrainCalls
 pub mod DrainLends
 pub mod DrainWrites
 pub mod Dues
-pub mod EndsFollow
 pub mod Entered
 pub mod FewCalls
 pub mod Fresh
@@ -25,11 +24,9 @@ pub mod IdleNet
 pub mod KeptCalls
 pub mod KeptSessions
 pub mod Lines
-pub mod LinkEnds
 pub mod LinkFrames
 pub mod Moved
 pub mod Opening
-pub mod OtherCalls
 pub mod Outstanding
 pub mod OwnLinks
 pub mod OwnStreams

@@ -12,7 +12,6 @@ pub mod DrainBooks
 pub mod DrainCalls
 pub mod DrainLends
 pub mod DrainWrites
-pub mod EndsFollow
 pub mod FewCalls
 pub mod GoingCalls
 pub mod GreetedLinks
@@ -21,10 +20,8 @@ pub mod KeptCalls
 pub mod KeptSessions
 pub mod Known
 pub mod Laws
-pub mod LinkEnds
 pub mod LinkFrames
 pub mod Links
-pub mod OtherCalls
 pub mod OwnLinks
 pub mod OwnStreams
 pub mod Points

@@ -8,4 +8,3 @@ pub mod OwnFrames
 pub mod PassedBytes
 pub mod PieceWalks
 pub mod QuietFrames
-pub mod ReadOut

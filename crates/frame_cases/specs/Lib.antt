@@ -7,4 +7,3 @@ pub mod MessageFrames
 pub mod PassedBytes
 pub mod PieceWalks
 pub mod QuietFrames
-pub mod ReadOut

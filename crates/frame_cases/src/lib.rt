@@ -10,4 +10,3 @@ pub mod message_frames;
 pub mod passed_bytes;
 pub mod piece_walks;
 pub mod quiet_frames;
-pub mod read_out;

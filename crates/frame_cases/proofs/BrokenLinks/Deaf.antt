@@ -3,10 +3,10 @@ use Rattle.std.proofs.Common.{◌≡◌, ◌∷◌, ap, refl, subst, sym, ◌∙
 use Rattle.std.specs.Option.{option_map, option_or}
 use Rattle.std.specs.Prelude.{option_and_then}
 use Rattle.call_actions.proofs.Ranks.{numbered_map}
-use Rattle.channel_cases.proofs.LostLinks.After.{link_by}
-use Rattle.channel_cases.proofs.PassedAtOnce.Along.{passed_along}
-use Rattle.channel_cases.proofs.PassedAtOnce.Lines.{AllowsIf, at_once_replies, following_allowed, is_of_reply}
-use Rattle.channel_cases.specs.PassedAtOnce.Passed.{IsPassedStill, unqueued}
+use Rattle.event_cases.proofs.LostLinks.After.{link_by}
+use Rattle.event_cases.proofs.PassedAtOnce.Along.{passed_along}
+use Rattle.event_cases.proofs.PassedAtOnce.Lines.{AllowsIf, at_once_replies, following_allowed, is_of_reply}
+use Rattle.event_cases.specs.PassedAtOnce.Passed.{IsPassedStill, unqueued}
 use Rattle.frame_cases.proofs.PieceWalks.Walk.{none_over, read_at}
 use Rattle.grpc_base.specs.declared.event.Event.{Event}
 use Rattle.grpc_base.specs.declared.event.Event.TheVariants as event

@@ -8,12 +8,12 @@ use Rattle.channel_actions.specs.GoingCalls.Laws.{LossesGoOn}
 use Rattle.channel_actions.specs.SoundBuffers.Held.{BuffersAreSound}
 use Rattle.channel_actions.specs.SoundBuffers.Laws.{EachHoldsSoundly}
 use Rattle.channel_actions.specs.SoundCalls.Sound.{AreSoundCalls}
-use Rattle.channel_cases.proofs.LostLinks.OverAgrees as agreeing
-use Rattle.channel_cases.proofs.LostLinks.OverStarts as starts
-use Rattle.channel_cases.specs.AttemptEnds.Ends.{AreHeld}
-use Rattle.channel_cases.specs.AttemptEnds.Laws.{EndsStayHeld, OneAttemptEnds}
-use Rattle.channel_cases.specs.AttemptEnds.Runs.{RunsOfSessions}
-use Rattle.channel_cases.specs.PassedAtOnce.Passed.{unqueued}
+use Rattle.event_cases.proofs.LostLinks.OverAgrees as agreeing
+use Rattle.event_cases.proofs.LostLinks.OverStarts as starts
+use Rattle.end_cases.specs.AttemptEnds.Ends.{AreHeld}
+use Rattle.end_cases.specs.AttemptEnds.Laws.{EndsStayHeld, OneAttemptEnds}
+use Rattle.end_cases.specs.AttemptEnds.Runs.{RunsOfSessions}
+use Rattle.event_cases.specs.PassedAtOnce.Passed.{unqueued}
 use Rattle.channel_core.specs.Arrivals.{frame_heard}
 use Rattle.channel_core.specs.States.{StateSeen}
 use Rattle.channel_core.specs.Steps.{buried}

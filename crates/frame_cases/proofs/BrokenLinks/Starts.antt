@@ -12,20 +12,20 @@ use Rattle.channel_actions.proofs.KeptSessions.Along.{kept_stays}
 use Rattle.channel_actions.proofs.OwnStreams.Along.{streams_along}
 use Rattle.channel_actions.proofs.Stamps.{counted_at}
 use Rattle.channel_actions.specs.Agrees.{Agrees}
-use Rattle.channel_actions.specs.EndsFollow.Cuts.{AreUnreset}
+use Rattle.call_cases.specs.EndsFollow.Cuts.{AreUnreset}
 use Rattle.channel_actions.specs.KeptSessions.Kept.{IsKept}
 use Rattle.channel_actions.specs.Links.{IsGoing, SeesLinkOf, lines_in}
-use Rattle.channel_cases.proofs.AttemptEnds.Unowed.{agrees_ahead}
-use Rattle.channel_cases.proofs.DrainEvents.Rooms.{one_some}
-use Rattle.channel_cases.proofs.LostLinks.Over.{GoesOver, IsDown}
-use Rattle.channel_cases.proofs.LostLinks.OverAgrees as agreeing
-use Rattle.channel_cases.proofs.LostLinks.OverAgrees.{IsSlots}
-use Rattle.channel_cases.proofs.LostLinks.OverStarts as starts
-use Rattle.channel_cases.proofs.LostLinks.Stirred.{unstirred}
-use Rattle.channel_cases.specs.AttemptEnds.Ahead.{AgreesAhead}
-use Rattle.channel_cases.specs.AttemptEnds.Ends.{AreHeld}
-use Rattle.channel_cases.specs.AttemptEnds.Laws.{all_sealed}
-use Rattle.channel_cases.specs.AttemptEnds.Runs.{RunsRise}
+use Rattle.end_cases.proofs.AttemptEnds.Unowed.{agrees_ahead}
+use Rattle.attempt_cases.proofs.DrainEvents.Rooms.{one_some}
+use Rattle.event_cases.proofs.LostLinks.Over.{GoesOver, IsDown}
+use Rattle.event_cases.proofs.LostLinks.OverAgrees as agreeing
+use Rattle.event_cases.proofs.LostLinks.OverAgrees.{IsSlots}
+use Rattle.event_cases.proofs.LostLinks.OverStarts as starts
+use Rattle.event_cases.proofs.LostLinks.Stirred.{unstirred}
+use Rattle.end_cases.specs.AttemptEnds.Ahead.{AgreesAhead}
+use Rattle.end_cases.specs.AttemptEnds.Ends.{AreHeld}
+use Rattle.end_cases.specs.AttemptEnds.Laws.{all_sealed}
+use Rattle.end_cases.specs.AttemptEnds.Runs.{RunsRise}
 use Rattle.channel_core.proofs.BookLaws.{number_changed, number_other}
 use Rattle.channel_core.proofs.Resting.{changed_length}
 use Rattle.channel_core.specs.Arrivals.{frame_heard, lost, read_to}

@@ -4,7 +4,7 @@ use Rattle.std.specs.Option.{option_map}
 use Rattle.channel_actions.proofs.LinkFrames.Tellings.{untold}
 use Rattle.channel_actions.specs.Agrees.{Agrees}
 use Rattle.channel_actions.specs.Links.{HasLink}
-use Rattle.channel_cases.proofs.DrainEvents.Rooms.{one_some}
+use Rattle.attempt_cases.proofs.DrainEvents.Rooms.{one_some}
 use Rattle.channel_core.proofs.BookLaws.{number_changed}
 use Rattle.channel_core.proofs.Resting.{changed_length}
 use Rattle.channel_core.specs.States.{StateSeen}

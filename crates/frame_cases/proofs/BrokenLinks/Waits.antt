@@ -1,8 +1,8 @@
 -- Which lines may wait until all attempts of a link that breaks have ended.
 use Rattle.std.proofs.Common.{◌≡◌, Bool, true, false, nat_lt, refl}
-use Rattle.channel_cases.proofs.LostLinks.Ends.{none_waits}
-use Rattle.channel_cases.specs.AttemptEnds.Ends.{may_wait}
-use Rattle.channel_cases.specs.AttemptEnds.Laws.{may_wait_for_resets}
+use Rattle.event_cases.proofs.LostLinks.Ends.{none_waits}
+use Rattle.end_cases.specs.AttemptEnds.Ends.{may_wait}
+use Rattle.end_cases.specs.AttemptEnds.Laws.{may_wait_for_resets}
 use Rattle.session_actions.specs.declared.entry.OpenEntry.{OpenEntry}
 use Rattle.session_actions.specs.declared.seen.Seen.{Seen}
 use Rattle.session_order.specs.Calm.{IsStill}

@@ -5,7 +5,7 @@ use Rattle.std.proofs.lemmas.Bool.Decides.{nat_tests}
 use Rattle.attempt_ledger.specs.declared.row.RowEnd.{RowEnd}
 use Rattle.call_actions.specs.Laws.{news_of}
 use Rattle.channel_actions.proofs.Does.{does_on, none_on}
-use Rattle.channel_actions.proofs.EndsFollow.Steps.{placed_of}
+use Rattle.call_cases.proofs.EndsFollow.Steps.{placed_of}
 use Rattle.channel_actions.proofs.GreetedLinks.Along.{greeted_along}
 use Rattle.channel_actions.proofs.OwnStreams.Along.{streams_along}
 use Rattle.channel_actions.specs.Agrees.{Agrees}
@@ -14,19 +14,19 @@ use Rattle.channel_actions.specs.GoingCalls.Laws.{LossesGoOn}
 use Rattle.channel_actions.specs.KeptSessions.Kept.{IsKept}
 use Rattle.channel_actions.specs.Points.{IsSameEntry}
 use Rattle.channel_actions.specs.Sets.{AreExactly, is_in_outstanding}
-use Rattle.channel_cases.proofs.LostLinks.After.{over_still, quiet_still}
-use Rattle.channel_cases.proofs.LostLinks.Ends.{OverGoesOn, e, end_next, head, none_waits, out, there}
-use Rattle.channel_cases.proofs.LostLinks.First.{IsHead, IsIn, first_next, head_is, in_set, none_next, of_set}
-use Rattle.channel_cases.proofs.LostLinks.News.{ended_is}
-use Rattle.channel_cases.proofs.LostLinks.Stamped.{stamped_again, stamped_form}
-use Rattle.channel_cases.proofs.LostLinks.Walk.{ArePast, beyond, not_past, one_more, rises}
-use Rattle.channel_cases.proofs.OwedResets.Whole.{resets_are_made}
-use Rattle.channel_cases.proofs.PassedAtOnce.Acts.{Staged, actions_leave_passed, passed_self, passed_then}
-use Rattle.channel_cases.proofs.PassedAtOnce.Along.{IsOpenAs, goes_on}
-use Rattle.channel_cases.specs.AttemptEnds.Ahead.{AgreesAhead}
-use Rattle.channel_cases.specs.AttemptEnds.Ends.{HasEnded, ended_in}
-use Rattle.channel_cases.specs.AttemptEnds.Laws.{EndsStayHeld, HasReset, OneAttemptEnds, ResetsNext, all_sealed}
-use Rattle.channel_cases.specs.PassedAtOnce.Passed.{HasStream, IsPassedStill, unqueued}
+use Rattle.event_cases.proofs.LostLinks.After.{over_still, quiet_still}
+use Rattle.event_cases.proofs.LostLinks.Ends.{OverGoesOn, e, end_next, head, none_waits, out, there}
+use Rattle.event_cases.proofs.LostLinks.First.{IsHead, IsIn, first_next, head_is, in_set, none_next, of_set}
+use Rattle.event_cases.proofs.LostLinks.News.{ended_is}
+use Rattle.event_cases.proofs.LostLinks.Stamped.{stamped_again, stamped_form}
+use Rattle.event_cases.proofs.LostLinks.Walk.{ArePast, beyond, not_past, one_more, rises}
+use Rattle.end_cases.proofs.OwedResets.Whole.{resets_are_made}
+use Rattle.event_cases.proofs.PassedAtOnce.Acts.{Staged, actions_leave_passed, passed_self, passed_then}
+use Rattle.event_cases.proofs.PassedAtOnce.Along.{IsOpenAs, goes_on}
+use Rattle.end_cases.specs.AttemptEnds.Ahead.{AgreesAhead}
+use Rattle.end_cases.specs.AttemptEnds.Ends.{HasEnded, ended_in}
+use Rattle.end_cases.specs.AttemptEnds.Laws.{EndsStayHeld, HasReset, OneAttemptEnds, ResetsNext, all_sealed}
+use Rattle.event_cases.specs.PassedAtOnce.Passed.{HasStream, IsPassedStill, unqueued}
 use Rattle.channel_core.specs.Arrivals.{lost_row, most_rows, rows_lost, rows_lost_on}
 use Rattle.channel_core.specs.States.{StateSeen}
 use Rattle.channel_core.specs.Steps.{next_on, stamped_gone}

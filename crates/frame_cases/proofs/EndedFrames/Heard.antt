@@ -4,9 +4,9 @@ use Rattle.std.specs.List.{list_all}
 use Rattle.channel_actions.proofs.BoardActions.Calm.{of_order}
 use Rattle.channel_actions.specs.Agrees.{Agrees}
 use Rattle.channel_actions.specs.SoundBuffers.Laws.{EachHoldsSoundly}
-use Rattle.channel_cases.specs.AttemptEnds.Laws.{OneAttemptEnds}
-use Rattle.channel_cases.specs.AttemptEnds.Runs.{RunsOfSessions}
-use Rattle.channel_cases.specs.PassedAtOnce.Passed.{unqueued}
+use Rattle.end_cases.specs.AttemptEnds.Laws.{OneAttemptEnds}
+use Rattle.end_cases.specs.AttemptEnds.Runs.{RunsOfSessions}
+use Rattle.event_cases.specs.PassedAtOnce.Passed.{unqueued}
 use Rattle.channel_core.specs.Arrivals.{frame_heard}
 use Rattle.channel_core.specs.States.{StateSeen}
 use Rattle.channel_core.specs.Tables.{Heard, heard_in}

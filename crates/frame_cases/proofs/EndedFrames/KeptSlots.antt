@@ -11,8 +11,8 @@ use Rattle.attempt_ledger.specs.declared.row.Placed.{Placed}
 use Rattle.call_core.specs.Steps as call
 use Rattle.call_core.specs.declared.act.CallAct.{CallAct}
 use Rattle.call_core.specs.declared.act.CallAct.TheVariants as act
-use Rattle.channel_cases.proofs.LostLinks.Stamped.{stamped_form}
-use Rattle.channel_cases.specs.AttemptEnds.Ends.{ended_in, gone_with, taken_off}
+use Rattle.event_cases.proofs.LostLinks.Stamped.{stamped_form}
+use Rattle.end_cases.specs.AttemptEnds.Ends.{ended_in, gone_with, taken_off}
 use Rattle.channel_core.proofs.BookLaws.{number_changed, number_other}
 use Rattle.channel_core.specs.Books.{BookActs, book_acted, call_of, has_drawn, link_of, row_at}
 use Rattle.channel_core.specs.States.{StateSeen}

@@ -6,7 +6,7 @@ use Rattle.attempt_ledger.specs.declared.news.EndNews.{EndNews}
 use Rattle.attempt_ledger.specs.declared.row.RowEnd.{RowEnd}
 use Rattle.call_actions.specs.Laws.{news_of}
 use Rattle.channel_actions.proofs.Does.{does_on, none_on}
-use Rattle.channel_actions.proofs.EndsFollow.Steps.{placed_of}
+use Rattle.call_cases.proofs.EndsFollow.Steps.{placed_of}
 use Rattle.channel_actions.proofs.Refusing.{none_numbered}
 use Rattle.channel_actions.proofs.Stamps.{counted_at}
 use Rattle.channel_actions.specs.Agrees.{Agrees}
@@ -14,16 +14,16 @@ use Rattle.channel_actions.specs.KeptSessions.Kept.{IsKept}
 use Rattle.channel_actions.specs.Links.{HasLink}
 use Rattle.channel_actions.specs.Points.{IsSameEntry}
 use Rattle.channel_actions.specs.Sets.{is_in_outstanding}
-use Rattle.channel_cases.proofs.LostLinks.After.{IsStillOut, before, is_at, outcome_same}
-use Rattle.channel_cases.proofs.LostLinks.Ends.{none_waits}
-use Rattle.channel_cases.proofs.OwedResets.Sealed.{IsSealed, all_sealed_is, seal_at, seal_slot, slot_sealed}
-use Rattle.channel_cases.proofs.OwedResets.Whole.{resets_are_made}
-use Rattle.channel_cases.proofs.PassedAtOnce.Acts.{Staged, actions_leave_passed, passed_then}
-use Rattle.channel_cases.proofs.PassedAtOnce.Along.{IsOpenAs, goes_on}
-use Rattle.channel_cases.specs.AttemptEnds.Ahead.{HasLinkAhead}
-use Rattle.channel_cases.specs.AttemptEnds.Ends.{EndNext, HasEnded, ended_in}
-use Rattle.channel_cases.specs.AttemptEnds.Laws.{HasReset, OneAttemptEnds, ResetsNext, all_sealed}
-use Rattle.channel_cases.specs.PassedAtOnce.Passed.{HasStream, IsPassedStill}
+use Rattle.event_cases.proofs.LostLinks.After.{IsStillOut, before, is_at, outcome_same}
+use Rattle.event_cases.proofs.LostLinks.Ends.{none_waits}
+use Rattle.end_cases.proofs.OwedResets.Sealed.{IsSealed, all_sealed_is, seal_at, seal_slot, slot_sealed}
+use Rattle.end_cases.proofs.OwedResets.Whole.{resets_are_made}
+use Rattle.event_cases.proofs.PassedAtOnce.Acts.{Staged, actions_leave_passed, passed_then}
+use Rattle.event_cases.proofs.PassedAtOnce.Along.{IsOpenAs, goes_on}
+use Rattle.end_cases.specs.AttemptEnds.Ahead.{HasLinkAhead}
+use Rattle.end_cases.specs.AttemptEnds.Ends.{EndNext, HasEnded, ended_in}
+use Rattle.end_cases.specs.AttemptEnds.Laws.{HasReset, OneAttemptEnds, ResetsNext, all_sealed}
+use Rattle.event_cases.specs.PassedAtOnce.Passed.{HasStream, IsPassedStill}
 use Rattle.channel_core.specs.States.{StateSeen}
 use Rattle.channel_core.specs.declared.state.links.LinkSlot.{LinkSlot}
 use Rattle.frame_cases.proofs.BrokenLinks.Waits.{never_waits}

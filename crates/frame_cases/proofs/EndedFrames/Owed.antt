@@ -5,8 +5,8 @@ use Rattle.std.specs.Option.{option_map_or}
 use Rattle.std.specs.Prelude.{unwrap_or}
 use Rattle.attempt_ledger.specs.declared.row.Placed.{Placed}
 use Rattle.attempt_ledger.specs.declared.row.RowEnd.{RowEnd}
-use Rattle.channel_actions.proofs.EndsFollow.Codes.{code_for, code_in, ended_code, entry_by}
-use Rattle.channel_cases.specs.AttemptEnds.Ahead.{is_owed_on, owed_reset, resets_owed}
+use Rattle.call_cases.proofs.EndsFollow.Codes.{code_for, code_in, ended_code, entry_by}
+use Rattle.end_cases.specs.AttemptEnds.Ahead.{is_owed_on, owed_reset, resets_owed}
 use Rattle.link_actions.proofs.Ended.{is_ended}
 use Rattle.link_actions.proofs.ResponseActions.Counted.{codes_stay}
 use Rattle.link_actions.specs.Sees.{ArePlaced, by_stream}

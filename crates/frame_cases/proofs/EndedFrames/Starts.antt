@@ -13,7 +13,7 @@ use Rattle.call_actions.specs.Laws.{news_of}
 use Rattle.call_actions.specs.TakeActions.Serves.{IsLeft, came}
 use Rattle.call_core.specs.Laws as call_laws
 use Rattle.call_core.specs.Steps.{is_committed_live}
-use Rattle.channel_actions.proofs.EndsFollow.Steps.{placed_of}
+use Rattle.call_cases.proofs.EndsFollow.Steps.{placed_of}
 use Rattle.channel_actions.proofs.GoingCalls.Arms.{kept_same}
 use Rattle.channel_actions.proofs.GoingCalls.Slots.{all_numbered as go_numbered}
 use Rattle.channel_actions.proofs.Gone.{all_numbered, gone_by, sub_noted}
@@ -31,14 +31,14 @@ use Rattle.channel_actions.specs.KeptSessions.Kept.{IsKept}
 use Rattle.channel_actions.specs.LinkFrames.Alike.{CannotTell}
 use Rattle.channel_actions.specs.LinkFrames.Bears.{bears_on, is_placed_on}
 use Rattle.channel_actions.specs.Links.{HasLink, IsGoing, SeesLinkOf, lines_in}
-use Rattle.channel_cases.proofs.AttemptEnds.Gone.{going_gone}
-use Rattle.channel_cases.proofs.CallPosts.Asked.{deadline_right, due_right}
-use Rattle.channel_cases.proofs.DrainEvents.Links.{own_lines, read_so, read_then}
-use Rattle.channel_cases.proofs.DrainEvents.Rooms.{length_changed}
-use Rattle.channel_cases.proofs.LostLinks.Ends.{before_end, lives_by, none_waits}
-use Rattle.channel_cases.specs.AttemptEnds.Ahead.{AgreesOffLinks, HasLinkAhead, IsAhead, LinksAhead, resets_owed}
-use Rattle.channel_cases.specs.AttemptEnds.Ends.{AreHeld, EndNext, IsHeld, gone_with, is_of_ends}
-use Rattle.channel_cases.specs.AttemptEnds.Runs.{RunsRise}
+use Rattle.end_cases.proofs.AttemptEnds.Gone.{going_gone}
+use Rattle.call_cases.proofs.CallPosts.Asked.{deadline_right, due_right}
+use Rattle.attempt_cases.proofs.DrainEvents.Links.{own_lines, read_so, read_then}
+use Rattle.attempt_cases.proofs.DrainEvents.Rooms.{length_changed}
+use Rattle.event_cases.proofs.LostLinks.Ends.{before_end, lives_by, none_waits}
+use Rattle.end_cases.specs.AttemptEnds.Ahead.{AgreesOffLinks, HasLinkAhead, IsAhead, LinksAhead, resets_owed}
+use Rattle.end_cases.specs.AttemptEnds.Ends.{AreHeld, EndNext, IsHeld, gone_with, is_of_ends}
+use Rattle.end_cases.specs.AttemptEnds.Runs.{RunsRise}
 use Rattle.channel_core.proofs.BookLaws.{number_changed, number_other}
 use Rattle.channel_core.proofs.Resting.{changed_length}
 use Rattle.channel_core.specs.Arrivals.{frame_heard, heard_all}

@@ -7,8 +7,8 @@ use Rattle.attempt_ledger.specs.declared.row.Placed.{Placed}
 use Rattle.attempt_ledger.specs.declared.row.Row.{Row}
 use Rattle.attempt_ledger.specs.declared.row.RowEnd.{RowEnd}
 use Rattle.call_core.specs.Steps.{is_committed_live}
-use Rattle.channel_cases.specs.AttemptEnds.Ends.{ended_in, gone_with, taken_off}
-use Rattle.channel_cases.specs.AttemptEnds.Laws.{all_sealed}
+use Rattle.end_cases.specs.AttemptEnds.Ends.{ended_in, gone_with, taken_off}
+use Rattle.end_cases.specs.AttemptEnds.Laws.{all_sealed}
 use Rattle.channel_core.specs.Arrivals.{all_ended_on, ended_on, frame_heard, heard, heard_all, read_to}
 use Rattle.channel_core.specs.Books.{deadline_of, due_at, has_ended, row_at, slot_at}
 use Rattle.channel_core.specs.States.{StateSeen}

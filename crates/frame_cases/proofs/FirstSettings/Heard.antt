@@ -9,17 +9,17 @@ use Rattle.channel_actions.proofs.BoardActions.Boards.{one_boarded}
 use Rattle.channel_actions.proofs.Gone.{all_numbered}
 use Rattle.channel_actions.proofs.KeptSessions.Along.{kept_along}
 use Rattle.channel_actions.proofs.LinkFrames.Frame.{links_stay}
-use Rattle.channel_actions.proofs.OtherCalls.Sets.{sets_stay}
-use Rattle.channel_actions.proofs.OtherCalls.Slots.{all_calls_stay}
+use Rattle.call_cases.proofs.OtherCalls.Sets.{sets_stay}
+use Rattle.call_cases.proofs.OtherCalls.Slots.{all_calls_stay}
 use Rattle.channel_actions.proofs.Stamps.{numbered_map}
 use Rattle.channel_actions.specs.Agrees.{Agrees}
 use Rattle.channel_actions.specs.BoardActions.Boards.{IsBoarded}
 use Rattle.channel_actions.specs.Columns.{links_noted}
-use Rattle.channel_cases.proofs.DialEvents.Nets.{one_call_more}
-use Rattle.channel_cases.proofs.NetSteps.Alike.{untold_links_agree}
-use Rattle.channel_cases.proofs.NetSteps.Clocks.{clock_goes_on, entry_goes_on}
-use Rattle.channel_cases.proofs.NetSteps.Stepped.{net_steps_keep}
-use Rattle.channel_cases.proofs.NetSteps.Subbed.{current_stays, noted_same, subbed_generations, subbed_links, subbed_shut, subbed_subs}
+use Rattle.attempt_cases.proofs.DialEvents.Nets.{one_call_more}
+use Rattle.attempt_cases.proofs.NetSteps.Alike.{untold_links_agree}
+use Rattle.attempt_cases.proofs.NetSteps.Clocks.{clock_goes_on, entry_goes_on}
+use Rattle.attempt_cases.proofs.NetSteps.Stepped.{net_steps_keep}
+use Rattle.attempt_cases.proofs.NetSteps.Subbed.{current_stays, noted_same, subbed_generations, subbed_links, subbed_shut, subbed_subs}
 use Rattle.channel_actions.specs.GreetedLinks.Greeted.{AreGreeted, has_greeted, is_greeted, is_ready_greeted}
 use Rattle.channel_core.specs.Arrivals.{frame_heard, heard, read_to}
 use Rattle.channel_core.specs.States.{StateSeen}
@@ -42,7 +42,7 @@ use Rattle.frame_cases.specs.PassedBytes.Laws.{relinked}
 use Rattle.frame_cases.specs.PieceWalks.Points.{HasHeard, IsHearing, coming}
 use Rattle.frame_cases.specs.QuietFrames.Laws.{HasNothingNew, IsReadStill}
 use Rattle.channel_actions.specs.Links.{lines_in}
-use Rattle.channel_cases.proofs.DrainEvents.Links.{read_so}
+use Rattle.attempt_cases.proofs.DrainEvents.Links.{read_so}
 use Rattle.grpc_base.specs.declared.event.Conn.{Conn}
 use Rattle.grpc_base.specs.declared.event.Conn.TheVariants as conn
 use Rattle.h2_frame.specs.Numbers.{goaway_type}

@@ -13,7 +13,7 @@ use Rattle.frame_cases.proofs.QuietFrames.Responses as responses
 use Rattle.frame_cases.specs.FrameKinds.Laws.{Ends, FrameKind, Greets, Heads, Large, Messages, Quiet, is_end, is_head, is_large, is_message, is_ready, kind_of}
 use Rattle.frame_cases.specs.PieceWalks.Points.{IsHearing}
 use Rattle.channel_actions.specs.Links.{lines_in}
-use Rattle.channel_cases.proofs.DrainEvents.Links.{read_so}
+use Rattle.attempt_cases.proofs.DrainEvents.Links.{read_so}
 use Rattle.grpc_base.specs.declared.fields.Field.{Field}
 use Rattle.grpc_link.specs.Response.{end_gained, head_gained, message_news}
 use Rattle.grpc_link.specs.Links.{Told as Reported}

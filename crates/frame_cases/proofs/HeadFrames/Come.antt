@@ -6,8 +6,8 @@ use Rattle.attempt_ledger.specs.declared.news.News.TheVariants as news
 use Rattle.channel_actions.specs.Calls.{HasSlot}
 use Rattle.channel_actions.specs.GoingCalls.Going.{CallsGoOn}
 use Rattle.channel_actions.specs.Links.{lines_in}
-use Rattle.channel_cases.proofs.DrainEvents.Links.{read_so}
-use Rattle.channel_cases.proofs.FullSends.Bare.{no_items}
+use Rattle.attempt_cases.proofs.DrainEvents.Links.{read_so}
+use Rattle.call_cases.proofs.FullSends.Bare.{no_items}
 use Rattle.channel_core.specs.States.{StateSeen}
 use Rattle.channel_core.specs.Tables.{Heard, heard_in}
 use Rattle.channel_core.specs.declared.state.links.LinkSlot.{LinkSlot}

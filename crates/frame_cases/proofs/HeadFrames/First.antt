@@ -12,19 +12,19 @@ use Rattle.call_core.specs.Laws as call_laws
 use Rattle.call_core.specs.Parts.{find_live}
 use Rattle.call_core.specs.Steps.{Stepped}
 use Rattle.call_core.specs.declared.inbox.Inbox.{Inbox}
-use Rattle.channel_actions.proofs.EndsFollow.Apart.{last_passes}
+use Rattle.call_cases.proofs.EndsFollow.Apart.{last_passes}
 use Rattle.channel_actions.proofs.Stamps.{numbered_map}
 use Rattle.channel_actions.specs.Agrees.{Agrees}
 use Rattle.channel_actions.specs.Calls.{HasSlot}
 use Rattle.channel_actions.specs.Calm.{IsAt}
-use Rattle.channel_actions.specs.EndsFollow.Laws.{is_late}
+use Rattle.call_cases.specs.EndsFollow.Laws.{is_late}
 use Rattle.channel_actions.specs.Links.{HasLink, lines_in}
-use Rattle.channel_cases.proofs.CallCommits.Calm.{committed_still}
-use Rattle.channel_cases.proofs.CallCommits.Whole.{one_call_commits}
-use Rattle.channel_cases.proofs.CommitsFollow.Begun.{IsToCommit}
-use Rattle.channel_cases.proofs.DrainEvents.Rooms.{one_some}
-use Rattle.channel_cases.proofs.FullSends.Chosen.{can_commit}
-use Rattle.channel_cases.specs.CallCommits.Commits.{CommitsNext, HasCommitted, commits_with, committed_state, unowed}
+use Rattle.attempt_cases.proofs.CallCommits.Calm.{committed_still}
+use Rattle.attempt_cases.proofs.CallCommits.Whole.{one_call_commits}
+use Rattle.call_cases.proofs.CommitsFollow.Begun.{IsToCommit}
+use Rattle.attempt_cases.proofs.DrainEvents.Rooms.{one_some}
+use Rattle.call_cases.proofs.FullSends.Chosen.{can_commit}
+use Rattle.attempt_cases.specs.CallCommits.Commits.{CommitsNext, HasCommitted, commits_with, committed_state, unowed}
 use Rattle.channel_core.proofs.BookLaws.{number_changed}
 use Rattle.channel_core.specs.Arrivals.{frame_heard}
 use Rattle.channel_core.specs.States.{StateSeen}

@@ -12,8 +12,8 @@ use Rattle.call_core.specs.declared.state.CallState.{CallState}
 use Rattle.channel_actions.specs.Agrees.{Agrees}
 use Rattle.channel_actions.specs.Calls.{HasSlot, SeesCall}
 use Rattle.channel_actions.specs.Calm.{IsAt}
-use Rattle.channel_cases.proofs.CallPosts.Agreeing.{IsPut}
-use Rattle.channel_cases.proofs.CallPosts.Asked.{deadline_right, due_right}
+use Rattle.call_cases.proofs.CallPosts.Agreeing.{IsPut}
+use Rattle.call_cases.proofs.CallPosts.Asked.{deadline_right, due_right}
 use Rattle.channel_core.specs.Arrivals.{frame_heard}
 use Rattle.channel_core.specs.Books.{slot_at}
 use Rattle.channel_core.specs.States.{StateSeen}

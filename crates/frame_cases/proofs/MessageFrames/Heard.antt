@@ -10,9 +10,9 @@ use Rattle.channel_actions.specs.Agrees.{Agrees}
 use Rattle.channel_actions.specs.Calls.{HasSlot, SeesCall}
 use Rattle.channel_actions.specs.Calm.{IsAt}
 use Rattle.channel_actions.specs.Links.{lines_in}
-use Rattle.channel_cases.proofs.CallPosts.Asked.{deadline_right, due_right}
-use Rattle.channel_cases.proofs.DrainEvents.Links.{read_so}
-use Rattle.channel_cases.proofs.FullSends.Bare.{no_items}
+use Rattle.call_cases.proofs.CallPosts.Asked.{deadline_right, due_right}
+use Rattle.attempt_cases.proofs.DrainEvents.Links.{read_so}
+use Rattle.call_cases.proofs.FullSends.Bare.{no_items}
 use Rattle.channel_core.specs.Arrivals.{frame_heard, heard_all}
 use Rattle.channel_core.specs.Books.{slot_at}
 use Rattle.channel_core.specs.States.{StateSeen}

@@ -7,7 +7,7 @@ use Rattle.attempt_ledger.specs.declared.row.RowEnd.{RowEnd}
 use Rattle.call_actions.specs.TakeActions.Serves.{came}
 use Rattle.call_core.specs.Parts.{find_live}
 use Rattle.call_core.specs.Steps.{is_committed_live}
-use Rattle.channel_actions.proofs.EndsFollow.Apart.{last_passes}
+use Rattle.call_cases.proofs.EndsFollow.Apart.{last_passes}
 use Rattle.channel_actions.proofs.Stamps.{counted_at, numbered_map}
 use Rattle.channel_actions.specs.Calls.{HasSlot}
 use Rattle.channel_actions.specs.GoingCalls.Going.{CallsGoOn}

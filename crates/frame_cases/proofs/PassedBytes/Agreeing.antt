@@ -28,8 +28,8 @@ use Rattle.channel_actions.specs.LinkFrames.Alike.{CannotTell, Numbers}
 use Rattle.channel_actions.specs.Links.{HasLink, SeesLinks}
 use Rattle.channel_actions.specs.Columns.{links_noted}
 use Rattle.channel_actions.specs.Sets.{SeesSets}
-use Rattle.channel_cases.proofs.StreamedCalls.Calls.{dues_stay, orders_stay, turns_stay}
-use Rattle.channel_cases.specs.AttemptEnds.Ahead.{AgreesOffLinks}
+use Rattle.event_cases.proofs.StreamedCalls.Calls.{dues_stay, orders_stay, turns_stay}
+use Rattle.end_cases.specs.AttemptEnds.Ahead.{AgreesOffLinks}
 use Rattle.channel_core.specs.Books.{slot_at}
 use Rattle.channel_core.specs.States.{StateSeen}
 use Rattle.channel_core.specs.Tables.{numbered as slot_numbered}

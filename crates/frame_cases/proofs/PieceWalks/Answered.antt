@@ -7,7 +7,7 @@ use Rattle.channel_actions.specs.Agrees.{Agrees}
 use Rattle.channel_actions.specs.Calm.{IsAt}
 use Rattle.channel_actions.specs.Links.{HasLink, IsGoing}
 use Rattle.channel_actions.specs.Stages.{IsAnswered}
-use Rattle.channel_cases.proofs.DrainEvents.Rooms.{one_some}
+use Rattle.attempt_cases.proofs.DrainEvents.Rooms.{one_some}
 use Rattle.channel_core.specs.Applying as channel
 use Rattle.channel_core.specs.Applying.{AnswersBy}
 use Rattle.channel_core.specs.Arrivals.{piece_arrived}

@@ -22,7 +22,7 @@ use Rattle.channel_actions.specs.Columns.{links_noted}
 use Rattle.channel_actions.specs.KeptSessions.Kept.{IsKept}
 use Rattle.channel_actions.specs.LinkFrames.Alike.{CannotTell, Numbers}
 use Rattle.channel_actions.specs.Links.{HasLink, IsGoing, lines_in}
-use Rattle.channel_cases.proofs.DrainEvents.Rooms.{length_changed, one_some}
+use Rattle.attempt_cases.proofs.DrainEvents.Rooms.{length_changed, one_some}
 use Rattle.channel_core.proofs.BookLaws.{number_changed, number_other}
 use Rattle.channel_core.proofs.Resting.{changed_length}
 use Rattle.channel_core.specs.Applying as channel

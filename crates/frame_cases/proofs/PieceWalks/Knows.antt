@@ -31,7 +31,7 @@ use Rattle.grpc_base.specs.declared.event.Event.TheVariants as event
 use Rattle.grpc_base.specs.declared.event.Reply.TheVariants as reply
 use Rattle.h2_link.specs.Heard.{front_of}
 use Rattle.h2_link.specs.Wire.{Told, Wire}
-use Rattle.channel_cases.proofs.DrainEvents.Rooms.{one_some}
+use Rattle.attempt_cases.proofs.DrainEvents.Rooms.{one_some}
 use Rattle.link_actions.proofs.Reading.{reads_are_same}
 use Rattle.link_actions.specs.Laws.{IsSameRead}
 use Rattle.session_actions.specs.Laws.{posted_in}

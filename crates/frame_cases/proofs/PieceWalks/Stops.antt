@@ -5,7 +5,7 @@ use Rattle.std.proofs.lemmas.List.{append-nil}
 use Rattle.channel_actions.proofs.LinkFrames.Tellings.{untold}
 use Rattle.channel_actions.specs.Agrees.{Agrees}
 use Rattle.channel_actions.specs.Links.{HasLink, IsGoing, SeesLinkOf}
-use Rattle.channel_cases.proofs.DrainEvents.Rooms.{one_some}
+use Rattle.attempt_cases.proofs.DrainEvents.Rooms.{one_some}
 use Rattle.channel_core.proofs.Resting.{changed_length}
 use Rattle.channel_core.specs.Arrivals.{frame_heard}
 use Rattle.channel_core.specs.States.{StateSeen}

@@ -5,11 +5,11 @@ use Rattle.std.proofs.lemmas.List.{length-drop}
 use Rattle.std.specs.Option.{option_map_or, option_or}
 use Rattle.std.specs.Prelude.{option_and_then}
 use Rattle.channel_actions.proofs.KeptCalls.Fresh.{ends_later}
-use Rattle.channel_cases.proofs.DrainEvents.Rooms.{one_some}
-use Rattle.channel_cases.proofs.PassedAtOnce.Acts.{Staged, actions_leave_passed, staged}
-use Rattle.channel_cases.proofs.PassedAtOnce.Along.{IsOpenAs, begins_as, first_none, follows, goes_on, not_both, once_open, only_begins, passed_along, settling_stays}
-use Rattle.channel_cases.proofs.PassedAtOnce.Lines.{AllowsIf, at_once_replies, at_once_settles, calls_allowed, is_of_reply, links_allowed, policies_allowed}
-use Rattle.channel_cases.specs.PassedAtOnce.Passed.{IsPassedStill, is_at_once, unqueued}
+use Rattle.attempt_cases.proofs.DrainEvents.Rooms.{one_some}
+use Rattle.event_cases.proofs.PassedAtOnce.Acts.{Staged, actions_leave_passed, staged}
+use Rattle.event_cases.proofs.PassedAtOnce.Along.{IsOpenAs, begins_as, first_none, follows, goes_on, not_both, once_open, only_begins, passed_along, settling_stays}
+use Rattle.event_cases.proofs.PassedAtOnce.Lines.{AllowsIf, at_once_replies, at_once_settles, calls_allowed, is_of_reply, links_allowed, policies_allowed}
+use Rattle.event_cases.specs.PassedAtOnce.Passed.{IsPassedStill, is_at_once, unqueued}
 use Rattle.frame_cases.proofs.BrokenLinks.Deaf.{still_there}
 use Rattle.frame_cases.proofs.QuietFrames.Read.{IsReading, reads_so, shows_frame}
 use Rattle.grpc_base.specs.declared.event.Event.{Event}

@@ -8,7 +8,7 @@ use Rattle.channel_actions.specs.Calm.{IsAt}
 use Rattle.channel_actions.specs.Known.{IsKnown}
 use Rattle.channel_actions.specs.Links.{HasLink, IsGoing, SeesLinkOf}
 use Rattle.channel_actions.specs.Points.{IsSameEntry}
-use Rattle.channel_cases.proofs.DrainEvents.Rooms.{one_some}
+use Rattle.attempt_cases.proofs.DrainEvents.Rooms.{one_some}
 use Rattle.channel_core.specs.Arrivals.{frame_heard, frames_after, frames_from}
 use Rattle.channel_core.specs.States.{StateSeen}
 use Rattle.channel_core.specs.Tables.{Heard, heard_by, heard_in}

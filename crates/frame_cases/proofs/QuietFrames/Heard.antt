@@ -5,7 +5,7 @@ use Rattle.channel_actions.proofs.KeptCalls.Fresh.{frames_are_fresh}
 use Rattle.channel_actions.specs.Agrees.{Agrees}
 use Rattle.channel_actions.specs.Calm.{IsAt}
 use Rattle.channel_actions.specs.Links.{lines_in}
-use Rattle.channel_cases.proofs.DrainEvents.Links.{read_so}
+use Rattle.attempt_cases.proofs.DrainEvents.Links.{read_so}
 use Rattle.channel_core.specs.Arrivals.{frame_heard}
 use Rattle.channel_core.specs.States.{StateSeen}
 use Rattle.channel_core.specs.Tables.{Heard, heard_in}

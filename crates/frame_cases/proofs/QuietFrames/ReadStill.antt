@@ -21,8 +21,8 @@ use Rattle.channel_actions.specs.KeptSessions.Kept.{IsKept}
 use Rattle.channel_actions.specs.LinkFrames.Alike.{CannotTell}
 use Rattle.channel_actions.specs.Links.{HasLink, IsGoing, SeesLinkOf, lines_in}
 use Rattle.call_actions.specs.TakeActions.Serves.{came}
-use Rattle.channel_cases.proofs.DrainEvents.Links.{own_lines, read_then}
-use Rattle.channel_cases.proofs.DrainEvents.Rooms.{length_changed, one_some}
+use Rattle.attempt_cases.proofs.DrainEvents.Links.{own_lines, read_then}
+use Rattle.attempt_cases.proofs.DrainEvents.Rooms.{length_changed, one_some}
 use Rattle.channel_core.proofs.BookLaws.{number_changed, number_other}
 use Rattle.channel_core.proofs.Resting.{changed_length}
 use Rattle.channel_core.specs.Arrivals.{frame_heard}

@@ -7,7 +7,7 @@ use Rattle.std.specs.List.{AllByRecursion, list_all, list_any}
 use Rattle.std.specs.Option.{option_map}
 use Rattle.attempt_ledger.specs.declared.news.News.{News}
 use Rattle.attempt_ledger.specs.declared.news.News.TheVariants as news
-use Rattle.channel_actions.proofs.LinkEnds.Cutting.{filter_all}
+use Rattle.call_cases.proofs.LinkEnds.Cutting.{filter_all}
 use Rattle.channel_actions.proofs.Lines.{all_sorted}
 use Rattle.frame_cases.specs.QuietFrames.Laws.{HasNothingNew, IsReadQuietly, IsReadStill, QuietFramesLeaveResponses}
 use Rattle.grpc_base.specs.declared.fields.Field.{Field}

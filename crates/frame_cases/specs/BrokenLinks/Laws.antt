@@ -5,7 +5,7 @@
 -- is on stream 1 of link 2. LinkBreaks 1; LinkDown of its subchannel; AttemptEnds 1, with UNAVAILABLE, which hedgingPolicy does not name: CallCommitted 1, AttemptEnds 2,
 -- cut, CallEnds 1. Then AttemptEnds 3, which was never sent, and its transparent retry is made; and then StreamReset 2.
 use Rattle.std.specs.Prelude.{length, ◌<◌, ◌≡◌, ℕ}
-use Rattle.channel_cases.specs.AttemptEnds.Laws.{OneAttemptEnds}
+use Rattle.end_cases.specs.AttemptEnds.Laws.{OneAttemptEnds}
 use Rattle.channel_core.specs.Tables.{Heard}
 use Rattle.frame_cases.specs.PieceWalks.Laws.{HeardOf}
 use Rattle.session_actions.specs.declared.action.Action.{Action}

@@ -3,7 +3,7 @@
 -- ends; and then the streams are reset that this brings.
 -- Example: trailers come on the stream of attempt 1 with grpc-status 14, which the retry policy of its call names; the client had ended the stream too. AttemptEnds 1, by
 -- Status, with UNAVAILABLE; the retry is due after its wait; no stream is reset.
-use Rattle.channel_cases.specs.AttemptEnds.Laws.{OneAttemptEnds}
+use Rattle.end_cases.specs.AttemptEnds.Laws.{OneAttemptEnds}
 use Rattle.frame_cases.specs.FrameKinds.Laws.{Ends, IsOfKind}
 use Rattle.frame_cases.specs.PieceWalks.Laws.{HeardOf}
 

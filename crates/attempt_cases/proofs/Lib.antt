@@ -1,0 +1,11 @@
+pub mod CallCommits
+pub mod DialEvents
+pub mod DrainEvents
+pub mod MakingSteps
+pub mod NetChains
+pub mod NetSettlings
+pub mod NetSteps
+pub mod PassActions
+pub mod RoundSteps
+pub mod ServeSteps
+pub mod SettlingKeeps

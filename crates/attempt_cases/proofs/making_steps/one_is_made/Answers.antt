@@ -1,0 +1,16 @@
+use Rattle.attempt_cases.proofs.MakingSteps.Step.{one_is_made}
+use Rattle.attempt_cases.proofs.making_steps.one_is_made.Goals as goal
+
+pub returns : goal.returns
+returns c =
+    one_is_made c.calm_is_exact.ensures.calm c.attempts_stir.ensures c.subchannel_steps_are_actions.ensures.clock c.subchannel_steps_are_actions.ensures.rest
+    c.policy_steps_are_actions.ensures.over c.subchannel_steps_are_actions.ensures.wish c.subchannel_steps_are_actions.ensures.no_wish
+    (record {
+      calls = c.calls_stay.ensures.all;
+      columns = c.others_are_same.ensures.columns;
+      sets = c.sets_stay.ensures;
+      links = c.links_stay.ensures.all;
+      untold = c.actions_are_untold.ensures.action;
+      net = c.nets_stay.ensures.one;
+      kept = c.sessions_are_kept.ensures.along;
+    }) c.attempts_get_rows.ensures c.calls_go_on_alike.ensures.due c.calls_go_on_alike.ensures.tested

@@ -1,0 +1,24 @@
+// What a step of the net leaves; nothing runs.
+ghost use Rattle.attempt_cases.specs.NetSteps.Laws.{LinksCannotTell, NetStepsKeep, UntoldLinksAgree};
+
+use channel_actions::kept_sessions::sessions_are_kept;
+use channel_actions::link_frames::links_stay;
+use call_cases::other_calls::{calls_stay, sets_stay};
+
+/// Of actions of subchannels and policies no link tells, but the one that comes up, or whose SETTINGS did not come in time ("gRPC Connectivity Semantics and
+/// API"; "Load Balancing in gRPC").
+pub fn links_cannot_tell()
+    ensures links { LinksCannotTell }
+    ensures untold { UntoldLinksAgree }
+{
+    links_stay();
+}
+
+/// A step of the net keeps channel and session in agreement, where both have the same subchannels, policies and links after it.
+pub fn net_steps_keep()
+    ensures { NetStepsKeep }
+{
+    calls_stay();
+    sets_stay();
+    sessions_are_kept();
+}

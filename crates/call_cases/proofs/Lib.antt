@@ -1,0 +1,17 @@
+pub mod BareEnds
+pub mod BeginActions
+pub mod CallEnds
+pub mod CallPosts
+pub mod CallSends
+pub mod CommitsFollow
+pub mod ConfigActions
+pub mod ConfiguredCalls
+pub mod EndsFollow
+pub mod FullSends
+pub mod LinkEnds
+pub mod LongSends
+pub mod OneCallEnds
+pub mod OtherCalls
+pub mod OverdueCalls
+pub mod SendsEnd
+pub mod SettlingActions

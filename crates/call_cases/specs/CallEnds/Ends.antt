@@ -1,0 +1,103 @@
+-- A call ends, for whatever cause, in the channel and in the session, from the point at which its end is next to the one at which nothing follows from it any
+-- more. In the session: CallEnds, then AttemptEnds of each outstanding attempt of it, then StreamReset by link and stream. The channel does it at once.
+-- Example: call 1, with attempts on stream 3 and stream 1 of link 1, is cancelled. CallEnds 1; AttemptEnds of both; StreamReset of stream 1, and of stream 3.
+use Rattle.std.specs.Prelude.{Bool, List, None, Some, [], false, filter, true, ◌∷◌, ◌≡◌, ℕ}
+use Rattle.channel_actions.specs.Agrees.{Agrees}
+use Rattle.channel_actions.specs.Clock.{SeesClock}
+use Rattle.channel_actions.specs.Configs.{SeesBuckets, SeesConfigs}
+use Rattle.channel_actions.specs.Links.{SeesLinks}
+use Rattle.channel_actions.specs.Sets.{AreExactly, is_in_bare, is_in_deadlines, is_in_dues, is_in_impatient}
+use Rattle.channel_core.specs.States.{StateSeen}
+use Rattle.channel_core.specs.Steps.{closed}
+use Rattle.grpc_base.specs.declared.event.EndCause.{EndCause}
+use Rattle.call_cases.specs.EndsFollow.Cuts.{AreUnreset}
+use Rattle.call_cases.specs.EndsFollow.Laws.{IsSameRest, is_late, is_out_of}
+use Rattle.channel_actions.specs.KeptSessions.Kept.{IsKept}
+use Rattle.call_cases.specs.LinkEnds.Laws.{with_cuts}
+use Rattle.net_actions.specs.Runs.{IsOfCalls}
+use Rattle.net_actions.specs.Sees.{Sees}
+use Rattle.call_cases.specs.OtherCalls.Others.{GoesApart}
+use Rattle.session_actions.specs.Actions.{following}
+use Rattle.session_actions.specs.CallEnds.{call_ended}
+use Rattle.session_actions.specs.Laws.{posted_in}
+use Rattle.session_actions.specs.Sessions.{Does}
+use Rattle.session_actions.specs.Words.{numbered}
+use Rattle.session_actions.specs.declared.action.Action.{Action}
+use Rattle.session_actions.specs.declared.action.Action.TheVariants as action
+use Rattle.session_actions.specs.declared.attempt.Attempt.{Attempt}
+use Rattle.session_actions.specs.declared.call.Call.{Call}
+use Rattle.session_actions.specs.declared.entry.OpenEntry.{OpenEntry}
+use Rattle.session_actions.specs.declared.seen.Seen.{Seen}
+use Rattle.session_order.specs.Calm.{IsStill}
+use Rattle.session_order.specs.Lines.{is_line}
+use Rattle.session_order.specs.declared.line.Line.{Line}
+use Rattle.session_order.specs.declared.line.Line.TheVariants as line
+
+-- the end of the call of a number is next; and once it has ended, nothing follows at once but that its attempts are cut off, and what these lines give
+pub record EndsNext (waits : Line → Bool) (number : ℕ) (why : EndCause) (x : StateSeen) (o : OpenEntry) (s : Seen) : Type 0 where
+  pub late : (l : Line) → waits l ≡ true → is_late l ≡ true
+  pub current : s.current ≡ Some o
+  pub agrees : Agrees x s
+  pub unreset : AreUnreset s
+  pub call : Call
+  pub there : numbered s.calls number ≡ Some call
+  pub going : call.end ≡ None
+  pub next : following s ≡ Some (action.CallEnds number why)
+  pub uncut : IsStill line.Cut o s
+  pub unfollowed : IsStill line.Transparent o s
+  pub still : (l : Line) → is_line l line.Cut ≡ false → waits l ≡ false → IsStill l o (call_ended number why s)
+
+-- what is so of all but the books, once nothing follows from it any more: each of the actions was next; all attempts of the call that were outstanding were cut
+-- off; the links, as the channel then has them, agree; and so does the net
+pub record EndsOn (waits : Line → Bool) (number : ℕ) (why : EndCause) (x : StateSeen) (o : OpenEntry) (s : Seen) : Type 0 where
+  pub cuts : List Attempt
+  pub all : cuts ≡ filter (is_out_of number) s.attempts
+  pub actions : List Action
+  pub seen : Seen
+  pub does : Does (action.CallEnds number why ∷ actions) s seen
+  pub posts : posted_in actions ≡ []
+  pub current : seen.current ≡ Some o
+  pub still : (l : Line) → waits l ≡ false → IsStill l o seen
+  pub rest : IsSameRest s seen
+  pub kept : IsKept seen
+  pub unreset : AreUnreset seen
+  pub links : SeesLinks (with_cuts cuts x) seen
+  pub net : Sees seen x.net
+
+-- the moments for which calls wait, and the calls without a config
+pub record TimersAgree (y : StateSeen) (s : Seen) : Type 0 where
+  pub dues : AreExactly y.dues (is_in_dues s)
+  pub deadlines : AreExactly y.deadlines (is_in_deadlines s)
+  pub bare : AreExactly y.bare (is_in_bare s)
+  pub impatient : AreExactly y.impatient (is_in_impatient s)
+
+-- what agrees then: all but the columns of the ledger, the slots of calls, and the sets of rows; and what happened was of this call alone, so that all that is of another one
+-- is as before (`other_calls`)
+pub record AgreesApart (y : StateSeen) (s : Seen) : Type 0 where
+  pub clock : SeesClock y s
+  pub configs : SeesConfigs y s
+  pub buckets : SeesBuckets y.book.buckets s
+  pub links : SeesLinks y s
+  pub net : Sees s y.net
+  pub orderly : IsOfCalls y.net
+  pub timers : TimersAgree y s
+  pub resets : y.resets ≡ []
+  pub kept : IsKept s
+
+pub record EndsApart (waits : Line → Bool) (number : ℕ) (why : EndCause) (x : StateSeen) (o : OpenEntry) (s : Seen) : Type 0 where
+  pub on : EndsOn waits number why x o s
+  pub apart : GoesApart number s on.seen
+  pub agrees : AgreesApart (closed why number x) on.seen
+
+-- the session after it: in the same entry, at the same stage, with nothing that follows at once but what these lines give
+pub record HasEnded (waits : Line → Bool) (number : ℕ) (why : EndCause) (x : StateSeen) (o : OpenEntry) (s : Seen) : Type 0 where
+  pub actions : List Action
+  pub seen : Seen
+  pub does : Does (action.CallEnds number why ∷ actions) s seen
+  pub posts : posted_in actions ≡ []
+  pub entries : seen.entries ≡ s.entries
+  pub setup : seen.setup ≡ s.setup
+  pub current : seen.current ≡ Some o
+  pub still : (l : Line) → waits l ≡ false → IsStill l o seen
+  pub unreset : AreUnreset seen
+  pub agrees : Agrees (closed why number x) seen

@@ -1,0 +1,16 @@
+pub mod BareEnds
+pub mod BeginActions
+pub mod CallEnds
+pub mod CallPosts
+pub mod CallSends
+pub mod CommitsFollow
+pub mod ConfigActions
+pub mod ConfiguredCalls
+pub mod EndedCalls
+pub mod EndsFollow
+pub mod FullSends
+pub mod LinkEnds
+pub mod LongSends
+pub mod OtherCalls
+pub mod SendsEnd
+pub mod SettlingActions

@@ -1,5 +1,0 @@
-use Rattle.channel_actions.proofs.OtherCalls.Buckets.{buckets_are_of_runs}
-use Rattle.channel_actions.proofs.other_calls.buckets_are_of_runs.Goals as goal
-
-pub returns : goal.returns
-returns c = buckets_are_of_runs

@@ -1,5 +1,0 @@
-use Rattle.channel_cases.proofs.CutEnds.Whole.{last_ends_cut_off}
-use Rattle.channel_cases.proofs.attempt_ends.last_ends_cut_off.Goals as goal
-
-pub returns : goal.returns
-returns c = last_ends_cut_off

@@ -1,5 +1,0 @@
-use Rattle.channel_cases.proofs.CallEnds.Cancels.{cancels_stand}
-use Rattle.channel_cases.proofs.call_ends.cancels_stand.Goals as goal
-
-pub returns : goal.returns
-returns c = cancels_stand

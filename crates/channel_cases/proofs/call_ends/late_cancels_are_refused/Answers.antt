@@ -1,5 +1,0 @@
-use Rattle.channel_cases.proofs.CallEnds.Late.{late_cancels}
-use Rattle.channel_cases.proofs.call_ends.late_cancels_are_refused.Goals as goal
-
-pub returns : goal.returns
-returns c = late_cancels

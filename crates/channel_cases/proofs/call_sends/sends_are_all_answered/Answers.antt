@@ -1,5 +1,0 @@
-use Rattle.channel_cases.proofs.CallSends.All.{sends_are_all_answered}
-use Rattle.channel_cases.proofs.call_sends.sends_are_all_answered.Goals as goal
-
-pub returns : goal.returns
-returns c = sends_are_all_answered

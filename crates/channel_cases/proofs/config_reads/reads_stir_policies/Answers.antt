@@ -1,5 +1,0 @@
-use Rattle.channel_cases.proofs.ConfigReads.Stirred.{reads_stir_policies}
-use Rattle.channel_cases.proofs.config_reads.reads_stir_policies.Goals as goal
-
-pub returns : goal.returns
-returns c = reads_stir_policies

@@ -1,5 +1,0 @@
-use Rattle.channel_cases.proofs.DrainEvents.Drains as drains
-use Rattle.channel_cases.proofs.drain_events.drains_are_answered.Goals as goal
-
-pub returns : goal.returns
-returns c = drains.drains_are_answered

@@ -1,5 +1,0 @@
-use Rattle.channel_cases.proofs.FullSends.Leading.{full_sends_lead}
-use Rattle.channel_cases.proofs.full_sends.full_sends_lead.Goals as goal
-
-pub returns : goal.returns
-returns c = full_sends_lead

@@ -1,5 +1,0 @@
-use Rattle.channel_cases.proofs.HeldCalls.Drains.{known_drains_are_answered}
-use Rattle.channel_cases.proofs.held_calls.known_drains_are_answered.Goals as goal
-
-pub returns : goal.returns
-returns c = known_drains_are_answered

@@ -1,5 +1,0 @@
-use Rattle.channel_cases.proofs.KnownStages.Picks.{picks_are_there}
-use Rattle.channel_cases.proofs.known_stages.picks_are_there.Goals as goal
-
-pub returns : goal.returns
-returns c = picks_are_there

@@ -1,5 +1,0 @@
-use Rattle.channel_cases.proofs.LastHedges.Whole.{last_is_withheld}
-use Rattle.channel_cases.proofs.last_hedges.last_is_withheld.Goals as goal
-
-pub returns : goal.returns
-returns c = last_is_withheld

@@ -1,5 +1,0 @@
-use Rattle.channel_cases.proofs.LongSends.Joined.{long_sends_are_answered}
-use Rattle.channel_cases.proofs.long_sends.long_sends_are_answered.Goals as goal
-
-pub returns : goal.returns
-returns c = long_sends_are_answered

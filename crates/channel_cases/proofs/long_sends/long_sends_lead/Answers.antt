@@ -1,5 +1,0 @@
-use Rattle.channel_cases.proofs.LongSends.Leading.{long_sends_lead}
-use Rattle.channel_cases.proofs.long_sends.long_sends_lead.Goals as goal
-
-pub returns : goal.returns
-returns c = long_sends_lead

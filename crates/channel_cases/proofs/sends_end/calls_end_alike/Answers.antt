@@ -1,5 +1,0 @@
-use Rattle.channel_cases.proofs.SendsEnd.Alike.{calls_end_alike}
-use Rattle.channel_cases.proofs.sends_end.calls_end_alike.Goals as goal
-
-pub returns : goal.returns
-returns c = calls_end_alike

@@ -1,5 +1,0 @@
-use Rattle.channel_cases.proofs.ServeSteps.Answering.{answers_are_next}
-use Rattle.channel_cases.proofs.serve_steps.answers_are_next.Goals as goal
-
-pub returns : goal.returns
-returns c = answers_are_next c.calm_is_exact.ensures.first

@@ -1,5 +1,0 @@
-use Rattle.channel_cases.proofs.ServeSteps.Standing.{asks_stand}
-use Rattle.channel_cases.proofs.serve_steps.asks_stand.Goals as goal
-
-pub returns : goal.returns
-returns c = asks_stand c.calm_is_exact.ensures.calm c.queues_stir.ensures

@@ -1,9 +1,0 @@
-use Rattle.channel_cases.proofs.WrittenResponses.Along.{writes_leave_items}
-use Rattle.channel_cases.proofs.WrittenResponses.Silent.{unheard_are_silent}
-use Rattle.channel_cases.proofs.written_responses.written_frames_leave_responses.Goals as goal
-
-pub returns-clause-silent : goal.returns-clause-silent
-returns-clause-silent c = unheard_are_silent
-
-pub returns-clause-items : goal.returns-clause-items
-returns-clause-items c = writes_leave_items

@@ -1,8 +1,0 @@
-// How far ahead deadlines are; nothing runs.
-ghost use Rattle.channel_cases.specs.NearDeadlines.Laws.{DeadlinesAreNear, KnownDeadlinesAreNear};
-
-/// No deadline is further ahead than the longest duration (gRPC, "Core concepts": Deadlines/Timeouts).
-pub fn deadlines_are_near()
-    ensures posted { DeadlinesAreNear }
-    ensures known { KnownDeadlinesAreNear }
-{}

@@ -1,7 +1,0 @@
-// Calls that are to end; nothing runs.
-ghost use Rattle.channel_cases.specs.SendsEnd.Laws.{CallsThatAreToEnd};
-
-/// A call whose end is next ends alike in channel and session (gRPC, "Core concepts": RPC life cycle).
-pub fn calls_end_alike()
-    ensures { CallsThatAreToEnd }
-{}

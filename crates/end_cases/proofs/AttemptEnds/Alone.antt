@@ -1,0 +1,97 @@
+-- An attempt ends, and its call by it, where no other attempt of the call goes on: the channel does to the attempt alone what it does.
+use Rattle.std.proofs.Common.{◌≡◌, ◌&&◌, ◌==◌, ◌∷◌, not, ap, refl, ◌∙◌, Bool, false, List, [], ℕ}
+use Rattle.std.specs.List.{list_any}
+use Rattle.call_actions.specs.Laws.{IsCounting}
+use Rattle.call_actions.specs.Sees.{is_live}
+use Rattle.call_core.specs.Steps.{Stepped}
+use Rattle.call_core.specs.declared.act.CallAct.TheVariants as act_of
+use Rattle.channel_actions.proofs.SetFrames.Pairs.{exactly_by}
+use Rattle.channel_actions.specs.Columns.{links_noted}
+use Rattle.channel_actions.specs.Sets.{AreExactly, is_in_outstanding}
+use Rattle.end_cases.proofs.AttemptEnds.After.{in_out}
+use Rattle.end_cases.proofs.AttemptEnds.AheadStays.{calls_end_ahead}
+use Rattle.end_cases.proofs.AttemptEnds.Base.{c, call_is, news, out_off, queue_off, row_is, slot_there, z}
+use Rattle.end_cases.proofs.AttemptEnds.ClosedLines as lines
+use Rattle.end_cases.proofs.AttemptEnds.ClosedSets.{patient_then, queue_then}
+use Rattle.end_cases.proofs.AttemptEnds.Closing as closing
+use Rattle.end_cases.proofs.AttemptEnds.Closing.{Between, Follows, Goes, Made, Parts, Steps}
+use Rattle.end_cases.proofs.AttemptEnds.Noted.{noted_then}
+use Rattle.end_cases.proofs.AttemptEnds.OffSets.{out_left}
+use Rattle.end_cases.proofs.AttemptEnds.ToldEnd.{closed_form, told_end}
+use Rattle.end_cases.specs.AttemptEnds.Ahead.{HasLinkAhead, LinksAhead}
+use Rattle.end_cases.specs.AttemptEnds.Ends.{EndNext, HasEnded}
+use Rattle.channel_core.specs.States.{StateSeen}
+use Rattle.channel_core.specs.declared.state.slots.CallSlot.{CallSlot}
+use Rattle.grpc_base.specs.declared.event.EndCause.TheVariants as ending_cause
+use Rattle.session_actions.specs.declared.attempt.Attempt.{Attempt}
+use Rattle.session_actions.specs.declared.entry.OpenEntry.{OpenEntry}
+use Rattle.session_actions.specs.declared.response.Outcome.{Outcome}
+use Rattle.session_actions.specs.declared.seen.Seen.{Seen}
+use Rattle.session_order.specs.declared.line.Line.{Line}
+
+module _ (waits : Line → Bool) (also : List ℕ) (a : Attempt) (out : Outcome) (x : StateSeen) (o : OpenEntry) (s : Seen) (is : EndNext waits also a out x o s)
+    (counting : IsCounting s (c waits also a out x o s is) out) (none_else : list_any (λ (q : Attempt). is_live s (c waits also a out x o s is) q && not (q.place == a.place)) s.attempts ≡ false)
+    (b : Between waits also a out x o s is counting) (goes : Goes waits also a out x o s is counting b)
+    (same_out : (link row : ℕ) → is_in_outstanding (closing.mid waits also a out x o s is counting b) link row ≡ is_in_outstanding (closing.v waits also a out x o s is counting) link row)
+    (same_noted : links_noted (closing.mid waits also a out x o s is counting b) ≡ links_noted (closing.v waits also a out x o s is counting))
+    (ahead : LinksAhead also x (closing.mid waits also a out x o s is counting b))
+    (made : Made waits also a out x o s is counting) (steps : Steps waits also a out x o s is counting b made) (acts : made.acts ≡ act_of.End ending_cause.Row ∷ []) where
+  abbrev n : ℕ
+  n = closing.n waits also a out x o s is counting
+
+  abbrev mid : Seen
+  mid = closing.mid waits also a out x o s is counting b
+
+  abbrev then_ : Seen
+  then_ = closing.closed waits also a out x o s is counting b
+
+  abbrev stepped : Stepped
+  stepped = closing.stepped waits also a out x o s is counting made
+
+  abbrev was : CallSlot
+  was = closing.was waits also a out x o s is counting
+
+  abbrev parts : Parts waits also a out x o s is counting
+  parts = record {
+    links = x.links;
+    resets = x.resets;
+    outs = out_off a.place a.row.placed x.outstanding;
+    queue = queue_off a.row.call a.place a.row.placed x.queue;
+    patient = queue_off a.row.call a.place a.row.placed x.patient;
+    stamps = x.book.ledger.links;
+  }
+
+  abbrev y1 : StateSeen
+  y1 = closing.told_with waits also a out x o s is counting made parts
+
+  out_same : (link row : ℕ) → is_in_outstanding then_ link row ≡ (is_in_outstanding s link row && not (row == a.place))
+  out_same link row = same_out link row ∙ in_out waits also a out x o s is link row
+
+  ahead_then : LinksAhead also x then_
+  ahead_then = calls_end_ahead mid n ending_cause.Row also x ahead
+
+  outs_one : AreExactly parts.outs (is_in_outstanding then_)
+  outs_one = out_left waits also a out x o s is then_ out_same
+
+  follows : Follows waits also a out x o s is counting b made parts
+  follows = record {
+    told_is =
+        told_end a.place (news waits also a out x o s is) n (z waits also a out x o s is) was a.row (row_is waits also a out x o s is) (call_is waits also a out x o s is)
+        (slot_there waits also a out x o s is) ending_cause.Row (ap (λ (q : Stepped). q.acts) steps.step_is ∙ acts)
+        ∙ ap (λ (q : Stepped). closed_form a.place n q was (z waits also a out x o s is)) steps.step_is;
+    outs = outs_one;
+    queue = queue_then waits also a out x o s is counting b goes none_else (lines.others waits also a out x o s is counting b goes);
+    patient = patient_then waits also a out x o s is counting b goes none_else (lines.others waits also a out x o s is counting b goes);
+    noted = same_noted
+        ∙ noted_then waits also a out x o s is y1 refl refl refl refl
+        (exactly_by parts.outs (is_in_outstanding then_) (is_in_outstanding (closing.v waits also a out x o s is counting)) outs_one same_out)
+        (closing.kept_one waits also a out x o s is counting);
+    ahead = record {
+      count = ahead_then.count;
+      each = λ i l at. let h : HasLinkAhead x then_ l i = ahead_then.each i l at in record { slot = h.slot; there = h.there; sees = h.sees };
+      closing = λ i l at off. ahead_then.closing i l at off;
+    };
+  }
+
+  pub has_ended : HasEnded waits also a out x o s
+  has_ended = lines.has_ended waits also a out x o s is counting b goes made steps parts follows

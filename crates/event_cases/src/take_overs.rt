@@ -1,0 +1,25 @@
+// Take-overs and wishes of a settling; nothing runs.
+ghost use Rattle.event_cases.specs.TakeOvers.Laws.{NetsAreSettled};
+
+use attempt_cases::net_chains::chains_are_next;
+use channel_actions::kept_sessions::sessions_are_kept;
+use channel_actions::link_frames::links_stay;
+use call_cases::other_calls::{calls_stay, sets_stay};
+use net_actions::subchannel_steps_are_actions;
+use session_order::{boards_stir, calm_is_exact, policies_stir_apart};
+
+/// In a settling a pending policy takes over, where it may, and wished subchannels connect, until neither is left, alike in channel and session ("gRPC Connectivity
+/// Semantics and API"; "Load Balancing in gRPC").
+pub fn nets_are_settled()
+    ensures { NetsAreSettled }
+{
+    boards_stir();
+    calls_stay();
+    calm_is_exact();
+    chains_are_next();
+    links_stay();
+    policies_stir_apart();
+    sessions_are_kept();
+    sets_stay();
+    subchannel_steps_are_actions();
+}

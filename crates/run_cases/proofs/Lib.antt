@@ -1,0 +1,5 @@
+pub mod KnownNets
+pub mod KnownStages
+pub mod ReadOut
+pub mod SettlingParts
+pub mod WholeRuns

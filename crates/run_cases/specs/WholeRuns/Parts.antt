@@ -1,0 +1,34 @@
+-- What is left of the theorem that every run of a channel is a session, as one list: each part by its name. All else is proved.
+-- Example: a run of Begin, Finish, TakeDial, LinkUp, LinkLost and Cancel asks nothing of this list: no bytes come in it.
+use Rattle.channel_actions.specs.Known.{IsKnown}
+use Rattle.channel_actions.specs.Posted.{FewAttempts}
+use Rattle.channel_actions.specs.Stages.{EventsAnswered}
+use Rattle.end_cases.specs.AttemptEnds.Laws.{OneAttemptEnds}
+use Rattle.channel_core.specs.Applying as channel
+use Rattle.channel_core.specs.States.{StateSeen}
+use Rattle.grpc_base.specs.declared.event.Event.TheVariants as event
+use Rattle.grpc_base.specs.declared.event.Event.{Event}
+use Rattle.session_actions.specs.declared.seen.Seen.{Seen}
+use Rattle.std.specs.Prelude.{List, None, ℕ, ◌≡◌}
+
+-- Events. Bytes come on a link that is not gone
+pub record IsArrival (e : Event) (x : StateSeen) (s : Seen) : Type 0 where
+  pub link : ℕ
+  pub piece : List ℕ
+  pub event_is : e ≡ event.Arrived link piece
+  pub kept : channel.refusal_of e x ≡ None
+  pub known : IsKnown x s
+
+-- a link that is not gone is lost (proved)
+pub record IsLoss (e : Event) (x : StateSeen) (s : Seen) : Type 0 where
+  pub link : ℕ
+  pub event_is : e ≡ event.LinkLost link
+  pub kept : channel.refusal_of e x ≡ None
+  pub few : FewAttempts x.book.ledger
+  pub known : IsKnown x s
+
+abbrev pub KnownLossesAreAnswered : Type 0
+KnownLossesAreAnswered = OneAttemptEnds → EventsAnswered IsLoss
+
+pub record OpenEvents : Type 0 where
+  pub arrivals : EventsAnswered IsArrival
