@@ -1,3 +1,4 @@
+pub mod Arrivals
 pub mod Counts
 pub mod Events
 pub mod Losses

@@ -1,35 +1,43 @@
 // Whole runs; nothing runs.
 ghost use Rattle.run_cases.specs.WholeRuns.Laws.{RunsAreSessionsBut};
 
-use end_cases::attempt_ends::{one_attempt_ends, runs_rise};
-use call_cases::begin_actions::begins_are_answered;
-use attempt_cases::call_commits::all_sends_are_answered;
-use call_cases::call_ends::late_cancels_are_refused;
-use call_cases::call_posts::{finishes_are_answered, takes_are_answered};
-use attempt_cases::dial_events::dials_are_answered;
-use call_cases::ended_calls::open_cancels_are_answered;
-use event_cases::failed_picks::fails_follow;
-use event_cases::few_streams::{nets_may_ask, streams_are_few};
-use event_cases::held_calls::known_drains_are_answered;
 use crate::known_nets::{known_results_are_answered, take_overs_are_steps};
 use crate::known_stages::{
     clocks_and_wishes_are_steps, deadlines_are_done, known_shutdowns_are_answered,
 };
-use end_cases::last_hedges::last_is_withheld;
-use event_cases::lost_links::lost_links_are_answered;
-use event_cases::near_deadlines::deadlines_are_near;
-use event_cases::result_events::some_results_are_answered;
-use attempt_cases::serve_steps::attempts_go_out;
+use crate::read_out::arrivals_are_answered;
 use crate::settling_parts::settlings_stand;
+use attempt_cases::call_commits::all_sends_are_answered;
+use attempt_cases::dial_events::dials_are_answered;
+use attempt_cases::serve_steps::attempts_go_out;
+use call_cases::begin_actions::begins_are_answered;
+use call_cases::call_ends::late_cancels_are_refused;
+use call_cases::call_posts::{finishes_are_answered, takes_are_answered};
+use call_cases::ended_calls::open_cancels_are_answered;
 use channel_actions::few_calls::links_are_few;
 use channel_actions::sound_buffers::buffers_stay_sound;
 use channel_actions::{pings_are_queued, runs_are_sessions};
+use end_cases::attempt_ends::{one_attempt_ends, runs_rise};
+use end_cases::last_hedges::last_is_withheld;
+use event_cases::failed_picks::fails_follow;
+use event_cases::few_streams::{nets_may_ask, streams_are_few};
+use event_cases::held_calls::known_drains_are_answered;
+use event_cases::lost_links::lost_links_are_answered;
+use event_cases::near_deadlines::deadlines_are_near;
+use event_cases::result_events::some_results_are_answered;
+use frame_cases::ended_frames::ended_frames_are_heard;
+use frame_cases::first_settings::first_settings_are_heard;
+use frame_cases::frame_kinds::frames_by_kinds;
+use frame_cases::head_frames::heads_are_heard;
+use frame_cases::message_frames::messages_are_heard;
 
-/// Every run of a channel is a session: its journal and its ledger are those of a list of actions, of the same events; but for the parts that are open.
+/// Every run of a channel is a session: its journal and its ledger are those of a list of actions, of the same events; but for three kinds of bytes that
+/// arrive, which are open: a message that is too long, GOAWAY, and what breaks a link.
 pub fn runs_are_sessions_but()
     ensures { RunsAreSessionsBut }
 {
     all_sends_are_answered();
+    arrivals_are_answered();
     attempts_go_out();
     begins_are_answered();
     buffers_stay_sound();
@@ -37,8 +45,12 @@ pub fn runs_are_sessions_but()
     deadlines_are_done();
     deadlines_are_near();
     dials_are_answered();
+    ended_frames_are_heard();
     fails_follow();
     finishes_are_answered();
+    first_settings_are_heard();
+    frames_by_kinds();
+    heads_are_heard();
     known_drains_are_answered();
     known_results_are_answered();
     known_shutdowns_are_answered();
@@ -46,6 +58,7 @@ pub fn runs_are_sessions_but()
     late_cancels_are_refused();
     links_are_few();
     lost_links_are_answered();
+    messages_are_heard();
     nets_may_ask();
     one_attempt_ends();
     open_cancels_are_answered();

@@ -7,7 +7,7 @@ use Rattle.channel_actions.specs.FewCalls.Laws.{DialsAreFew, LinksAreFew}
 use Rattle.channel_actions.specs.Laws.{PingsAreQueued}
 use Rattle.channel_actions.specs.Posted.{FewAttempts, IsPosted}
 use Rattle.channel_actions.specs.SoundBuffers.Laws.{EachHoldsSoundly}
-use Rattle.channel_actions.specs.Stages.{IsAnswered}
+use Rattle.channel_actions.specs.Stages.{EventsAnswered, IsAnswered}
 use Rattle.call_cases.proofs.CallPosts.Answered.{posted}
 use Rattle.run_cases.proofs.WholeRuns.Counts.{dials_known, first_known, links_known}
 use Rattle.run_cases.proofs.WholeRuns.Losses.{losses_known}
@@ -25,7 +25,7 @@ use Rattle.run_cases.specs.KnownStages.Laws.{KnownShutdownsAreAnswered}
 use Rattle.event_cases.specs.LostLinks.Laws.{LostLinksAreAnswered}
 use Rattle.event_cases.specs.NearDeadlines.Laws.{KnownDeadlinesAreNear}
 use Rattle.event_cases.specs.ResultEvents.Laws.{FirstBadConfigsAreAnswered, SecondShutdownsAreAnswered}
-use Rattle.run_cases.specs.WholeRuns.Parts.{OpenEvents}
+use Rattle.run_cases.specs.WholeRuns.Parts.{IsArrival}
 use Rattle.channel_core.specs.Applying as channel
 use Rattle.channel_core.specs.Applying.{AnswersBy, Applies, config_read}
 use Rattle.channel_core.specs.Books.{lacks_call, slot_at}
@@ -88,7 +88,7 @@ unshut : (b : Bool) (q : Option Refusal) → (if b then Some refusal.Shut else q
 unshut true q e = absurd (let bad : Some refusal.Shut ≡ None = e in (cc))
 unshut false q e = e
 
-module _ (laws : EventLaws) (events : OpenEvents) (x y : StateSeen) (r : Reply) (o : OpenEntry) (s : Seen) (h : Agrees x s) (at : IsAt stage.Event o s) (fresh : o.turn ≡ None)
+module _ (laws : EventLaws) (arrivals : EventsAnswered IsArrival) (x y : StateSeen) (r : Reply) (o : OpenEntry) (s : Seen) (h : Agrees x s) (at : IsAt stage.Event o s) (fresh : o.turn ≡ None)
     (timely : next_deadline s ≡ None) (case : DoesSomething o.event x s) (allowed : IsPosted o.event) (few : FewAttempts x.book.ledger) (known : IsKnown x s) (answers : AnswersBy (channel.refusal_of o.event x) o.event x y r) where
   does : (e : Event) → o.event ≡ e → does_something e x ≡ true
   does e is = ap (λ (v : Event). does_something v x) (sym is) ∙ case.does
@@ -182,7 +182,7 @@ module _ (laws : EventLaws) (events : OpenEvents) (x y : StateSeen) (r : Reply) 
       laws.failures x y r o s h at fresh timely
       (record { sub = sub; event_is = is; kept = case.kept; dial = none_there (dial_refusal (numbered x.net.board sub)) (does (event.DialFailed sub) is) }) answers
   by_kind (event.Arrived link piece) is =
-      events.arrivals x y r o s h at fresh timely (record { link = link; piece = piece; event_is = is; kept = case.kept; known = known }) answers
+      arrivals x y r o s h at fresh timely (record { link = link; piece = piece; event_is = is; kept = case.kept; known = known }) answers
   by_kind (event.LinkLost link) is =
       losses_known laws.each laws.lost laws.rise laws.ends x y r o s h at fresh timely (record { link = link; event_is = is; kept = case.kept; few = few; known = known }) answers
   by_kind (event.Drain link room) is = drain_few link room is

@@ -2,7 +2,7 @@
 -- Example: a new channel is given a Begin, and then a Cancel of call 1. Its journal and its ledger are those of CallBegins 1 and CallEnds 1, with what their entries
 -- open, answer and close.
 use Rattle.channel_actions.specs.Laws.{EveryRunIsASession}
-use Rattle.run_cases.specs.WholeRuns.Parts.{OpenEvents}
+use Rattle.run_cases.specs.WholeRuns.Parts.{OpenFrames}
 
 abbrev pub RunsAreSessionsBut : Type 0
-RunsAreSessionsBut = OpenEvents → EveryRunIsASession
+RunsAreSessionsBut = OpenFrames → EveryRunIsASession

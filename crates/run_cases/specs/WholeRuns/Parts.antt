@@ -1,17 +1,19 @@
 -- What is left of the theorem that every run of a channel is a session, as one list: each part by its name. All else is proved.
--- Example: a run of Begin, Finish, TakeDial, LinkUp, LinkLost and Cancel asks nothing of this list: no bytes come in it.
+-- Example: a run in which SETTINGS, a head, messages and trailers arrive asks nothing of this list; one in which a GOAWAY comes does.
 use Rattle.channel_actions.specs.Known.{IsKnown}
 use Rattle.channel_actions.specs.Posted.{FewAttempts}
 use Rattle.channel_actions.specs.Stages.{EventsAnswered}
 use Rattle.end_cases.specs.AttemptEnds.Laws.{OneAttemptEnds}
 use Rattle.channel_core.specs.Applying as channel
 use Rattle.channel_core.specs.States.{StateSeen}
+use Rattle.frame_cases.specs.FrameKinds.Laws.{GoawaysAreHeard, LargeMessagesAreHeard}
+use Rattle.frame_cases.specs.PieceWalks.Laws.{BreaksAreHeard}
 use Rattle.grpc_base.specs.declared.event.Event.TheVariants as event
 use Rattle.grpc_base.specs.declared.event.Event.{Event}
 use Rattle.session_actions.specs.declared.seen.Seen.{Seen}
 use Rattle.std.specs.Prelude.{List, None, ℕ, ◌≡◌}
 
--- Events. Bytes come on a link that is not gone
+-- Bytes come on a link that is not gone
 pub record IsArrival (e : Event) (x : StateSeen) (s : Seen) : Type 0 where
   pub link : ℕ
   pub piece : List ℕ
@@ -30,5 +32,8 @@ pub record IsLoss (e : Event) (x : StateSeen) (s : Seen) : Type 0 where
 abbrev pub KnownLossesAreAnswered : Type 0
 KnownLossesAreAnswered = OneAttemptEnds → EventsAnswered IsLoss
 
-pub record OpenEvents : Type 0 where
-  pub arrivals : EventsAnswered IsArrival
+-- What is open is of bytes that arrive: a message that is too long, GOAWAY, and bytes that break the link (proved where fewer than 2^64 - 1 attempts were made)
+pub record OpenFrames : Type 0 where
+  pub large : LargeMessagesAreHeard
+  pub goaways : GoawaysAreHeard
+  pub breaks : BreaksAreHeard

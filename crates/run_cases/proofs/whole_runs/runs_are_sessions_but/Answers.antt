@@ -1,3 +1,4 @@
+use Rattle.run_cases.proofs.WholeRuns.Arrivals.{FrameLaws}
 use Rattle.run_cases.proofs.WholeRuns.Events.{EventLaws}
 use Rattle.run_cases.proofs.WholeRuns.Whole.{runs_are_sessions_but}
 use Rattle.run_cases.proofs.whole_runs.runs_are_sessions_but.Goals as goal
@@ -29,5 +30,13 @@ returns c =
       dialled = c.links_are_few.ensures.dials;
       streams = c.streams_are_few.ensures;
     } in
-    runs_are_sessions_but laws c.deadlines_are_done.ensures c.clocks_and_wishes_are_steps.ensures.clock c.take_overs_are_steps.ensures
+    let frames : FrameLaws = record {
+      arrivals = c.arrivals_are_answered.ensures;
+      kinds = c.frames_by_kinds.ensures;
+      ended = c.ended_frames_are_heard.ensures;
+      heads = c.heads_are_heard.ensures;
+      messages = c.messages_are_heard.ensures;
+      greeted = c.first_settings_are_heard.ensures;
+    } in
+    runs_are_sessions_but laws frames c.deadlines_are_done.ensures c.clocks_and_wishes_are_steps.ensures.clock c.take_overs_are_steps.ensures
     c.attempts_go_out.ensures.places c.settlings_stand.ensures.settling c.nets_may_ask.ensures c.last_is_withheld.ensures c.fails_follow.ensures c.runs_are_sessions.ensures
