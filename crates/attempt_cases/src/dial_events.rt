@@ -1,9 +1,9 @@
 // What the environment tells of dials; nothing runs.
 ghost use Rattle.attempt_cases.specs.DialEvents.Laws.{FailedDialsAreAnswered, LinksUpAreAnswered, TakenDialsAreAnswered};
 
+use call_cases::other_calls::{calls_stay, sets_stay};
 use channel_actions::kept_sessions::sessions_are_kept;
 use channel_actions::link_frames::links_stay;
-use call_cases::other_calls::{calls_stay, sets_stay};
 use link_actions::stream_actions::streams_are_kept;
 use net_actions::subchannel_steps_are_actions;
 use session_order::{boards_stir, calm_is_exact};

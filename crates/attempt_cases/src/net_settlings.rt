@@ -1,9 +1,9 @@
 // What of subchannels and policies is due in a settling; nothing runs.
 ghost use Rattle.attempt_cases.specs.NetSettlings.Laws.{ClocksAreParts, WishesAreParts};
 
+use call_cases::other_calls::{calls_stay, sets_stay};
 use channel_actions::kept_sessions::sessions_are_kept;
 use channel_actions::link_frames::links_stay;
-use call_cases::other_calls::{calls_stay, sets_stay};
 use net_actions::{policy_steps_are_actions, subchannel_steps_are_actions};
 use session_order::{boards_stir, calm_is_exact};
 

@@ -1,9 +1,9 @@
 // What a step of the net leaves; nothing runs.
 ghost use Rattle.attempt_cases.specs.NetSteps.Laws.{LinksCannotTell, NetStepsKeep, UntoldLinksAgree};
 
+use call_cases::other_calls::{calls_stay, sets_stay};
 use channel_actions::kept_sessions::sessions_are_kept;
 use channel_actions::link_frames::links_stay;
-use call_cases::other_calls::{calls_stay, sets_stay};
 
 /// Of actions of subchannels and policies no link tells, but the one that comes up, or whose SETTINGS did not come in time ("gRPC Connectivity Semantics and
 /// API"; "Load Balancing in gRPC").

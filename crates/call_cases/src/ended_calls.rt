@@ -7,10 +7,10 @@ ghost use Rattle.call_cases.specs.SettlingActions.Steps.{ConfigSteps};
 
 use crate::config_actions::unserved_calls_end;
 use crate::configured_calls::calls_get_configs;
+use crate::other_calls::{calls_stay, others_are_same, sets_stay};
 use channel_actions::kept_calls::calls_are_kept;
 use channel_actions::kept_sessions::sessions_are_kept;
 use channel_actions::link_frames::{actions_are_untold, links_stay};
-use crate::other_calls::{calls_stay, others_are_same, sets_stay};
 use net_actions::net_frames::nets_stay;
 use net_actions::{policy_steps_are_actions, subchannel_steps_are_actions};
 use session_order::config_stirs::configs_stir;

@@ -1,8 +1,8 @@
 // Links that the environment loses; nothing runs.
 ghost use Rattle.event_cases.specs.LostLinks.Laws.{LossesEndInTurn, LostLinksAreAnswered};
 
-use end_cases::attempt_ends::ends_stay_held;
 use channel_actions::going_calls::calls_of_channels_go_on;
+use end_cases::attempt_ends::ends_stay_held;
 
 /// The attempts of a link that is lost end one after the other, the lowest place first, where the end of one attempt is followed alike (RFC 9113, section 5.4.1; gRPC
 /// over HTTP/2, "Connection failure").

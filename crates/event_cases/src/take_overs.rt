@@ -2,9 +2,9 @@
 ghost use Rattle.event_cases.specs.TakeOvers.Laws.{NetsAreSettled};
 
 use attempt_cases::net_chains::chains_are_next;
+use call_cases::other_calls::{calls_stay, sets_stay};
 use channel_actions::kept_sessions::sessions_are_kept;
 use channel_actions::link_frames::links_stay;
-use call_cases::other_calls::{calls_stay, sets_stay};
 use net_actions::subchannel_steps_are_actions;
 use session_order::{boards_stir, calm_is_exact, policies_stir_apart};
 

@@ -3,10 +3,10 @@ ghost use Rattle.channel_actions.specs.Stages.{Deadlines};
 ghost use Rattle.run_cases.specs.KnownStages.Laws.{KnownShutdownsAreAnswered, PicksAreThere, WishSteps};
 ghost use Rattle.call_cases.specs.SettlingActions.Steps.{ClockSteps};
 
-use call_cases::ended_calls::deadlines_are_met;
-use event_cases::first_shutdowns::first_shutdowns_are_answered;
 use attempt_cases::net_settlings::net_settles;
+use call_cases::ended_calls::deadlines_are_met;
 use channel_actions::own_links::links_are_own;
+use event_cases::first_shutdowns::first_shutdowns_are_answered;
 
 /// The last pick request of a session, where it was answered with a subchannel, was answered with one that was made.
 pub fn picks_are_there()

@@ -1,8 +1,8 @@
 // What was read of links between two entries; nothing runs.
 ghost use Rattle.run_cases.specs.ReadOut.Laws.{ArrivalsAreAnswered, LinksAreReadOut};
 
-use frame_cases::piece_walks::{known_stays_along_frames, pieces_are_heard};
 use channel_actions::few_calls::links_are_few;
+use frame_cases::piece_walks::{known_stays_along_frames, pieces_are_heard};
 
 /// Where an entry comes to its event, no link has a whole frame that was not read (RFC 9113, section 4.1).
 pub fn links_are_read_out()
