@@ -16,8 +16,8 @@ pub record FrameLaws : Type 0 where
   pub greeted : GreetedFramesAreHeard
 
 pub arrivals_known : FrameLaws → OneAttemptEnds → OpenFrames → EventsAnswered IsArrival
-arrivals_known laws ends open =
+arrivals_known laws ends left =
     laws.arrivals
-    (laws.kinds (laws.ended ends) open.large laws.heads laws.messages
-    (λ link piece x o s a h is next hears case. laws.greeted link piece x o s a h is next hears (case, is.known.greeted)) open.goaways)
-    open.breaks
+    (laws.kinds (laws.ended ends) left.large laws.heads laws.messages
+    (λ link piece x o s a h is next hears case. laws.greeted link piece x o s a h is next hears (case, is.known.greeted)) left.goaways)
+    left.breaks
