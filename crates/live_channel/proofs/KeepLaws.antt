@@ -1,5 +1,5 @@
 -- What the workers beside the calls did, by their handles.
-use Rattle.std.proofs.Common.{◌≡◌, ◌∙◌, ◌<◌, ℕ, suc, Option, List, [], ◌∷◌, ◌++◌, ap, arith, drop, length, map, refl, slice_index_or, sym, take}
+use Rattle.std.proofs.Common.{◌≡◌, ◌∙◌, ◌<◌, ℕ, suc, Option, List, [], ◌∷◌, ◌++◌, ap, arith, drop, length, map, refl, slice_index_or, subst, sym, take}
 use Rattle.std.proofs.Math.Seq.{take-append_seam}
 use Rattle.std.proofs.lemmas.List.{drop_at}
 use Rattle.std.specs.List.{AllByRecursion}
@@ -7,7 +7,7 @@ use Rattle.atomic_table.specs.Seated.{TableId}
 use Rattle.grpc_base.specs.declared.event.Entry.{Entry}
 use Rattle.grpc_base.specs.declared.post.Look.{Look}
 use Rattle.grpc_base.specs.declared.post.PostError.{PostError}
-use Rattle.live_run.specs.Sides.{LinkDone, seen_by}
+use Rattle.live_run.specs.Sides.{LinkDone, TellsLack, seen_by}
 use Rattle.live_run.specs.declared.link_job.LinkJob.{LinkJob}
 use Rattle.live_run.specs.declared.link_job.LinkJob.TheVariants as job
 use Rattle.shared_channel.specs.Turns.{entries_of, share_of}
@@ -70,6 +70,18 @@ kept seat_of errors last look coming lock (old ∷ olds) (new ∷ news) long eac
   kept_one seat_of errors last look coming lock old new (each 0 old (omega arith)) fresh.0,
   kept seat_of errors last look coming lock olds news (omega (arith, long)) (λ i d within. each (suc i) d (omega (arith, within))) fresh.1,
 )
+
+-- ---- what they told of memory
+
+-- by the values that a call found and left
+pub at_ends : {H : Type 0} (R : H → H → Type 0) (a b x y : H) → a ≡ x → b ≡ y → R a b → R x y
+at_ends R a b x y same left r = subst (R x) left (subst (λ z. R z b) same r)
+
+pub told_by : {H N L D : Type 0} (R S : H → H → Type 0) (j : LinkJob H N L D) → ((x y : H) → R x y → S x y) → TellsLack R j → TellsLack S j
+told_by R S (job.Net net) weaker told = λ lacks. let t = told lacks in (t.0, weaker t.0 net.post t.1)
+told_by R S (job.Name name) weaker told = λ lacks. let t = told lacks in (t.0, weaker t.0 name.post t.1)
+
+-- ---- who takes them in
 
 pub kept_ones : (lock : LockId) (seats : List (SeatSeen Entry)) → AllByRecursion (IsKept lock) seats → AllByRecursion (IsOne lock) seats
 kept_ones lock [] all = tt

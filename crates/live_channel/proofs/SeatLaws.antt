@@ -18,8 +18,9 @@ use Rattle.resolver_core.specs.declared.any_target.Target.TheVariants as target
 use Rattle.turn_lock.specs.History.{LockId, Owns, SeatSeen, Stands, StartsWith, once_below, places, times}
 use Rattle.turn_lock.specs.Turn.{Sees}
 use Rattle.turn_lock.proofs.Places.{stands-later}
-use Rattle.shared_channel.specs.Turns.{Fails, TakesPlace}
-use Rattle.live_run.specs.Outcomes.{outcome_of}
+use Rattle.shared_channel.specs.Turns.{Fails, Looks, TakesPlace}
+use Rattle.shared_channel.proofs.PostLaws.{starts_after}
+use Rattle.live_run.specs.Outcomes.{lacks_memory, outcome_of}
 use Rattle.live_run.specs.declared.outcome.Outcome.{Outcome}
 use Rattle.live_run.specs.declared.outcome.Outcome.TheVariants as outcome
 use Rattle.live_channel.specs.Told.{IsToldFirst, TellsTarget}
@@ -99,6 +100,25 @@ shuts_posted may_give word (Err e) o before after is place =
       sees = place.sees;
       seen = place.seen ∙ step;
       own = place.own ∙ ap (λ (m : List Entry). before.own ++ places (length old) m) made;
+    }
+
+-- there was no memory for the Shutdown, and the handle then looked
+pub shuts_noted : (may_give : ℕ → Type 0) (word : ℕ) (result : Result Reply PostError) (o : Outcome) (tells : CoreSeen → Type 0) (before mid after : SeatSeen Entry) → o ≡ outcome_of_post result → lacks_memory o ≡ true
+    → TakesPlace may_give word event.Shutdown result before mid → Looks tells mid after → Shuts o before after
+shuts_noted may_give word (Ok reply) o tells before mid after is lacks place looks = absurd (let bad : true ≡ false = sym lacks ∙ ap lacks_memory is in (cc))
+shuts_noted may_give word (Err e) o tells before mid after is lacks place looks =
+    let old : List Entry = place.start.journal.entries in
+    let same : place.end.journal.entries ≡ old = fails_still event.Shutdown place.start place.end e place.did in
+    let made : place.made ≡ [] = append_cancel_left old place.made [] (sym place.appends ∙ same ∙ sym (append-nil old)) in
+    record {
+      lock = looks.lock ∙ place.lock;
+      parts = looks.parts ∙ place.parts;
+      front = looks.core.journal.entries;
+      closing = None;
+      is_closing = λ whole. error_is_worse e (sym is ∙ whole);
+      sees = starts_after before.seen old looks.core.journal.entries place.sees (subst (λ (t : List Entry). StartsWith looks.core.journal.entries t) (place.seen ∙ same) looks.sees);
+      seen = looks.seen ∙ sym (append-nil looks.core.journal.entries);
+      own = looks.own ∙ place.own ∙ ap (λ (m : List Entry). before.own ++ places (length old) m) made;
     }
 
 -- ---- the first post

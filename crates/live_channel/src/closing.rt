@@ -9,14 +9,19 @@ use live_run::Outcome;
 use shared_channel::ChannelSeat;
 use std::sync::Wait;
 
-/// Shuts the channel down.
+/// Shuts the channel down. Where there is no memory for that, a note of it is left in the channel, in which nobody waits from then on.
 pub fn shut_down<P: Balancer, R: Wait, C: Clock, D: Draws>(
     closer: &mut ChannelSeat<'_, P, R, C, D>,
 ) -> Outcome
     ensures { Shuts result closer.old.seat closer.new.seat }
 {
     let posted = closer.post(Event::Shutdown);
-    outcome_of(posted)
+    let outcome = outcome_of(posted);
+    if !outcome.lacks_memory() {
+        return outcome;
+    }
+    closer.note_lack();
+    outcome
 }
 
 /// How a post ended.

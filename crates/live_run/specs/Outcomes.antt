@@ -1,5 +1,5 @@
 -- How workers ended, and what that says of what they posted.
-use Rattle.std.specs.Prelude.{◌≡◌, List, [], ◌∷◌, Option}
+use Rattle.std.specs.Prelude.{◌≡◌, Bool, true, false, List, [], ◌∷◌, Option}
 use Rattle.grpc_base.specs.declared.post.Look.{Look}
 use Rattle.grpc_base.specs.declared.post.PostError.{PostError}
 use Rattle.grpc_base.specs.declared.post.PostError.TheVariants as failed
@@ -16,6 +16,11 @@ use Rattle.live_run.specs.declared.outcome.Outcome.TheVariants as outcome
 abbrev pub outcome_of : PostError → Outcome
 outcome_of (failed.NoMemory spent) = outcome.NoMemory
 outcome_of (failed.SessionFull entries octets) = outcome.Full
+
+-- a worker that found no memory
+abbrev pub lacks_memory : Outcome → Bool
+lacks_memory outcome.NoMemory = true
+lacks_memory o = false
 
 -- both at once: out of memory stands before a full session
 abbrev pub graver : Outcome → Outcome → Outcome

@@ -1,5 +1,5 @@
 -- What each worker of a side did.
-use Rattle.std.specs.Prelude.{◌≡◌, ℕ, Option, List}
+use Rattle.std.specs.Prelude.{◌≡◌, ℕ, true, Option, List}
 use Rattle.grpc_base.specs.declared.event.Entry.{Entry}
 use Rattle.grpc_base.specs.declared.event.Event.{Event}
 use Rattle.grpc_base.specs.declared.event.Event.TheVariants as event
@@ -8,7 +8,7 @@ use Rattle.grpc_base.specs.declared.post.PostError.{PostError}
 use Rattle.live_pump.specs.Fronts.{ArrivesInFront}
 use Rattle.live_pump.specs.Kinds.{AddsOnly, IsOfLinks}
 use Rattle.live_pump.specs.Pumps.{HandleSeen}
-use Rattle.live_run.specs.Outcomes.{KeepsLinks, MakesCalls}
+use Rattle.live_run.specs.Outcomes.{KeepsLinks, MakesCalls, lacks_memory}
 use Rattle.live_run.specs.declared.jobs.CallJob.{CallJob}
 use Rattle.live_run.specs.declared.jobs.NameJob.{NameJob}
 use Rattle.live_run.specs.declared.jobs.NetJob.{NetJob}
@@ -49,6 +49,23 @@ abbrev pub LinkDone : {H N L D : Type 0} → (H → HandleSeen) → (H → List 
 LinkDone seen share last_look coming (job.Net before) (job.Net after) = NetDone seen share last_look coming before after
 LinkDone seen share last_look coming (job.Name before) (job.Name after) = NameDone seen share before after
 LinkDone seen share last_look coming before after = ⊥
+
+-- a handle that has made nothing more, counted no error and no look, and keeps its share of the channel
+pub record StaysAs {H : Type 0} (seen : H → HandleSeen) (share : H → List ℕ) (last_look : H → Option Look) (before after : H) : Type 0 where
+  pub same_seen : seen after ≡ seen before
+  pub same_share : share after ≡ share before
+  pub same_look : last_look after ≡ last_look before
+
+-- so is the handle of a worker beside the calls, and the worker ended as it had
+abbrev pub IsAsBefore : {H N L D : Type 0} → (H → HandleSeen) → (H → List ℕ) → (H → Option Look) → LinkJob H N L D → LinkJob H N L D → Type 0
+IsAsBefore seen share last_look (job.Net before) (job.Net after) = StaysAs seen share last_look before.post after.post × (after.outcome ≡ before.outcome)
+IsAsBefore seen share last_look (job.Name before) (job.Name after) = StaysAs seen share last_look before.post after.post × (after.outcome ≡ before.outcome)
+IsAsBefore seen share last_look before after = ⊥
+
+-- where a worker beside the calls ended for want of memory, it told the channel so, through its handle as it was then
+abbrev pub TellsLack : {H N L D : Type 0} → (H → H → Type 0) → LinkJob H N L D → Type 0
+TellsLack {H} tells (job.Net net) = lacks_memory net.outcome ≡ true → (before : H) × tells before net.post
+TellsLack {H} tells (job.Name name) = lacks_memory name.outcome ≡ true → (before : H) × tells before name.post
 
 -- how a worker beside the calls ended
 abbrev pub outcome_in : {H N L D : Type 0} → LinkJob H N L D → Outcome

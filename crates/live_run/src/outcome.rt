@@ -1,6 +1,6 @@
 // How the workers of a live run ended.
 ghost use Rattle.std.specs.Prelude.{◌≡◌};
-ghost use Rattle.live_run.specs.Outcomes.{graver, outcome_of};
+ghost use Rattle.live_run.specs.Outcomes.{graver, lacks_memory, outcome_of};
 
 use grpc_base::PostError;
 
@@ -27,6 +27,13 @@ impl Outcome {
                 octets: _,
             } => Outcome::Full,
         }
+    }
+
+    /// Whether it ended for want of memory.
+    pub fn lacks_memory(self) -> bool
+        ensures { result ≡ lacks_memory self }
+    {
+        matches!(self, Outcome::NoMemory)
     }
 
     /// How both ended: want of memory stands before a full session.

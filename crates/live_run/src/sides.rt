@@ -1,7 +1,8 @@
 // Workers side by side.
 ghost use Rattle.std.specs.Prelude.{◌≡◌, ◌<◌, ℕ, length, map, slice_index_or};
+ghost use Rattle.std.specs.Fork.{AcceptsAt, ChangesAt};
 ghost use Rattle.live_run.specs.Outcomes.{gravest};
-ghost use Rattle.live_run.specs.Sides.{CallDone, LinkDone, outcome_in, seen_by};
+ghost use Rattle.live_run.specs.Sides.{CallDone, LinkDone, StaysAs, TellsLack, outcome_in, seen_by};
 ghost use Rattle.live_run.specs.declared.jobs.CallJob.{CallJob};
 ghost use Rattle.live_run.specs.declared.link_job.LinkJob.{LinkJob};
 
@@ -16,7 +17,8 @@ use std::thread::{Threads, for_each_mut};
 /// The most threads of the workers that keep links open and look a name up.
 const LINKERS: usize = 5;
 
-/// Keeps links open and looks a name up, each worker in a thread of its own, until the channel is shut down. May never return.
+/// Keeps links open and looks a name up, each worker in a thread of its own, until the channel is shut down. Where one ends for want of memory,
+/// the ending is done at its handle: who waits for that worker's work is to be told that it does not come. May never return.
 pub fn work_links<
     R: Threads + Wait + Sync,
     H: Post + Glance + Send,
@@ -24,8 +26,12 @@ pub fn work_links<
     L: Lookup,
     C: Clock,
     D: Draws,
->(rt: &R, clock: &C, links: &mut [LinkJob<H, N, L, D>]) -> Outcome
+    E: Fn(usize, &mut H) + Sync,
+>(rt: &R, clock: &C, ending: &E, links: &mut [LinkJob<H, N, L, D>]) -> Outcome
+    requires accepts { (post : H) → AcceptsAt E.Fn ending.now 0 post }
+    requires still { (before after : H) → ChangesAt E.Fn ending.now 0 before after → StaysAs (seen_by H.made H.errors H.last_error) H.share H.last_look before after }
     ensures each { (i : ℕ) (d : LinkJob H N L D) → i < length links.old → LinkDone (seen_by H.made H.errors H.last_error) H.share H.last_look N.coming (slice_index_or links.old i d) (slice_index_or links.new i d) }
+    ensures told { (i : ℕ) (d : LinkJob H N L D) → i < length links.old → TellsLack (λ before after. ChangesAt E.Fn ending.now 0 before after) (slice_index_or links.new i d) }
     ensures outcome { result ≡ gravest (map (λ j. outcome_in j) links.new) }
 {
     for_each_mut(
@@ -33,8 +39,9 @@ pub fn work_links<
         links,
         LINKERS,
         &|_: usize, job: &mut LinkJob<H, N, L, D>| -> ()
-            ensures { LinkDone (seen_by H.made H.errors H.last_error) H.share H.last_look N.coming job.entry.now job.exit.now }
-        { job.work(rt, clock) },
+            requires { ((post : H) → AcceptsAt E.Fn ending.now 0 post) × ((before after : H) → ChangesAt E.Fn ending.now 0 before after → StaysAs (seen_by H.made H.errors H.last_error) H.share H.last_look before after) }
+            ensures { LinkDone (seen_by H.made H.errors H.last_error) H.share H.last_look N.coming job.entry.now job.exit.now × TellsLack (λ before after. ChangesAt E.Fn ending.entry.now 0 before after) job.exit.now }
+        { job.work_and_end(rt, clock, ending) },
     );
     outcome_of_links(links)
 }

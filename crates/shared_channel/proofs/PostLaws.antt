@@ -100,21 +100,20 @@ module _ {S J A : Type 0} {origin : S → List ℕ} (core_of : S → CoreSeen) (
         found = starts_numbers first.found before.found after.found more.found found;
       }
 
-  -- a turn that left the channel as it was
+  -- a turn that left the journal as it was
   pub looks_at : (tells : CoreSeen → Type 0) (job job_after : J) (answer : A) (before turned after : SeatSeen Entry)
       → (turned ≡ record before { found = after.found }) → StartsWith after.found before.found
-      → (turn : TakesTurn (λ s. (core_of s).journal.entries) origin runs job turned answer job_after after)
-      → (core_of turn.end ≡ core_of turn.start) × tells (core_of turn.start)
+      → (turn : TakesTurn (λ s. (core_of s).journal.entries) origin runs job turned answer job_after after) (core : CoreSeen)
+      → core.journal.entries ≡ (core_of turn.start).journal.entries → (core_of turn.end).journal.entries ≡ (core_of turn.start).journal.entries → tells core
       → Looks tells before after
-  looks_at tells job job_after answer before turned after is found turn said =
-      let same : (core_of turn.end).journal.entries ≡ (core_of turn.start).journal.entries = ap (λ (c : CoreSeen). c.journal.entries) said.0 in
+  looks_at tells job job_after answer before turned after is found turn core at same told =
       let none : turn.made ≡ [] =
       append_cancel_left (core_of turn.start).journal.entries turn.made [] (sym turn.appends ∙ same ∙ sym (append-nil (core_of turn.start).journal.entries)) in
       record {
-        core = core_of turn.start;
-        told = said.1;
-        sees = subst (λ (t : SeatSeen Entry). StartsWith (core_of turn.start).journal.entries t.seen) is turn.sees;
-        seen = ap (λ (t : SeatSeen Entry). t.seen) turn.seat ∙ same;
+        core = core;
+        told = told;
+        sees = subst (λ (t : List Entry). StartsWith t before.seen) (sym at) (subst (λ (t : SeatSeen Entry). StartsWith (core_of turn.start).journal.entries t.seen) is turn.sees);
+        seen = ap (λ (t : SeatSeen Entry). t.seen) turn.seat ∙ same ∙ sym at;
         own = ap (λ (t : SeatSeen Entry). t.own) turn.seat ∙ ap (λ (made : List Entry). turned.own ++ places (length (core_of turn.start).journal.entries) made) none
             ∙ append-nil turned.own ∙ ap (λ (t : SeatSeen Entry). t.own) is;
         lock = ap (λ (t : SeatSeen Entry). t.lock) turn.seat ∙ ap (λ (t : SeatSeen Entry). t.lock) is;
@@ -128,7 +127,8 @@ module _ {S J A : Type 0} {origin : S → List ℕ} (core_of : S → CoreSeen) (
       → TakesTurn (λ s. (core_of s).journal.entries) origin runs job turned answer job_after after
       → Looks tells before after
   looks_of tells job job_after answer before turned after says is found turn =
-      looks_at tells job job_after answer before turned after is found turn (says turn.start turn.end turn.ran)
+      let said = says turn.start turn.end turn.ran in
+      looks_at tells job job_after answer before turned after is found turn (core_of turn.start) refl (ap (λ (c : CoreSeen). c.journal.entries) said.0) said.1
 
   -- the authority of the channel in a turn is the origin of the handle's lock
   pub root_of : (job job_after : J) (answer : A) (before turned after : SeatSeen Entry)

@@ -16,8 +16,9 @@ use Rattle.turn_lock.specs.History.{SeatSeen, StartsWith, places}
 use Rattle.turn_lock.specs.Turn.{FoundHolder}
 use Rattle.channel_core.specs.Core.{CoreSeen, IsFull, Steps, WouldReply, view_of}
 use Rattle.shared_channel.specs.Histories.{IsNearlyFull}
+use Rattle.shared_channel.specs.Running.{IsRunning, WatchedSeen}
 
--- a channel in which nothing more happens: its session is nearly full, or it ran out of memory half way through a step
+-- a channel in which nothing more happens: its session is nearly full, or it ran out of memory half way through a step or is as one that did
 abbrev pub CannotGoOn : CoreSeen → Type 0
 CannotGoOn core = IsNearlyFull core.journal.entries ⊎ (core.spent ≡ true)
 
@@ -75,6 +76,20 @@ pub record Looks (tells : CoreSeen → Type 0) (before after : SeatSeen Entry) :
   pub lock : after.lock ≡ before.lock
   pub parts : after.parts ≡ before.parts
   pub found : StartsWith after.found before.found
+
+-- a look that leaves a note in the channel that who keeps it going found no memory: it is then as one that ran out of memory half way
+pub record NotesLack (before after : SeatSeen Entry) : Type 0 where
+  pub start : CoreSeen
+  pub end : CoreSeen
+  pub spends : end ≡ record start { spent = true }
+  pub looks : Looks (λ core. core ≡ start) before after
+
+-- what is so of the channel that is lent in a turn: it is one that was new and was given events, with the journal that is seen
+pub record IsLent (watched : WatchedSeen) (tells : CoreSeen → Type 0) : Type 0 where
+  pub core : CoreSeen
+  pub journal : core.journal ≡ watched.core.journal
+  pub running : IsRunning watched.authority core
+  pub told : tells core
 
 -- the entries that a handle made
 abbrev pub entries_of : List (ℕ × Entry) → List Entry

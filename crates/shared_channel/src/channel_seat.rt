@@ -5,12 +5,12 @@ ghost use Rattle.grpc_base.specs.Posts.{CountsErrors, Posts, is_full, is_not_yet
 ghost use Rattle.grpc_base.specs.declared.event.Event.TheVariants as event;
 ghost use Rattle.grpc_base.specs.declared.post.Look.TheVariants as look;
 ghost use Rattle.channel_core.specs.Applying.{can_drain_in};
-ghost use Rattle.shared_channel.specs.Turns.{CanSend, CanTake, Looks, ShowsView, TakesPlace, entries_of, share_of, words_of};
+ghost use Rattle.shared_channel.specs.Turns.{CanSend, CanTake, Looks, NotesLack, ShowsView, TakesPlace, entries_of, share_of, words_of};
 ghost use Rattle.turn_lock.specs.History.{Ascends, Stands, merged};
 ghost use Rattle.turn_lock.specs.Turn.{Sees};
 
 use crate::bell::{Bell, is_news};
-use crate::jobs::{AtDrain, AtSend, AtTake, AtView, SendStep, Step, TakeStep, moment_of};
+use crate::jobs::{AtDrain, AtSend, AtTake, AtView, NoteLack, SendStep, Step, TakeStep, moment_of};
 use crate::owed::Owed;
 use crate::shared::{Seat, Shared};
 use crate::tally::Tally;
@@ -72,6 +72,20 @@ impl<'a, P: Balancer, W, C: Clock, D: Draws> ChannelSeat<'a, P, W, C, D> {
     }
 }
 
+impl<P: Balancer, W: Wait, C: Clock, D: Draws> ChannelSeat<'_, P, W, C, D> {
+    /// Leaves a note in the channel that who keeps it going found no memory: a worker that keeps links open ended so, or there was none for
+    /// the Shutdown. From then on the channel is as one that ran out of memory half way through a step: each post is answered so, looks show
+    /// SHUTDOWN, and nobody waits. Makes no entry. May wait for other threads.
+    pub fn note_lack(&mut self)
+        ensures noted { NotesLack self.old.seat self.new.seat }
+        ensures kept { (self.new.clock.now ≡ self.old.clock.now) × (self.new.next ≡ self.old.next) × (self.new.draws ≡ self.old.draws) × (self.new.tally ≡ self.old.tally) }
+        ensures made { entries_of self.new.seat.own ≡ entries_of self.old.seat.own }
+        ensures share { share_of self.new.seat ≡ share_of self.old.seat }
+    {
+        self.lock.turn(self.rt, &mut self.seat, &mut NoteLack);
+    }
+}
+
 /// Notes a link that is given up, where that is wanted.
 fn note_link(note: &Option<GivenUp>, link: u32, is_given_up: bool) {
     if let Some(note) = note {
@@ -127,7 +141,7 @@ impl<P: Balancer, W: Wait, C: Clock, D: Draws> Post for ChannelSeat<'_, P, W, C,
 
 impl<P: Balancer, W: Wait, C: Clock, D: Draws> Glance for ChannelSeat<'_, P, W, C, D> {
     /// The channel's state, and what it waits for. Its state is SHUTDOWN too where nothing more happens in it: a step found no room for
-    /// what came of a link, or for a Shutdown, or ran out of memory half way.
+    /// what came of a link, or for a Shutdown, or ran out of memory half way, or who keeps it going found none.
     fn glance(&mut self) -> View
         ensures made { entries_of self.new.seat.own ≡ entries_of self.old.seat.own }
         ensures errors { (self.new.tally.errors ≡ self.old.tally.errors) × (self.new.tally.last_error ≡ self.old.tally.last_error) }

@@ -76,7 +76,7 @@ impl<P: Balancer> Job<Shared<P>> for TakeStep<'_> {
     ghost runs = { λ job state answer job_after after. TakeGives job.moment job.word job.call state.watched.core answer after.watched.core };
 
     fn run(&mut self, state: &mut Shared<P>) -> Option<Result<Reply, PostError>> {
-        if !state.watched.core().can_take(self.call) {
+        if !state.watched.can_take(self.call) {
             return refused(state.watched.end());
         }
         let is_due = state.watched.is_due(self.moment);
@@ -111,7 +111,7 @@ impl<P: Balancer> Job<Shared<P>> for SendStep<'_> {
 
     fn run(&mut self, state: &mut Shared<P>) -> Option<Result<Reply, PostError>> {
         if let Ok(len) = u32::try_from(self.message.len()) {
-            if !state.watched.core().can_send(self.call, len) {
+            if !state.watched.can_send(self.call, len) {
                 return refused(state.watched.end());
             }
         }
@@ -147,6 +147,22 @@ impl<P: Balancer> Job<Shared<P>> for AtView {
     }
 }
 
+/// Leaves a note that who keeps the channel going found no memory.
+#[derive(Drop)]
+pub struct NoteLack;
+
+impl<P: Balancer> Job<Shared<P>> for NoteLack {
+    ghost use Rattle.std.specs.Prelude.{◌≡◌, true};
+
+    type Answer = ();
+
+    ghost runs = { λ job state answer job_after after. after.watched ≡ record state.watched { core = record state.watched.core { spent = true } } };
+
+    fn run(&mut self, state: &mut Shared<P>) {
+        state.watched.note_lack();
+    }
+}
+
 /// Whether a Drain of this link would give bytes, and whether the channel has given the link up.
 #[derive(Drop)]
 pub struct AtDrain {
@@ -174,9 +190,8 @@ impl<P: Balancer> Job<Shared<P>> for AtDrain {
     ghost runs = { λ job state answer job_after after. (after ≡ state) × (answer ≡ can_drain_in job.link state.watched.core.state) };
 
     fn run(&mut self, state: &mut Shared<P>) -> bool {
-        let core = state.watched.core();
-        self.is_given_up = is_given_up(core.ledger(), self.link);
-        core.can_drain(self.link)
+        self.is_given_up = is_given_up(state.watched.core().ledger(), self.link);
+        state.watched.can_drain(self.link)
     }
 }
 
@@ -195,7 +210,7 @@ impl<P: Balancer> Job<Shared<P>> for AtTake {
     ghost runs = { λ job state answer job_after after. (after ≡ state) × CanTake job.call answer state.watched.core };
 
     fn run(&mut self, state: &mut Shared<P>) -> bool {
-        state.watched.core().can_take(self.call)
+        state.watched.can_take(self.call)
     }
 }
 
@@ -215,7 +230,7 @@ impl<P: Balancer> Job<Shared<P>> for AtSend {
     ghost runs = { λ job state answer job_after after. (after ≡ state) × CanSend job.call job.len answer state.watched.core };
 
     fn run(&mut self, state: &mut Shared<P>) -> bool {
-        state.watched.core().can_send(self.call, self.len)
+        state.watched.can_send(self.call, self.len)
     }
 }
 
@@ -227,11 +242,11 @@ pub struct Lend<'r, R> {
 
 impl<P: Balancer, R: Reading<P>> Job<Shared<P>> for Lend<'_, R> {
     ghost use Rattle.std.specs.Prelude.{◌≡◌};
-    ghost use Rattle.shared_channel.specs.Running.{IsRunning};
+    ghost use Rattle.shared_channel.specs.Turns.{IsLent};
 
     type Answer = R::Answer;
 
-    ghost runs = { λ job state answer job_after after. (after ≡ state) × IsRunning state.watched.authority state.watched.core × R.reads job.reading.now state.watched.core answer job_after.reading.now × (job_after.reading.ghost_name ≡ job.reading.ghost_name) };
+    ghost runs = { λ job state answer job_after after. (after ≡ state) × IsLent state.watched (λ core. R.reads job.reading.now core answer job_after.reading.now) × (job_after.reading.ghost_name ≡ job.reading.ghost_name) };
 
     fn run(&mut self, state: &mut Shared<P>) -> R::Answer {
         self.reading

@@ -4,6 +4,7 @@
 mod bell;
 mod channel;
 mod channel_seat;
+mod core_run;
 mod jobs;
 mod owed;
 mod reading;

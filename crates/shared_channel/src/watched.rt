@@ -1,16 +1,18 @@
 // The channel under the lock, whether it was shut down, whether it was found nearly full, and whether it is over.
-ghost use Rattle.std.specs.Prelude.{◌≡◌, ◌≤◌, ◌||◌, true, length, IfSome, OnOk, if◌then◌else◌};
+ghost use Rattle.std.specs.Prelude.{◌≡◌, ◌≤◌, true, length, IfSome, OnOk, if◌then◌else◌};
 ghost use Rattle.grpc_base.specs.declared.event.Conn.TheVariants as conn;
 ghost use Rattle.grpc_base.specs.Posts.{HasNoRoom};
 ghost use Rattle.turn_lock.specs.History.{StartsWith};
+ghost use Rattle.channel_core.specs.Applying.{can_drain_in};
 ghost use Rattle.channel_core.specs.Sizes.{counted, journal_bytes};
 ghost use Rattle.shared_channel.specs.Errors.{FindsNearlyFull, error_of};
 ghost use Rattle.shared_channel.specs.Histories.{IsNearlyFull, has_shutdown, is_shutdown, state_in};
 ghost use Rattle.shared_channel.specs.Running.{HasRun, IsRunning};
 ghost use Rattle.grpc_base.specs.declared.event.Event.{Event};
-ghost use Rattle.shared_channel.specs.Turns.{CannotGoOn, Fails, ShowsView, StepGives};
+ghost use Rattle.shared_channel.specs.Turns.{CanSend, CanTake, CannotGoOn, Fails, ShowsView, StepGives};
 
 use crate::bell::Bell;
+use crate::core_run::{CoreRun, either};
 use channel_core::{ChannelCore, CoreError};
 use grpc_base::limits::MESSAGE_BYTES;
 use grpc_base::{Conn, Entry, Event, Moment, PostError, Reply, Stamped, Text, View};
@@ -30,38 +32,30 @@ const LARGEST: u64 = 64 + MESSAGE_BYTES as u64;
 /// full.
 #[derive(Drop)]
 pub struct Watched<P: Balancer> {
-    core: ChannelCore<P>,
+    channel: CoreRun<P>,
     shut: bool,
     nearly_full: bool,
-    /// Whether a step found no room for what came of a link or for a Shutdown, or ran out of memory half way.
+    /// Whether a step found no room for what came of a link or for a Shutdown, or ran out of memory half way, or who keeps the channel going
+    /// found none.
     stopped: bool,
-    // That of the channel's requests, which the core does not show.
-    authority: Text,
 }
 
 impl<P: Balancer> Model for Watched<P> {
     ghost use Rattle.std.specs.Prelude.{◌≡◌, ◌≤◌, true, length};
     ghost use Rattle.shared_channel.specs.Histories.{IsNearlyFull, has_shutdown};
-    ghost use Rattle.shared_channel.specs.Running.{IsRunning, WatchedSeen};
+    ghost use Rattle.shared_channel.specs.Running.{WatchedSeen};
 
     ghost Value = { WatchedSeen };
 
-    ghost view = { λ w. record { core = w.core; authority = w.authority } };
+    ghost view = { λ w. w.channel };
 
-    ghost invariant = { λ w. (w.shut ≡ has_shutdown w.core.journal.entries) × (length w.core.journal.entries ≤ 1048576) × IsRunning w.authority w.core × (w.nearly_full ≡ true → IsNearlyFull w.core.journal.entries) };
+    ghost invariant = { λ w. (w.shut ≡ has_shutdown w.channel.core.journal.entries) × (length w.channel.core.journal.entries ≤ 1048576) × (w.nearly_full ≡ true → IsNearlyFull w.channel.core.journal.entries) };
 }
 
 fn is_shutdown(event: &Event) -> bool
     ensures { result ≡ is_shutdown event.now }
 {
     matches!(event, Event::Shutdown)
-}
-
-/// Whether one of both is so.
-fn either(one: bool, other: bool) -> bool
-    ensures { result ≡ (one || other) }
-{
-    one || other
 }
 
 /// Whether a Shutdown stands among the entries.
@@ -152,19 +146,49 @@ impl<P: Balancer> Watched<P> {
     {
         let shut = has_shutdown(core.journal().entries.as_slice());
         Watched {
-            core,
+            channel: CoreRun::new(core, authority),
             shut,
             nearly_full: false,
             stopped: false,
-            authority,
         }
     }
 
+    /// The channel itself, with the journal and the state that it is seen with.
     pub fn core(&self) -> &ChannelCore<P>
-        ensures core { result.now ≡ self.now.core }
-        ensures running { IsRunning self.now.authority self.now.core }
+        ensures journal { result.now.journal ≡ self.now.core.journal }
+        ensures state { result.now.state ≡ self.now.core.state }
+        ensures running { IsRunning self.now.authority result.now }
     {
-        &self.core
+        self.channel.core()
+    }
+
+    /// Whether a Drain of this link would give bytes.
+    pub fn can_drain(&self, link: u32) -> bool
+        ensures { result ≡ can_drain_in link self.now.core.state }
+    {
+        self.channel.can_drain(link)
+    }
+
+    /// Whether a Take of this call would be answered with other than NotYet.
+    pub fn can_take(&self, call: u32) -> bool
+        ensures { CanTake call result self.now.core }
+    {
+        self.channel.can_take(call)
+    }
+
+    /// Whether a Send of a message of this length would be answered with other than Full.
+    pub fn can_send(&self, call: u32, len: u32) -> bool
+        ensures { CanSend call len result self.now.core }
+    {
+        self.channel.can_send(call, len)
+    }
+
+    /// From now on the channel is as one that ran out of memory half way through a step: who keeps it going found none.
+    pub fn note_lack(&mut self)
+        ensures { self.new ≡ record self.old { core = record self.old.core { spent = true } } }
+    {
+        self.channel.spend();
+        self.stopped = true;
     }
 
     /// Whether a step found the journal nearly full.
@@ -174,7 +198,8 @@ impl<P: Balancer> Watched<P> {
         self.nearly_full
     }
 
-    /// Whether the channel can't go on: the session has no room for what its links bring, or a step ran out of memory half way.
+    /// Whether the channel can't go on: the session has no room for what its links bring, a step ran out of memory half way, or who keeps it
+    /// going found none.
     pub fn is_over(&self) -> bool
         ensures { result ≡ true → CannotGoOn self.now.core }
     {
@@ -184,7 +209,7 @@ impl<P: Balancer> Watched<P> {
         if self.nearly_full {
             return true;
         }
-        self.core.view().spent
+        self.channel.view().spent
     }
 
     /// The error of a call that waits: none as long as the channel can go on.
@@ -195,7 +220,7 @@ impl<P: Balancer> Watched<P> {
         if !self.is_over() {
             return None;
         }
-        let spent = self.core.view().spent;
+        let spent = self.channel.view().spent;
         Some(PostError::NoMemory { spent })
     }
 
@@ -203,12 +228,12 @@ impl<P: Balancer> Watched<P> {
     pub fn view(&self) -> View
         ensures { ShowsView self.now.core result }
     {
-        shown(self.core.view(), self.is_over())
+        shown(self.channel.view(), self.is_over())
     }
 
     /// Whether a step at a moment may bring something to calls of which its event does not speak: something is due by then.
     pub(crate) fn is_due(&self, moment: Moment) -> bool {
-        match self.core.view().next {
+        match self.channel.view().next {
             Some(due) => due <= moment.nanos(),
             None => false,
         }
@@ -217,7 +242,7 @@ impl<P: Balancer> Watched<P> {
     /// Rings for those for whose calls something has come, where that may be.
     pub(crate) fn ring_if(&self, bell: &Bell, is_due: bool, is_news: bool) {
         if is_due || is_news {
-            bell.ring(&self.core);
+            bell.ring(self.channel.core());
         }
     }
 
@@ -226,7 +251,7 @@ impl<P: Balancer> Watched<P> {
         ensures count { result ≡ length self.now.core.journal.entries }
         ensures limit { result ≤ 1048576 }
     {
-        self.core.journal().entries.len() as u64
+        self.channel.core().journal().entries.len() as u64
     }
 
     /// SHUTDOWN where a Shutdown stands in the journal, and else the state after the last entry.
@@ -236,7 +261,7 @@ impl<P: Balancer> Watched<P> {
         if self.shut {
             return Conn::Shutdown;
         }
-        self.core.view().state
+        self.channel.view().state
     }
 
     /// One step of the channel.
@@ -248,7 +273,7 @@ impl<P: Balancer> Watched<P> {
     {
         let shuts = is_shutdown(&stamped.event);
         let needed = is_needed(&stamped.event);
-        match self.core.step(stamped) {
+        match self.channel.step(stamped) {
             Ok(reply) => {
                 self.shut = either(self.shut, shuts);
                 Ok(reply)

@@ -1,7 +1,6 @@
 use Rattle.std.proofs.Common.{rules, ◌≡◌, ◌<◌, ℕ, List, true, length, subst, sym}
 use Rattle.grpc_base.specs.declared.event.Event.TheVariants as event
-use Rattle.channel_core.specs.Core.{CoreSeen}
-use Rattle.shared_channel.specs.Turns.{CanSend, StepGives}
+use Rattle.shared_channel.specs.Turns.{StepGives}
 use Rattle.shared_channel.proofs.AwaitLaws.{send_fits, send_huge}
 use Rattle.shared_channel.proofs.jobs.SendStepJobShared.run.Goals as goal
 use Rattle.shared_channel.proofs.jobs.SendStepJobShared.run.Goals.{in-Ok+else-not-can_send, in_default}
@@ -14,10 +13,9 @@ returns-clause-runs g c =
         gives,
         elim c.match-try_from.branch [
           | in-Ok+else-not-can_send w ↦ (
-              let P : CoreSeen → Type 0 = λ s. CanSend c.args.self.now.call w.in-Ok.len w.can_send.result s in
               let can : w.can_send.result ≡ true = search rules in
               let long : length c.args.self.now.message ≡ w.in-Ok.len = search rules in
-              send_fits _ _ _ w.in-Ok.len _ _ _ w.can_send.result _ (subst P w.core.ensures.core w.can_send.ensures) long can gives
+              send_fits _ _ _ w.in-Ok.len _ _ _ w.can_send.result _ w.can_send.ensures long can gives
               )
           | in_default w ↦ (
               let L : List ℕ → Type 0 = λ m. 4294967295 < length m in
