@@ -1,5 +1,7 @@
 pub mod AgainLaws
+pub mod ApartLaws
 pub mod ChoiceLaws
+pub mod CompleteLaws
 pub mod ConfigLaws
 pub mod Lawful
 pub mod LiveLaws
@@ -7,6 +9,7 @@ pub mod LoadLaws
 pub mod OptionLaws
 pub mod RelayLaws
 pub mod ReportLaws
+pub mod RoomLaws
 pub mod RunLaws
 pub mod WordFaults
 pub mod WrittenLaws

@@ -7,30 +7,47 @@ use Rattle.attempt_ledger.specs.declared.ledger.Ledger.{Ledger}
 use Rattle.resolver_core.specs.AnyTargets.{authority_of}
 use Rattle.resolver_core.specs.declared.any_target.Target.{Target}
 use Rattle.script_text.specs.Report.{report_of}
-use Rattle.channel_core.specs.Core.{CoreSeen, IsNew, Runs, ledger_in}
+use Rattle.std.specs.Global.{Global}
+use Rattle.lb_policy.specs.Table.{PolicySeen}
+use Rattle.channel_core.specs.Core.{CoreSeen, IsNewBy, Runs, ledger_in}
 use Rattle.channel_core.specs.Sizes.{journal_bytes}
 use Rattle.session_text.specs.declared.ran.Ran.{Ran}
 use Rattle.session_text.specs.declared.ran.Ran.TheVariants as ran
-use Rattle.channel_top.specs.Runs.{FillsUp}
-use Rattle.session_text.specs.Sessions.{IsSession, run_text, session_full_text}
-use Rattle.session_text.proofs.SessionLaws.{session_of}
+use Rattle.channel_top.specs.Runs.{FillsUp, HadRoom, RunsInRoom}
+use Rattle.channel_top.proofs.RunLaws.{all_had_room}
+use Rattle.session_text.specs.Sessions.{AreEntriesOf, IsSession, run_text, session_full_text}
+use Rattle.session_text.proofs.EntryLaws.{entries_of}
 use Rattle.channel_top.proofs.Lawful.{AreLawful, session_lawful}
 use Rattle.channel_top.specs.Top.{HasRun, IsFullReport, IsReport, IsReportBy}
 
-pub report_whole : AreLawful → (target authority : List ℕ) (value : Target) (new core : CoreSeen) (events : List Stamped) (journal : Journal) (ledger : Ledger) → authority ≡ authority_of value → IsNew authority new → Runs new events core → journal ≡ core.journal → ledger ≡ ledger_in core → IsReport target value events (report_of target journal ledger)
-report_whole lawful target authority value new core events journal ledger is is_new runs j l =
-    let whole : IsSession (authority_of value) events journal ledger = session_of (authority_of value) new core events journal ledger (subst (λ (a : List ℕ). IsNew a new) is is_new) runs j l in
+-- the session of a channel that was new with these policies
+abbrev session_by : (alloc : Global) (authority : List ℕ) (policies : List PolicySeen) (new core : CoreSeen) (events : List Stamped) (journal : Journal) (ledger : Ledger) → IsNewBy alloc authority policies new → Runs new events core → journal ≡ core.journal → ledger ≡ ledger_in core → IsSession authority events journal ledger
+session_by alloc authority policies new core events journal ledger is_new runs j l = record {
+  new = new;
+  core = core;
+  is_new = (alloc, policies, is_new);
+  runs = runs;
+  journal_is = j;
+  ledger_is = l;
+  entries = subst (λ (x : Journal). AreEntriesOf events x) (sym j) (entries_of authority new events core (alloc, policies, is_new) runs);
+}
+
+pub report_whole : AreLawful → (alloc : Global) (policies : List PolicySeen) (target authority : List ℕ) (value : Target) (new core : CoreSeen) (events : List Stamped) (journal : Journal) (ledger : Ledger) → authority ≡ authority_of value → IsNewBy alloc authority policies new → RunsInRoom new events core → journal ≡ core.journal → ledger ≡ ledger_in core → IsReport policies target value events (report_of target journal ledger)
+report_whole lawful alloc policies target authority value new core events journal ledger is is_new runs j l =
+    let whole : IsSession (authority_of value) events journal ledger = session_by alloc (authority_of value) policies new core events journal ledger (subst (λ (a : List ℕ). IsNewBy alloc a policies new) is is_new) runs.0 j l in
     record {
       journal = journal;
       ledger = ledger;
       session = whole;
+      policies_are = refl;
+      room = subst (λ (x : Journal). HadRoom x.entries) (sym j) (all_had_room new events core is_new.journal runs);
       lawful = session_lawful lawful (authority_of value) events journal ledger whole;
       text_is = refl;
     }
 
-pub report_full : AreLawful → (target authority : List ℕ) (value : Target) (new core : CoreSeen) (events : List Stamped) (journal : Journal) (ledger : Ledger) → authority ≡ authority_of value → IsNew authority new → FillsUp new events core → journal ≡ core.journal → ledger ≡ ledger_in core → IsFullReport target value events (report_of target journal ledger ++ session_full_text)
-report_full lawful target authority value new core events journal ledger is is_new fills j l =
-    let whole : IsSession (authority_of value) fills.front journal ledger = session_of (authority_of value) new core fills.front journal ledger (subst (λ (a : List ℕ). IsNew a new) is is_new) fills.runs j l in
+pub report_full : AreLawful → (alloc : Global) (policies : List PolicySeen) (target authority : List ℕ) (value : Target) (new core : CoreSeen) (events : List Stamped) (journal : Journal) (ledger : Ledger) → authority ≡ authority_of value → IsNewBy alloc authority policies new → FillsUp new events core → journal ≡ core.journal → ledger ≡ ledger_in core → IsFullReport policies target value events (report_of target journal ledger ++ session_full_text)
+report_full lawful alloc policies target authority value new core events journal ledger is is_new fills j l =
+    let whole : IsSession (authority_of value) fills.front journal ledger = session_by alloc (authority_of value) policies new core fills.front journal ledger (subst (λ (a : List ℕ). IsNewBy alloc a policies new) is is_new) fills.runs.0 j l in
     record {
       front = fills.front;
       next = fills.next;
@@ -39,14 +56,16 @@ report_full lawful target authority value new core events journal ledger is is_n
       journal = journal;
       ledger = ledger;
       session = whole;
+      policies_are = refl;
+      room = subst (λ (x : Journal). HadRoom x.entries) (sym j) (all_had_room new fills.front core is_new.journal fills.runs);
       lawful = session_lawful lawful (authority_of value) fills.front journal ledger whole;
       full = subst (λ (x : Journal). HasNoRoom (length x.entries) (journal_bytes x.entries) fills.next.event) (sym j) fills.full;
       text_is = refl;
     }
 
 -- what is written of a channel that was given events is its report
-pub report_by : AreLawful → (r : Ran) (target : List ℕ) (value : Target) (core : CoreSeen) (events : List Stamped) → HasRun r (authority_of value) events core → IsReportBy r target value events (run_text r target core.journal (ledger_in core))
-report_by lawful ran.Whole target value core events has =
-    report_whole lawful target (authority_of value) value has.0 core events core.journal (ledger_in core) refl has.1 has.2 refl refl
-report_by lawful ran.Full target value core events has =
-    report_full lawful target (authority_of value) value has.0 core events core.journal (ledger_in core) refl has.1 has.2 refl refl
+pub report_by : AreLawful → (r : Ran) (policies : List PolicySeen) (target : List ℕ) (value : Target) (core : CoreSeen) (events : List Stamped) → HasRun r (authority_of value) policies events core → IsReportBy r policies target value events (run_text r target core.journal (ledger_in core))
+report_by lawful ran.Whole policies target value core events has =
+    report_whole lawful has.0 policies target (authority_of value) value has.1 core events core.journal (ledger_in core) refl has.2 has.3 refl refl
+report_by lawful ran.Full policies target value core events has =
+    report_full lawful has.0 policies target (authority_of value) value has.1 core events core.journal (ledger_in core) refl has.2 has.3 refl refl

@@ -1,3 +1,4 @@
+pub mod Complete
 pub mod ConfigMode
 pub mod Ending
 pub mod Links

@@ -1,6 +1,7 @@
 // The top call of the program: reads its words and runs the mode that they name.
 #![tactic(auto)]
 
+mod apart;
 mod command;
 mod config_mode;
 mod help;
@@ -19,4 +20,5 @@ mod tell;
 mod top;
 mod words;
 
+pub use apart::replays_end_apart;
 pub use top::{run_channel, run_steady};

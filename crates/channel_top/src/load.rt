@@ -35,11 +35,11 @@ pub fn run_load<P: Balancer, K: Sink>(
     report: &mut K,
 ) -> u8
     requires { are_ready (map P.seen policies.items) ≡ true }
-    ensures done { result ≡ 0 → WritesAll (IsLoadDone (kinds_of (map P.seen policies.items)) load) (K.taken report.old) (K.taken report.new) }
+    ensures done { result ≡ 0 → WritesAll (IsLoadDone (map P.seen policies.items) load) (K.taken report.old) (K.taken report.new) }
     ensures refused { result ≡ 2 → WritesAll (RefusesLoad (kinds_of (map P.seen policies.items))) (K.taken report.old) (K.taken report.new) }
-    ensures writing { result ≡ 5 → Rises (K.faults report.old) (K.faults report.new) × WritesFront (IsLoadText (kinds_of (map P.seen policies.items)) load) (K.taken report.old) (K.taken report.new) }
-    ensures memory { result ≡ 6 → WritesSome (IsLoadText (kinds_of (map P.seen policies.items)) load) (K.taken report.old) (K.taken report.new) }
-    ensures full { result ≡ 7 → WritesAll (FillsLoad load) (K.taken report.old) (K.taken report.new) }
+    ensures writing { result ≡ 5 → Rises (K.faults report.old) (K.faults report.new) × WritesFront (IsLoadText (map P.seen policies.items) load) (K.taken report.old) (K.taken report.new) }
+    ensures memory { result ≡ 6 → WritesSome (IsLoadText (map P.seen policies.items) load) (K.taken report.old) (K.taken report.new) }
+    ensures full { result ≡ 7 → WritesAll (FillsLoad (map P.seen policies.items) load) (K.taken report.old) (K.taken report.new) }
     ensures known { (result ≡ 0) ⊎ (result ≡ 2) ⊎ (result ≡ 5) ⊎ (result ≡ 6) ⊎ (result ≡ 7) }
 {
     let kinds = set_of(policies.as_slice());

@@ -36,9 +36,9 @@ pub fn report_session<P: Balancer, K: Sink>(
 ) -> Result<Ran, ReportFault>
     requires ready { are_ready (map P.seen policies.items) ≡ true }
     requires target { IsTarget script.value }
-    ensures ok { IfOk result (λ ran. WritesAll (IsReportBy ran script.target script.value script.events.items) (K.taken report.old) (K.taken report.new)) }
-    ensures err { OnErr result (WritesSome (IsRunReport script.target script.value script.events.items) (K.taken report.old) (K.taken report.new)) }
-    ensures write { (result ≡ Err ReportFault.Write) → Rises (K.faults report.old) (K.faults report.new) × WritesFront (IsRunReport script.target script.value script.events.items) (K.taken report.old) (K.taken report.new) }
+    ensures ok { IfOk result (λ ran. WritesAll (IsReportBy ran (map P.seen policies.items) script.target script.value script.events.items) (K.taken report.old) (K.taken report.new)) }
+    ensures err { OnErr result (WritesSome (IsRunReport (map P.seen policies.items) script.target script.value script.events.items) (K.taken report.old) (K.taken report.new)) }
+    ensures write { (result ≡ Err ReportFault.Write) → Rises (K.faults report.old) (K.faults report.new) × WritesFront (IsRunReport (map P.seen policies.items) script.target script.value script.events.items) (K.taken report.old) (K.taken report.new) }
 {
     let Script {
         target,
@@ -62,7 +62,7 @@ fn run_session<P: Balancer>(
 ) -> Result<Session<P>, NoMemory>
     requires ready { are_ready (map P.seen policies.items) ≡ true }
     requires target { IsTarget target }
-    ensures { IfOk result (λ s. HasRun s.ran (authority_of target) events.items s.core) }
+    ensures { IfOk result (λ s. HasRun s.ran (authority_of target) (map P.seen policies.items) events.items s.core) }
 {
     let authority = authority_of(alloc, target)?;
     let mut core = ChannelCore::new(alloc, authority, policies)?;
