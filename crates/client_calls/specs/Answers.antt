@@ -1,5 +1,5 @@
 -- What a step of a call answers, and the reply of the channel that it stands for.
-use Rattle.std.specs.Prelude.{◌≡◌, ℕ, Result, Ok, Err}
+use Rattle.std.specs.Prelude.{◌≡◌, ℕ, Bool, true, false, Result, Ok, Err}
 use Rattle.grpc_base.specs.declared.event.EndCause.{EndCause}
 use Rattle.grpc_base.specs.declared.event.EndCause.TheVariants as cause
 use Rattle.grpc_base.specs.declared.event.Reply.{Reply}
@@ -43,6 +43,11 @@ reply_of (received.End status) = reply.End status.code status.text status.meta s
 abbrev pub Receives : Result Reply PostError → Result Received CallError → Type 0
 Receives came (Ok x) = came ≡ Ok (reply_of x)
 Receives came (Err e) = Misses came e
+
+-- the end of the call was received
+abbrev pub is_end : Result Received CallError → Bool
+is_end (Ok (received.End status)) = true
+is_end _ = false
 
 -- a refusal is passed over
 abbrev pub unless_refused : Result Unit CallError → Result Unit CallError
