@@ -1,5 +1,5 @@
 // A channel in memory: it makes an entry of each event, and replies by what it is told.
-ghost use Rattle.std.specs.Prelude.{◌≡◌, ◌++◌, ◌∷◌, [], IfOk, OnErr, Some, false};
+ghost use Rattle.std.specs.Prelude.{◌≡◌, ◌⊎◌, ◌++◌, ◌∷◌, [], IfOk, OnErr, Some, false};
 ghost use Rattle.grpc_base.specs.Counts.{one_more};
 ghost use Rattle.grpc_base.specs.Posts.{AddsEntry, CountsErrors, MayReply, Posts, is_not_yet};
 ghost use Rattle.grpc_base.specs.declared.event.Event.TheVariants as event;
@@ -19,6 +19,9 @@ pub const DIALED: Address = Address {
 /// The moment until which each dial may take.
 pub const DIALED_UNTIL: u64 = 20_000_000_000;
 
+/// The error of each post that fails.
+pub const SPENT: PostError = PostError::NoMemory { spent: true };
+
 /// What the channel replies.
 #[derive(Clone, Copy, Debug)]
 pub struct Plan {
@@ -32,12 +35,16 @@ pub struct Plan {
     pub refuses: bool,
     /// Whether each post fails.
     pub fails: bool,
+    /// Which post fails alone, counted from 1; 0 for none.
+    pub failing: u64,
     /// When something is due.
     pub due: Option<u64>,
     /// Whether it wants a new result of the resolver.
     pub wanted: bool,
     /// How many messages a call gives before it ends.
     pub messages: u32,
+    /// The code of its end.
+    pub code: Code,
     /// How many looks show it before it is shut down.
     pub glances: u64,
 }
@@ -51,11 +58,22 @@ impl Plan {
             drains: false,
             refuses: false,
             fails: false,
+            failing: 0,
             due: None,
             wanted: false,
             messages: 0,
+            code: Code::Ok,
             glances: u64::MAX,
         }
+    }
+
+    /// Whether this post fails.
+    fn fails_now(&mut self) -> bool {
+        if self.failing == 0 {
+            return self.fails;
+        }
+        self.failing -= 1;
+        self.failing == 0 || self.fails
     }
 
     /// A reply that the event may get.
@@ -138,7 +156,6 @@ pub struct Channel {
     looks: u64,
     last_look: Option<Look>,
     zero: Moment,
-    ok: Code,
     alloc: Global,
 }
 
@@ -153,7 +170,6 @@ impl Channel {
             looks: 0,
             last_look: None,
             zero: Moment::new(0)?,
-            ok: Code::new(0)?,
             alloc,
         })
     }
@@ -203,7 +219,7 @@ impl Channel {
         }
     }
 
-    /// What comes next of a call: its messages, and then its end.
+    /// What comes next of a call: its messages, and then its end; or the refusal of a Take behind it.
     fn next_of_call(&mut self, call: u32) -> Reply
         ensures reply { MayReply (event.Take call) result }
         ensures come { is_not_yet result ≡ false }
@@ -211,9 +227,14 @@ impl Channel {
         ensures errors { (self.new.errors ≡ self.old.errors) × (self.new.last_error ≡ self.old.last_error) }
         ensures looks { (self.new.looks ≡ self.old.looks) × (self.new.last_look ≡ self.old.last_look) }
     {
+        if self.plan.refuses {
+            return Reply::Refused {
+                refusal: Refusal::CallEnded,
+            };
+        }
         if self.plan.messages == 0 {
             return Reply::End {
-                code: self.ok,
+                code: self.plan.code,
                 text: Text::new(self.alloc),
                 meta: Metadata::new(self.alloc),
                 cause: EndCause::Row,
@@ -223,6 +244,18 @@ impl Channel {
         Reply::Message {
             octets: Octets::of_static(b"answer"),
         }
+    }
+
+    /// What a message is answered.
+    fn sent(&self) -> Reply
+        ensures { (result ≡ Reply.Done) ⊎ (result ≡ Reply.Refused Refusal.Shut) }
+    {
+        if self.plan.refuses {
+            return Reply::Refused {
+                refusal: Refusal::Shut,
+            };
+        }
+        Reply::Done
     }
 
     /// Counts a look.
@@ -249,8 +282,8 @@ impl Post for Channel {
     ghost share = { λ c. [] };
 
     fn post(&mut self, event: Event) -> Result<Reply, PostError> {
-        if self.plan.fails {
-            return Err(self.fail(PostError::NoMemory { spent: true }));
+        if self.plan.fails_now() {
+            return Err(self.fail(SPENT));
         }
         let reply = self.plan.reply_to(&event);
         self.give(event, &reply)
@@ -259,12 +292,19 @@ impl Post for Channel {
 
 impl Caller for Channel {
     fn await_take(&mut self, call: u32) -> Result<Reply, PostError> {
+        if self.plan.fails_now() {
+            return Err(self.fail(SPENT));
+        }
         let reply = self.next_of_call(call);
         self.give(Event::Take { call }, &reply)
     }
 
     fn await_send(&mut self, call: u32, message: Octets) -> Result<Reply, PostError> {
-        self.give(Event::Send { call, message }, &Reply::Done)
+        if self.plan.fails_now() {
+            return Err(self.fail(SPENT));
+        }
+        let reply = self.sent();
+        self.give(Event::Send { call, message }, &reply)
     }
 }
 

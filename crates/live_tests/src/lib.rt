@@ -1,7 +1,10 @@
-// Tests of the workers at the edge, over links in memory that fail, and over a channel in memory that refuses and fails.
+// Tests of the workers at the edge and of an application's calls, over links in memory that fail, and over a channel in memory that refuses
+// and fails.
 #![tactic(auto)]
 
 mod channel;
+#[cfg(test)]
+mod client_calls_tests;
 #[cfg(test)]
 mod dial_tests;
 #[cfg(test)]
@@ -12,5 +15,7 @@ mod keepalive_core_tests;
 mod live_pump_tests;
 #[cfg(test)]
 mod names;
+#[cfg(test)]
+mod requests;
 
-pub use channel::{Channel, DIALED, DIALED_UNTIL, Plan};
+pub use channel::{Channel, DIALED, DIALED_UNTIL, Plan, SPENT};

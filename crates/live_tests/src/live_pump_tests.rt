@@ -1,10 +1,11 @@
 // Each pump over links and posts that fail, as tables; and the worker that keeps links open.
 use crate::names::names;
-use crate::{Channel, Plan};
+use crate::requests::request;
+use crate::{Channel, Plan, SPENT};
 use gate_io::{
     LinkIn, LinkOut, ListClock, MemDialer, MemLink, MemLinkIn, MemLinkOut, MemSink, MemSource,
 };
-use grpc_base::{CallLine, Items, Metadata, NoTender, Octets, PostError, Request, Text};
+use grpc_base::{CallLine, Items, NoTender, Octets};
 use keepalive_core::{KeepRule, KeepTable};
 use live_pump::{
     DialTurn, Pumped, call_worker, dial_once, net_worker, pump_in, pump_out, tick_if_due,
@@ -28,9 +29,6 @@ fn input(
 fn output(alloc: Global, failing: &[u64]) -> Result<MemLinkOut, AllocError> {
     Ok(MemLinkOut::new(MemSink::new(alloc, 4, failing.to_vec(alloc)?)))
 }
-
-/// The error of a channel whose posts fail.
-const SPENT: PostError = PostError::NoMemory { spent: true };
 
 /// A plan whose posts are refused, or fail.
 fn plan(refuses: bool, fails: bool) -> Plan {
@@ -367,14 +365,13 @@ fn a_peer_that_never_answers_is_pinged_and_lost(rt: HostRuntime) -> Result<(), F
 
 /// A line of a script with two messages.
 fn line(alloc: Global) -> Result<CallLine, Fail> {
-    let path = Text::of_slice(alloc, b"/a.B/C")?;
-    let Ok(request) = Request::new(path, Metadata::new(alloc), None, None) else {
-        return Err(Fail::new("the path is refused"));
-    };
     let mut messages = Items::new(alloc);
     messages.push(Octets::of_static(b"one"))?;
     messages.push(Octets::of_static(b"two"))?;
-    Ok(CallLine { request, messages })
+    Ok(CallLine {
+        request: request(alloc)?,
+        messages,
+    })
 }
 
 #[test]

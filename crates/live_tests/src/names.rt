@@ -18,6 +18,7 @@ fn name(event: &Event) -> &'static str {
         Event::Send { .. } => "send",
         Event::Finish { .. } => "finish",
         Event::Take { .. } => "take",
+        Event::Cancel { .. } => "cancel",
         Event::Resolved { .. } => "resolved",
         Event::ResolveFailed => "unresolved",
         _ => "other",
