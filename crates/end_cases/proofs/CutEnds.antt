@@ -2,6 +2,7 @@ pub mod Acts
 pub mod Ahead
 pub mod Call
 pub mod Ends
+pub mod LeftCuts
 pub mod Noted
 pub mod Pairs
 pub mod Rows
