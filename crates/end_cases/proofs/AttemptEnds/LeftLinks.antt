@@ -3,8 +3,8 @@ use Rattle.std.proofs.Common.{◌≡◌, ◌++◌, ◌+◌, ◌==◌, ◌||◌, 
 use Rattle.std.proofs.lemmas.Bool.{and_parts, eqb-false, eqb-true}
 use Rattle.std.specs.List.{list_all}
 use Rattle.std.specs.Prelude.{nat_le}
-use Rattle.attempt_ledger.specs.declared.kind.AttemptKind.TheVariants as kind
 use Rattle.attempt_ledger.specs.declared.row.RowEnd.{RowEnd}
+use Rattle.attempt_ledger.specs.declared.row.RowKind.TheVariants as kind
 use Rattle.call_cases.proofs.ConfiguredCalls.Lists.{changed_length}
 use Rattle.channel_core.specs.States.{StateSeen}
 use Rattle.end_cases.proofs.AttemptEnds.AheadCommits as commits
@@ -12,20 +12,19 @@ use Rattle.end_cases.proofs.AttemptEnds.AheadStays.{calls_end_ahead}
 use Rattle.end_cases.proofs.EndRetries.AheadMakes as makes
 use Rattle.end_cases.specs.AttemptEnds.Ahead.{LinksAhead}
 use Rattle.end_cases.specs.AttemptEnds.Left.{all_left, rows_ended}
-use Rattle.lb_policy.specs.Table.{is_one_of}
+use Rattle.grpc_base.specs.declared.event.EndCause.{EndCause}
 use Rattle.link_actions.proofs.Ended.{changed_one}
-use Rattle.link_actions.proofs.Without as lists
 use Rattle.link_actions.specs.Sees.{ArePlaced}
 use Rattle.session_actions.specs.AttemptEnds.{with_end}
 use Rattle.session_actions.specs.CallEnds.{call_ended}
 use Rattle.session_actions.specs.Calls.{marked}
 use Rattle.session_actions.specs.Commitments.{with_commitment}
-use Rattle.session_actions.specs.Entries.{entry}
+use Rattle.session_actions.specs.Entries.{entry, now}
 use Rattle.session_actions.specs.Making.{new_row}
 use Rattle.session_actions.specs.Attempts.{with_attempt}
 use Rattle.session_actions.specs.Words.{changed, changed_if, numbered}
 use Rattle.session_actions.specs.declared.attempt.Attempt.{Attempt}
-use Rattle.session_actions.specs.declared.call.EndCause.{EndCause}
+use Rattle.session_actions.specs.declared.call.Call.{Call}
 use Rattle.session_actions.specs.declared.call.MarkKind.TheVariants as mark
 use Rattle.session_actions.specs.declared.seen.Seen.{Seen}
 use Rattle.session_order.proofs.Changed.{changed_away, changed_twice}
@@ -133,19 +132,15 @@ still_there (x ∷ later) n xs a there =
     record { one = q.one; there = q.there; call = q.call ∙ k.call }
 
 -- each stands at its place
-pub places_left : (later : List (ℕ × RowEnd)) (xs : List Attempt) → ArePlaced 1 xs → list_all (λ (x : ℕ × RowEnd). nat_le x.0 (length xs)) later ≡ true → ArePlaced 1 (rows_ended later xs)
-places_left [] xs places within = places
-places_left (x ∷ later) xs places within =
-    places_left later (changed (with_end x.1) x.0 xs) (places_changed x.1 x.0 1 xs places)
-    (subst (λ (n : ℕ). list_all (λ (y : ℕ × RowEnd). nat_le y.0 n) later ≡ true) (sym (changed_length (with_end x.1) x.0 xs))
-    (and_parts (nat_le x.0 (length xs)) (list_all (λ (y : ℕ × RowEnd). nat_le y.0 (length xs)) later) within).1)
-  where
-    places_changed : (e : RowEnd) (n k : ℕ) (ys : List Attempt) → ArePlaced k ys → ArePlaced k (changed (with_end e) n ys)
-    places_changed e zero k ys are = are
-    places_changed e (suc i) k [] are = are
-    places_changed e (suc zero) k (y ∷ ys) are = are
-    places_changed e (suc (suc i)) k (y ∷ ys) are =
-        subst (ArePlaced k) (sym (changed_down (with_end e) i y ys)) (are.0, places_changed e (suc i) (k + 1) ys are.1)
+places_changed : (e : RowEnd) (n k : ℕ) (ys : List Attempt) → ArePlaced k ys → ArePlaced k (changed (with_end e) n ys)
+places_changed e zero k ys are = are
+places_changed e (suc i) k [] are = are
+places_changed e (suc zero) k (y ∷ ys) are = are
+places_changed e (suc (suc i)) k (y ∷ ys) are = subst (ArePlaced k) (sym (changed_down (with_end e) i y ys)) (are.0, places_changed e (suc i) (k + 1) ys are.1)
+
+pub places_left : (later : List (ℕ × RowEnd)) (xs : List Attempt) → ArePlaced 1 xs → ArePlaced 1 (rows_ended later xs)
+places_left [] xs places = places
+places_left (x ∷ later) xs places = places_left later (changed (with_end x.1) x.0 xs) (places_changed x.1 x.0 1 xs places)
 
 -- a call ends
 pub calls_end_left : (later : List (ℕ × RowEnd)) (u : Seen) (number : ℕ) (why : EndCause) (also : List ℕ) (x : StateSeen) → LinksAhead also x (all_left later u)
@@ -153,8 +148,7 @@ pub calls_end_left : (later : List (ℕ × RowEnd)) (u : Seen) (number : ℕ) (w
 calls_end_left later u number why also x ahead = calls_end_ahead (all_left later u) number why also x ahead
 
 -- a call is committed
-module _ (later : List (ℕ × RowEnd)) (u : Seen) (place : ℕ) (pa : Attempt) (there : numbered u.attempts place ≡ Some pa) (places : ArePlaced 1 u.attempts)
-    (within : list_all (λ (x : ℕ × RowEnd). nat_le x.0 (length u.attempts)) later ≡ true) where
+module _ (later : List (ℕ × RowEnd)) (u : Seen) (place : ℕ) (pa : Attempt) (there : numbered u.attempts place ≡ Some pa) (places : ArePlaced 1 u.attempts) where
   abbrev k : IsStillThere (rows_ended later u.attempts) place pa
   k = still_there later place u.attempts pa there
 
@@ -165,7 +159,7 @@ module _ (later : List (ℕ × RowEnd)) (u : Seen) (place : ℕ) (pa : Attempt) 
   v = commits.v u place pa there places
 
   places_w : ArePlaced 1 w.attempts
-  places_w = places_left later u.attempts places within
+  places_w = places_left later u.attempts places
 
   same : commits.v w place k.one k.there places_w ≡ all_left later v
   same =
@@ -180,27 +174,21 @@ module _ (later : List (ℕ × RowEnd)) (u : Seen) (call number due : ℕ) (with
   abbrev new_at : ℕ → Attempt
   new_at n = record { place = n + 1; row = new_row call number kind.Transparent due; made = entry u; reset = false }
 
-  -- the session then
-  abbrev v : Seen
-  v = makes.v u call number due
+  -- the session then, with this count of attempts
+  abbrev made_as : ℕ → List Attempt → Seen
+  made_as n xs = record u {
+    attempts = xs;
+    calls = changed (λ (c : Call). record c { marks = c.marks ++ record { what = mark.Made (n + 1); moment = now u } ∷ [] }) call u.calls;
+  }
 
-  noted_at : ℕ → List Attempt → Seen
-  noted_at n xs = makes.v (record u { attempts = xs }) call number due
+  abbrev then_made : Seen
+  then_made = makes.v u call number due
 
-  -- of the count of attempts alone the notes of the call hang
-  same : makes.v (all_left later u) call number due ≡ all_left later v
-  same = grown (length (rows_ended later u.attempts)) (rows_long later u.attempts)
-    where
-      made_as : ℕ → List Attempt → Seen
-      made_as n xs = record u {
-        attempts = xs;
-        calls = changed (λ c. record c { marks = c.marks ++ record { what = mark.Made (n + 1); moment = now u } ∷ [] }) call u.calls;
-      }
+  grown : (n : ℕ) → n ≡ length u.attempts → made_as n (rows_ended later u.attempts ++ new_at n ∷ []) ≡ all_left later then_made
+  grown n long =
+      ap (λ (m : ℕ). made_as m (rows_ended later u.attempts ++ new_at m ∷ [])) long
+      ∙ ap (made_as (length u.attempts)) (sym (rows_more later u.attempts (new_at (length u.attempts) ∷ []) within))
 
-      grown : (n : ℕ) → n ≡ length u.attempts → made_as n (rows_ended later u.attempts ++ new_at n ∷ []) ≡ all_left later v
-      grown n long =
-          ap (λ (m : ℕ). made_as m (rows_ended later u.attempts ++ new_at m ∷ [])) long
-          ∙ ap (made_as (length u.attempts)) (sym (rows_more later u.attempts (new_at (length u.attempts) ∷ []) within))
-
-  pub makes_left : (also : List ℕ) (x : StateSeen) → LinksAhead also x (all_left later u) → LinksAhead also x (all_left later v)
-  makes_left also x ahead = subst (LinksAhead also x) same (makes.makes_ahead (all_left later u) call number due also x ahead)
+  pub makes_left : (also : List ℕ) (x : StateSeen) → LinksAhead also x (all_left later u) → LinksAhead also x (all_left later then_made)
+  makes_left also x ahead =
+      subst (LinksAhead also x) (grown (length (rows_ended later u.attempts)) (rows_long later u.attempts)) (makes.makes_ahead (all_left later u) call number due also x ahead)
