@@ -149,7 +149,7 @@ module _ (later : List (ℕ × RowEnd)) (waits : Line → Bool) (also : List ℕ
 
   ahead_t : LinksAhead also (all_reset cuts x) (all_left later t)
   ahead_t =
-      cuts_left later cuts begun_at t also x (done later waits also a out x o s is counting free final last_end).off ready (last_commits.ahead_two later waits also a out x o s is counting)
+      cuts_left later cuts begun_at t also x (done later waits also a out x o s is counting free final last_end).off ready kept_f.owned (last_commits.ahead_two later waits also a out x o s is counting)
 
   ahead_closed : LinksAhead also (all_reset cuts x) (all_left later (w later waits also a out x o s is counting free final last_end))
   ahead_closed =
