@@ -259,7 +259,7 @@ module _ (link : ℕ) (piece : List ℕ) (x : StateSeen) (o : OpenEntry) (s : Se
         still = λ m off waits. down.still m off;
         over = starts.over_after over.Broken act link (coming link piece x) o s broken_over;
         quiet = starts.quiet_after over.Broken act link (coming link piece x) o s broken_over;
-        agrees = subst (λ (n : ℕ). AgreesAhead (link ∷ []) (stamped_gone n (buried link heard_x)) t) (sym number_is)
+        agrees = subst (λ (n : ℕ). AgreesAhead [] (link ∷ []) (stamped_gone n (buried link heard_x)) t) (sym number_is)
             (agrees_ahead (link ∷ []) (stamped_gone link (buried link heard_x)) t agrees_t (subst AreUnreset (sym down.boarded) is.known.early.resets) (down.still line.Reset refl));
         greeted = greeted_along those s t h0.kept is.known.greeted does_t;
         streams = streams_along those s t h0.kept is.known.greeted is.known.streams does_t;

@@ -56,7 +56,7 @@ use Rattle.session_order.specs.declared.line.Line.TheVariants as line
 
 -- the end of one attempt is next, and no other attempt is about to end; the link is not over
 pub record IsAboutToEnd (link : ℕ) (whole : List ℕ) (l : Link) (a : Attempt) (out : Outcome) (z : StateSeen) (o : OpenEntry) (t : Seen) : Type 0 where
-  pub next : EndNext none_waits (link ∷ []) a out z o t
+  pub next : EndNext [] none_waits (link ∷ []) a out z o t
   pub event_is : o.event ≡ event.Arrived link whole
   pub stage_is : o.stage ≡ stage.Replied
   pub here : numbered t.links link ≡ Some l
@@ -126,8 +126,8 @@ module _ (ends : OneAttemptEnds) (link : ℕ) (whole : List ℕ) (l : Link) (a :
   abbrev y : StateSeen
   y = ended_in a news_ z
 
-  he : HasEnded none_waits (link ∷ []) a out z o t
-  he = ends none_waits (link ∷ []) a out z o t is.next tt
+  he : HasEnded [] none_waits (link ∷ []) a out z o t
+  he = ends [] none_waits (link ∷ []) a out z o t is.next tt
 
   abbrev u : Seen
   u = attempt_ended a.place end t

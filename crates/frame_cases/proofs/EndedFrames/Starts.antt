@@ -818,7 +818,7 @@ module _ (link : ℕ) (piece : List ℕ) (x : StateSeen) (o : OpenEntry) (s : Se
     held_z j now got =
         each_slot (λ (q : CallSlot). IsHeld (length x.book.ledger.rows) q.call.buffer) (held number has.slot has.there) (λ k was there. held k was there) j now got
 
-    end_next : EndNext none_waits (link ∷ []) a out z o t
+    end_next : EndNext [] none_waits (link ∷ []) a out z o t
     end_next = record {
       late = λ k e. absurd (let bad : false ≡ true = e in let no : ⊥ = (cc) in no);
       current = refl;
@@ -834,6 +834,7 @@ module _ (link : ℕ) (piece : List ℕ) (x : StateSeen) (o : OpenEntry) (s : Se
       still = λ k off waits. still_t k (no_wire_end k off);
       books = books;
       links = links;
+      among = refl;
       unreset = is.known.early.resets;
       apart = is.known.streams.apart;
       rising = rising;
