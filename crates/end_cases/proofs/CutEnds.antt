@@ -3,6 +3,7 @@ pub mod Ahead
 pub mod Call
 pub mod Ends
 pub mod LeftCuts
+pub mod LeftNext
 pub mod Noted
 pub mod Pairs
 pub mod Rows

@@ -304,7 +304,7 @@ module _ (s t : Seen) (code : (b : Attempt) → reset_code_of t b ≡ reset_code
   row_self : (a : Attempt) → IsSameRow s t a a
   row_self a = record { place = refl; call = refl; placed = refl; stream = refl; goes = refl; code = code a }
 
-  rows_self : (xs : List Attempt) → AreSameRows s t xs xs
+  pub rows_self : (xs : List Attempt) → AreSameRows s t xs xs
   rows_self [] = tt
   rows_self (x ∷ xs) = (row_self x, rows_self xs)
 
@@ -312,7 +312,7 @@ module _ (s t : Seen) (code : (b : Attempt) → reset_code_of t b ≡ reset_code
     row_ended : (a : Attempt) → IsSameRow s t (with_end d a) (with_end e a)
     row_ended a = record { place = refl; call = refl; placed = refl; stream = refl; goes = refl; code = alike a }
 
-    rows_changed : (n : ℕ) (xs : List Attempt) → AreSameRows s t (changed (with_end d) n xs) (changed (with_end e) n xs)
+    pub rows_changed : (n : ℕ) (xs : List Attempt) → AreSameRows s t (changed (with_end d) n xs) (changed (with_end e) n xs)
     rows_changed zero xs = rows_self xs
     rows_changed (suc i) [] = tt
     rows_changed (suc zero) (x ∷ xs) = (row_ended x, rows_self xs)
@@ -325,20 +325,20 @@ module _ (s : Seen) (a : Attempt) (e : RowEnd) (places : ArePlaced 1 s.attempts)
   abbrev ends : Seen
   ends = attempt_ended a.place e s
 
-  links_of : ends.links ≡ s.links
+  pub links_of : ends.links ≡ s.links
   links_of = ap (λ (v : Seen). v.links) (is_ended s a.place e a places there)
 
-  calls_of : ends.calls ≡ changed (noted_call (mark.Ended a.place) (now s)) a.row.call s.calls
+  pub calls_of : ends.calls ≡ changed (noted_call (mark.Ended a.place) (now s)) a.row.call s.calls
   calls_of = ap (λ (v : Seen). v.calls) (is_ended s a.place e a places there)
 
-  rows_of : ends.attempts ≡ changed (with_end e) a.place s.attempts
+  pub rows_of : ends.attempts ≡ changed (with_end e) a.place s.attempts
   rows_of = ap (λ (v : Seen). v.attempts) (is_ended s a.place e a places there)
 
-  limit_of : (c : Call) → (chosen_of c ends).response ≡ (chosen_of c s).response
+  pub limit_of : (c : Call) → (chosen_of c ends).response ≡ (chosen_of c s).response
   limit_of c = ap (λ (v : Seen). (chosen_of c v).response) (is_ended s a.place e a places there)
 
 -- what is asked of the session stands with the ends that are left
-ready_left : (later : List (ℕ × RowEnd)) (s : Seen) → IsReady s → IsReady (all_left later s)
+pub ready_left : (later : List (ℕ × RowEnd)) (s : Seen) → IsReady s → IsReady (all_left later s)
 ready_left [] s is = is
 ready_left (x ∷ later) s is =
     let f : Attempt → Attempt = with_end x.1 in
@@ -352,10 +352,10 @@ ready_left (x ∷ later) s is =
       reads = is.reads;
     })
 
-abbrev AreOwned : Seen → Type 0
+abbrev pub AreOwned : Seen → Type 0
 AreOwned s = list_all (λ (a : Attempt). is_some (call_of a s)) s.attempts ≡ true
 
-owned_left : (later : List (ℕ × RowEnd)) (s : Seen) → AreOwned s → AreOwned (all_left later s)
+pub owned_left : (later : List (ℕ × RowEnd)) (s : Seen) → AreOwned s → AreOwned (all_left later s)
 owned_left [] s is = is
 owned_left (x ∷ later) s is =
     owned_left later (record s { attempts = changed (with_end x.1) x.0 s.attempts })
