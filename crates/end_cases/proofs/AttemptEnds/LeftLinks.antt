@@ -16,12 +16,12 @@ use Rattle.grpc_base.specs.declared.event.EndCause.{EndCause}
 use Rattle.link_actions.proofs.Ended.{changed_one}
 use Rattle.link_actions.specs.Sees.{ArePlaced}
 use Rattle.session_actions.specs.AttemptEnds.{with_end}
+use Rattle.session_actions.specs.Attempts.{with_attempt}
 use Rattle.session_actions.specs.CallEnds.{call_ended}
 use Rattle.session_actions.specs.Calls.{marked}
 use Rattle.session_actions.specs.Commitments.{with_commitment}
 use Rattle.session_actions.specs.Entries.{entry, now}
 use Rattle.session_actions.specs.Making.{new_row}
-use Rattle.session_actions.specs.Attempts.{with_attempt}
 use Rattle.session_actions.specs.Words.{changed, changed_if, numbered}
 use Rattle.session_actions.specs.declared.attempt.Attempt.{Attempt}
 use Rattle.session_actions.specs.declared.call.Call.{Call}

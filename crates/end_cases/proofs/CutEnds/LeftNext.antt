@@ -1,12 +1,13 @@
 -- The first of the ends that a session owes comes, or came already, as a cut: its links are as far ahead as before, with the others that are left.
-use Rattle.std.proofs.Common.{List, Some, [], ap, arith, false, is_some, map, refl, subst, sym, suc, zero, ℕ, ◌==◌, ◌∙◌, ◌∷◌, ◌≡◌, Bool, true}
+use Rattle.std.proofs.Common.{List, Some, [], ap, arith, false, refl, subst, sym, suc, zero, ℕ, ◌==◌, ◌∙◌, ◌∷◌, ◌≡◌, Bool, true}
 use Rattle.attempt_ledger.specs.declared.row.RowEnd.{RowEnd}
 use Rattle.call_cases.proofs.EndsFollow.Codes.{ended_code}
 use Rattle.call_cases.proofs.LinkEnds.Cutting.{counted_places}
 use Rattle.channel_core.specs.States.{StateSeen}
 use Rattle.end_cases.proofs.AttemptEnds.LeftLinks.{changed_down, is_among, places_left, rows_apart}
 use Rattle.end_cases.proofs.CutEnds.Ahead.{IsReady}
-use Rattle.end_cases.proofs.CutEnds.LeftCuts.{AreOwned, AreSameRows, IsAsFar, IsSameCall, as_far, calls_of, limit_of, links_of, owned_left, ready_left, rows_changed, rows_of}
+use Rattle.end_cases.proofs.CutEnds.AsFar.{AreSameRows, IsAsFar, IsSameCall, as_far}
+use Rattle.end_cases.proofs.CutEnds.LeftCuts.{AreOwned, calls_of, limit_of, links_of, owned_left, ready_left, rows_changed, rows_of}
 use Rattle.end_cases.specs.AttemptEnds.Ahead.{LinksAhead}
 use Rattle.end_cases.specs.AttemptEnds.Left.{all_left, rows_ended}
 use Rattle.link_actions.proofs.Ended.{changed_one, noted_call}
