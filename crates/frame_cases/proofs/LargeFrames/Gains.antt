@@ -109,10 +109,10 @@ gained_large tag seen p q grown plain is =
     ap (λ (h : Option (List Field)). head_gained tag seen p.head h ++ ms ++ large_gained tag seen q.large ++ ends) (plain.head is)
     ∙ ap (λ (xs : List News). xs ++ ms ++ large_gained tag seen q.large ++ ends) (same_head tag seen p.head)
     ∙ ap (λ (b : Bool). none ++ ms ++ large_gained tag seen b ++ ends) is
-    ∙ ap (λ (xs : List (List ℕ)). none ++ map (message_news tag seen) xs ++ news.TooLarge tag seen ∷ [] ++ ends) left
-    ∙ ap (λ (e : Option Outcome). none ++ map (message_news tag seen) grown.more ++ news.TooLarge tag seen ∷ [] ++ end_gained tag (option_map (λ (x : Outcome). end_news x seen) e))
+    ∙ ap (λ (xs : List (List ℕ)). none ++ map (message_news tag seen) xs ++ (news.TooLarge tag seen ∷ []) ++ ends) left
+    ∙ ap (λ (e : Option Outcome). none ++ map (message_news tag seen) grown.more ++ (news.TooLarge tag seen ∷ []) ++ end_gained tag (option_map (λ (x : Outcome). end_news x seen) e))
     (plain.goes is)
-    ∙ append-nil (map (message_news tag seen) grown.more ++ news.TooLarge tag seen ∷ [])
+    ∙ append-nil (map (message_news tag seen) grown.more ++ (news.TooLarge tag seen ∷ []))
 
 -- a message that is too long is reported only of a response that has one
 head_no_large : (tag seen : ℕ) (p q : Option (List Field)) → list_any is_large (head_gained tag seen p q) ≡ false
