@@ -88,7 +88,7 @@ never_late : (k : Line) → never k ≡ true → is_late k ≡ true
 never_late k e = absurd (let bad : false ≡ true = e in let no : ⊥ = (cc) in no)
 
 -- a link on which nothing is left to seal
-sealed_same : (q : LinkSlot) → q.link.link.wire.queue.fresh ≡ 0 → with_link sealed_link q ≡ q
+pub sealed_same : (q : LinkSlot) → q.link.link.wire.queue.fresh ≡ 0 → with_link sealed_link q ≡ q
 sealed_same q e =
     ap (λ (n : ℕ). record q { link = record q.link { link = record q.link.link { wire = record q.link.link.wire { queue = record q.link.link.wire.queue { fresh = n } } } } }) (sym e)
 

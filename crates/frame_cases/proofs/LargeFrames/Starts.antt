@@ -13,13 +13,17 @@ use Rattle.call_actions.specs.TakeActions.Serves.{IsLeft, came}
 use Rattle.call_cases.proofs.CallPosts.Asked.{deadline_right, due_right}
 use Rattle.call_cases.proofs.EndsFollow.Apart.{last_passes}
 use Rattle.call_cases.proofs.EndsFollow.Codes.{response_by_limit}
+use Rattle.call_cases.specs.CallEnds.Ends.{HasNotedLink}
 use Rattle.call_core.specs.Laws as call_laws
 use Rattle.call_core.specs.Steps.{Stepped, closed_by, is_committed_live}
+use Rattle.channel_actions.proofs.LinkFrames.Frame.{others_agree}
+use Rattle.channel_actions.proofs.LinkFrames.Untold.{actions_are_untold}
 use Rattle.channel_actions.proofs.Stamps.{counted_at}
 use Rattle.channel_actions.specs.Agrees.{Agrees}
 use Rattle.channel_actions.specs.Calls.{HasSlot, SeesCall}
 use Rattle.channel_actions.specs.KeptSessions.Kept.{IsKept}
-use Rattle.channel_actions.specs.Links.{SeesLinkOf, lines_in}
+use Rattle.channel_actions.specs.LinkFrames.Alike.{CannotTell}
+use Rattle.channel_actions.specs.Links.{HasLink, SeesLinkOf, lines_in}
 use Rattle.channel_core.proofs.BookLaws.{number_changed, number_other}
 use Rattle.channel_core.proofs.Resting.{changed_length}
 use Rattle.channel_core.specs.Arrivals.{frame_heard, heard_all}
@@ -30,7 +34,6 @@ use Rattle.channel_core.specs.Tables.{Heard, heard_in, heard_link, with_call, wi
 use Rattle.channel_core.specs.declared.state.links.LinkSlot.{LinkSlot}
 use Rattle.channel_core.specs.declared.state.slots.CallSlot.{CallSlot}
 use Rattle.end_cases.specs.AttemptEnds.Ahead.{AgreesOffLinks}
-use Rattle.frame_cases.proofs.EndedFrames.Told as told_
 use Rattle.frame_cases.proofs.HeadFrames.Lists.{found_only}
 use Rattle.frame_cases.proofs.LargeFrames.Comes.{HasFirst, IsReadWithLarge, large_comes}
 use Rattle.frame_cases.proofs.LargeFrames.Told.{large_news, messages_first, no_end, told_large}
@@ -154,7 +157,7 @@ module _ (link : ℕ) (piece : List ℕ) (x : StateSeen) (o : OpenEntry) (s : Se
   abbrev pub h0 : Agrees (coming link piece x) s
   h0 = is.agrees
 
-  own : l.number ≡ link
+  pub own : l.number ≡ link
   own = read.own link piece x o s is h r next hears
 
   places : (i : ℕ) (b : Attempt) → numbered s.attempts i ≡ Some b → b.place ≡ i
@@ -564,3 +567,30 @@ module _ (link : ℕ) (piece : List ℕ) (x : StateSeen) (o : OpenEntry) (s : Se
       by true e = at_response k e
       by false e = ended_leaves number ending.Response o t refl (λ j d got. numbers j d got) k o refl (ap (λ (b : Bool). b || false) off) (still_t k e)
 
+  -- each link, as far as it is noted in the ledger: the one of the frame, and the others
+  read_apart : CannotTell (λ (k : ℕ). link == k) s t
+  read_apart =
+      subst (CannotTell (λ (k : ℕ). link == k) s) (read.after_is link piece x o s is h r next hears) (actions_are_untold (action.FrameRead link r) s h0.kept tt)
+
+  pub there_m : numbered t.links link ≡ Some m
+  there_m = read.there link piece x o s is h r next hears
+
+  pub others_z : (k : ℕ) (q : Link) → numbered t.links k ≡ Some q → (link == k) ≡ false → HasLink z t q k
+  others_z k q got off =
+      others_agree (λ (j : ℕ). link == j) (coming link piece x) z s t k q h0.links h0.kept kept_t z_others read_apart off got
+
+  pub noted_links : (k : ℕ) (q : Link) → numbered t.links k ≡ Some q → HasNotedLink z t q k
+  noted_links k q got = by (link == k) refl
+    where
+      has_m : HasNotedLink z t m link
+      has_m = record { slot = z_slot; there = z_there; over = sees_l.over; retiring = long.retiring ∙ sees_l.retiring }
+
+      by : (e : Bool) → (link == k) ≡ e → HasNotedLink z t q k
+      by false e =
+          let had : HasLink z t q k = others_z k q got e in
+          record { slot = had.slot; there = had.there; over = had.sees.over; retiring = had.sees.retiring }
+      by true e =
+          let same : link ≡ k = eqb-true link k e in
+          let both : Some m ≡ Some q = sym there_m ∙ ap (numbered t.links) same ∙ got in
+          let one : m ≡ q = (cc) in
+          subst (λ (j : ℕ). HasNotedLink z t q j) same (subst (λ (b : Link). HasNotedLink z t b link) one has_m)

@@ -1,0 +1,6 @@
+pub mod Comes
+pub mod Gains
+pub mod Heard
+pub mod Links
+pub mod Starts
+pub mod Told
