@@ -572,9 +572,6 @@ module _ (link : ℕ) (piece : List ℕ) (x : StateSeen) (o : OpenEntry) (s : Se
   read_apart =
       subst (CannotTell (λ (k : ℕ). link == k) s) (read.after_is link piece x o s is h r next hears) (actions_are_untold (action.FrameRead link r) s h0.kept tt)
 
-  pub there_m : numbered t.links link ≡ Some m
-  there_m = read.there link piece x o s is h r next hears
-
   pub others_z : (k : ℕ) (q : Link) → numbered t.links k ≡ Some q → (link == k) ≡ false → HasLink z t q k
   others_z k q got off =
       others_agree (λ (j : ℕ). link == j) (coming link piece x) z s t k q h0.links h0.kept kept_t z_others read_apart off got
