@@ -1,3 +1,4 @@
+pub mod Apart
 pub mod Comes
 pub mod Gains
 pub mod Heard

@@ -75,7 +75,7 @@ module _ (x : StateSeen) (s t : Seen) (cuts : List Attempt) (kept : IsKept s) (u
   pub after : IsCutting t
   after = cuts_still cuts s t off cutting
 
-  nothing : (link : ℕ) → owed_on link s ≡ []
+  pub nothing : (link : ℕ) → owed_on link s ≡ []
   nothing link =
       none_sorted stream_number (is_owed_on link s) s.attempts
       (λ i a at. ap (λ (b : Bool). b && (link_number a == link)) (not_any (λ (b : Attempt). is_some (reset_code_of s b)) s.attempts none i a at))

@@ -515,7 +515,7 @@ module _ (link : ℕ) (piece : List ℕ) (x : StateSeen) (o : OpenEntry) (s : Se
   limit_ended k =
       ap (limit_in marked_t) (changed_any end_it number k.row.call marked_t.calls) ∙ limit_kept marked_t end_it (k.row.call == number) (call_of k marked_t) (λ d. refl)
 
-  response_same : (k : Attempt) → response k ended_t ≡ response k t
+  pub response_same : (k : Attempt) → response k ended_t ≡ response k t
   response_same k = response_by_limit t ended_t k k.row.stream refl (limit_ended k ∙ limit_marked k)
 
   same_long : (d : Call) (q : Option Attempt)
