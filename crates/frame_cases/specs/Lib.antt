@@ -3,6 +3,7 @@ pub mod BrokenLinks
 pub mod EndedFrames
 pub mod FirstSettings
 pub mod HeadFrames
+pub mod LargeFrames
 pub mod MessageFrames
 pub mod PassedBytes
 pub mod PieceWalks

@@ -6,6 +6,7 @@ pub mod ended_frames;
 pub mod first_settings;
 pub mod frame_kinds;
 pub mod head_frames;
+pub mod large_frames;
 pub mod message_frames;
 pub mod passed_bytes;
 pub mod piece_walks;

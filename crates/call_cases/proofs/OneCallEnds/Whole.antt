@@ -18,7 +18,7 @@ use Rattle.call_cases.proofs.CallEnds.On.{resets, to_end}
 use Rattle.call_cases.proofs.CallEnds.Sets.{done}
 use Rattle.call_cases.proofs.OneCallEnds.Gone as gone
 use Rattle.call_cases.proofs.OneCallEnds.Own.{calls_are, columns_on, others_slots, own_slot}
-use Rattle.call_cases.proofs.OneCallEnds.Rows.{outstanding_on, patient_on, queue_on}
+use Rattle.call_cases.proofs.OneCallEnds.Rows.{outstanding_on, patient_on, queue_on, same}
 use Rattle.call_cases.specs.CallEnds.Ends.{EndsNext, HasEnded, IsToEnd}
 use Rattle.call_cases.specs.CallEnds.Laws.{OneCallEnds, OneCallEndsAhead}
 use Rattle.channel_core.proofs.Resting.{changed_length}
@@ -112,6 +112,7 @@ module _ (waits : Line → Bool) (n : ℕ) (why : EndCause) (x : StateSeen) (o :
     current = (on waits n why x o s is).current;
     still = (on waits n why x o s is).still;
     unreset = (on waits n why x o s is).unreset;
+    links = (same waits n why x o s is).links;
     agrees = agrees;
   }
 

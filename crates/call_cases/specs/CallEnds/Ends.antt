@@ -1,7 +1,7 @@
 -- A call ends, for whatever cause, in the channel and in the session, from the point at which its end is next to the one at which nothing follows from it any
 -- more. In the session: CallEnds, then AttemptEnds of each outstanding attempt of it, then StreamReset by link and stream. The channel does it at once.
 -- Example: call 1, with attempts on stream 3 and stream 1 of link 1, is cancelled. CallEnds 1; AttemptEnds of both; StreamReset of stream 1, and of stream 3.
-use Rattle.std.specs.Prelude.{Bool, List, None, Some, [], false, filter, is_some, length, true, ◌∷◌, ◌≡◌, ℕ}
+use Rattle.std.specs.Prelude.{Bool, List, None, Some, [], false, filter, is_some, length, map, true, ◌∷◌, ◌≡◌, ℕ}
 use Rattle.channel_actions.specs.Agrees.{Agrees}
 use Rattle.channel_actions.specs.Calls.{SeesCalls}
 use Rattle.channel_actions.specs.Clock.{SeesClock}
@@ -133,6 +133,10 @@ pub record EndsApart (waits : Line → Bool) (number : ℕ) (why : EndCause) (x 
   pub apart : GoesApart number s on.seen
   pub agrees : AgreesApart (closed why number x) on.seen
 
+-- of a link all but what it owes
+abbrev pub none_owed : Link → Link
+none_owed l = record l { owed = [] }
+
 -- the session after it: in the same entry, at the same stage, with nothing that follows at once but what these lines give
 pub record HasEnded (waits : Line → Bool) (number : ℕ) (why : EndCause) (x : StateSeen) (o : OpenEntry) (s : Seen) : Type 0 where
   pub actions : List Action
@@ -144,4 +148,5 @@ pub record HasEnded (waits : Line → Bool) (number : ℕ) (why : EndCause) (x :
   pub current : seen.current ≡ Some o
   pub still : (l : Line) → waits l ≡ false → IsStill l o seen
   pub unreset : AreUnreset seen
+  pub links : map none_owed seen.links ≡ map none_owed s.links
   pub agrees : Agrees (closed why number x) seen

@@ -93,7 +93,7 @@ sealed_same q e =
     ap (λ (n : ℕ). record q { link = record q.link { link = record q.link.link { wire = record q.link.link.wire { queue = record q.link.link.wire.queue { fresh = n } } } } }) (sym e)
 
 -- a link of which nothing else changed than what is queued
-record HasAlike (ls : List Link) (n : ℕ) (l : Link) : Type 0 where
+pub record HasAlike (ls : List Link) (n : ℕ) (l : Link) : Type 0 where
   pub now : Link
   pub there : numbered ls n ≡ Some now
   pub alike : unowed now ≡ unowed l
@@ -102,7 +102,7 @@ alike_by : (ls : List Link) (n : ℕ) (l : Link) (q : Option Link) → numbered 
 alike_by ls n l None e same = absurd (let bad : None ≡ Some (unowed l) = same in (cc))
 alike_by ls n l (Some k) e same = record { now = k; there = e; alike = (let both : Some (unowed k) ≡ Some (unowed l) = same in let one : unowed k ≡ unowed l = (cc) in one) }
 
-alike_at : (ls ks : List Link) (n : ℕ) (l : Link) → map unowed ls ≡ map unowed ks → numbered ks n ≡ Some l → HasAlike ls n l
+pub alike_at : (ls ks : List Link) (n : ℕ) (l : Link) → map unowed ls ≡ map unowed ks → numbered ks n ≡ Some l → HasAlike ls n l
 alike_at ls ks n l same there =
     alike_by ls n l (numbered ls n) refl
     (sym (numbered_map unowed ls n) ∙ ap (λ (zs : List Link). numbered zs n) same ∙ numbered_map unowed ks n ∙ ap (option_map unowed) there)

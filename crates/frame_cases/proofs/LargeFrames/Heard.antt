@@ -4,6 +4,7 @@ use Rattle.std.specs.List.{list_all}
 use Rattle.call_cases.specs.CallEnds.Ends.{AgreesToEnd, HasEnded, HasNotedLink, IsToEnd}
 use Rattle.call_cases.specs.CallEnds.Laws.{OneCallEndsAhead}
 use Rattle.attempt_cases.proofs.DrainEvents.Rooms.{one_some}
+use Rattle.attempt_cases.specs.CallCommits.Commits.{unowed}
 use Rattle.channel_actions.proofs.BoardActions.Calm.{of_order}
 use Rattle.channel_actions.specs.Agrees.{Agrees}
 use Rattle.channel_actions.specs.Links.{HasLink}
@@ -13,10 +14,9 @@ use Rattle.channel_core.specs.Tables.{sealed_link, with_link}
 use Rattle.channel_core.specs.declared.state.links.LinkSlot.{LinkSlot}
 use Rattle.end_cases.specs.AttemptEnds.Ahead.{AgreesOffLinks}
 use Rattle.event_cases.proofs.LostLinks.Ends.{none_waits}
-use Rattle.event_cases.specs.PassedAtOnce.Passed.{unqueued}
-use Rattle.frame_cases.proofs.BrokenLinks.Deaf.{still_there}
-use Rattle.frame_cases.proofs.HeadFrames.First.{sealed_same}
+use Rattle.frame_cases.proofs.HeadFrames.First.{HasAlike, alike_at, sealed_same}
 use Rattle.frame_cases.proofs.LargeFrames.Links as left_links
+use Rattle.frame_cases.proofs.LargeFrames.Reset.{reset_then}
 use Rattle.frame_cases.proofs.PassedBytes.Noted.{unchanged_at}
 use Rattle.frame_cases.proofs.PieceWalks.Coming.{coming_sealed_one}
 use Rattle.frame_cases.specs.PieceWalks.Points.{HasHeard, IsReadFairly}
@@ -32,6 +32,7 @@ use Rattle.channel_core.specs.Tables.{Heard, heard_in}
 use Rattle.frame_cases.proofs.LargeFrames.Starts as starts
 use Rattle.frame_cases.proofs.QuietFrames.ReadStill as read
 use Rattle.frame_cases.specs.FrameKinds.Laws.{Large, kind_of}
+use Rattle.frame_cases.specs.LargeFrames.Laws.{LargeFramesAreHeard}
 use Rattle.frame_cases.specs.PieceWalks.Points.{IsHearing, coming}
 use Rattle.h2_frame.specs.Numbers.{goaway_type}
 use Rattle.session_actions.specs.Words.{numbered}
@@ -95,7 +96,7 @@ module _ (link : ℕ) (piece : List ℕ) (x : StateSeen) (o : OpenEntry) (s : Se
     kept = books.kept;
   }
 
-  module _ (ends : OneCallEndsAhead) (reset : left_links.IsResetThen link piece x o s is h r next hears no_goaway kind) where
+  module _ (ends : OneCallEndsAhead) where
     to_end : IsToEnd none_waits number ending.Response z o t
     to_end = record {
       late = λ k e. absurd (let bad : false ≡ true = e in let no : ⊥ = (cc) in no);
@@ -108,7 +109,7 @@ module _ (link : ℕ) (piece : List ℕ) (x : StateSeen) (o : OpenEntry) (s : Se
       uncut = starts.still_t link piece x o s is h r next hears no_goaway kind line.Cut refl;
       unfollowed = starts.still_t link piece x o s is h r next hears no_goaway kind line.Transparent refl;
       still = λ k off w. starts.still_ended link piece x o s is h r next hears no_goaway kind k off;
-      reset = left_links.all_reset link piece x o s is h r next hears no_goaway kind reset;
+      reset = left_links.all_reset link piece x o s is h r next hears no_goaway kind (reset_then link piece x o s is h r next hears no_goaway kind);
     }
 
     done : HasEnded none_waits number ending.Response z o t
@@ -123,45 +124,60 @@ module _ (link : ℕ) (piece : List ℕ) (x : StateSeen) (o : OpenEntry) (s : Se
     agrees_w : Agrees w u
     agrees_w = subst (λ (q : StateSeen). Agrees q u) (starts.closed_is link piece x o s is h r next hears no_goaway kind) done.agrees
 
-    -- the link then: `found` is that no bytes were read of it since
-    module _ (k : Link) (here : numbered u.links link ≡ Some k) (same : unqueued k ≡ unqueued m) where
-      unbroken : k.over ≡ None
-      unbroken = ap (λ (q : Link). q.over) same ∙ (read.shown link piece x o s is h r next hears).unbroken
+    -- the link then: nothing is otherwise but what it owes
+    its_link : HasAlike u.links link m
+    its_link = alike_at u.links t.links link m done.links (starts.there_m link piece x o s is h r next hears no_goaway kind)
 
-      has_link : HasLink w u k link
-      has_link = agrees_w.links.each link k here
+    abbrev k : Link
+    k = its_link.now
 
-      same_w : sealed_one link w ≡ w
-      same_w =
-          ap (λ (ls : List LinkSlot). record w { links = ls })
-          (unchanged_at (with_link sealed_link) link w.links
-          (λ q got.
-          sealed_same q (subst (λ (b : LinkSlot). b.link.link.wire.queue.fresh ≡ 0) (one_some has_link.slot q (numbered w.links link) has_link.there got) (has_link.sees.going unbroken).closed)))
+    here : numbered u.links link ≡ Some k
+    here = its_link.there
 
-      final : coming link left (frame_heard link h x) ≡ w
-      final = ap (coming link left) (starts.heard_is link piece x o s is h r next hears no_goaway kind) ∙ sym (coming_sealed_one link left link (starts.v link piece x o s is h r next hears no_goaway kind)) ∙ same_w
+    same : unowed k ≡ unowed m
+    same = its_link.alike
 
-      fair_m : IsReadFairly m
-      fair_m = read.fair_now link piece x o s is h r next hears
+    unbroken : k.over ≡ None
+    unbroken = ap (λ (q : Link). q.over) same ∙ (read.shown link piece x o s is h r next hears).unbroken
 
-      pub heard_large : HasHeard link left (frame_heard link h x) o s
-      heard_large = record {
-        actions = action.FrameRead link r ∷ starts.act link piece x o s is h r next hears no_goaway kind ∷ done.actions;
-        seen = u;
-        entry = o;
-        does = (read.follows link piece x o s is h r next hears, subst (λ (q : Seen). Does (starts.act link piece x o s is h r next hears no_goaway kind ∷ done.actions) q u) (sym (read.after_is link piece x o s is h r next hears)) done.does);
-        posts = done.posts;
-        same = record { moment = refl; word = refl; event = refl; entries = done.entries; setup = done.setup };
-        at = record { current = done.current; stage_is = is.at.stage_is; calm = of_order calm_is_exact o u (λ q. done.still q refl) };
-        reply = refl;
-        fresh = is.fresh;
-        link_ = k;
-        here = here;
-        fair = record {
-          within = subst (λ (q : Link). read_bytes q ≤ length q.received) (sym same) fair_m.within;
-          listed = ap (λ (q : Link). list_all is_listed_fairly q.traffic) same ∙ fair_m.listed;
-        };
-        few = subst (λ (q : Link). length q.received ≤ 18446744073709551615) (sym same) is.few;
-        left = λ e. ap (λ (q : Link). drop (read_bytes q) q.received) same ∙ read.left_is link piece x o s is h r next hears;
-        agrees = subst (λ (q : StateSeen). Agrees q u) (sym final) agrees_w;
-      }
+    has_link : HasLink w u k link
+    has_link = agrees_w.links.each link k here
+
+    same_w : sealed_one link w ≡ w
+    same_w =
+        ap (λ (ls : List LinkSlot). record w { links = ls })
+        (unchanged_at (with_link sealed_link) link w.links
+        (λ q got.
+        sealed_same q (subst (λ (b : LinkSlot). b.link.link.wire.queue.fresh ≡ 0) (one_some has_link.slot q (numbered w.links link) has_link.there got) (has_link.sees.going unbroken).closed)))
+
+    final : coming link left (frame_heard link h x) ≡ w
+    final = ap (coming link left) (starts.heard_is link piece x o s is h r next hears no_goaway kind) ∙ sym (coming_sealed_one link left link (starts.v link piece x o s is h r next hears no_goaway kind)) ∙ same_w
+
+    fair_m : IsReadFairly m
+    fair_m = read.fair_now link piece x o s is h r next hears
+
+    pub heard_large : HasHeard link left (frame_heard link h x) o s
+    heard_large = record {
+      actions = action.FrameRead link r ∷ starts.act link piece x o s is h r next hears no_goaway kind ∷ done.actions;
+      seen = u;
+      entry = o;
+      does = (read.follows link piece x o s is h r next hears, subst (λ (q : Seen). Does (starts.act link piece x o s is h r next hears no_goaway kind ∷ done.actions) q u) (sym (read.after_is link piece x o s is h r next hears)) done.does);
+      posts = done.posts;
+      same = record { moment = refl; word = refl; event = refl; entries = done.entries; setup = done.setup };
+      at = record { current = done.current; stage_is = is.at.stage_is; calm = of_order calm_is_exact o u (λ q. done.still q refl) };
+      reply = refl;
+      fresh = is.fresh;
+      link_ = k;
+      here = here;
+      fair = record {
+        within = subst (λ (q : Link). read_bytes q ≤ length q.received) (sym same) fair_m.within;
+        listed = ap (λ (q : Link). list_all is_listed_fairly q.traffic) same ∙ fair_m.listed;
+      };
+      few = subst (λ (q : Link). length q.received ≤ 18446744073709551615) (sym same) is.few;
+      left = λ e. ap (λ (q : Link). drop (read_bytes q) q.received) same ∙ read.left_is link piece x o s is h r next hears;
+      agrees = subst (λ (q : StateSeen). Agrees q u) (sym final) agrees_w;
+    }
+
+pub large_frames_are_heard : LargeFramesAreHeard
+large_frames_are_heard ends link piece x o s a h is next hears case =
+    heard_large link piece x o s is h case.frame (next ∙ ap (λ (b : Action). Some b) case.is) hears case.stays case.kind_is ends

@@ -1,6 +1,6 @@
 -- A frame brings a message that is too long: channel and session after it, and the end of its call next, and of no other.
 -- Example: DATA with the prefix of such a message comes for attempt 1 of call 1. Then `CallEnds 1 Response` is next; the link of the channel has the reset of the stream.
-use Rattle.std.proofs.Common.{◌≡◌, ◌++◌, ◌&&◌, ◌||◌, ◌==◌, ◌∷◌, append_assoc, ap, refl, subst, sym, ◌∙◌, Bool, true, false, List, [], Option, None, Some, ℕ, suc, drop, if◌then◌else◌, is_none, is_some, length, map, option_map, slice_get, nat_lt}
+use Rattle.std.proofs.Common.{◌≡◌, ◌++◌, ◌&&◌, ◌||◌, ◌==◌, ◌∷◌, append_assoc, ap, refl, subst, sym, ◌∙◌, Bool, true, false, List, [], Option, None, Some, ℕ, suc, drop, if◌then◌else◌, is_none, is_some, length, map, option_map, slice_get, nat_lt, not}
 use Rattle.std.proofs.lemmas.Bool.{and_parts, eq-eqb, eqb-false, eqb-true}
 use Rattle.std.proofs.lemmas.List.{map-append}
 use Rattle.std.specs.Option.{option_map_or, option_to_list}
@@ -9,6 +9,7 @@ use Rattle.attempt_cases.proofs.DrainEvents.Rooms.{length_changed}
 use Rattle.attempt_ledger.specs.declared.ledger.CallEnd.{CallEnd}
 use Rattle.attempt_ledger.specs.declared.news.News.TheVariants as news
 use Rattle.attempt_ledger.specs.declared.row.Placed.{Placed}
+use Rattle.attempt_ledger.specs.declared.row.RowEnd.{RowEnd}
 use Rattle.call_actions.specs.TakeActions.Serves.{IsLeft, came}
 use Rattle.call_cases.proofs.CallPosts.Asked.{deadline_right, due_right}
 use Rattle.call_cases.proofs.EndsFollow.Apart.{last_passes}
@@ -16,6 +17,7 @@ use Rattle.call_cases.proofs.EndsFollow.Codes.{response_by_limit}
 use Rattle.call_cases.specs.CallEnds.Ends.{HasNotedLink}
 use Rattle.call_core.specs.Laws as call_laws
 use Rattle.call_core.specs.Steps.{Stepped, closed_by, is_committed_live}
+use Rattle.channel_actions.proofs.Gone.{all_numbered}
 use Rattle.channel_actions.proofs.LinkFrames.Frame.{others_agree}
 use Rattle.channel_actions.proofs.LinkFrames.Untold.{actions_are_untold}
 use Rattle.channel_actions.proofs.Stamps.{counted_at}
@@ -72,6 +74,7 @@ use Rattle.session_actions.specs.Calls.{is_open_call, marked}
 use Rattle.session_actions.specs.Deliveries.{response_items}
 use Rattle.session_actions.specs.Entries.{entry, now}
 use Rattle.session_actions.specs.Events.{is_loss}
+use Rattle.session_actions.specs.Links.{link_number}
 use Rattle.session_actions.specs.Responses.{limit_of_attempt, response}
 use Rattle.session_actions.specs.Words.{changed, holds, numbered}
 use Rattle.session_actions.specs.Writing.{frame_read, next_frame_read, owed_for}
@@ -591,3 +594,14 @@ module _ (link : ℕ) (piece : List ℕ) (x : StateSeen) (o : OpenEntry) (s : Se
           let both : Some m ≡ Some q = sym there_m ∙ ap (numbered t.links) same ∙ got in
           let one : m ≡ q = (cc) in
           subst (λ (j : ℕ). HasNotedLink z t q j) same (subst (λ (b : Link). HasNotedLink z t b link) one has_m)
+
+  pub unreset_a : a.reset ≡ false
+  unreset_a = not_reset (is_some a.row.ended) a.reset (ap (λ (q : Option RowEnd). is_some q) goes_a) (all_numbered (λ (b : Attempt). is_some b.row.ended || not b.reset) s.attempts a.place a on.there is.known.early.resets)
+    where
+      not_reset : (p q : Bool) → p ≡ false → (p || not q) ≡ true → q ≡ false
+      not_reset true q e f = absurd (let bad : true ≡ false = e in let no : ⊥ = (cc) in no)
+      not_reset false true e f = absurd (let bad : false ≡ true = f in let no : ⊥ = (cc) in no)
+      not_reset false false e f = refl
+
+  pub number_a : link_number a ≡ link
+  number_a = ap (λ (q : Option Placed). option_map_or (λ (p : Placed). p.link) q 0) placed ∙ at_link
