@@ -1,6 +1,7 @@
 pub mod Apart
 pub mod Comes
 pub mod Gains
+pub mod Gone
 pub mod Heard
 pub mod Links
 pub mod Reset

@@ -8,7 +8,8 @@ use Rattle.attempt_ledger.specs.declared.row.Placed.{Placed}
 use Rattle.attempt_ledger.specs.declared.row.RowEnd.{RowEnd}
 use Rattle.call_cases.proofs.EndsFollow.Codes.{is_cancel}
 use Rattle.call_cases.proofs.EndsFollow.Steps.{placed_of}
-use Rattle.call_cases.proofs.LinkEnds.Behind.{IsCutting, closed_ahead, closed_at, closed_keeps, closed_length, closed_readers, cut_at, cut_keeps, cut_length, links_still, readers_of}
+use Rattle.call_cases.proofs.LinkEnds.Behind.{IsCutting, closed_ahead, closed_at, closed_keeps, closed_length, closed_readers, cut_at, cut_length, links_still, slots_closed, slots_cut, some_closed}
+use Rattle.call_cases.proofs.EndsFollow.Streams.{put}
 use Rattle.call_cases.proofs.LinkEnds.Codes.{with_code}
 use Rattle.call_cases.proofs.LinkEnds.Cutting as cutting_
 use Rattle.call_cases.proofs.LinkEnds.Cutting.{is_owed_on, owed_on}
@@ -26,15 +27,17 @@ use Rattle.channel_core.specs.Tables.{reset_link, with_link}
 use Rattle.channel_core.specs.declared.state.links.LinkSlot.{LinkSlot}
 use Rattle.frame_cases.proofs.EndedFrames.Owed as owed
 use Rattle.frame_cases.proofs.LargeFrames.Apart.{left_later, readers_later}
+use Rattle.frame_cases.proofs.LargeFrames.Gone.{cut_nothing}
 use Rattle.frame_cases.proofs.LargeFrames.Links as left_links
 use Rattle.grpc_base.specs.ErrorCodes.{cancel}
 use Rattle.grpc_base.specs.declared.event.EndCause.TheVariants as ending
-use Rattle.grpc_link.specs.Links.{without}
+use Rattle.grpc_link.specs.Links.{without, without_at}
 use Rattle.grpc_link.specs.declared.readers.TagReader.{TagReader}
 use Rattle.h2_link.specs.Feeds.{Line}
 use Rattle.h2_link.specs.Steps.{cut}
 use Rattle.h2_link.specs.Wire.{Wire}
 use Rattle.link_actions.proofs.ResponseActions.Ended.{ends_keep_readers}
+use Rattle.link_actions.proofs.ResponseActions.Found.{find_none}
 use Rattle.link_actions.specs.ResetActions.Ahead.{SeesAhead}
 use Rattle.link_actions.specs.ResponseActions.Laws.{IsEnded}
 use Rattle.link_actions.specs.ResponseActions.Readers.{SeesReaders}
@@ -55,7 +58,8 @@ use Rattle.frame_cases.specs.FrameKinds.Laws.{Large, kind_of}
 use Rattle.frame_cases.specs.PieceWalks.Points.{IsHearing, coming}
 use Rattle.h2_frame.specs.Numbers.{goaway_type}
 use Rattle.session_actions.specs.CallEnds.{call_ended}
-use Rattle.session_actions.specs.Words.{numbered}
+use Rattle.session_actions.specs.Reading.{is_outstanding_on}
+use Rattle.session_actions.specs.Words.{holds, numbered}
 use Rattle.session_actions.specs.Writing.{next_frame_read}
 use Rattle.session_actions.specs.declared.action.Action.{Action}
 use Rattle.session_actions.specs.declared.action.Action.TheVariants as action
@@ -90,6 +94,9 @@ module _ (link : ℕ) (piece : List ℕ) (x : StateSeen) (o : OpenEntry) (s : Se
 
   abbrev n : ℕ
   n = r.frame.stream
+
+  abbrev left : List ℕ
+  left = drop h.taken piece
 
   abbrev slot : LinkSlot
   slot = starts.z_slot link piece x o s is h r next hears no_goaway kind
@@ -183,7 +190,7 @@ module _ (link : ℕ) (piece : List ℕ) (x : StateSeen) (o : OpenEntry) (s : Se
     owed_by : (b : Bool) → is_some ended_m.code ≡ b → owed_on m.number t3 ≡ (if b then n ∷ [] else [])
     owed_by true some =
         cutting_.owes_more v a off.0 places_t m.number (ap (λ (o : Option ℕ). is_some o && (link_number a == m.number)) code_is ∙ ap (λ (b : Bool). b && (link_number a == m.number)) some ∙ here_a)
-        ∙ ap (cutting_.put (stream_number a)) nothing ∙ ap (λ (k : ℕ). k ∷ []) stream_a
+        ∙ ap (put (stream_number a)) nothing ∙ ap (λ (k : ℕ). k ∷ []) stream_a
     owed_by false none =
         cutting_.owes_same v a off.0 places_t m.number (ap (λ (o : Option ℕ). is_some o && (link_number a == m.number)) code_is ∙ ap (λ (b : Bool). b && (link_number a == m.number)) none)
         ∙ nothing
@@ -196,16 +203,17 @@ module _ (link : ℕ) (piece : List ℕ) (x : StateSeen) (o : OpenEntry) (s : Se
     owed_is : reset_for n ended_m.code ≡ with_code cancel (owed_on m.number t3)
     owed_is = none_or_cancel ended_m.code its_cancel n ∙ ap (with_code cancel) (sym (owed_by (is_some ended_m.code) refl))
 
-    both = ended_m.follows e
+    both : SeesAhead (reset_for n ended_m.code) m (attempt_ended a.place e t) (starts.out_ link piece x o s is h r next hears no_goaway kind).link.link.wire (lines_in (starts.l link piece x o s is h r next hears no_goaway kind) s)
+    both = (ended_m.follows e).0
 
     ahead : SeesAhead (with_code cancel (owed_on m.number t3)) m t3 (starts.out_ link piece x o s is h r next hears no_goaway kind).link.link.wire (lines_in (starts.l link piece x o s is h r next hears no_goaway kind) s)
     ahead =
         subst (λ (rs : List (ℕ × ℕ)). SeesAhead rs m t3 (starts.out_ link piece x o s is h r next hears no_goaway kind).link.link.wire (lines_in (starts.l link piece x o s is h r next hears no_goaway kind) s)) owed_is (record {
-          wire = both.0.wire;
+          wire = both.wire;
           sees =
-              (left_later t a ending.Response e places_t (starts.on link piece x o s is h r next hears no_goaway kind).there (starts.c link piece x o s is h r next hears no_goaway kind) (starts.at_c link piece x o s is h r next hears no_goaway kind)).streams m both.0.wire (lines_in (starts.l link piece x o s is h r next hears no_goaway kind) s) both.0.sees;
-          same = both.0.same;
-          queue = both.0.queue;
+              (left_later t a ending.Response e places_t (starts.on link piece x o s is h r next hears no_goaway kind).there (starts.c link piece x o s is h r next hears no_goaway kind) (starts.at_c link piece x o s is h r next hears no_goaway kind)).streams m both.wire (lines_in (starts.l link piece x o s is h r next hears no_goaway kind) s) both.sees;
+          same = both.same;
+          queue = both.queue;
         })
 
     readers_m : SeesReaders m t3 (starts.out_ link piece x o s is h r next hears no_goaway kind).link.readers
@@ -213,7 +221,90 @@ module _ (link : ℕ) (piece : List ℕ) (x : StateSeen) (o : OpenEntry) (s : Se
         readers_later t a ending.Response e places_t (starts.on link piece x o s is h r next hears no_goaway kind).there (starts.c link piece x o s is h r next hears no_goaway kind) (starts.at_c link piece x o s is h r next hears no_goaway kind) m (starts.out_ link piece x o s is h r next hears no_goaway kind).link.readers
         (ends_keep_readers m t a.place a e (starts.out_ link piece x o s is h r next hears no_goaway kind).link.readers ended_m.readers_are (starts.on link piece x o s is h r next hears no_goaway kind).there places_t)
 
-    -- to give the attempt up there changes nothing: it has neither a stream nor a reader any more. OPEN
-    module _ (unchanged : with_link (reset_link a.place) slot ≡ slot) where
-      behind_own : HasBehind (links_closed cuts (links_cut cuts z.links)) t3 m link
-      behind_own = own_behind
+    -- to give the attempt up there changes nothing: it has neither a stream nor a reader any more
+    there_3 : numbered t3.attempts a.place ≡ Some (with_end e a)
+    there_3 = owed.its_own v a e places_t (starts.on link piece x o s is h r next hears no_goaway kind).there quiet
+
+    and_false : (b : Bool) → (b && false) ≡ false
+    and_false true = refl
+    and_false false = refl
+
+    off_m : is_outstanding_on m (with_end e a) ≡ false
+    off_m = ap (λ (b : Bool). b && holds (λ (p : Placed). p.link == m.number) a.row.placed) (and_false (is_some a.row.placed))
+
+    wire_is : slot.link.link.wire ≡ (starts.out_ link piece x o s is h r next hears no_goaway kind).link.link.wire
+    wire_is = ap (λ (q : LinkSlot). q.link.link.wire) (starts.slot_is link piece x o s is h r next hears no_goaway kind)
+
+    readers_are : slot.link.readers ≡ (starts.out_ link piece x o s is h r next hears no_goaway kind).link.readers
+    readers_are = ap (λ (q : LinkSlot). q.link.readers) (starts.slot_is link piece x o s is h r next hears no_goaway kind)
+
+    wire_same : cut (starts.out_ link piece x o s is h r next hears no_goaway kind).link.link.wire a.place cancel ≡ (starts.out_ link piece x o s is h r next hears no_goaway kind).link.link.wire
+    wire_same =
+        cut_nothing m t3 (with_end e a) there_3 off_m after_.places (starts.out_ link piece x o s is h r next hears no_goaway kind).link.link.wire ahead.wire (lines_in (starts.l link piece x o s is h r next hears no_goaway kind) s) ahead.sees
+        (ap (λ (w : Wire). w.live) ahead.same) (ap (λ (w : Wire). w.waiting) ahead.same)
+
+    readers_same : without a.place (starts.out_ link piece x o s is h r next hears no_goaway kind).link.readers ≡ (starts.out_ link piece x o s is h r next hears no_goaway kind).link.readers
+    readers_same = ap (without_at (starts.out_ link piece x o s is h r next hears no_goaway kind).link.readers) (find_none a.place 0 (starts.out_ link piece x o s is h r next hears no_goaway kind).link.readers ended_m.readers_are.own)
+
+    unchanged : with_link (reset_link a.place) slot ≡ slot
+    unchanged =
+        ap (λ (w : Wire). record slot { link = record { link = record slot.link.link { wire = w }; readers = without a.place slot.link.readers } })
+        (ap (λ (w : Wire). cut w a.place cancel) wire_is ∙ wire_same ∙ sym wire_is)
+        ∙ ap (λ (rs : List TagReader). record slot { link = record { link = slot.link.link; readers = rs } }) (ap (without a.place) readers_are ∙ readers_same ∙ sym readers_are)
+
+    cut_slot : slots_cut link cuts slot ≡ slot
+    cut_slot = ap (λ (b : Bool). if b then with_link (reset_link a.place) slot else slot) (eq-eqb (link_number a) link number_a) ∙ unchanged
+
+    some_cut : list_any (λ (b : Attempt). link_number b == link) cuts ≡ true
+    some_cut = ap (λ (b : Bool). b || false) (eq-eqb (link_number a) link number_a)
+
+    slot_ahead : SeesAhead (with_code cancel (owed_on m.number t3)) m t3 slot.link.link.wire (lines_in (starts.l link piece x o s is h r next hears no_goaway kind) s)
+    slot_ahead = subst (λ (w : Wire). SeesAhead (with_code cancel (owed_on m.number t3)) m t3 w (lines_in (starts.l link piece x o s is h r next hears no_goaway kind) s)) (sym wire_is) ahead
+
+    own_going : IsBehind m t3 (slots_closed link cuts slot)
+    own_going = record {
+      lines = lines_in (starts.l link piece x o s is h r next hears no_goaway kind) s;
+      ahead = closed_ahead m t3 (lines_in (starts.l link piece x o s is h r next hears no_goaway kind) s) link cuts (with_code cancel (owed_on m.number t3)) slot slot_ahead;
+      readers = subst (SeesReaders m t3) (sym (closed_readers link cuts slot ∙ readers_are)) readers_m;
+      rest = read.left_is link piece x o s is h r next hears ∙ ap (λ (b : List ℕ). b ++ left) (sym (read.rest_now link piece x o s is h r next hears)) ∙ sym (ap (λ (q : LinkSlot). q.link.link.rest ++ left) (starts.slot_is link piece x o s is h r next hears no_goaway kind)) ∙ sym (closed_keeps link cuts slot).rest;
+      closed = some_closed link cuts slot some_cut;
+    }
+
+    behind_own : HasBehind (links_closed cuts (links_cut cuts z.links)) t3 m link
+    behind_own = record {
+      own = starts.own link piece x o s is h r next hears no_goaway kind;
+      slot = slots_closed link cuts slot;
+      there = closed_at link cuts (links_cut cuts z.links)
+          ∙ ap (option_map (slots_closed link cuts)) (cut_at link cuts z.links ∙ ap (option_map (slots_cut link cuts)) (starts.z_there link piece x o s is h r next hears no_goaway kind) ∙ ap (λ (q : LinkSlot). Some q) cut_slot);
+      over = (starts.sees_l link piece x o s is h r next hears no_goaway kind).over ∙ sym (closed_keeps link cuts slot).dead;
+      retiring = (starts.long link piece x o s is h r next hears no_goaway kind).retiring ∙ (starts.sees_l link piece x o s is h r next hears no_goaway kind).retiring ∙ sym (closed_keeps link cuts slot).retiring;
+      going = λ goes. own_going;
+    }
+
+    each_behind : (k : ℕ) (q : Link) → numbered v.links k ≡ Some q → HasBehind (links_closed cuts (links_cut cuts z.links)) t3 q k
+    each_behind k q got = by (link == k) refl
+      where
+        by : (b : Bool) → (link == k) ≡ b → HasBehind (links_closed cuts (links_cut cuts z.links)) t3 q k
+        by false apart = behind_other k q got apart
+        by true here =
+            let same : link ≡ k = eqb-true link k here in
+            let two : Some m ≡ Some q = sym (starts.there_m link piece x o s is h r next hears no_goaway kind) ∙ ap (numbered t.links) same ∙ got in
+            let one : m ≡ q = (cc) in
+            subst (λ (j : ℕ). HasBehind (links_closed cuts (links_cut cuts z.links)) t3 q j) same
+            (subst (λ (b : Link). HasBehind (links_closed cuts (links_cut cuts z.links)) t3 b link) one behind_own)
+
+    all_behind : AreBehind (links_closed cuts (links_cut cuts z.links)) t3
+    all_behind = record {
+      count = ap (λ (ls : List Link). length ls) same_links ∙ starts.z_count link piece x o s is h r next hears no_goaway kind ∙ sym (closed_length cuts (links_cut cuts z.links) ∙ cut_length cuts z.links);
+      each = λ k q got. each_behind k q (sym (ap (λ (ls : List Link). numbered ls k) same_links) ∙ got);
+      opened = (links_still cuts v t3 off3 cutting).1;
+      places = after_.places;
+      cancels = after_.cancels;
+      unreset = after_.unreset;
+    }
+
+    pub reset_one : AreResetToo (with_cuts cuts z) t2
+    reset_one = subst (λ (q : Seen). AreResetToo (with_cuts cuts z) q) (sym off.1) (reset_behind z t3 cuts all_behind)
+
+  pub reset_then : left_links.IsResetThen link piece x o s is h r next hears no_goaway kind
+  reset_then t2 off = reset_one t2 off
