@@ -1,5 +1,5 @@
 -- A frame brings a message that is too long: it may bring messages before, and nothing else; its attempt has no reader any more, and its link owes the reset of its stream.
-use Rattle.std.proofs.Common.{◌≡◌, ◌++◌, ◌&&◌, ◌||◌, ◌==◌, ◌∷◌, ap, refl, subst, sym, ◌∙◌, Bool, true, false, List, [], Option, None, Some, ℕ, if◌then◌else◌, is_none, is_some, map, not}
+use Rattle.std.proofs.Common.{◌≡◌, ◌++◌, ◌&&◌, ◌||◌, ◌==◌, ◌∷◌, ap, refl, subst, sym, ◌∙◌, Bool, true, false, List, [], None, ℕ, if◌then◌else◌, is_none, is_some, map, not}
 use Rattle.std.specs.List.{list_all, list_any}
 use Rattle.attempt_ledger.specs.declared.news.News.{News}
 use Rattle.attempt_ledger.specs.declared.news.News.TheVariants as news
@@ -18,7 +18,7 @@ use Rattle.h2_link.specs.declared.live.LiveStream.{LiveStream}
 use Rattle.link_actions.proofs.History.{settings_more}
 use Rattle.link_actions.proofs.LossActions.Over.{all_go}
 use Rattle.link_actions.specs.LossActions.Sees.{IsGoing}
-use Rattle.link_actions.specs.ResponseActions.Gained.{gained, is_done, is_listed_fairly}
+use Rattle.link_actions.specs.ResponseActions.Gained.{is_done, is_listed_fairly}
 use Rattle.link_actions.specs.ResponseActions.Laws.{IsEnded, IsReported, reported, seen_at}
 use Rattle.link_actions.specs.ResponseActions.Readers.{SeesReaders}
 use Rattle.link_actions.specs.StreamActions.Laws.{Comes, IsOn, read_link}
@@ -29,7 +29,6 @@ use Rattle.session_actions.specs.Writing.{frame_read, owed_for}
 use Rattle.session_actions.specs.declared.attempt.Attempt.{Attempt}
 use Rattle.session_actions.specs.declared.link.Link.{Link}
 use Rattle.session_actions.specs.declared.link.ReadFrame.{ReadFrame}
-use Rattle.session_actions.specs.declared.response.Outcome.{Outcome}
 use Rattle.session_actions.specs.declared.response.Response.{Response}
 use Rattle.session_actions.specs.declared.seen.Seen.{Seen}
 

@@ -1,5 +1,5 @@
 -- A frame that brings a message which is too long is heard: its call ends, its attempt is cut off, and its stream is reset.
-use Rattle.std.proofs.Common.{◌≡◌, ◌==◌, ◌∷◌, ◌≤◌, ap, refl, subst, sym, ◌∙◌, Bool, true, false, List, [], None, Option, Some, ℕ, drop, is_some, length}
+use Rattle.std.proofs.Common.{◌≡◌, ◌==◌, ◌∷◌, ◌≤◌, ap, refl, subst, sym, ◌∙◌, true, false, List, [], None, Some, ℕ, drop, length}
 use Rattle.std.specs.List.{list_all}
 use Rattle.call_cases.specs.CallEnds.Ends.{AgreesToEnd, HasEnded, HasNotedLink, IsToEnd}
 use Rattle.call_cases.specs.CallEnds.Laws.{OneCallEndsAhead}
@@ -9,7 +9,7 @@ use Rattle.channel_actions.proofs.BoardActions.Calm.{of_order}
 use Rattle.channel_actions.specs.Agrees.{Agrees}
 use Rattle.channel_actions.specs.Links.{HasLink}
 use Rattle.channel_core.specs.Arrivals.{frame_heard}
-use Rattle.channel_core.specs.Steps.{closed, sealed_one}
+use Rattle.channel_core.specs.Steps.{sealed_one}
 use Rattle.channel_core.specs.Tables.{sealed_link, with_link}
 use Rattle.channel_core.specs.declared.state.links.LinkSlot.{LinkSlot}
 use Rattle.end_cases.specs.AttemptEnds.Ahead.{AgreesOffLinks}
@@ -25,7 +25,6 @@ use Rattle.link_actions.specs.ResponseActions.Gained.{is_listed_fairly}
 use Rattle.session_actions.specs.Links.{read_bytes}
 use Rattle.session_actions.specs.Sessions.{Does}
 use Rattle.session_order.proofs.Calms.{calm_is_exact}
-use Rattle.session_order.specs.declared.line.Line.{Line}
 use Rattle.session_order.specs.declared.line.Line.TheVariants as line
 use Rattle.channel_core.specs.States.{StateSeen}
 use Rattle.channel_core.specs.Tables.{Heard, heard_in}

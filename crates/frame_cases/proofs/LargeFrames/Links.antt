@@ -1,6 +1,6 @@
 -- After a message that is too long: what the end of the call cuts off is the attempt of the stream alone, since its call is committed to it; and what is left to show of
 -- the links.
-use Rattle.std.proofs.Common.{◌≡◌, ◌&&◌, ◌==◌, ◌∷◌, ap, refl, subst, sym, ◌∙◌, Bool, true, false, List, [], Option, None, Some, ℕ, filter, if◌then◌else◌}
+use Rattle.std.proofs.Common.{◌≡◌, ◌&&◌, ◌==◌, ◌∷◌, ap, refl, subst, sym, ◌∙◌, Bool, true, false, List, [], Some, ℕ, filter, if◌then◌else◌}
 use Rattle.std.proofs.lemmas.Bool.{eq-eqb, eqb-true}
 use Rattle.call_cases.specs.EndsFollow.Cuts.{AreCutOff}
 use Rattle.call_cases.specs.EndsFollow.Laws.{is_out_of}
@@ -12,7 +12,6 @@ use Rattle.grpc_base.specs.declared.event.EndCause.TheVariants as ending
 use Rattle.channel_core.specs.States.{StateSeen}
 use Rattle.channel_core.specs.Tables.{Heard, heard_in}
 use Rattle.frame_cases.proofs.LargeFrames.Starts as starts
-use Rattle.frame_cases.proofs.QuietFrames.ReadStill as read
 use Rattle.frame_cases.specs.FrameKinds.Laws.{Large, kind_of}
 use Rattle.frame_cases.specs.PieceWalks.Points.{IsHearing, coming}
 use Rattle.h2_frame.specs.Numbers.{goaway_type}
@@ -20,12 +19,10 @@ use Rattle.session_actions.specs.Attempts.{commitment, is_outstanding}
 use Rattle.session_actions.specs.CallEnds.{call_ended}
 use Rattle.session_actions.specs.Words.{numbered}
 use Rattle.session_actions.specs.Writing.{next_frame_read}
-use Rattle.session_actions.specs.declared.action.Action.{Action}
 use Rattle.session_actions.specs.declared.action.Action.TheVariants as action
 use Rattle.session_actions.specs.declared.attempt.Attempt.{Attempt}
 use Rattle.session_actions.specs.declared.call.Call.{Call}
 use Rattle.session_actions.specs.declared.entry.OpenEntry.{OpenEntry}
-use Rattle.session_actions.specs.declared.link.Link.{Link}
 use Rattle.session_actions.specs.declared.link.ReadFrame.{ReadFrame}
 use Rattle.session_actions.specs.declared.seen.Seen.{Seen}
 

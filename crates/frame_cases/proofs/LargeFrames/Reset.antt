@@ -1,6 +1,6 @@
 -- After a message that is too long, and the end of its call: the attempt is cut off, and the links of the channel are ahead of the session by the reset of its stream
 -- alone, where one is owed; so they agree once it is made.
-use Rattle.std.proofs.Common.{◌≡◌, ◌++◌, ◌&&◌, ◌||◌, ◌==◌, ◌∷◌, ap, refl, subst, sym, ◌∙◌, Bool, true, false, List, [], Option, None, Some, ℕ, drop, filter, if◌then◌else◌, is_some, length, map, option_and_then, option_map}
+use Rattle.std.proofs.Common.{◌≡◌, ◌++◌, ◌&&◌, ◌||◌, ◌==◌, ◌∷◌, ap, refl, subst, sym, ◌∙◌, Bool, true, false, List, [], Option, None, Some, ℕ, drop, if◌then◌else◌, is_some, length, option_and_then, option_map}
 use Rattle.std.proofs.lemmas.Bool.{eq-eqb, eqb-true}
 use Rattle.std.specs.List.{list_all, list_any}
 use Rattle.std.specs.Prelude.{unwrap_or}
@@ -12,17 +12,17 @@ use Rattle.call_cases.proofs.LinkEnds.Behind.{IsCutting, closed_ahead, closed_at
 use Rattle.call_cases.proofs.EndsFollow.Streams.{put}
 use Rattle.call_cases.proofs.LinkEnds.Codes.{with_code}
 use Rattle.call_cases.proofs.LinkEnds.Cutting as cutting_
-use Rattle.call_cases.proofs.LinkEnds.Cutting.{is_owed_on, owed_on}
+use Rattle.call_cases.proofs.LinkEnds.Cutting.{owed_on}
 use Rattle.call_cases.proofs.LinkEnds.Ends as ends
 use Rattle.call_cases.proofs.LinkEnds.Ends.{link_on, reset_behind}
 use Rattle.call_cases.proofs.LinkEnds.Resets.{AreBehind, HasBehind, IsBehind}
-use Rattle.call_cases.specs.EndsFollow.Cuts.{AreCutOff, IsOut, cut_off}
+use Rattle.call_cases.specs.EndsFollow.Cuts.{AreCutOff}
 use Rattle.call_cases.specs.LinkEnds.Cuts.{links_closed, links_cut}
 use Rattle.call_cases.specs.LinkEnds.Laws.{AreResetToo, with_cuts}
 use Rattle.channel_actions.proofs.Gone.{all_numbered}
 use Rattle.channel_actions.proofs.KeptSessions.Along.{kept_stays}
 use Rattle.channel_actions.specs.KeptSessions.Kept.{IsKept}
-use Rattle.channel_actions.specs.Links.{HasLink, lines_in}
+use Rattle.channel_actions.specs.Links.{lines_in}
 use Rattle.channel_core.specs.Tables.{reset_link, with_link}
 use Rattle.channel_core.specs.declared.state.links.LinkSlot.{LinkSlot}
 use Rattle.frame_cases.proofs.EndedFrames.Owed as owed
@@ -33,7 +33,6 @@ use Rattle.grpc_base.specs.ErrorCodes.{cancel}
 use Rattle.grpc_base.specs.declared.event.EndCause.TheVariants as ending
 use Rattle.grpc_link.specs.Links.{without, without_at}
 use Rattle.grpc_link.specs.declared.readers.TagReader.{TagReader}
-use Rattle.h2_link.specs.Feeds.{Line}
 use Rattle.h2_link.specs.Steps.{cut}
 use Rattle.h2_link.specs.Wire.{Wire}
 use Rattle.link_actions.proofs.ResponseActions.Ended.{ends_keep_readers}
@@ -46,7 +45,7 @@ use Rattle.link_actions.specs.StreamActions.Laws.{IsOn, reset_for}
 use Rattle.link_actions.specs.StreamActions.Sees.{response_of}
 use Rattle.session_actions.specs.AttemptEnds.{attempt_ended, code_to_reset, cut_end, end_of, is_framing, is_reset, reset_code_of, with_end}
 use Rattle.session_actions.specs.Links.{has_written_end, link_number, link_of, read_bytes, stream_number}
-use Rattle.session_actions.specs.Responses.{is_read_by, response}
+use Rattle.session_actions.specs.Responses.{is_read_by}
 use Rattle.session_actions.specs.declared.response.Outcome.{Outcome}
 use Rattle.session_actions.specs.declared.response.Response.{Response}
 use Rattle.session_order.specs.declared.line.Line.TheVariants as line
@@ -55,13 +54,12 @@ use Rattle.channel_core.specs.Tables.{Heard, heard_in}
 use Rattle.frame_cases.proofs.LargeFrames.Starts as starts
 use Rattle.frame_cases.proofs.QuietFrames.ReadStill as read
 use Rattle.frame_cases.specs.FrameKinds.Laws.{Large, kind_of}
-use Rattle.frame_cases.specs.PieceWalks.Points.{IsHearing, coming}
+use Rattle.frame_cases.specs.PieceWalks.Points.{IsHearing}
 use Rattle.h2_frame.specs.Numbers.{goaway_type}
 use Rattle.session_actions.specs.CallEnds.{call_ended}
 use Rattle.session_actions.specs.Reading.{is_outstanding_on}
 use Rattle.session_actions.specs.Words.{holds, numbered}
 use Rattle.session_actions.specs.Writing.{next_frame_read}
-use Rattle.session_actions.specs.declared.action.Action.{Action}
 use Rattle.session_actions.specs.declared.action.Action.TheVariants as action
 use Rattle.session_actions.specs.declared.attempt.Attempt.{Attempt}
 use Rattle.session_actions.specs.declared.entry.OpenEntry.{OpenEntry}

@@ -58,6 +58,7 @@ use Rattle.grpc_base.specs.declared.event.EndCause.{EndCause}
 use Rattle.grpc_base.specs.declared.event.Reply.TheVariants as reply
 use Rattle.grpc_base.specs.declared.event.Reply.{Reply}
 use Rattle.grpc_base.specs.declared.fields.Field.{Field}
+use Rattle.grpc_link.specs.Links.{Told as Reported}
 use Rattle.grpc_link.specs.Response.{message_news}
 use Rattle.h2_frame.specs.Frames.{FrameSeen}
 use Rattle.h2_frame.specs.Numbers.{goaway_type}
