@@ -7,9 +7,12 @@ use channel_actions::sound_calls::calls_stay_sound;
 
 /// A piece that arrives on a link that is not gone is its frames, one after the other, however its bytes were cut: where each frame, and bytes that break the link, lead
 /// from a point to a point, the piece is answered with Done, and channel and session agree after it. What is no whole frame yet is kept by both (RFC 9113, section 4.1).
+/// No frame forgets an attempt, so that few were made before each where few were made by the end of the piece.
 pub fn pieces_are_heard()
     ensures { PiecesAreHeard }
-{}
+{
+    calls_stay_sound();
+}
 
 /// What is known of channel and session between two frames stays known along one: of the channel, since a frame of a piece is a piece by itself; of the session, along its
 /// actions.

@@ -1,6 +1,6 @@
 -- A piece, frame by frame.
 use Rattle.std.proofs.Common.{◌≡◌, ◌+◌, ◌-◌, ◌++◌, ◌∷◌, ◌≤◌, ◌<◌, ap, arith, refl, subst, sym, ◌∙◌, true, List, [], Option, None, Some, ℕ, suc, zero, drop, is_none, is_some, length, if◌then◌else◌, ◌&&◌, not}
-use Rattle.std.proofs.lemmas.List.{append-nil, length-append}
+use Rattle.std.proofs.lemmas.List.{append-nil, length-append, length-map}
 use Rattle.std.specs.Option.{option_and_then}
 use Rattle.channel_actions.proofs.Does.{does_on, none_on}
 use Rattle.channel_actions.specs.Agrees.{Agrees}
@@ -8,7 +8,9 @@ use Rattle.channel_actions.specs.Calm.{IsAt}
 use Rattle.channel_actions.specs.Known.{IsKnown}
 use Rattle.channel_actions.specs.Links.{HasLink, IsGoing, SeesLinkOf}
 use Rattle.channel_actions.specs.Points.{IsSameEntry}
+use Rattle.channel_actions.specs.SoundCalls.Laws.{AnswersKeepRows}
 use Rattle.attempt_cases.proofs.DrainEvents.Rooms.{one_some}
+use Rattle.channel_core.specs.Applying.{AnswersBy}
 use Rattle.channel_core.specs.Arrivals.{frame_heard, frames_after, frames_from}
 use Rattle.channel_core.specs.States.{StateSeen}
 use Rattle.channel_core.specs.Tables.{Heard, heard_by, heard_in}
@@ -37,6 +39,7 @@ use Rattle.session_actions.specs.Words.{holds, numbered}
 use Rattle.session_actions.specs.Writing.{next_frame_read, read_action, read_next}
 use Rattle.session_actions.specs.declared.action.Action.{Action}
 use Rattle.session_actions.specs.declared.action.Action.TheVariants as action
+use Rattle.session_actions.specs.declared.attempt.Attempt.{Attempt}
 use Rattle.session_actions.specs.declared.entry.OpenEntry.{OpenEntry}
 use Rattle.session_actions.specs.declared.entry.Stage.{Stage}
 use Rattle.session_actions.specs.declared.entry.Stage.TheVariants as stage
@@ -173,7 +176,14 @@ after_heard link piece start x y o s is has known = record {
   known = known;
 }
 
-module _ (frames : FramesAreHeard) (breaks : BreaksAreHeard) (knows : KnownAlongFrames) (link : ℕ) where
+-- few attempts were made by the end of the piece, and so before each of its frames
+abbrev pub HasFewRows : StateSeen → Type 0
+HasFewRows y = length y.book.ledger.rows < 18446744073709551615
+
+few_by : (n m k : ℕ) → n ≡ m → m ≤ k → k < 18446744073709551615 → n < 18446744073709551615
+few_by n m k e f g = omega (arith, e, f, g)
+
+module _ (frames : FramesAreHeard) (breaks : BreaksAreHeard) (knows : KnownAlongFrames) (rows : AnswersKeepRows) (link : ℕ) where
   -- the piece is at its end
   ends_by : (x : StateSeen) (o : OpenEntry) (s : Seen) → (is : IsHearing link [] x o s) → (over : Option LinkOver) → is.l.over ≡ over → Walked x o s
   ends_by x o s is None e =
@@ -191,8 +201,11 @@ module _ (frames : FramesAreHeard) (breaks : BreaksAreHeard) (knows : KnownAlong
       (same_event o s link is.whole is.at is.reply is.event_is ∙ read_at s link is.l is.here ∙ none_over is.l.over (read_action link (next_read is.l s)) over)
 
   -- a piece that is not
-  module _ (b : ℕ) (piece : List ℕ) (rec : (skip : ℕ) (x : StateSeen) (o : OpenEntry) (s : Seen) → IsHearing link (drop skip piece) x o s → Walked (frames_after link piece skip x) o s)
-      (x : StateSeen) (o : OpenEntry) (s : Seen) (is : IsHearing link (b ∷ piece) x o s) where
+  module _ (b : ℕ) (piece : List ℕ)
+      (rec : (skip : ℕ) (x : StateSeen) (o : OpenEntry) (s : Seen) → IsHearing link (drop skip piece) x o s → HasFewRows (frames_after link piece skip x)
+      → Walked (frames_after link piece skip x) o s)
+      (x : StateSeen) (o : OpenEntry) (s : Seen) (is : IsHearing link (b ∷ piece) x o s)
+      (few_rows : HasFewRows (frames_from (frames_after link piece) link (heard_in link (b ∷ piece) x.links) x)) where
     abbrev bytes : List ℕ
     bytes = b ∷ piece
 
@@ -210,6 +223,14 @@ module _ (frames : FramesAreHeard) (breaks : BreaksAreHeard) (knows : KnownAlong
 
     abbrev goal : StateSeen
     goal = frames_from (frames_after link piece) link (heard_in link bytes x.links) x
+
+    few_here : length s.attempts < 18446744073709551615
+    few_here =
+        let by : AnswersBy None (event.Arrived link bytes) x goal reply.Done = (refl, refl) in
+        let grows : length x.book.ledger.rows ≤ length goal.book.ledger.rows = rows None (event.Arrived link bytes) x goal reply.Done by is.known.calls in
+        let same : length s.attempts ≡ length x.book.ledger.rows
+        = sym (length-map s.attempts (λ (c : Attempt). c.row)) ∙ ap length is.agrees.columns.rows in
+        few_by (length s.attempts) (length x.book.ledger.rows) (length goal.book.ledger.rows) same grows few_rows
 
     read_now : frame_action o s ≡ (if is_none l.over then read_action link (next_read l s) else None)
     read_now = same_event o s link is.whole is.at is.reply is.event_is ∙ read_at s link l is.here
@@ -268,9 +289,11 @@ module _ (frames : FramesAreHeard) (breaks : BreaksAreHeard) (knows : KnownAlong
           = after_heard link (drop h.taken bytes) bytes x (frame_heard link h x) o s is has known in
           let left : IsHearing link (drop (h.taken - 1) piece) (frame_heard link h x) has.entry has.seen
           = subst (λ (q : List ℕ). IsHearing link q (frame_heard link h x) has.entry has.seen) (drop_one h.taken b piece some) point in
+          let less : HasFewRows (frames_after link piece (h.taken - 1) (frame_heard link h x))
+          = subst (λ (q : Option Heard). HasFewRows (frames_from (frames_after link piece) link q x)) hears few_rows in
           subst (λ (q : Option Heard). Walked (frames_from (frames_after link piece) link q x) o s) (sym hears)
           (goes_further link (drop h.taken bytes) (frame_heard link h x) (frames_after link piece (h.taken - 1) (frame_heard link h x)) o s has
-          (rec (h.taken - 1) (frame_heard link h x) has.entry has.seen left))
+          (rec (h.taken - 1) (frame_heard link h x) has.entry has.seen left less))
 
       by_next : (n : NextRead) → next_read l s ≡ n → IsSameRead l s w n front → Walked goal o s
       by_next nextread.Nothing e same = stops e
@@ -279,7 +302,7 @@ module _ (frames : FramesAreHeard) (breaks : BreaksAreHeard) (knows : KnownAlong
           (frame_there l s w r front same)
       by_next (nextread.Broken code) e same =
           goes_on (action.LinkBreaks link code) (next_now (nextread.Broken code) e)
-          (breaks link bytes x o s (action.LinkBreaks link code) h is (next_now (nextread.Broken code) e) hears (code, refl)) (fault_there l s w code front same)
+          (breaks link bytes x o s (action.LinkBreaks link code) h is (next_now (nextread.Broken code) e) hears (record { code = code; is = refl; few = few_here })) (fault_there l s w code front same)
 
       hearing : Walked goal o s
       hearing = by_next (next_read l s) refl same_read
@@ -291,8 +314,9 @@ module _ (frames : FramesAreHeard) (breaks : BreaksAreHeard) (knows : KnownAlong
     step : Walked goal o s
     step = by_over l.over refl
 
-  pub walk : (piece : List ℕ) (skip : ℕ) (x : StateSeen) (o : OpenEntry) (s : Seen) → IsHearing link (drop skip piece) x o s → Walked (frames_after link piece skip x) o s
-  walk [] skip x o s is =
+  pub walk : (piece : List ℕ) (skip : ℕ) (x : StateSeen) (o : OpenEntry) (s : Seen) → IsHearing link (drop skip piece) x o s → HasFewRows (frames_after link piece skip x)
+      → Walked (frames_after link piece skip x) o s
+  walk [] skip x o s is few =
       let at_end : IsHearing link [] x o s = subst (λ (q : List ℕ). IsHearing link q x o s) (drop_none skip) is in ends_by x o s at_end at_end.l.over refl
-  walk (b ∷ piece) zero x o s is = step b piece (walk piece) x o s is
-  walk (b ∷ piece) (suc skip) x o s is = walk piece skip x o s is
+  walk (b ∷ piece) zero x o s is few = step b piece (walk piece) x o s is few
+  walk (b ∷ piece) (suc skip) x o s is few = walk piece skip x o s is few

@@ -3,11 +3,11 @@
 -- Example: a piece has a frame of DATA, then PUSH_PROMISE, and a PING. BytesArrive; FrameRead of DATA, with all that follows from it; LinkBreaks, with the end of each
 -- attempt on the link. The PING is read in neither.
 -- The laws, in the order of this file: what is asked of one frame, and of bytes that break the link; a piece.
-use Rattle.std.specs.Prelude.{List, None, Some, [], drop, length, ◌+◌, ◌≡◌, ◌≤◌, ℕ}
+use Rattle.std.specs.Prelude.{List, None, Some, [], drop, length, ◌+◌, ◌<◌, ◌≡◌, ◌≤◌, ℕ}
 use Rattle.channel_actions.specs.Known.{IsKnown}
 use Rattle.channel_actions.specs.Stages.{EventsAnswered}
 use Rattle.channel_core.specs.Applying as channel
-use Rattle.channel_core.specs.Arrivals.{frame_heard}
+use Rattle.channel_core.specs.Arrivals.{frame_heard, piece_arrived}
 use Rattle.channel_core.specs.States.{StateSeen}
 use Rattle.channel_core.specs.Tables.{Heard, heard_in}
 use Rattle.frame_cases.specs.PieceWalks.Points.{HasHeard, IsHearing, IsReadOut}
@@ -34,9 +34,14 @@ HeardOf Case =
 abbrev pub FramesAreHeard : Type 0
 FramesAreHeard = HeardOf (λ link s a h. (r : ReadFrame) × (a ≡ action.FrameRead link r))
 
--- bytes that break the link (RFC 9113, section 5.4.1)
+-- bytes that break the link (RFC 9113, section 5.4.1), where fewer than 2^64 - 1 attempts were made
+pub record IsBreak (link : ℕ) (s : Seen) (a : Action) (h : Heard) : Type 0 where
+  pub code : ℕ
+  pub is : a ≡ action.LinkBreaks link code
+  pub few : length s.attempts < 18446744073709551615
+
 abbrev pub BreaksAreHeard : Type 0
-BreaksAreHeard = HeardOf (λ link s a h. (code : ℕ) × (a ≡ action.LinkBreaks link code))
+BreaksAreHeard = HeardOf IsBreak
 
 -- what is known stays known along a frame: of the channel, whatever it hears; of the session, along its actions
 abbrev pub KnownAlongFrames : Type 0
@@ -46,7 +51,7 @@ KnownAlongFrames =
     → IsKnown (frame_heard link h x) t
 
 -- a piece arrives on a link that is not gone. What was not read of it shows no whole frame, and fewer than 2^64 bytes came on it, as in every session whose journal is
--- below its limit
+-- below its limit; and fewer than 2^64 - 1 attempts were made by the end of the piece
 pub record IsArrival (e : Event) (x : StateSeen) (s : Seen) : Type 0 where
   pub link : ℕ
   pub piece : List ℕ
@@ -54,6 +59,7 @@ pub record IsArrival (e : Event) (x : StateSeen) (s : Seen) : Type 0 where
   pub kept : channel.refusal_of e x ≡ None
   pub out : (l : Link) → numbered s.links link ≡ Some l → IsReadOut l
   pub few : (l : Link) → numbered s.links link ≡ Some l → length l.received + length piece ≤ 18446744073709551615
+  pub rows : length (piece_arrived link piece x).book.ledger.rows < 18446744073709551615
   pub known : IsKnown x s
 
 abbrev pub PiecesAreHeard : Type 0
