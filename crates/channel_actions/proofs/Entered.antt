@@ -212,7 +212,8 @@ module _ (states : StatesAreSame) (openings : Openings) (deadlines : Deadlines) 
   answered : IsAnswered step.answered r timely.reaches.entry timely.reaches.seen
   answered =
       events (overdue_ended begun) step.answered r timely.reaches.entry timely.reaches.seen timely.reaches.agrees timely.reaches.at timely.fresh timely.none
-      (subst IsPosted (sym timely.reaches.same.event) allowed, few_timely, known_of (overdue_ended begun) timely.reaches.seen carried_timely timely.reaches.same.entries) answers
+      (subst IsPosted (sym timely.reaches.same.event) allowed, few_timely, few_answered,
+      known_of (overdue_ended begun) timely.reaches.seen carried_timely timely.reaches.same.entries) answers
 
   carried_answered : IsCarried step.answered answered.reaches.seen
   carried_answered =

@@ -10,7 +10,7 @@ use Rattle.channel_actions.specs.Cases.{DoesSomething, HasDue, HasOverdue, does_
 use Rattle.channel_actions.specs.HeldTexts.Fits.{TextsFit}
 use Rattle.channel_actions.specs.Known.{IsKnown}
 use Rattle.channel_actions.specs.Posted.{FewAttempts, IsPosted}
-use Rattle.channel_actions.specs.Stages.{Deadlines, DeadlinesOf, Events, EventsAnswered, IsAnswered, IsSettled, IsTimely, Settlings, SettlingsOf}
+use Rattle.channel_actions.specs.Stages.{Deadlines, DeadlinesOf, Events, EventsAnsweredTo, IsAnswered, IsSettled, IsTimely, Settlings, SettlingsOf}
 use Rattle.channel_core.specs.Applying as channel
 use Rattle.channel_core.specs.Applying.{AnswersBy}
 use Rattle.channel_core.specs.States.{StateSeen}
@@ -42,10 +42,10 @@ pub deadlines_split : DeadlinesOf (λ x s. HasOverdue x s × IsKnown x s) → De
 deadlines_split overdue x o s h at known = deadline_by overdue x o s h at known (next_deadline s) refl
 
 -- events: refused, or answered with nothing done, or the rest
-module _ (none_to_dial : NoneToDial) (rest : EventsAnswered (λ e x s. DoesSomething e x s × IsPosted e × FewAttempts x.book.ledger × IsKnown x s)) (x y : StateSeen) (r : Reply) (o : OpenEntry) (s : Seen) (h : Agrees x s)
-    (at : IsAt stage.Event o s) (fresh : o.turn ≡ None) (timely : next_deadline s ≡ None) (posted : IsPosted o.event) (few : FewAttempts x.book.ledger) (known : IsKnown x s) (answers : AnswersBy (channel.refusal_of o.event x) o.event x y r) where
+module _ (none_to_dial : NoneToDial) (rest : EventsAnsweredTo (λ e x y s. DoesSomething e x s × IsPosted e × FewAttempts x.book.ledger × FewAttempts y.book.ledger × IsKnown x s)) (x y : StateSeen) (r : Reply) (o : OpenEntry) (s : Seen) (h : Agrees x s)
+    (at : IsAt stage.Event o s) (fresh : o.turn ≡ None) (timely : next_deadline s ≡ None) (posted : IsPosted o.event) (few : FewAttempts x.book.ledger) (few_after : FewAttempts y.book.ledger) (known : IsKnown x s) (answers : AnswersBy (channel.refusal_of o.event x) o.event x y r) where
   does_more : channel.refusal_of o.event x ≡ None → does_something o.event x ≡ true → IsAnswered y r o s
-  does_more kept does = rest x y r o s h at fresh timely (record { kept = kept; does = does }, posted, few, known) answers
+  does_more kept does = rest x y r o s h at fresh timely (record { kept = kept; does = does }, posted, few, few_after, known) answers
 
   dial_by : (d : Option ℕ) → first_number is_dialable x.net.board ≡ d → channel.refusal_of o.event x ≡ None → o.event ≡ event.TakeDial → IsAnswered y r o s
   dial_by None e kept is = no_dials none_to_dial x y r o s h at fresh timely (record { event_is = is; kept = kept; none = e }) answers
@@ -77,8 +77,8 @@ module _ (none_to_dial : NoneToDial) (rest : EventsAnswered (λ e x s. DoesSomet
   pub event_answered : IsAnswered y r o s
   event_answered = refusal_by (channel.refusal_of o.event x) refl
 
-pub events_split : NoneToDial → EventsAnswered (λ e x s. DoesSomething e x s × IsPosted e × FewAttempts x.book.ledger × IsKnown x s) → Events
-events_split none_to_dial rest x y r o s h at fresh timely case answers = event_answered none_to_dial rest x y r o s h at fresh timely case.0 case.1 case.2 answers
+pub events_split : NoneToDial → EventsAnsweredTo (λ e x y s. DoesSomething e x s × IsPosted e × FewAttempts x.book.ledger × FewAttempts y.book.ledger × IsKnown x s) → Events
+events_split none_to_dial rest x y r o s h at fresh timely case answers = event_answered none_to_dial rest x y r o s h at fresh timely case.0 case.1 case.2 case.3 answers
 
 -- settlings: nothing is due, or something
 none_by : {X : Type 0} (o : Option X) → is_some o ≡ false → o ≡ None

@@ -8,7 +8,7 @@ use Rattle.channel_actions.specs.HeldTexts.Fits.{TextsFit}
 use Rattle.channel_actions.specs.Known.{IsKnown}
 use Rattle.channel_actions.specs.Points.{Rests}
 use Rattle.channel_actions.specs.Posted.{ArePosted, FewAttempts, IsPosted}
-use Rattle.channel_actions.specs.Stages.{DeadlinesOf, EventsAnswered, SettlingsOf}
+use Rattle.channel_actions.specs.Stages.{DeadlinesOf, EventsAnswered, EventsAnsweredTo, SettlingsOf}
 use Rattle.channel_core.specs.Applying.{new_state}
 use Rattle.channel_core.specs.Core.{CoreSeen, IsNewBy, Runs, ledger_in}
 use Rattle.grpc_base.specs.Posts.{event_bytes}
@@ -51,7 +51,8 @@ EveryRunIsASession =
 -- (the premises are what is left of the stages, where all is known that runs keep; the rest of each is proved below)
 abbrev pub RunsAreSessions : Type 0
 RunsAreSessions =
-    DeadlinesOf (λ x s. HasOverdue x s × IsKnown x s) → EventsAnswered (λ e x s. DoesSomething e x s × IsPosted e × FewAttempts x.book.ledger × IsKnown x s)
+    DeadlinesOf (λ x s. HasOverdue x s × IsKnown x s)
+    → EventsAnsweredTo (λ e x y s. DoesSomething e x s × IsPosted e × FewAttempts x.book.ledger × FewAttempts y.book.ledger × IsKnown x s)
     → SettlingsOf (λ x s. HasDue x s × FewAttempts x.book.ledger × TextsFit x s × IsKnown x s) → EveryRunIsASession
 
 -- What is proved of the stages, case by case.

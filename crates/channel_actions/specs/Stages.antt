@@ -51,13 +51,18 @@ pub record IsAnswered (y : StateSeen) (r : Reply) (o : OpenEntry) (s : Seen) : T
   pub fresh : reaches.entry.turn ≡ None
   pub none : frame_action reaches.entry reaches.seen ≡ None
 
-abbrev pub EventsAnswered : (Event → StateSeen → Seen → Type 0) → Type 0
-EventsAnswered Case =
+-- (a case may speak of the state after the event, too)
+abbrev pub EventsAnsweredTo : (Event → StateSeen → StateSeen → Seen → Type 0) → Type 0
+EventsAnsweredTo Case =
     (x y : StateSeen) (r : Reply) (o : OpenEntry) (s : Seen) → Agrees x s → IsAt stage.Event o s → o.turn ≡ None → next_deadline s ≡ None
-    → Case o.event x s → AnswersBy (refusal_of o.event x) o.event x y r → IsAnswered y r o s
+    → Case o.event x y s → AnswersBy (refusal_of o.event x) o.event x y r → IsAnswered y r o s
 
+abbrev pub EventsAnswered : (Event → StateSeen → Seen → Type 0) → Type 0
+EventsAnswered Case = EventsAnsweredTo (λ e x y s. Case e x s)
+
+-- few attempts were made before it, and with it
 abbrev pub Events : Type 0
-Events = EventsAnswered (λ e x s. IsPosted e × FewAttempts x.book.ledger × IsKnown x s)
+Events = EventsAnsweredTo (λ e x y s. IsPosted e × FewAttempts x.book.ledger × FewAttempts y.book.ledger × IsKnown x s)
 
 -- what is due by now is done, until nothing is left but to close the entry
 pub record IsSettled (x : StateSeen) (o : OpenEntry) (s : Seen) : Type 0 where
