@@ -25,14 +25,15 @@ use event_cases::held_calls::known_drains_are_answered;
 use event_cases::lost_links::lost_links_are_answered;
 use event_cases::near_deadlines::deadlines_are_near;
 use event_cases::result_events::some_results_are_answered;
+use frame_cases::broken_links::broken_links_are_heard;
 use frame_cases::ended_frames::ended_frames_are_heard;
 use frame_cases::first_settings::first_settings_are_heard;
 use frame_cases::frame_kinds::frames_by_kinds;
 use frame_cases::head_frames::heads_are_heard;
 use frame_cases::message_frames::messages_are_heard;
 
-/// Every run of a channel is a session: its journal and its ledger are those of a list of actions, of the same events; but for three kinds of bytes that
-/// arrive, which are open: a message that is too long, GOAWAY, and what breaks a link.
+/// Every run of a channel is a session: its journal and its ledger are those of a list of actions, of the same events; but for two kinds of bytes that
+/// arrive, which are open: a message that is too long, and GOAWAY.
 pub fn runs_are_sessions_but()
     ensures { RunsAreSessionsBut }
 {
@@ -40,6 +41,7 @@ pub fn runs_are_sessions_but()
     arrivals_are_answered();
     attempts_go_out();
     begins_are_answered();
+    broken_links_are_heard();
     buffers_stay_sound();
     clocks_and_wishes_are_steps();
     deadlines_are_done();

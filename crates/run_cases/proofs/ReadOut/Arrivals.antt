@@ -1,11 +1,15 @@
 -- A piece that arrives, with what runs keep.
-use Rattle.std.proofs.Common.{arith, length, ℕ, ◌+◌, ◌≤◌}
+use Rattle.std.proofs.Common.{arith, length, ℕ, ◌+◌, ◌<◌, ◌≤◌}
 use Rattle.channel_actions.specs.FewCalls.Laws.{BytesAreFew}
+use Rattle.channel_core.specs.Arrivals.{piece_arrived}
 use Rattle.frame_cases.specs.PieceWalks.Laws.{KnownAlongFrames, PiecesAreHeard}
 use Rattle.run_cases.specs.ReadOut.Laws.{ArrivalsAreAnswered, LinksAreReadOut}
 
 few_bytes : (n : ℕ) → n ≤ 268435456 → n ≤ 18446744073709551615
 few_bytes n e = omega (arith, e)
+
+few_rows : (n : ℕ) → n + 5242880 < 1073741824 → n < 18446744073709551615
+few_rows n e = omega (arith, e)
 
 pub arrivals_are_answered : BytesAreFew → LinksAreReadOut → KnownAlongFrames → PiecesAreHeard → ArrivalsAreAnswered
 arrivals_are_answered bytes outs knows pieces frames breaks x y r o s h at fresh timely case answers =
@@ -19,6 +23,7 @@ arrivals_are_answered bytes outs knows pieces frames breaks x y r o s h at fresh
       out = λ l there. outs reached.setup reached.actions s reached.does o at.current at.stage_is case.link l there;
       few = λ l there. few_bytes (length l.received + length case.piece)
           (bytes reached.setup reached.actions s reached.does o at.current at.stage_is case.link case.piece case.event_is l there);
+      rows = few_rows (length (piece_arrived case.link case.piece x).book.ledger.rows) case.few;
       known = case.known;
     })
     answers

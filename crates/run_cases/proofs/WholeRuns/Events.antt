@@ -28,6 +28,7 @@ use Rattle.event_cases.specs.ResultEvents.Laws.{FirstBadConfigsAreAnswered, Seco
 use Rattle.run_cases.specs.WholeRuns.Parts.{IsArrival}
 use Rattle.channel_core.specs.Applying as channel
 use Rattle.channel_core.specs.Applying.{AnswersBy, Applies, config_read}
+use Rattle.channel_core.specs.Arrivals.{piece_arrived}
 use Rattle.channel_core.specs.Books.{lacks_call, slot_at}
 use Rattle.channel_core.specs.States.{StateSeen}
 use Rattle.channel_net.specs.Steps.{dial_refusal}
@@ -89,7 +90,7 @@ unshut true q e = absurd (let bad : Some refusal.Shut ≡ None = e in (cc))
 unshut false q e = e
 
 module _ (laws : EventLaws) (arrivals : EventsAnswered IsArrival) (x y : StateSeen) (r : Reply) (o : OpenEntry) (s : Seen) (h : Agrees x s) (at : IsAt stage.Event o s) (fresh : o.turn ≡ None)
-    (timely : next_deadline s ≡ None) (case : DoesSomething o.event x s) (allowed : IsPosted o.event) (few : FewAttempts x.book.ledger) (known : IsKnown x s) (answers : AnswersBy (channel.refusal_of o.event x) o.event x y r) where
+    (timely : next_deadline s ≡ None) (case : DoesSomething o.event x s) (allowed : IsPosted o.event) (few : FewAttempts x.book.ledger) (few_after : FewAttempts y.book.ledger) (known : IsKnown x s) (answers : AnswersBy (channel.refusal_of o.event x) o.event x y r) where
   does : (e : Event) → o.event ≡ e → does_something e x ≡ true
   does e is = ap (λ (v : Event). does_something v x) (sym is) ∙ case.does
 
@@ -151,6 +152,13 @@ module _ (laws : EventLaws) (arrivals : EventsAnswered IsArrival) (x y : StateSe
       })
       answers
 
+  -- a piece, by whose end few attempts were made
+  few_arrived : (link : ℕ) (piece : List ℕ) → o.event ≡ event.Arrived link piece → FewAttempts (piece_arrived link piece x).book.ledger
+  few_arrived link piece is =
+      let given : AnswersBy None (event.Arrived link piece) x y r
+      = subst (λ (e : Event). AnswersBy None e x y r) is (subst (λ (z : Option Refusal). AnswersBy z o.event x y r) case.kept answers) in
+      subst (λ (z : StateSeen). FewAttempts z.book.ledger) given.0 few_after
+
   -- a Shutdown
   shut_by : (b : Bool) → x.shut ≡ b → o.event ≡ event.Shutdown → IsAnswered y r o s
   shut_by true e is = laws.second_shutdowns x y r o s h at fresh timely (record { event_is = is; shut = e }) answers
@@ -182,7 +190,8 @@ module _ (laws : EventLaws) (arrivals : EventsAnswered IsArrival) (x y : StateSe
       laws.failures x y r o s h at fresh timely
       (record { sub = sub; event_is = is; kept = case.kept; dial = none_there (dial_refusal (numbered x.net.board sub)) (does (event.DialFailed sub) is) }) answers
   by_kind (event.Arrived link piece) is =
-      arrivals x y r o s h at fresh timely (record { link = link; piece = piece; event_is = is; kept = case.kept; known = known }) answers
+      arrivals x y r o s h at fresh timely
+      (record { link = link; piece = piece; event_is = is; kept = case.kept; few = few_arrived link piece is; known = known }) answers
   by_kind (event.LinkLost link) is =
       losses_known laws.each laws.lost laws.rise laws.ends x y r o s h at fresh timely (record { link = link; event_is = is; kept = case.kept; few = few; known = known }) answers
   by_kind (event.Drain link room) is = drain_few link room is

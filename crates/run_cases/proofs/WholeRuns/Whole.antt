@@ -13,5 +13,5 @@ use Rattle.run_cases.specs.WholeRuns.Laws.{RunsAreSessionsBut}
 pub runs_are_sessions_but : EventLaws → FrameLaws → Deadlines → ClockSteps → NetSteps → PlacesFollow → SettlingsStand → NetsMayAsk → LastIsWithheld → FailsFollow → RunsAreSessions → RunsAreSessionsBut
 runs_are_sessions_but laws frames deadlines clocks nets places settlings asks withheld fails runs left =
     runs (λ x o s h at case. deadlines x o s h at case.1)
-    (λ x y r o s h at fresh timely case answers. events_answered laws (arrivals_known frames laws.ends left) x y r o s h at fresh timely case.0 case.1 case.2 case.3 answers)
+    (λ x y r o s h at fresh timely case answers. events_answered laws (arrivals_known frames laws.ends left) x y r o s h at fresh timely case.0 case.1 case.2 case.3 case.4 answers)
     (λ x o s h at fresh case. settlings_done clocks nets places settlings asks withheld fails x o s h at fresh case.1 case.2 case.3)

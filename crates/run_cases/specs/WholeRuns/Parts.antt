@@ -5,20 +5,21 @@ use Rattle.channel_actions.specs.Posted.{FewAttempts}
 use Rattle.channel_actions.specs.Stages.{EventsAnswered}
 use Rattle.end_cases.specs.AttemptEnds.Laws.{OneAttemptEnds}
 use Rattle.channel_core.specs.Applying as channel
+use Rattle.channel_core.specs.Arrivals.{piece_arrived}
 use Rattle.channel_core.specs.States.{StateSeen}
 use Rattle.frame_cases.specs.FrameKinds.Laws.{GoawaysAreHeard, LargeMessagesAreHeard}
-use Rattle.frame_cases.specs.PieceWalks.Laws.{BreaksAreHeard}
 use Rattle.grpc_base.specs.declared.event.Event.TheVariants as event
 use Rattle.grpc_base.specs.declared.event.Event.{Event}
 use Rattle.session_actions.specs.declared.seen.Seen.{Seen}
 use Rattle.std.specs.Prelude.{List, None, ℕ, ◌≡◌}
 
--- Bytes come on a link that is not gone
+-- Bytes come on a link that is not gone, and few attempts were made once they are heard
 pub record IsArrival (e : Event) (x : StateSeen) (s : Seen) : Type 0 where
   pub link : ℕ
   pub piece : List ℕ
   pub event_is : e ≡ event.Arrived link piece
   pub kept : channel.refusal_of e x ≡ None
+  pub few : FewAttempts (piece_arrived link piece x).book.ledger
   pub known : IsKnown x s
 
 -- a link that is not gone is lost (proved)
@@ -32,8 +33,7 @@ pub record IsLoss (e : Event) (x : StateSeen) (s : Seen) : Type 0 where
 abbrev pub KnownLossesAreAnswered : Type 0
 KnownLossesAreAnswered = OneAttemptEnds → EventsAnswered IsLoss
 
--- What is open is of bytes that arrive: a message that is too long, GOAWAY, and bytes that break the link (proved where fewer than 2^64 - 1 attempts were made)
+-- What is open is of bytes that arrive: a message that is too long, and GOAWAY
 pub record OpenFrames : Type 0 where
   pub large : LargeMessagesAreHeard
   pub goaways : GoawaysAreHeard
-  pub breaks : BreaksAreHeard

@@ -37,6 +37,7 @@ returns c =
       heads = c.heads_are_heard.ensures;
       messages = c.messages_are_heard.ensures;
       greeted = c.first_settings_are_heard.ensures;
+      breaks = c.broken_links_are_heard.ensures;
     } in
     runs_are_sessions_but laws frames c.deadlines_are_done.ensures c.clocks_and_wishes_are_steps.ensures.clock c.take_overs_are_steps.ensures
     c.attempts_go_out.ensures.places c.settlings_stand.ensures.settling c.nets_may_ask.ensures c.last_is_withheld.ensures c.fails_follow.ensures c.runs_are_sessions.ensures
