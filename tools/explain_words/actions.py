@@ -1,4 +1,4 @@
-"""What happened within each entry, in order, by the names of the session's actions (docs/DEFINITIONS.md where it has them)."""
+"""What happened within each entry, in order, by the names of the session's actions (docs/proof/DEFINITIONS.md where it has them)."""
 
 from .calls import after_begin
 from .names import CODES, ERRORS, FRAMES, REFUSALS, name_in, short

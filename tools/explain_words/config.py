@@ -1,4 +1,4 @@
-"""A service config as the channel reads it (docs/CONFIG.md): which entry a path gets, and the first fault of a config."""
+"""A service config as the channel reads it (docs/guide/CONFIG.md): which entry a path gets, and the first fault of a config."""
 
 import json
 import re

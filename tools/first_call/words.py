@@ -41,7 +41,7 @@ Modes:
              grpcc relay --port 50050 --links 1 --seed 1 --nets 2 < examples/relay.script
 
 Usage: grpcc MODE < INPUT
-Once it is built, it has a help of each mode; until then docs/FORMATS.md has the formats and the statuses.
+Once it is built, it has a help of each mode; until then docs/guide/FORMATS.md has the formats and the statuses.
 """
 
 

@@ -233,7 +233,7 @@ def priority_of(taken):
 def alone(name, items, least=1, most=1):
     """Items of one word each, so many of them."""
     if not least <= len(items) <= most or any(len(item) != 1 for item in items):
-        raise BadWords(f"{name} takes other items; docs/FORMATS.md has them")
+        raise BadWords(f"{name} takes other items; docs/guide/FORMATS.md has them")
     return [item[0] for item in items]
 
 

@@ -26,11 +26,10 @@ use Rattle.channel_actions.specs.SoundCalls.Sound.{AreSoundCalls}
 use Rattle.channel_actions.proofs.HeldTexts.Fits.{deadlines_keep_texts, settlings_keep_texts, texts_on}
 use Rattle.channel_actions.proofs.HeldTexts.Sends.{answers_keep_texts}
 use Rattle.channel_actions.proofs.HeldTexts.Trims.{trimmed_same}
-use Rattle.channel_actions.proofs.Posted.{fewer, none_posted, posted_after}
+use Rattle.channel_actions.proofs.Posted.{none_posted, posted_after}
 use Rattle.channel_actions.specs.HeldTexts.Fits.{TextsFit}
 use Rattle.channel_actions.specs.Points.{IsSameEntry, Rests}
-use Rattle.channel_actions.specs.Posted.{ArePosted, FewAttempts, IsPosted}
-use Rattle.channel_actions.specs.SoundCalls.Laws.{AnswersKeepRows, SettlingsKeepRows, StepsKeepCalls, StepsKeepRows}
+use Rattle.channel_actions.specs.Posted.{ArePosted, IsPosted}
 use Rattle.channel_actions.specs.Stages.{Closings, Deadlines, Events, IsAnswered, IsSettled, IsTimely, Openings, Settlings}
 use Rattle.channel_actions.specs.TheirLinks.Theirs.{AreTheirs}
 use Rattle.channel_core.specs.Applying.{AnswersBy, Stepped, begun_at, conn_of, refusal_of}
@@ -81,17 +80,13 @@ pub record IsCarried (x : StateSeen) (s : Seen) : Type 0 where
   pub first : has_kind (kinds_in reached.setup.policies) kind.PickFirst ≡ true
   pub texts : TextsFit x s
 
--- what keeps it: each stage of the channel, and each action; and no stage forgets an attempt
+-- what keeps it: each stage of the channel, and each action
 pub record Carrying : Type 0 where
   pub deadlines : (x : StateSeen) → KeepsOn x → KeepsOn (overdue_ended x)
   pub answers : (refused : Option Refusal) (e : Event) (x y : StateSeen) (r : Reply) → AnswersBy refused e x y r → KeepsOn x → KeepsOn y
   pub settlings : (x : StateSeen) → KeepsOn x → KeepsOn (settled x)
   pub early : EarlyAlong
   pub own : OwnAlong
-  pub rows_answered : AnswersKeepRows
-  pub rows_settled : SettlingsKeepRows
-  pub rows_stepped : StepsKeepRows
-  pub calls_stepped : StepsKeepCalls
 
 -- the session goes on to the point behind an entry
 pub record Enters (y : StateSeen) (s : Seen) (e : Stamped) (r : Reply) : Type 0 where
@@ -115,7 +110,7 @@ same_on o s p t q u a b = record {
 
 module _ (states : StatesAreSame) (openings : Openings) (deadlines : Deadlines) (events : Events) (settlings : Settlings) (closings : Closings)
     (carrying : Carrying) (x y : StateSeen) (s : Seen) (e : Stamped) (r : Reply) (h : Rests x s) (c : IsCarried x s) (room : has_room e.event s ≡ true)
-    (step : Stepped (length s.entries + 1) (max e.moment (last_moment s)) e.word e.event x y r) (allowed : IsPosted e.event) (few : FewAttempts y.book.ledger) where
+    (step : Stepped (length s.entries + 1) (max e.moment (last_moment s)) e.word e.event x y r) (allowed : IsPosted e.event) where
   abbrev begun : StateSeen
   begun = begun_at (length s.entries + 1) (max (last_moment s) e.moment) e.word x
 
@@ -198,21 +193,10 @@ module _ (states : StatesAreSame) (openings : Openings) (deadlines : Deadlines) 
   keeps_answered : KeepsOn step.answered
   keeps_answered = carrying.answers _ timely.reaches.entry.event (overdue_ended begun) step.answered r answers carried_timely.keeps
 
-  -- no stage of the entry forgets an attempt, so that few were made before each
-  few_answered : FewAttempts step.answered.book.ledger
-  few_answered =
-      fewer step.answered.book.ledger (settled step.answered).book.ledger (carrying.rows_settled step.answered keeps_answered.calls)
-      (subst (λ (z : StateSeen). FewAttempts z.book.ledger) step.settles few)
-
-  few_timely : FewAttempts (overdue_ended begun).book.ledger
-  few_timely =
-      fewer (overdue_ended begun).book.ledger step.answered.book.ledger
-      (carrying.rows_answered _ timely.reaches.entry.event (overdue_ended begun) step.answered r answers carried_timely.keeps.calls) few_answered
-
   answered : IsAnswered step.answered r timely.reaches.entry timely.reaches.seen
   answered =
       events (overdue_ended begun) step.answered r timely.reaches.entry timely.reaches.seen timely.reaches.agrees timely.reaches.at timely.fresh timely.none
-      (subst IsPosted (sym timely.reaches.same.event) allowed, few_timely, known_of (overdue_ended begun) timely.reaches.seen carried_timely timely.reaches.same.entries) answers
+      (subst IsPosted (sym timely.reaches.same.event) allowed, known_of (overdue_ended begun) timely.reaches.seen carried_timely timely.reaches.same.entries) answers
 
   carried_answered : IsCarried step.answered answered.reaches.seen
   carried_answered =
@@ -235,7 +219,7 @@ module _ (states : StatesAreSame) (openings : Openings) (deadlines : Deadlines) 
   done =
       settlings step.answered settling_begins.reaches.entry settling_begins.reaches.seen settling_begins.reaches.agrees settling_begins.reaches.at
       (settling_begins.turn ∙ answered.fresh)
-      (few_answered, carried_begins.texts, known_of step.answered settling_begins.reaches.seen carried_begins (settling_begins.reaches.same.entries ∙ answered.reaches.same.entries ∙ timely.reaches.same.entries))
+      (carried_begins.texts, known_of step.answered settling_begins.reaches.seen carried_begins (settling_begins.reaches.same.entries ∙ answered.reaches.same.entries ∙ timely.reaches.same.entries))
 
   abbrev last_entry : OpenEntry
   last_entry = done.reaches.entry

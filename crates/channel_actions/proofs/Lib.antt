@@ -33,6 +33,7 @@ pub mod OwnStreams
 pub mod Pinging
 pub mod Posted
 pub mod Quiet
+pub mod ReadConfigs
 pub mod Refusing
 pub mod Relinked
 pub mod ResetCalls
@@ -48,3 +49,4 @@ pub mod States
 pub mod StreamsOpened
 pub mod TheirLinks
 pub mod Timely
+pub mod TransparentRetries

@@ -1,10 +1,9 @@
--- What was posted by lists of actions, one after the other; that few attempts were made where few were later; and that the policies of a channel have pick_first.
-use Rattle.std.proofs.Common.{◌≡◌, ◌≤◌, ◌<◌, ◌++◌, ◌+◌, ◌==◌, ◌||◌, ◌∷◌, ap, arith, refl, subst, sym, ◌∙◌, Bool, true, List, [], ℕ, length}
+-- What was posted by lists of actions, one after the other; and that the policies of a channel have pick_first.
+use Rattle.std.proofs.Common.{◌≡◌, ◌++◌, ◌==◌, ◌||◌, ◌∷◌, ap, refl, subst, sym, ◌∙◌, Bool, true, List, []}
 use Rattle.std.proofs.lemmas.Bool.{and_parts}
 use Rattle.std.specs.Prelude.{slice_set}
-use Rattle.attempt_ledger.specs.declared.ledger.Ledger.{Ledger}
 use Rattle.channel_actions.proofs.Does.{posted_on}
-use Rattle.channel_actions.specs.Posted.{ArePosted, FewAttempts}
+use Rattle.channel_actions.specs.Posted.{ArePosted}
 use Rattle.grpc_base.specs.Kinds.{KindsSeen, has_kind, kind_number, with_kind}
 use Rattle.grpc_base.specs.declared.event.Stamped.{Stamped}
 use Rattle.grpc_base.specs.declared.kind.Kind.TheVariants as kind
@@ -26,13 +25,6 @@ posted_after these those a b = subst ArePosted (sym (posted_on these those)) (al
 
 pub none_posted : (actions : List Action) → posted_in actions ≡ [] → ArePosted (posted_in actions)
 none_posted actions none = subst ArePosted (sym none) tt
-
--- fewer attempts
-less_by : (a b : ℕ) → a ≤ b → b + 5242880 < 1073741824 → a + 5242880 < 1073741824
-less_by a b e f = omega (arith, e, f)
-
-pub fewer : (l m : Ledger) → length l.rows ≤ length m.rows → FewAttempts m → FewAttempts l
-fewer l m less few = less_by (length l.rows) (length m.rows) less few
 
 -- the kinds of the policies that channel and session were made with
 kind_more : (k : Kind) (a b c : Bool)

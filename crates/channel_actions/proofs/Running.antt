@@ -1,5 +1,5 @@
 -- A run of a channel, event by event: each leads from a point between two entries to the next, so the whole is a session.
-use Rattle.std.proofs.Common.{◌≡◌, ◌≤◌, ◌++◌, ◌+◌, ◌-◌, ◌∷◌, ap, append_assoc, arith, refl, subst, sym, ◌∙◌, true, List, [], Option, ℕ, zero, suc, if◌then◌else◌, is_some, length, slice_get}
+use Rattle.std.proofs.Common.{◌≡◌, ◌++◌, ◌+◌, ◌-◌, ◌∷◌, ap, append_assoc, arith, refl, subst, sym, ◌∙◌, true, List, [], Option, ℕ, zero, suc, if◌then◌else◌, is_some, length, slice_get}
 use Rattle.std.proofs.lemmas.List.{append-nil}
 use Rattle.std.specs.Option.{option_map_or}
 use Rattle.std.specs.Global.{Global}
@@ -17,16 +17,14 @@ use Rattle.channel_actions.proofs.Entered.{Carrying, Enters, IsCarried, KeepsOn,
 use Rattle.channel_actions.proofs.GreetedLinks.Along.{greeted_begins}
 use Rattle.channel_actions.proofs.OwnStreams.Along.{streams_begin}
 use Rattle.channel_actions.proofs.Opening.{noted_is}
-use Rattle.channel_actions.proofs.Posted.{fewer, first_there}
+use Rattle.channel_actions.proofs.Posted.{first_there}
 use Rattle.channel_actions.proofs.Splitting.{deadlines_split, events_split, settlings_split}
 use Rattle.channel_actions.proofs.TheirLinks.Kept.{theirs_begin}
 use Rattle.channel_actions.specs.KeptCalls.Laws.{EarlyBegins}
 use Rattle.channel_actions.specs.OwnLinks.Laws.{OwnBegins}
 use Rattle.channel_actions.specs.Laws.{HadRoom, NewChannelsAgree, RunsAreSessions, is_room}
 use Rattle.channel_actions.specs.Points.{Rests}
-use Rattle.channel_actions.specs.Posted.{ArePosted, FewAttempts, IsPosted}
-use Rattle.channel_actions.specs.SoundCalls.Laws.{StepsKeepCalls, StepsKeepRows}
-use Rattle.channel_actions.specs.SoundCalls.Sound.{AreSoundCalls}
+use Rattle.channel_actions.specs.Posted.{ArePosted, IsPosted}
 use Rattle.channel_actions.specs.Stages.{Closings, Deadlines, Events, Openings, Settlings}
 use Rattle.channel_core.specs.Applying.{Stepped, conn_of, new_state}
 use Rattle.channel_core.specs.Core.{CoreSeen, Runs, Steps, last_moment}
@@ -65,20 +63,6 @@ grows (e ∷ events) old core run =
     let rest = grows events next core run.3 in
     (_, rest.1 ∙ ap (λ (l : List Entry). l ++ rest.0) step.journal ∙ append_assoc old.journal.entries _ rest.0)
 
--- and so does its list of attempts
-less_on : (a b c : ℕ) → a ≤ b → b ≤ c → a ≤ c
-less_on a b c e f = omega (arith, e, f)
-
-rows_grow : StepsKeepCalls → StepsKeepRows → (events : List Stamped) (old core : CoreSeen) → Runs old events core → AreSoundCalls old.state
-    → length old.state.book.ledger.rows ≤ length core.state.book.ledger.rows
-rows_grow calls rows [] old core run sound =
-    subst (λ (c : CoreSeen). length old.state.book.ledger.rows ≤ length c.state.book.ledger.rows) (sym run) (let same : length old.state.book.ledger.rows ≤ length old.state.book.ledger.rows = omega arith in same)
-rows_grow calls rows (e ∷ events) old core run sound =
-    let step : Steps old run.0 e run.1 = run.2 in
-    less_on (length old.state.book.ledger.rows) (length run.0.state.book.ledger.rows) (length core.state.book.ledger.rows)
-    (rows _ _ e.word e.event old.state run.0.state run.1 step.by sound)
-    (rows_grow calls rows events run.0 core run.3 (calls _ _ e.word e.event old.state run.0.state run.1 step.by sound))
-
 -- where each entry had room, this one had
 room_at : (before xs : List Entry) (m : Entry) (more : List Entry) → HadRoom before (xs ++ m ∷ more) → is_room (before ++ xs) m.event ≡ true
 room_at before [] m more h = subst (λ (l : List Entry). is_room l m.event ≡ true) (sym (append-nil before)) h.0
@@ -99,7 +83,7 @@ record Ran (core : CoreSeen) (s : Seen) (events : List Stamped) : Type 0 where
 module _ (states : StatesAreSame) (openings : Openings) (deadlines : Deadlines) (events_ : Events) (settlings : Settlings) (closings : Closings)
     (carrying : Carrying) where
   module _ (old next core : CoreSeen) (e : Stamped) (r : Reply) (events : List Stamped) (s : Seen) (h : Rests old.state s) (c : IsCarried old.state s) (j : s.entries ≡ old.journal.entries)
-      (step : Steps old next e r) (rest : Runs next events core) (room : HadRoom [] core.journal.entries) (allowed : IsPosted e.event) (few : FewAttempts core.state.book.ledger) where
+      (step : Steps old next e r) (rest : Runs next events core) (room : HadRoom [] core.journal.entries) (allowed : IsPosted e.event) where
     abbrev made : Entry
     made = entry_as (max e.moment (last_moment old.journal.entries)) e.word e.event r (conn_of next.state)
 
@@ -119,13 +103,8 @@ module _ (states : StatesAreSame) (openings : Openings) (deadlines : Deadlines) 
         (subst (λ (n : ℕ). Stepped n (max e.moment (last_moment old.journal.entries)) e.word e.event old.state next.state r)
         (ap (λ (l : List Entry). length l + 1) (sym j)) step.by)
 
-    few_next : FewAttempts next.state.book.ledger
-    few_next =
-        fewer next.state.book.ledger core.state.book.ledger
-        (rows_grow carrying.calls_stepped carrying.rows_stepped events next core rest (carrying.calls_stepped _ _ e.word e.event old.state next.state r step.by c.keeps.calls)) few
-
     pub one : Enters next.state s e r
-    one = entered states openings deadlines events_ settlings closings carrying old.state next.state s e r h c room_here stepped allowed few_next
+    one = entered states openings deadlines events_ settlings closings carrying old.state next.state s e r h c room_here stepped allowed
 
     pub one_journal : one.seen.entries ≡ next.journal.entries
     one_journal =
@@ -134,8 +113,8 @@ module _ (states : StatesAreSame) (openings : Openings) (deadlines : Deadlines) 
         ∙ ap (λ (l : List Entry). l ++ made ∷ []) j ∙ sym step.journal
 
   run : (events : List Stamped) (old core : CoreSeen) (s : Seen) → Rests old.state s → IsCarried old.state s → s.entries ≡ old.journal.entries → Runs old events core
-      → HadRoom [] core.journal.entries → ArePosted events → FewAttempts core.state.book.ledger → Ran core s events
-  run [] old core s h c j r room posted few = record {
+      → HadRoom [] core.journal.entries → ArePosted events → Ran core s events
+  run [] old core s h c j r room posted = record {
     actions = [];
     seen = s;
     does = refl;
@@ -145,9 +124,9 @@ module _ (states : StatesAreSame) (openings : Openings) (deadlines : Deadlines) 
     journal = j ∙ ap (λ (c : CoreSeen). c.journal.entries) (sym r);
     setup = refl;
   }
-  run (e ∷ events) old core s h c j r room posted few =
-      let first = one old r.0 core e r.1 events s h c j r.2 r.3 room posted.0 few in
-      let further = run events r.0 core first.seen first.rests first.kept_on (one_journal old r.0 core e r.1 events s h c j r.2 r.3 room posted.0 few) r.3 room posted.1 few in
+  run (e ∷ events) old core s h c j r room posted =
+      let first = one old r.0 core e r.1 events s h c j r.2 r.3 room posted.0 in
+      let further = run events r.0 core first.seen first.rests first.kept_on (one_journal old r.0 core e r.1 events s h c j r.2 r.3 room posted.0) r.3 room posted.1 in
       record {
         actions = first.actions ++ further.actions;
         seen = further.seen;
@@ -182,7 +161,7 @@ NewOnesKeep = (alloc : Global) (authority : List ℕ) (policies : List PolicySee
 
 pub runs_are_sessions : StatesAreSame → NoneToDial → ClockChanges → TakeOversAreSame → WishesConnect → NewChannelsAgree → Openings → Closings → Carrying
     → NewOnesKeep → EarlyBegins → OwnBegins → RunsAreSessions
-runs_are_sessions states none_to_dial clocks overs wishes news openings closings carrying new_ones new_early new_own overdue does due setup policies alloc events new core kinds ready is_new posted runs room few =
+runs_are_sessions states none_to_dial clocks overs wishes news openings closings carrying new_ones new_early new_own overdue does due setup policies alloc events new core kinds ready is_new posted runs room =
     let begins : Rests new.state (new_session setup) = subst (λ (x : StateSeen). Rests x (new_session setup)) (sym is_new.state) (news setup policies alloc kinds ready) in
     let carried : IsCarried new.state (new_session setup) = record {
       keeps = subst KeepsOn (sym is_new.state) (new_ones alloc setup.authority policies);
@@ -196,7 +175,7 @@ runs_are_sessions states none_to_dial clocks overs wishes news openings closings
       first = first_there setup.policies policies kinds ready;
       texts = subst (λ (x : StateSeen). TextsFit x (new_session setup)) (sym is_new.state) (new_texts_fit alloc setup.authority policies setup);
     } in
-    let ran = run states openings (deadlines_split overdue) (events_split none_to_dial does) (settlings_split clocks overs wishes states due) closings carrying events new core (new_session setup) begins carried (sym is_new.journal) runs room posted few in
+    let ran = run states openings (deadlines_split overdue) (events_split none_to_dial does) (settlings_split clocks overs wishes states due) closings carrying events new core (new_session setup) begins carried (sym is_new.journal) runs room posted in
     record {
       consistent = record {
         actions = ran.actions;

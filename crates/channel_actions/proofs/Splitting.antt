@@ -9,7 +9,7 @@ use Rattle.channel_actions.specs.Calm.{IsAt}
 use Rattle.channel_actions.specs.Cases.{DoesSomething, HasDue, HasOverdue, does_something, has_due}
 use Rattle.channel_actions.specs.HeldTexts.Fits.{TextsFit}
 use Rattle.channel_actions.specs.Known.{IsKnown}
-use Rattle.channel_actions.specs.Posted.{FewAttempts, IsPosted}
+use Rattle.channel_actions.specs.Posted.{IsPosted}
 use Rattle.channel_actions.specs.Stages.{Deadlines, DeadlinesOf, Events, EventsAnswered, IsAnswered, IsSettled, IsTimely, Settlings, SettlingsOf}
 use Rattle.channel_core.specs.Applying as channel
 use Rattle.channel_core.specs.Applying.{AnswersBy}
@@ -42,10 +42,10 @@ pub deadlines_split : DeadlinesOf (λ x s. HasOverdue x s × IsKnown x s) → De
 deadlines_split overdue x o s h at known = deadline_by overdue x o s h at known (next_deadline s) refl
 
 -- events: refused, or answered with nothing done, or the rest
-module _ (none_to_dial : NoneToDial) (rest : EventsAnswered (λ e x s. DoesSomething e x s × IsPosted e × FewAttempts x.book.ledger × IsKnown x s)) (x y : StateSeen) (r : Reply) (o : OpenEntry) (s : Seen) (h : Agrees x s)
-    (at : IsAt stage.Event o s) (fresh : o.turn ≡ None) (timely : next_deadline s ≡ None) (posted : IsPosted o.event) (few : FewAttempts x.book.ledger) (known : IsKnown x s) (answers : AnswersBy (channel.refusal_of o.event x) o.event x y r) where
+module _ (none_to_dial : NoneToDial) (rest : EventsAnswered (λ e x s. DoesSomething e x s × IsPosted e × IsKnown x s)) (x y : StateSeen) (r : Reply) (o : OpenEntry) (s : Seen) (h : Agrees x s)
+    (at : IsAt stage.Event o s) (fresh : o.turn ≡ None) (timely : next_deadline s ≡ None) (posted : IsPosted o.event) (known : IsKnown x s) (answers : AnswersBy (channel.refusal_of o.event x) o.event x y r) where
   does_more : channel.refusal_of o.event x ≡ None → does_something o.event x ≡ true → IsAnswered y r o s
-  does_more kept does = rest x y r o s h at fresh timely (record { kept = kept; does = does }, posted, few, known) answers
+  does_more kept does = rest x y r o s h at fresh timely (record { kept = kept; does = does }, posted, known) answers
 
   dial_by : (d : Option ℕ) → first_number is_dialable x.net.board ≡ d → channel.refusal_of o.event x ≡ None → o.event ≡ event.TakeDial → IsAnswered y r o s
   dial_by None e kept is = no_dials none_to_dial x y r o s h at fresh timely (record { event_is = is; kept = kept; none = e }) answers
@@ -77,8 +77,8 @@ module _ (none_to_dial : NoneToDial) (rest : EventsAnswered (λ e x s. DoesSomet
   pub event_answered : IsAnswered y r o s
   event_answered = refusal_by (channel.refusal_of o.event x) refl
 
-pub events_split : NoneToDial → EventsAnswered (λ e x s. DoesSomething e x s × IsPosted e × FewAttempts x.book.ledger × IsKnown x s) → Events
-events_split none_to_dial rest x y r o s h at fresh timely case answers = event_answered none_to_dial rest x y r o s h at fresh timely case.0 case.1 case.2 answers
+pub events_split : NoneToDial → EventsAnswered (λ e x s. DoesSomething e x s × IsPosted e × IsKnown x s) → Events
+events_split none_to_dial rest x y r o s h at fresh timely case answers = event_answered none_to_dial rest x y r o s h at fresh timely case.0 case.1 answers
 
 -- settlings: nothing is due, or something
 none_by : {X : Type 0} (o : Option X) → is_some o ≡ false → o ≡ None
@@ -89,10 +89,10 @@ or_none : (a b : Bool) → (a || b) ≡ false → (a ≡ false) × (b ≡ false)
 or_none true b e = absurd (cc)
 or_none false b e = (refl, e)
 
-module _ (clocks : ClockChanges) (overs : TakeOversAreSame) (wishes : WishesConnect) (states : StatesAreSame) (rest : SettlingsOf (λ x s. HasDue x s × FewAttempts x.book.ledger × TextsFit x s × IsKnown x s)) (x : StateSeen) (o : OpenEntry)
-    (s : Seen) (h : Agrees x s) (at : IsAt stage.Settling o s) (fresh : o.turn ≡ None) (few : FewAttempts x.book.ledger) (texts : TextsFit x s) (known : IsKnown x s) where
+module _ (clocks : ClockChanges) (overs : TakeOversAreSame) (wishes : WishesConnect) (states : StatesAreSame) (rest : SettlingsOf (λ x s. HasDue x s × TextsFit x s × IsKnown x s)) (x : StateSeen) (o : OpenEntry)
+    (s : Seen) (h : Agrees x s) (at : IsAt stage.Settling o s) (fresh : o.turn ≡ None) (texts : TextsFit x s) (known : IsKnown x s) where
   settled_by : (b : Bool) → has_due s ≡ b → IsSettled x o s
-  settled_by true e = rest x o s h at fresh (e, few, texts, known)
+  settled_by true e = rest x o s h at fresh (e, texts, known)
   settled_by false e =
       let one = or_none (is_some (next_of_clock s)) _ e in
       let two = or_none (is_some (next_take_over s)) _ one.1 in
@@ -108,5 +108,5 @@ module _ (clocks : ClockChanges) (overs : TakeOversAreSame) (wishes : WishesConn
         queue = none_by (next_of_queue s) five.1;
       })
 
-pub settlings_split : ClockChanges → TakeOversAreSame → WishesConnect → StatesAreSame → SettlingsOf (λ x s. HasDue x s × FewAttempts x.book.ledger × TextsFit x s × IsKnown x s) → Settlings
-settlings_split clocks overs wishes states rest x o s h at fresh case = settled_by clocks overs wishes states rest x o s h at fresh case.0 case.1 case.2 (has_due s) refl
+pub settlings_split : ClockChanges → TakeOversAreSame → WishesConnect → StatesAreSame → SettlingsOf (λ x s. HasDue x s × TextsFit x s × IsKnown x s) → Settlings
+settlings_split clocks overs wishes states rest x o s h at fresh case = settled_by clocks overs wishes states rest x o s h at fresh case.0 case.1 (has_due s) refl

@@ -7,7 +7,7 @@ use Rattle.channel_actions.specs.Cases.{DoesSomething, HasDue, HasOverdue, IsIdl
 use Rattle.channel_actions.specs.HeldTexts.Fits.{TextsFit}
 use Rattle.channel_actions.specs.Known.{IsKnown}
 use Rattle.channel_actions.specs.Points.{Rests}
-use Rattle.channel_actions.specs.Posted.{ArePosted, FewAttempts, IsPosted}
+use Rattle.channel_actions.specs.Posted.{ArePosted, IsPosted}
 use Rattle.channel_actions.specs.Stages.{DeadlinesOf, EventsAnswered, SettlingsOf}
 use Rattle.channel_core.specs.Applying.{new_state}
 use Rattle.channel_core.specs.Core.{CoreSeen, IsNewBy, Runs, ledger_in}
@@ -45,14 +45,14 @@ pub record IsSession (setup : Setup) (events : List Stamped) (core : CoreSeen) :
 abbrev pub EveryRunIsASession : Type 0
 EveryRunIsASession =
     (setup : Setup) (policies : List PolicySeen) (alloc : Global) (events : List Stamped) (new core : CoreSeen) → AreKinds setup.policies policies → are_ready policies ≡ true
-    → IsNewBy alloc setup.authority policies new → ArePosted events → Runs new events core → HadRoom [] core.journal.entries → FewAttempts (ledger_in core)
+    → IsNewBy alloc setup.authority policies new → ArePosted events → Runs new events core → HadRoom [] core.journal.entries
     → IsSession setup events core
 
 -- (the premises are what is left of the stages, where all is known that runs keep; the rest of each is proved below)
 abbrev pub RunsAreSessions : Type 0
 RunsAreSessions =
-    DeadlinesOf (λ x s. HasOverdue x s × IsKnown x s) → EventsAnswered (λ e x s. DoesSomething e x s × IsPosted e × FewAttempts x.book.ledger × IsKnown x s)
-    → SettlingsOf (λ x s. HasDue x s × FewAttempts x.book.ledger × TextsFit x s × IsKnown x s) → EveryRunIsASession
+    DeadlinesOf (λ x s. HasOverdue x s × IsKnown x s) → EventsAnswered (λ e x s. DoesSomething e x s × IsPosted e × IsKnown x s)
+    → SettlingsOf (λ x s. HasDue x s × TextsFit x s × IsKnown x s) → EveryRunIsASession
 
 -- What is proved of the stages, case by case.
 -- Events: what the channel refuses before it looks at a call or a subchannel; a Tick; a resolution that failed; a dial where none is to be made, and dials

@@ -35,3 +35,4 @@ pub mod SoundCalls
 pub mod Stages
 pub mod StreamsOpened
 pub mod TheirLinks
+pub mod TransparentRetries

@@ -1,25 +1,4 @@
--- What is asked of the events of a run, and of how many attempts it makes.
+-- What every event of a run is.
 -- Example: a Begin with a timeout of 5 s, and a result of the resolver with two addresses. No request has a timeout of 2^60 ns, and no result one address twice: the
 -- types of an event allow neither.
-use Rattle.std.specs.List.{AllByRecursion}
-use Rattle.std.specs.Prelude.{List, length, ℕ, ◌+◌, ◌<◌}
-use Rattle.attempt_ledger.specs.declared.ledger.Ledger.{Ledger}
-use Rattle.grpc_base.specs.Addresses.{IsAddressList}
-use Rattle.grpc_base.specs.Requests.{IsRequest}
-use Rattle.grpc_base.specs.declared.event.Event.TheVariants as event
-use Rattle.grpc_base.specs.declared.event.Event.{Event}
-use Rattle.grpc_base.specs.declared.event.Stamped.{Stamped}
-
--- what every event is by its types: a request has a path and metadata that may be sent, and no timeout above the longest duration; a list of addresses has none twice
-abbrev pub IsPosted : Event → Type 0
-IsPosted (event.Begin request) = IsRequest request
-IsPosted (event.Resolved addresses config) = IsAddressList addresses
-IsPosted _ = Unit {0}
-
-abbrev pub ArePosted : List Stamped → Type 0
-ArePosted events = AllByRecursion (λ e. IsPosted e.event) events
-
--- fewer than 2^30 attempts, those that may still be made included: 5 of each of 1,048,576 calls (gRFC A6, "Maximum Number of Retries"; RFC 9113, section 5.1.1, which
--- leaves a link 2^30 streams of a client)
-abbrev pub FewAttempts : Ledger → Type 0
-FewAttempts ledger = length ledger.rows + 5242880 < 1073741824
+pub use Rattle.journal_room.specs.Posted.{ArePosted, IsPosted}

@@ -9,7 +9,7 @@ use Rattle.channel_actions.specs.HeldTexts.Fits.{TextsFit}
 use Rattle.channel_actions.specs.KeptSessions.Kept.{IsKept}
 use Rattle.channel_actions.specs.Known.{IsKnown}
 use Rattle.channel_actions.specs.Points.{Reaches, Rests}
-use Rattle.channel_actions.specs.Posted.{FewAttempts, IsPosted}
+use Rattle.channel_actions.specs.Posted.{IsPosted}
 use Rattle.channel_core.specs.Applying.{AnswersBy, begun_at, refusal_of}
 use Rattle.channel_core.specs.Settling.{settled}
 use Rattle.channel_core.specs.States.{StateSeen}
@@ -57,7 +57,7 @@ EventsAnswered Case =
     → Case o.event x s → AnswersBy (refusal_of o.event x) o.event x y r → IsAnswered y r o s
 
 abbrev pub Events : Type 0
-Events = EventsAnswered (λ e x s. IsPosted e × FewAttempts x.book.ledger × IsKnown x s)
+Events = EventsAnswered (λ e x s. IsPosted e × IsKnown x s)
 
 -- what is due by now is done, until nothing is left but to close the entry
 pub record IsSettled (x : StateSeen) (o : OpenEntry) (s : Seen) : Type 0 where
@@ -70,7 +70,7 @@ SettlingsOf Case =
     (x : StateSeen) (o : OpenEntry) (s : Seen) → Agrees x s → IsAt stage.Settling o s → o.turn ≡ None → Case x s → IsSettled x o s
 
 abbrev pub Settlings : Type 0
-Settlings = SettlingsOf (λ x s. FewAttempts x.book.ledger × TextsFit x s × IsKnown x s)
+Settlings = SettlingsOf (λ x s. TextsFit x s × IsKnown x s)
 
 -- the entry is made, with the links that are gone stamped
 abbrev pub Closings : Type 0

@@ -23,7 +23,7 @@ pub fn asks_are_few()
     laws_of_the_table();
 }
 
-/// A link opened no more streams than a session has attempts, those left out that wait for one on it (RFC 9113, section 5.1.1).
+/// A link opened no more streams than a session has attempts with one or that go on, those left out that wait for one on it (RFC 9113, section 5.1.1).
 pub fn streams_are_of_attempts()
     ensures { StreamsAreOfAttempts }
 {}

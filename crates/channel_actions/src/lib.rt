@@ -30,3 +30,4 @@ pub mod sound_buffers;
 pub mod sound_calls;
 pub mod streams_opened;
 pub mod their_links;
+pub mod transparent_retries;

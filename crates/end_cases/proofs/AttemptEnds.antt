@@ -21,6 +21,7 @@ pub mod GoesOn
 pub mod Gone
 pub mod Last
 pub mod LastCommits
+pub mod LeftLinks
 pub mod Lines
 pub mod Lists
 pub mod Noted

@@ -1,7 +1,11 @@
 pub mod Acts
 pub mod Ahead
+pub mod AsFar
 pub mod Call
 pub mod Ends
+pub mod FreeSlots
+pub mod LeftCuts
+pub mod LeftNext
 pub mod Noted
 pub mod Pairs
 pub mod Rows

@@ -1,4 +1,5 @@
 pub mod Ahead
 pub mod Ends
 pub mod Laws
+pub mod Left
 pub mod Runs

@@ -1,3 +1,4 @@
 pub mod Along
 pub mod Events
+pub mod Plans
 pub mod Reads

@@ -1,5 +1,6 @@
 pub mod After
 pub mod Answered
+pub mod Down
 pub mod Downs
 pub mod Ends
 pub mod First

@@ -3,8 +3,10 @@ pub mod BrokenLinks
 pub mod EndedFrames
 pub mod FirstSettings
 pub mod HeadFrames
+pub mod LargeFrames
 pub mod MessageFrames
 pub mod OwnFrames
 pub mod PassedBytes
 pub mod PieceWalks
 pub mod QuietFrames
+pub mod RetiredLinks

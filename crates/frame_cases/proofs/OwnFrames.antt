@@ -1,2 +1,5 @@
+pub mod Alike
 pub mod Calls
+pub mod Came
 pub mod Frame
+pub mod Links

@@ -7,3 +7,4 @@ pub mod MessageFrames
 pub mod PassedBytes
 pub mod PieceWalks
 pub mod QuietFrames
+pub mod RetiredLinks

@@ -1,6 +1,6 @@
 // Addresses of a service, and the list of them that a target or a resolver result gives.
 ghost use Rattle.std.specs.Prelude.{◌≡◌, ◌≤◌, ◌<◌, ◌↔◌, ◌++◌, ◌∷◌, [], length, IsTrue, IfOk, OnErr, OnOk, IsOk, IsErr, Contains};
-ghost use Rattle.grpc_base.specs.Addresses.{address_limit, address_text, has_address, with_address};
+ghost use Rattle.grpc_base.specs.Addresses.{IsAddressList, address_limit, address_text, has_address, with_address};
 
 use crate::limits::ADDRESSES;
 use crate::{NoMemory, append_decimal};
@@ -97,6 +97,13 @@ impl AddressList {
         ensures within { length self.now ≤ address_limit }
     {
         self.addresses.as_slice()
+    }
+
+    /// That no address is there twice and at most 64 are, which the type keeps. Nothing runs: it is for proofs.
+    pub fn keeps_each_once(&self)
+        ensures { IsAddressList self.now }
+    {
+        let _ = &self.addresses;
     }
 
     /// How many addresses there are.

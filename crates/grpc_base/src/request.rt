@@ -84,6 +84,14 @@ impl Request {
         })
     }
 
+    /// That it has a path, metadata that may be sent, and no timeout above the longest duration, which the type keeps. Nothing runs: it
+    /// is for proofs.
+    pub fn keeps_its_parts(&self)
+        ensures { IsRequest self.now }
+    {
+        let _ = &self.path;
+    }
+
     /// The path, as `/service/method`.
     pub fn path(&self) -> &Text
         ensures path { result.now ≡ self.now.path }

@@ -1,4 +1,4 @@
-"""Scripts and reports become events, and what the definitions give becomes the lines of a report (docs/FORMATS.md)."""
+"""Scripts and reports become events, and what the definitions give becomes the lines of a report (docs/guide/FORMATS.md)."""
 
 import re
 from typing import NamedTuple

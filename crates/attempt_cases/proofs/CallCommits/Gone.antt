@@ -19,7 +19,7 @@ use Rattle.attempt_cases.proofs.CallCommits.On.{on}
 use Rattle.attempt_cases.proofs.CallCommits.Own.{links_then}
 use Rattle.attempt_cases.proofs.CallCommits.Rows.{outstanding_on}
 use Rattle.call_cases.proofs.ConfiguredCalls.Lists.{same_numbered, same_words}
-use Rattle.call_cases.proofs.OneCallEnds.Along.{unowed}
+use Rattle.call_cases.specs.CallEnds.Ends.{unowed}
 use Rattle.call_cases.proofs.OneCallEnds.Gone.{subs_at}
 use Rattle.call_cases.proofs.OneCallEnds.Noted.{seen_if, seen_on}
 use Rattle.call_cases.proofs.OneCallEnds.Stamps.{IsNoted, all_noted, gone_by, stamped_if}

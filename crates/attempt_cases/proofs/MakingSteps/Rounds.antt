@@ -377,7 +377,7 @@ module _ (one : OneMakes) (laws : CallLaws) (along : EarlyAlong) (n : ℕ) (rest
   low : number_of n ≡ n
   low =
       let below : n ≤ length s.calls = places_below s.calls n d.call d.there in
-      let few : length s.calls ≤ 4294967295 = l.sound.few in
+      let few : length s.calls ≤ 1048576 = l.sound.few in
       omega (arith, below, few)
 
   one_settles : (z : StateSeen) → Settles z (made_one n z)
@@ -523,7 +523,7 @@ module _ (one : OneMakes) (laws : CallLaws) (along : EarlyAlong) (x : StateSeen)
       let b : IsDueBy s x.book.moment k = due_pair k e in
       let c : DueCall s b.at k = due_call s b.at k b.in_dues in
       let below : k ≤ length s.calls = places_below s.calls k c.call c.there in
-      let few : length s.calls ≤ 4294967295 = sound.few in
+      let few : length s.calls ≤ 1048576 = sound.few in
       omega (arith, below, few)
 
   -- a call is due at one moment

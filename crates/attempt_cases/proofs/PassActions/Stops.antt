@@ -1,5 +1,5 @@
 -- Where the channel serves none, a pass is over; and a pass comes to its end, since each attempt that it serves stands behind the one before.
-use Rattle.std.proofs.Common.{◌≡◌, ◌≤◌, ◌+◌, ◌*◌, ◌&&◌, ◌||◌, ◌==◌, ◌∙◌, ap, arith, refl, sym, Bool, true, false, None, Option, Some, ℕ, zero, suc, inl, inr, is_some, length, nat_lt, ◌⊎◌}
+use Rattle.std.proofs.Common.{◌≡◌, ◌<◌, ◌≤◌, ◌+◌, ◌*◌, ◌&&◌, ◌||◌, ◌==◌, ◌∙◌, ap, arith, refl, sym, Bool, true, false, None, Option, Some, ℕ, zero, suc, inl, inr, is_some, length, nat_lt, ◌⊎◌}
 use Rattle.std.proofs.lemmas.Bool.Decides.{nat_tests}
 use Rattle.std.proofs.lemmas.List.{length-map}
 use Rattle.std.specs.Prelude.{option_and_then}
@@ -57,11 +57,11 @@ passes_stop state last x o s h sound at passing none =
 
 -- by how much a pair is behind the first one
 abbrev weight : ℕ × ℕ → ℕ
-weight p = 4294967295 * p.0 + p.1
+weight p = 8796093022208 * p.0 + p.1
 
 pub record IsLow (p : ℕ × ℕ) : Type 0 where
-  pub call : p.0 ≤ 4294967295
-  pub row : p.1 ≤ 4294967294
+  pub call : p.0 ≤ 1048576
+  pub row : p.1 < 8796093022208
 
 behind_parts : (p q : ℕ × ℕ) → is_behind p q ≡ true → ((p.0 + 1 ≤ q.0) ⊎ ((p.0 ≡ q.0) × (p.1 + 1 ≤ q.1)))
 behind_parts p q e = by_less (nat_lt p.0 q.0) refl
@@ -81,16 +81,16 @@ behind_parts p q e = by_less (nat_lt p.0 q.0) refl
 
 heavier : (p q : ℕ × ℕ) → IsLow p → is_behind p q ≡ true → weight p + 1 ≤ weight q
 heavier p q low e =
-    let row : p.1 ≤ 4294967294 = low.row in
+    let row : p.1 < 8796093022208 = low.row in
     elim (behind_parts p q e) [
       | inl more ↦ omega (arith, more, row)
       | inr both ↦ (let same : p.0 ≡ q.0 = both.0 in let more : p.1 + 1 ≤ q.1 = both.1 in omega (arith, same, more))
     ]
 
-lightest : (p : ℕ × ℕ) → IsLow p → weight p ≤ 18446744069414584319
+lightest : (p : ℕ × ℕ) → IsLow p → weight p < 9223380832947798016
 lightest p low =
-    let call : p.0 ≤ 4294967295 = low.call in
-    let row : p.1 ≤ 4294967294 = low.row in
+    let call : p.0 ≤ 1048576 = low.call in
+    let row : p.1 < 8796093022208 = low.row in
     omega (arith, call, row)
 
 -- what waits has the number of a call and the place of an attempt
@@ -106,15 +106,15 @@ low_by x s h sound p w =
     let owned = all_numbered (λ (a : Attempt). is_some (call_of a s)) s.attempts p.1 w.attempt w.there h.kept.owned in
     let call : w.attempt.row.call ≤ length s.calls = call_by s w.attempt (call_of w.attempt s) refl owned in
     let is : w.attempt.row.call ≡ p.0 = w.call in
-    let few : length s.calls ≤ 4294967295 = sound.few in
-    let room : length x.book.ledger.rows + to_come x.book.calls ≤ 4294967294 = sound.room in
+    let few : length s.calls ≤ 1048576 = sound.few in
+    let room : length x.book.ledger.rows + to_come x.book.calls < 8796093022208 = sound.room in
     record { call = omega (arith, call, is, few); row = omega (arith, rows, place, room) }
 
 module _ (serves : ServeSteps) where
   ends_by : (left : ℕ) (last : ℕ × ℕ) (m : Moved) (o : OpenEntry) (s : Seen) (next : Option (ℕ × ℕ)) → Agrees m.state s → IsSound m.state s → IsAt stage.Settling o s
-      → IsPassing last o s → IsLow last → 18446744069414584320 ≤ suc left + weight last → next_served last m.state ≡ next
+      → IsPassing last o s → IsLow last → 9223380832947798016 ≤ suc left + weight last → next_served last m.state ≡ next
       → ((p : ℕ × ℕ) (n : Moved) (q : OpenEntry) (t : Seen) → Agrees n.state t → IsSound n.state t → IsAt stage.Settling q t → IsPassing p q t → IsLow p
-      → 18446744069414584320 ≤ left + weight p → is_passed left p n ≡ true)
+      → 9223380832947798016 ≤ left + weight p → is_passed left p n ≡ true)
       → is_passed_by (is_passed left) next m ≡ true
   ends_by left last m o s None h sound at passing low room e further = refl
   ends_by left last m o s (Some p) h sound at passing low room e further =
@@ -124,15 +124,15 @@ module _ (serves : ServeSteps) where
       further p (also m.moved (served p.0 p.1 m.state)) one.leads.reaches.entry one.leads.reaches.seen one.leads.reaches.agrees one.sound one.leads.reaches.at one.leads.point
       (low_by m.state s h sound p w.1) (room_on left (weight last) (weight p) room more)
     where
-      room_on : (n a b : ℕ) → 18446744069414584320 ≤ suc n + a → a + 1 ≤ b → 18446744069414584320 ≤ n + b
+      room_on : (n a b : ℕ) → 9223380832947798016 ≤ suc n + a → a + 1 ≤ b → 9223380832947798016 ≤ n + b
       room_on n a b e f = omega (arith, e, f)
 
   all_end : (left : ℕ) (last : ℕ × ℕ) (m : Moved) (o : OpenEntry) (s : Seen) → Agrees m.state s → IsSound m.state s → IsAt stage.Settling o s → IsPassing last o s
-      → IsLow last → 18446744069414584320 ≤ left + weight last → is_passed left last m ≡ true
+      → IsLow last → 9223380832947798016 ≤ left + weight last → is_passed left last m ≡ true
   unfolding is_passed
   all_end zero last m o s h sound at passing low room = absurd (over (weight last) (lightest last low) room)
     where
-      over : (n : ℕ) → n ≤ 18446744069414584319 → 18446744069414584320 ≤ 0 + n → ⊥
+      over : (n : ℕ) → n < 9223380832947798016 → 9223380832947798016 ≤ 0 + n → ⊥
       over n e f = omega (arith, e, f)
   all_end (suc left) last m o s h sound at passing low room =
       ends_by left last m o s (next_served last m.state) h sound at passing low room refl (λ p n q t. all_end left p n q t)

@@ -1,5 +1,5 @@
 -- The rounds of a settling come to an end.
-use Rattle.std.proofs.Common.{◌≡◌, ◌≤◌, ◌+◌, ◌-◌, ◌||◌, ◌∷◌, ℕ, zero, suc, Bool, true, false, List, [], Option, None, Some, inl, refl, arith, length, if◌then◌else◌}
+use Rattle.std.proofs.Common.{◌≡◌, ◌<◌, ◌≤◌, ◌+◌, ◌-◌, ◌||◌, ◌∷◌, ℕ, zero, suc, Bool, true, false, List, [], Option, None, Some, inl, refl, arith, length, if◌then◌else◌}
 use Rattle.attempt_ledger.specs.declared.row.Row.{Row}
 use Rattle.call_actions.specs.Laws.{AttemptsAreDue}
 use Rattle.channel_actions.proofs.GoingCalls.Arms.{CallLaws}
@@ -59,7 +59,7 @@ load_most : (x : StateSeen) (s : Seen) → IsSound x s → load x + 1 ≤ 184467
 load_most x s sound =
     let rows : waiting x.book.ledger.rows ≤ length x.book.ledger.rows = waiting_most x.book.ledger.rows in
     let left : may_all x.book.calls ≤ to_come x.book.calls = may_most x.book.calls in
-    let room : length x.book.ledger.rows + to_come x.book.calls ≤ 4294967294 = sound.room in
+    let room : length x.book.ledger.rows + to_come x.book.calls < 8796093022208 = sound.room in
     omega (arith, rows, left, room)
 
 more_one : (a b c : ℕ) → a + 1 ≤ b → b ≤ c → a + 1 ≤ c

@@ -155,7 +155,7 @@ module _ (dues : AttemptsAreDue) (x : StateSeen) (s : Seen) (h : Agrees x s) (so
   slot_by c there next =
       let own : HasSlot x s c key = h.calls.each key c there in
       let below : key ≤ length s.calls = places_below s.calls key c there in
-      let few : length s.calls ≤ 4294967295 = sound.few in
+      let few : length s.calls ≤ 1048576 = sound.few in
       record {
         slot = own.slot;
         there = own.there;

@@ -1,5 +1,5 @@
 -- Each part of a settling keeps what the others ask of channel and session.
-use Rattle.std.proofs.Common.{◌≡◌, ◌≤◌, ℕ, List, arith, length}
+use Rattle.std.proofs.Common.{◌≡◌, ◌<◌, ◌≤◌, ℕ, List, arith, length}
 use Rattle.channel_actions.proofs.FewCalls.Reached.{reached_on}
 use Rattle.channel_actions.proofs.GoingCalls.Arms.{CallLaws}
 use Rattle.channel_actions.proofs.HeldTexts.Carried.{Trims, chosen_trims, rests_trim}
@@ -25,8 +25,8 @@ stays_by step settles stays trims along x s t actions h sound does after =
     let before : length s.calls ≡ length x.book.calls = h.calls.count in
     let now : length t.calls ≡ length (step x).book.calls = after.calls.count in
     let same : length (step x).book.calls ≡ length x.book.calls = r.count in
-    let few : length s.calls ≤ 4294967295 = sound.few in
-    let room : all_attempts x ≤ 4294967294 = sound.room in
+    let few : length s.calls ≤ 1048576 = sound.few in
+    let room : all_attempts x < 8796093022208 = sound.room in
     let less : all_attempts (step x) ≤ all_attempts x = r.all in
     record {
       few = omega (arith, before, now, same, few);
@@ -38,7 +38,7 @@ stays_by step settles stays trims along x s t actions h sound does after =
       texts = texts_on x s t actions h sound.texts does (step x) (trims x) after;
     }
   where
-    le_on : (a b : ℕ) → a ≤ b → b ≤ 4294967294 → a ≤ 4294967294
+    le_on : (a b : ℕ) → a ≤ b → b < 8796093022208 → a < 8796093022208
     le_on a b e f = omega (arith, e, f)
 
 pub settling_keeps : CallLaws → EarlyAlong → SettlingKeeps

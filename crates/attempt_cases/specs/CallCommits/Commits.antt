@@ -3,7 +3,7 @@
 -- once.
 -- Example: call 1 has the attempts 1, 2 and 3 outstanding, on the streams 1, 3 and 5, and the head of 2 comes. CallCommitted 2; AttemptEnds 1 and 3; StreamReset
 -- of the streams 1 and 5.
-use Rattle.std.specs.Prelude.{Bool, List, None, Some, [], false, map, true, ◌++◌, ◌∷◌, ◌≡◌, ℕ}
+use Rattle.std.specs.Prelude.{Bool, List, Some, [], false, map, true, ◌++◌, ◌∷◌, ◌≡◌, ℕ}
 use Rattle.call_actions.specs.TakeActions.Cuts.{CanCommit}
 use Rattle.call_core.specs.Laws as call_laws
 use Rattle.call_core.specs.Parts.{committed_buffer}
@@ -11,6 +11,7 @@ use Rattle.call_core.specs.Steps as steps
 use Rattle.call_core.specs.Steps.{Stepped}
 use Rattle.call_core.specs.declared.inbox.Inbox.{Inbox}
 use Rattle.channel_actions.specs.Agrees.{Agrees}
+use Rattle.call_cases.specs.CallEnds.Ends.{unowed}
 use Rattle.call_cases.specs.EndsFollow.Cuts.{AreUnreset}
 use Rattle.call_cases.specs.EndsFollow.Laws.{is_late}
 use Rattle.channel_core.specs.Books.{slot_at}
@@ -30,7 +31,6 @@ use Rattle.session_actions.specs.declared.action.CommitCause.{CommitCause}
 use Rattle.session_actions.specs.declared.attempt.Attempt.{Attempt}
 use Rattle.session_actions.specs.declared.call.Call.{Call}
 use Rattle.session_actions.specs.declared.entry.OpenEntry.{OpenEntry}
-use Rattle.session_actions.specs.declared.link.Link.{Link}
 use Rattle.session_actions.specs.declared.seen.Seen.{Seen}
 use Rattle.session_order.specs.Calm.{IsStill}
 use Rattle.session_order.specs.Lines.{is_line}
@@ -64,9 +64,6 @@ pub record CommitsNext (waits : Line → Bool) (number : ℕ) (why : CommitCause
 -- the channel after it
 abbrev pub committed_state : ℕ → ℕ → Inbox → StateSeen → StateSeen
 committed_state number row inbox x = sealed (call_asked (commits_with row inbox x.book.moment) number x)
-
-abbrev pub unowed : Link → Link
-unowed l = record l { owed = [] }
 
 -- the session after it: in the same entry, at the same stage, with nothing that follows at once but what these lines give
 pub record HasCommitted (waits : Line → Bool) (number place : ℕ) (why : CommitCause) (inbox : Inbox) (x : StateSeen) (o : OpenEntry) (s : Seen) : Type 0 where

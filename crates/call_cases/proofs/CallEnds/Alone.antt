@@ -7,7 +7,7 @@ use Rattle.attempt_ledger.specs.Ends.{is_cut}
 use Rattle.attempt_ledger.specs.declared.row.RowEnd.{RowEnd}
 use Rattle.call_actions.specs.Sees.{bucket_of}
 use Rattle.call_cases.proofs.CallEnds.On.{are_cut, next, on, resets, t, their}
-use Rattle.call_cases.specs.CallEnds.Ends.{EndsNext}
+use Rattle.call_cases.specs.CallEnds.Ends.{IsToEnd}
 use Rattle.call_actions.proofs.CallsApart.Books.{books_stay, tokens_stay}
 use Rattle.call_actions.proofs.CallsApart.Fair.{lines_are_fair}
 use Rattle.call_actions.specs.CallsApart.Apart.{IsBook, IsFair, counts_in, run_counting, run_number}
@@ -127,7 +127,7 @@ map_same : {X Y : Type 0} (f g : X → Y) → ((x : X) → f x ≡ g x) → (xs 
 map_same f g same [] = refl
 map_same {X} {Y} f g same (x ∷ xs) = ap (λ (y : Y). y ∷ map f xs) (same x) ∙ ap (λ (ys : List Y). g x ∷ ys) (map_same f g same xs)
 
-module _ (waits : Line → Bool) (n : ℕ) (why : EndCause) (x : StateSeen) (o : OpenEntry) (s : Seen) (is : EndsNext waits n why x o s) where
+module _ (waits : Line → Bool) (n : ℕ) (why : EndCause) (x : StateSeen) (o : OpenEntry) (s : Seen) (is : IsToEnd waits n why x o s) where
   abbrev u : Seen
   u = (resets waits n why x o s is).seen
 

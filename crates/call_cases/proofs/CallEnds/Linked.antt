@@ -18,9 +18,9 @@ use Rattle.call_core.specs.Parts.{count_of, cut_end, read_of}
 use Rattle.call_core.specs.Steps.{Stepped, cut_all, cut_row, ended_as}
 use Rattle.call_core.specs.declared.live.LiveRow.{LiveRow}
 use Rattle.call_cases.proofs.CallEnds.Alone.{buckets_on, goes_apart}
-use Rattle.call_cases.proofs.CallEnds.On.{goes_on}
+use Rattle.call_cases.proofs.CallEnds.On.{goes_on, to_end}
 use Rattle.call_cases.proofs.CallEnds.Sets.{timers_agree}
-use Rattle.call_cases.specs.CallEnds.Ends.{AgreesApart, EndsNext, EndsOn, TimersAgree}
+use Rattle.call_cases.specs.CallEnds.Ends.{AgreesApart, EndsApart, EndsOn, IsToEnd, TimersAgree}
 use Rattle.call_cases.specs.CallEnds.Laws.{EndsAgree}
 use Rattle.channel_actions.specs.Calls.{HasSlot}
 use Rattle.channel_actions.specs.Clock.{DrawsAlike, SeesClock}
@@ -172,7 +172,7 @@ all_passing P p (a ∷ xs) each = passing_by P a (filter p xs) (p a) (each 0 a r
 none_cause : (o : Option CallEnd) (p : Option EndCause) → option_map (λ (e : CallEnd). e.cause) o ≡ p → o ≡ None → p ≡ None
 none_cause o p e h = sym e ∙ ap (option_map (λ (k : CallEnd). k.cause)) h
 
-module _ (waits : Line → Bool) (n : ℕ) (why : EndCause) (x : StateSeen) (o : OpenEntry) (s : Seen) (is : EndsNext waits n why x o s) where
+module _ (waits : Line → Bool) (n : ℕ) (why : EndCause) (x : StateSeen) (o : OpenEntry) (s : Seen) (is : IsToEnd waits n why x o s) where
   abbrev pub has : HasSlot x s is.call n
   has = is.agrees.calls.each n is.call is.there
 
@@ -291,5 +291,8 @@ module _ (waits : Line → Bool) (n : ℕ) (why : EndCause) (x : StateSeen) (o :
   agree = subst (λ (z : StateSeen). AgreesApart z u) (sym whole)
       (record { clock = clock_on; configs = configs_on; buckets = buckets_on waits n why x o s is; links = links_on; net = on.net; timers = timers_on; orderly = is.agrees.orderly; resets = is.agrees.sets.resets; kept = on.kept })
 
+apart_ahead : (waits : Line → Bool) (n : ℕ) (why : EndCause) (x : StateSeen) (o : OpenEntry) (s : Seen) → IsToEnd waits n why x o s → EndsApart waits n why x o s
+apart_ahead waits n why x o s is = record { on = on waits n why x o s is; apart = goes_apart waits n why x o s is (on waits n why x o s is).kept; agrees = agree waits n why x o s is }
+
 pub ends_agree : EndsAgree
-ends_agree waits n why x o s is = record { on = on waits n why x o s is; apart = goes_apart waits n why x o s is (on waits n why x o s is).kept; agrees = agree waits n why x o s is }
+ends_agree waits n why x o s is = apart_ahead waits n why x o s (to_end waits n why x o s is)

@@ -5,11 +5,11 @@ use Rattle.std.specs.List.{list_any}
 use Rattle.std.specs.Option.{option_and_then, option_map, option_or}
 use Rattle.std.specs.Prelude.{option_to_list}
 use Rattle.call_core.specs.Steps.{closed_by}
-use Rattle.call_cases.specs.CallEnds.Ends.{EndsNext, EndsOn}
+use Rattle.call_cases.specs.CallEnds.Ends.{EndsNext, EndsOn, HasNotedLink, IsToEnd}
 use Rattle.call_cases.specs.CallEnds.Laws.{EndsGoOn}
 use Rattle.channel_actions.proofs.Does.{none_on}
 use Rattle.channel_actions.specs.Calls.{HasSlot, lent_to}
-use Rattle.channel_actions.specs.Links.{SeesLinks}
+use Rattle.channel_actions.specs.Links.{HasLink, SeesLinks}
 use Rattle.channel_core.specs.States.{StateSeen}
 use Rattle.call_cases.proofs.EndsFollow.Follow.{cuts_are_out, ends_follow}
 use Rattle.call_cases.proofs.EndsFollow.Steps.{call_number}
@@ -34,6 +34,7 @@ use Rattle.session_actions.specs.declared.action.Action.{Action}
 use Rattle.session_actions.specs.declared.action.Action.TheVariants as action
 use Rattle.session_actions.specs.declared.attempt.Attempt.{Attempt}
 use Rattle.session_actions.specs.declared.entry.OpenEntry.{OpenEntry}
+use Rattle.session_actions.specs.declared.link.Link.{Link}
 use Rattle.grpc_base.specs.declared.event.Stamped.{Stamped}
 use Rattle.session_actions.specs.declared.seen.Seen.{Seen}
 use Rattle.session_order.specs.declared.line.Line.{Line}
@@ -74,7 +75,7 @@ pub early_by : (w l : Bool) → (w ≡ true → l ≡ true) → l ≡ false → 
 early_by false l turn e = refl
 early_by true l turn e = absurd (both_ways l e (turn refl))
 
-module _ (waits : Line → Bool) (n : ℕ) (why : EndCause) (x : StateSeen) (o : OpenEntry) (s : Seen) (is : EndsNext waits n why x o s) where
+module _ (waits : Line → Bool) (n : ℕ) (why : EndCause) (x : StateSeen) (o : OpenEntry) (s : Seen) (is : IsToEnd waits n why x o s) where
   abbrev kept : IsKept s
   kept = is.agrees.kept
 
@@ -118,23 +119,11 @@ module _ (waits : Line → Bool) (n : ℕ) (why : EndCause) (x : StateSeen) (o :
   pub are_cut : AreCut n their b t
   are_cut = subst (λ (k : ℕ). AreCut k their (call_ended k why s) t) own ended.ended.cut
 
-  after_end : after (action.CallEnds n why) s ≡ b
-  after_end = ap (λ (q : Option OpenEntry). after_if q (action.CallEnds n why) s) is.current
-
-  kept_end : IsKept b
-  kept_end = subst IsKept after_end (kept_stays s (action.CallEnds n why) kept is.next)
-
-  links_end : SeesLinks x b
-  links_end = calls_end_off_links x s n why kept is.agrees.links
-
-  quiet : list_any (λ (a : Attempt). is_some (reset_code_of b a)) b.attempts ≡ false
-  quiet = is.still line.Reset refl (early_by (waits line.Reset) (is_late line.Reset) (is.late line.Reset) refl)
-
   pub out : AreAllOut n why s t
   out = cuts_are_out waits n why o s t their next are_cut
 
   pub resets : AreResetToo (with_cuts out.attempts x) t
-  resets = cuts_are_reset x b t out.attempts opened kept_end links_end is.unreset quiet out.off
+  resets = is.reset t out.attempts out.all out.off
 
   pub on : FollowsOn waits n why o s (their ++ resets.actions) resets.seen
   on = ends_follow waits n why o s t resets.seen their resets.actions next are_cut resets.resets
@@ -156,5 +145,57 @@ module _ (waits : Line → Bool) (n : ℕ) (why : EndCause) (x : StateSeen) (o :
     net = same_nets_agree s resets.seen x.net (record { setup = on.rest.setup; asks = on.rest.asks; policies = on.rest.policies; subs = on.rest.subs }) is.agrees.net;
   }
 
+-- where all agrees, so do the links once the attempts of the call are cut off and their streams are reset
+module _ (waits : Line → Bool) (n : ℕ) (why : EndCause) (x : StateSeen) (o : OpenEntry) (s : Seen) (is : EndsNext waits n why x o s) where
+  abbrev b_ : Seen
+  b_ = call_ended n why s
+
+  kept_s : IsKept s
+  kept_s = is.agrees.kept
+
+  after_end : after (action.CallEnds n why) s ≡ b_
+  after_end = ap (λ (q : Option OpenEntry). after_if q (action.CallEnds n why) s) is.current
+
+  opened_s : is_some s.current ≡ true
+  opened_s = ap (λ (q : Option OpenEntry). is_some q) is.current
+
+  kept_end : IsKept b_
+  kept_end = subst IsKept after_end (kept_stays s (action.CallEnds n why) kept_s is.next)
+
+  links_end : SeesLinks x b_
+  links_end = calls_end_off_links x s n why kept_s is.agrees.links
+
+  quiet : list_any (λ (a : Attempt). is_some (reset_code_of b_ a)) b_.attempts ≡ false
+  quiet = is.still line.Reset refl (early_by (waits line.Reset) (is_late line.Reset) (is.late line.Reset) refl)
+
+  noted : (number : ℕ) (l : Link) → HasLink x s l number → HasNotedLink x s l number
+  noted number l h = record { slot = h.slot; there = h.there; over = h.sees.over; retiring = h.sees.retiring }
+
+  pub to_end : IsToEnd waits n why x o s
+  to_end = record {
+    late = is.late;
+    current = is.current;
+    agrees = record {
+      clock = is.agrees.clock;
+      columns = is.agrees.columns;
+      configs = is.agrees.configs;
+      buckets = is.agrees.buckets;
+      calls = is.agrees.calls;
+      links = record { count = is.agrees.links.count; each = λ number l at. noted number l (is.agrees.links.each number l at) };
+      net = is.agrees.net;
+      orderly = is.agrees.orderly;
+      sets = is.agrees.sets;
+      kept = kept_s;
+    };
+    call = is.call;
+    there = is.there;
+    going = is.going;
+    next = is.next;
+    uncut = is.uncut;
+    unfollowed = is.unfollowed;
+    still = is.still;
+    reset = λ t cuts all off. cuts_are_reset x b_ t cuts opened_s kept_end links_end is.unreset quiet off;
+  }
+
 pub ends_go_on : EndsGoOn
-ends_go_on waits n why x o s is = goes_on waits n why x o s is
+ends_go_on waits n why x o s is = goes_on waits n why x o s (to_end waits n why x o s is)

@@ -5,7 +5,7 @@ use Rattle.std.specs.Set.{remove_key}
 use Rattle.attempt_ledger.specs.declared.ledger.CallEnd.{CallEnd}
 use Rattle.call_cases.proofs.CallEnds.Alone.{goes_apart, has_cut}
 use Rattle.call_cases.proofs.CallEnds.On.{next, resets, t}
-use Rattle.call_cases.specs.CallEnds.Ends.{EndsNext, TimersAgree}
+use Rattle.call_cases.specs.CallEnds.Ends.{IsToEnd, TimersAgree}
 use Rattle.channel_actions.specs.Calls.{HasSlot, deadline_of, due_of}
 use Rattle.channel_actions.specs.Sets.{AreExactly, is_in_bare, is_in_deadlines, is_in_dues, is_in_impatient, is_patient}
 use Rattle.channel_core.specs.States.{StateSeen}
@@ -64,7 +64,7 @@ module _ (n : ℕ) (pairs : List (ℕ × ℕ)) (test other : ℕ → ℕ → Boo
       (λ i j e. ap (λ (z : Bool). test i j && not z) (other_key 0 i j n e) ∙ and_true (test i j) ∙ sym (away i j e))
       (λ i. gone i ∙ sym (none i)) a b (b == n) refl)
 
-module _ (waits : Line → Bool) (n : ℕ) (why : EndCause) (x : StateSeen) (o : OpenEntry) (s : Seen) (is : EndsNext waits n why x o s) where
+module _ (waits : Line → Bool) (n : ℕ) (why : EndCause) (x : StateSeen) (o : OpenEntry) (s : Seen) (is : IsToEnd waits n why x o s) where
   abbrev u : Seen
   u = (resets waits n why x o s is).seen
 

@@ -80,7 +80,7 @@ and_off : (a b : Bool) → (a && false && b) ≡ false
 and_off true b = refl
 and_off false b = refl
 
-pub below_all : (n m : ℕ) → n ≤ m → m ≤ 4294967295 → n ≤ 4294967295
+pub below_all : (n m : ℕ) → n ≤ m → m ≤ 1048576 → n ≤ 4294967295
 below_all n m e f = omega (arith, e, f)
 
 pub or_true : (b : Bool) → (b || true) ≡ true

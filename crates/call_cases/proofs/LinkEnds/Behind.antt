@@ -298,7 +298,7 @@ some_by link a cuts slot true h e next =
     fresh_stays link cuts (slot_closed link a slot) (ap (λ (c : Bool). (if c then with_link sealed_link slot else slot).link.link.wire.queue.fresh) h)
 some_by link a cuts slot false h e next = next e
 
-some_closed : (link : ℕ) (cuts : List Attempt) (slot : LinkSlot) → list_any (λ (a : Attempt). link_number a == link) cuts ≡ true
+pub some_closed : (link : ℕ) (cuts : List Attempt) (slot : LinkSlot) → list_any (λ (a : Attempt). link_number a == link) cuts ≡ true
     → (slots_closed link cuts slot).link.link.wire.queue.fresh ≡ 0
 some_closed link [] slot e = absurd (cc)
 some_closed link (a ∷ cuts) slot e = some_by link a cuts slot (link_number a == link) refl e (some_closed link cuts (slot_closed link a slot))

@@ -136,6 +136,31 @@ end_outstanding None p e = absurd (cc)
 end_outstanding (Some x) None e = refl
 end_outstanding (Some x) (Some y) e = absurd (cc)
 
+-- a link on which an attempt is not: the others are there
+module _ (s : Seen) (a : Attempt) (there : numbered s.attempts a.place ≡ Some a) (places : ArePlaced 1 s.attempts) (l : Link) (off : is_outstanding_on l a ≡ false) where
+  abbrev IsOther : Attempt → Type 0
+  IsOther b = (b.place == a.place) ≡ false
+
+  apart_by : (b : Attempt) (c : Bool) → (b.place == a.place) ≡ c → AtPlace s.attempts b → is_outstanding_on l b ≡ true → IsOther b
+  apart_by b false e at on = e
+  apart_by b true e at on =
+      let same : b.place ≡ a.place = eqb-true b.place a.place e in
+      let two : Some b ≡ Some a = sym at ∙ ap (numbered s.attempts) same ∙ there in
+      let one : b ≡ a = (cc) in
+      absurd (both_ways (is_outstanding_on l a) off (sym (ap (is_outstanding_on l) one) ∙ on))
+
+  none_here : AllByRecursion IsOther (outstanding_on l s)
+  none_here =
+      filter_all (AtPlace s.attempts) IsOther (is_outstanding_on l) (λ b at on. apart_by b (b.place == a.place) refl at on)
+      s.attempts (all_at_places s.attempts (counted_places 1 s.attempts places))
+
+  pub none_streaming : AllByRecursion IsOther (by_stream (streaming_on l s))
+  none_streaming =
+      all_sorted IsOther (streaming_on l s) (filter_all IsOther IsOther (λ (b : Attempt). is_some b.row.stream) (λ b e on. e) (outstanding_on l s) none_here)
+
+  pub none_waiting : AllByRecursion IsOther (waiting_on l s)
+  none_waiting = filter_all IsOther IsOther (λ (b : Attempt). is_none b.row.stream) (λ b e on. e) (outstanding_on l s) none_here
+
 -- an attempt is cut off
 module _ (s : Seen) (a : Attempt) (out : IsOut s a) (places : ArePlaced 1 s.attempts) where
   abbrev pub end : RowEnd
@@ -186,30 +211,6 @@ module _ (s : Seen) (a : Attempt) (out : IsOut s a) (places : ArePlaced 1 s.atte
 
   -- a link on which it is not
   module _ (l : Link) (off : is_outstanding_on l a ≡ false) where
-    apart_by : (b : Attempt) (c : Bool) → (b.place == a.place) ≡ c → AtPlace s.attempts b → is_outstanding_on l b ≡ true → (b.place == a.place) ≡ false
-    apart_by b false e at on = e
-    apart_by b true e at on =
-        let same : b.place ≡ a.place = eqb-true b.place a.place e in
-        let two : Some b ≡ Some a = sym at ∙ ap (numbered s.attempts) same ∙ out.there in
-        let one : b ≡ a = (cc) in
-        absurd (both_ways (is_outstanding_on l a) off (sym (ap (is_outstanding_on l) one) ∙ on))
-
-    none_here : AllByRecursion (λ (b : Attempt). (b.place == a.place) ≡ false) (outstanding_on l s)
-    none_here =
-        filter_all (AtPlace s.attempts) (λ (b : Attempt). (b.place == a.place) ≡ false) (is_outstanding_on l) (λ b at on. apart_by b (b.place == a.place) refl at on)
-        s.attempts (all_at_places s.attempts (counted_places 1 s.attempts places))
-
-    none_streaming : AllByRecursion (λ (b : Attempt). (b.place == a.place) ≡ false) (by_stream (streaming_on l s))
-    none_streaming =
-        all_sorted (λ (b : Attempt). (b.place == a.place) ≡ false) (streaming_on l s)
-        (filter_all (λ (b : Attempt). (b.place == a.place) ≡ false) (λ (b : Attempt). (b.place == a.place) ≡ false) (λ (b : Attempt). is_some b.row.stream) (λ b e on. e)
-        (outstanding_on l s) none_here)
-
-    none_waiting : AllByRecursion (λ (b : Attempt). (b.place == a.place) ≡ false) (waiting_on l s)
-    none_waiting =
-        filter_all (λ (b : Attempt). (b.place == a.place) ≡ false) (λ (b : Attempt). (b.place == a.place) ≡ false) (λ (b : Attempt). is_none b.row.stream) (λ b e on. e)
-        (outstanding_on l s) none_here
-
     pub cut_elsewhere : (resets : List (ℕ × ℕ)) (w : Wire) (g : ℕ → Line) → IsCut resets l s w g → IsCut resets l u w g
     cut_elsewhere resets w g is =
         let v : Wire = is.ahead.wire in
@@ -218,9 +219,9 @@ module _ (s : Seen) (a : Attempt) (out : IsOut s a) (places : ArePlaced 1 s.atte
         = record { sees = is.ahead.sees.sees; heard = but_all t l s v.live (by_stream (streaming_on l s)) is.ahead.sees.heard; unheard = is.ahead.sees.unheard; begun = is.ahead.sees.begun } in
         let left : SeesStreams l u (without_tag t v) g = ends_heard l s v g t a end but out.there in
         let live : filter (is_other_stream t) v.live ≡ v.live
-        = none_tagged l t v.live (by_stream (streaming_on l s)) is.ahead.sees.sees.sees.live none_streaming in
+        = none_tagged l t v.live (by_stream (streaming_on l s)) is.ahead.sees.sees.sees.live (none_streaming s a out.there places l off) in
         let waits : filter (is_other t) v.waiting ≡ v.waiting
-        = ap (filter (is_other t)) is.ahead.sees.sees.waits ∙ none_waits t (waiting_on l s) none_waiting ∙ sym is.ahead.sees.sees.waits in
+        = ap (filter (is_other t)) is.ahead.sees.sees.waits ∙ none_waits t (waiting_on l s) (none_waiting s a out.there places l off) ∙ sym is.ahead.sees.sees.waits in
         let same : without_tag t v ≡ v
         = ap (λ (xs : List LiveStream). record v { live = xs; waiting = filter (is_other t) v.waiting }) live ∙ ap (λ (ns : List ℕ). record v { waiting = ns }) waits in
         record {

@@ -66,15 +66,16 @@ not_any p [] e i x at = absurd (cc)
 not_any p (y ∷ ys) e zero x at = let same : x ≡ y = (cc) in ap p same ∙ (or_parts (p y) (list_any p ys) e).0
 not_any p (y ∷ ys) e (suc i) x at = not_any p ys (or_parts (p y) (list_any p ys) e).1 i x at
 
-module _ (x : StateSeen) (s t : Seen) (cuts : List Attempt) (opened : is_some s.current ≡ true) (kept : IsKept s) (sees : SeesLinks x s) (unreset : AreUnreset s)
+-- one link, where attempts are cut off
+module _ (x : StateSeen) (s t : Seen) (cuts : List Attempt) (kept : IsKept s) (unreset : AreUnreset s)
     (none : list_any (λ (a : Attempt). is_some (reset_code_of s a)) s.attempts ≡ false) (off : AreCutOff cuts s t) where
-  cutting : IsCutting s
+  pub cutting : IsCutting s
   cutting = record { places = placed_from 1 s.attempts kept.attempts; unreset = unreset; cancels = none_cancels s s.attempts none }
 
-  after : IsCutting t
+  pub after : IsCutting t
   after = cuts_still cuts s t off cutting
 
-  nothing : (link : ℕ) → owed_on link s ≡ []
+  pub nothing : (link : ℕ) → owed_on link s ≡ []
   nothing link =
       none_sorted stream_number (is_owed_on link s) s.attempts
       (λ i a at. ap (λ (b : Bool). b && (link_number a == link)) (not_any (λ (b : Attempt). is_some (reset_code_of s b)) s.attempts none i a at))
@@ -82,12 +83,9 @@ module _ (x : StateSeen) (s t : Seen) (cuts : List Attempt) (opened : is_some s.
   abbrev slot_after : ℕ → LinkSlot → LinkSlot
   slot_after number slot = slots_closed number cuts (slots_cut number cuts slot)
 
-  module _ (number : ℕ) (l : Link) (here : numbered s.links number ≡ Some l) where
+  module _ (number : ℕ) (l : Link) (here : numbered s.links number ≡ Some l) (has : HasLink x s l number) where
     own : l.number ≡ number
     own = counted_at (λ (k : Link). k.number) s.links number l kept.links here
-
-    has : HasLink x s l number
-    has = sees.each number l here
 
     reads : list_all (is_read_by (read_bytes l)) l.traffic ≡ true
     reads = all_numbered (λ (k : Link). list_all (is_read_by (read_bytes k)) k.traffic) s.links number l here kept.reads
@@ -110,7 +108,7 @@ module _ (x : StateSeen) (s t : Seen) (cuts : List Attempt) (opened : is_some s.
           closed = all_closed l.number cuts has.slot going.closed;
         }
 
-    has_behind : HasBehind (links_closed cuts (links_cut cuts x.links)) t l number
+    pub has_behind : HasBehind (links_closed cuts (links_cut cuts x.links)) t l number
     has_behind = record {
       own = own;
       slot = slot_after number has.slot;
@@ -120,45 +118,60 @@ module _ (x : StateSeen) (s t : Seen) (cuts : List Attempt) (opened : is_some s.
       going = λ goes. subst (λ (n : ℕ). IsBehind l t (slot_after n has.slot)) own (behind goes);
     }
 
-  same_links : t.links ≡ s.links
+  pub same_links : t.links ≡ s.links
   same_links = (links_still cuts s t off cutting).0
+
+-- links that are behind by what was cut off catch up
+pub reset_behind : (x : StateSeen) (t : Seen) (cuts : List Attempt) → AreBehind (links_closed cuts (links_cut cuts x.links)) t → AreResetToo (with_cuts cuts x) t
+reset_behind x t cuts behind = record {
+  actions = end.actions;
+  seen = end.seen;
+  resets = end.resets;
+  unreset = end.behind.unreset;
+  links = record { count = end.behind.count; each = λ number l here. link_again number l (end.behind.each number l here) };
+}
+  where
+    end : HasReset (links_closed cuts (links_cut cuts x.links)) t
+    end = reset_all (links_closed cuts (links_cut cuts x.links)) t behind
+
+    going_again : (l : Link) (slot : LinkSlot) → IsBehind l end.seen slot → IsGoing l end.seen slot
+    going_again l slot is = record {
+      streams = caught_up l end.seen slot end.none is;
+      readers = of_readers l end.seen slot.link.readers is.readers;
+      rest = is.rest;
+      closed = is.closed;
+    }
+
+    link_again : (number : ℕ) (l : Link) → HasBehind (links_closed cuts (links_cut cuts x.links)) end.seen l number → HasLink (with_cuts cuts x) end.seen l number
+    link_again number l is = record {
+      slot = is.slot;
+      there = is.there;
+      sees = record { over = is.over; retiring = is.retiring; going = λ goes. going_again l is.slot (is.going goes) };
+    }
+
+module _ (x : StateSeen) (s t : Seen) (cuts : List Attempt) (opened : is_some s.current ≡ true) (kept : IsKept s) (sees : SeesLinks x s) (unreset : AreUnreset s)
+    (none : list_any (λ (a : Attempt). is_some (reset_code_of s a)) s.attempts ≡ false) (off : AreCutOff cuts s t) where
+  links_are : t.links ≡ s.links
+  links_are = same_links x s t cuts kept unreset none off
+
+  then_ : IsCutting t
+  then_ = after x s t cuts kept unreset none off
+
+  one_behind : (number : ℕ) (l : Link) → numbered s.links number ≡ Some l → HasBehind (links_closed cuts (links_cut cuts x.links)) t l number
+  one_behind number l here = has_behind x s t cuts kept unreset none off number l here (sees.each number l here)
 
   all_behind : AreBehind (links_closed cuts (links_cut cuts x.links)) t
   all_behind = record {
-    count = ap (λ (ls : List Link). length ls) same_links ∙ sees.count ∙ sym (closed_length cuts (links_cut cuts x.links) ∙ cut_length cuts x.links);
-    each = λ number l here. has_behind number l (sym (ap (λ (ls : List Link). numbered ls number) same_links) ∙ here);
-    opened = (links_still cuts s t off cutting).1 ∙ opened;
-    places = after.places;
-    cancels = after.cancels;
-    unreset = after.unreset;
-  }
-
-  end : HasReset (links_closed cuts (links_cut cuts x.links)) t
-  end = reset_all (links_closed cuts (links_cut cuts x.links)) t all_behind
-
-  going_again : (l : Link) (slot : LinkSlot) → IsBehind l end.seen slot → IsGoing l end.seen slot
-  going_again l slot is = record {
-    streams = caught_up l end.seen slot end.none is;
-    readers = of_readers l end.seen slot.link.readers is.readers;
-    rest = is.rest;
-    closed = is.closed;
-  }
-
-  link_again : (number : ℕ) (l : Link) → HasBehind (links_closed cuts (links_cut cuts x.links)) end.seen l number → HasLink (with_cuts cuts x) end.seen l number
-  link_again number l is = record {
-    slot = is.slot;
-    there = is.there;
-    sees = record { over = is.over; retiring = is.retiring; going = λ goes. going_again l is.slot (is.going goes) };
+    count = ap (λ (ls : List Link). length ls) links_are ∙ sees.count ∙ sym (closed_length cuts (links_cut cuts x.links) ∙ cut_length cuts x.links);
+    each = λ number l here. one_behind number l (sym (ap (λ (ls : List Link). numbered ls number) links_are) ∙ here);
+    opened = (links_still cuts s t off (cutting x s t cuts kept unreset none off)).1 ∙ opened;
+    places = then_.places;
+    cancels = then_.cancels;
+    unreset = then_.unreset;
   }
 
   pub reset_too : AreResetToo (with_cuts cuts x) t
-  reset_too = record {
-    actions = end.actions;
-    seen = end.seen;
-    resets = end.resets;
-    unreset = end.behind.unreset;
-    links = record { count = end.behind.count; each = λ number l here. link_again number l (end.behind.each number l here) };
-  }
+  reset_too = reset_behind x t cuts all_behind
 
 pub cuts_are_reset : CutsAreReset
 cuts_are_reset x s t cuts opened kept sees unreset none off = reset_too x s t cuts opened kept sees unreset none off
@@ -183,7 +196,7 @@ module _ (s : Seen) (k : Call → Call) (number : ℕ) (notes : (c : Call) → (
   pub readers_noted : (l : Link) (readers : List TagReader) → SeesReaders l s readers → SeesReaders l v readers
   readers_noted l readers is = readers_are_left l l s v readers is (λ row. alike (attempt_on l s row))
 
-module _ (x : StateSeen) (s : Seen) (number : ℕ) (why : EndCause) (kept : IsKept s) (sees : SeesLinks x s) where
+module _ (x : StateSeen) (s : Seen) (number : ℕ) (why : EndCause) where
   abbrev w : Seen
   w = call_ended number why s
 
@@ -198,15 +211,15 @@ module _ (x : StateSeen) (s : Seen) (number : ℕ) (why : EndCause) (kept : IsKe
     closed = is.closed;
   }
 
-  link_on : (n : ℕ) (l : Link) → HasLink x s l n → HasLink x w l n
+  pub link_on : (n : ℕ) (l : Link) → HasLink x s l n → HasLink x w l n
   link_on n l is = record {
     slot = is.slot;
     there = is.there;
     sees = record { over = is.sees.over; retiring = is.sees.retiring; going = λ goes. going_on l is.slot (is.sees.going goes) };
   }
 
-  pub ended_off : SeesLinks x w
-  ended_off = record { count = sees.count; each = λ n l here. link_on n l (sees.each n l here) }
+  pub ended_off : SeesLinks x s → SeesLinks x w
+  ended_off sees = record { count = sees.count; each = λ n l here. link_on n l (sees.each n l here) }
 
 pub calls_end_off_links : CallsEndOffLinks
-calls_end_off_links x s number why kept sees = ended_off x s number why kept sees
+calls_end_off_links x s number why kept sees = ended_off x s number why sees

@@ -8,6 +8,7 @@ use Rattle.call_actions.specs.TakeActions.Cuts.{AreCut}
 use Rattle.call_cases.proofs.EndsFollow.Cuts.{IsOneCut, one_cut}
 use Rattle.call_cases.proofs.EndsFollow.Stays.{IsBase}
 use Rattle.call_cases.proofs.EndsFollow.Steps.{IsMid, IsOneReset, IsReset, after_is, mid_cut, one_reset, reset_mid}
+use Rattle.call_cases.specs.CallEnds.Ends.{unowed}
 use Rattle.call_cases.specs.EndsFollow.Cuts.{AreReset, cut_off}
 use Rattle.call_cases.proofs.CallPosts.Told.{map_changed}
 use Rattle.grpc_base.specs.declared.event.EndCause.{EndCause}
@@ -21,13 +22,9 @@ use Rattle.session_actions.specs.declared.action.Action.{Action}
 use Rattle.session_actions.specs.declared.attempt.Attempt.{Attempt}
 use Rattle.session_actions.specs.declared.call.Call.{Call}
 use Rattle.session_actions.specs.declared.entry.OpenEntry.{OpenEntry}
-use Rattle.session_actions.specs.declared.link.Link.{Link}
 use Rattle.session_actions.specs.declared.seen.Seen.{Seen}
 use Rattle.session_order.proofs.Changed.{lookup}
 use Rattle.session_order.specs.declared.line.Line.{Line}
-
-abbrev pub unowed : Link → Link
-unowed l = record l { owed = [] }
 
 abbrev pub config_of : Call → Option ℕ
 config_of c = c.config

@@ -6,21 +6,20 @@ use Rattle.attempt_ledger.specs.declared.ledger.LinkSeen.{LinkSeen}
 use Rattle.call_core.specs.Steps.{Stepped}
 use Rattle.call_core.specs.declared.live.LiveRow.{LiveRow}
 use Rattle.channel_actions.proofs.ActsFollowed.Acts.{IsDone, LinkIn, all_done, given}
-use Rattle.channel_actions.proofs.Gone.{all_numbered, gone_same}
+use Rattle.channel_actions.proofs.Gone.{all_numbered, sub_noted}
+use Rattle.channel_actions.proofs.Gone as gone_links
 use Rattle.channel_actions.proofs.Outstanding.{outstanding_same}
 use Rattle.channel_actions.proofs.Stamps.{counted_at, numbered_map, stamp_keeps}
 use Rattle.channel_actions.specs.ActsFollowed.Laws.{IsLinked, LinkIs}
 use Rattle.channel_actions.specs.Columns.{links_noted}
-use Rattle.channel_actions.specs.Links.{HasLink}
+use Rattle.call_cases.specs.CallEnds.Ends.{HasNotedLink, IsToEnd, unowed}
 use Rattle.call_cases.proofs.CallEnds.Linked.{can, closed_now, going, on, slot, tokens, w, y}
 use Rattle.call_cases.proofs.CallEnds.On.{resets}
 use Rattle.call_cases.proofs.ConfiguredCalls.Lists.{same_numbered, same_words}
-use Rattle.call_cases.proofs.OneCallEnds.Along.{unowed}
 use Rattle.call_cases.proofs.OneCallEnds.Noted.{begun, seen_if, seen_on, stamps_are}
 use Rattle.call_cases.proofs.OneCallEnds.Relent.{all_rest}
 use Rattle.call_cases.proofs.OneCallEnds.Rows.{outstanding_on, same}
 use Rattle.call_cases.proofs.OneCallEnds.Stamps.{IsNoted, all_noted, gone_by, stamped_if}
-use Rattle.call_cases.specs.CallEnds.Ends.{EndsNext}
 use Rattle.channel_core.specs.Books.{link_at}
 use Rattle.channel_core.specs.States.{StateSeen}
 use Rattle.channel_core.specs.Steps.{acts_done, has_outstanding, is_of_shut_sub, is_on, is_shut_state, sub_of}
@@ -78,7 +77,7 @@ unowed_by entry l false = refl
 unowed_seen : (gone : Bool) (entry : ℕ) (l : Link) → seen_if gone entry (unowed l) ≡ seen_if gone entry l
 unowed_seen gone entry l = unowed_by entry l (is_none l.gone && gone)
 
-module _ (waits : Line → Bool) (n : ℕ) (why : EndCause) (x : StateSeen) (o : OpenEntry) (s : Seen) (is : EndsNext waits n why x o s) where
+module _ (waits : Line → Bool) (n : ℕ) (why : EndCause) (x : StateSeen) (o : OpenEntry) (s : Seen) (is : IsToEnd waits n why x o s) where
   abbrev u : Seen
   u = (resets waits n why x o s is).seen
 
@@ -123,7 +122,11 @@ module _ (waits : Line → Bool) (n : ℕ) (why : EndCause) (x : StateSeen) (o :
       ∙ numbered_map (λ (l : Link). link_seen (noted_gone s l)) s.links k
 
   gone_then : (k : ℕ) (l : Link) → numbered s.links k ≡ Some l → gone_by x k (has_outstanding k x) ≡ is_gone l s
-  gone_then k l e = gone_same x s is.agrees k l e
+  gone_then k l e =
+      let h : HasNotedLink x s l k = is.agrees.links.each k l e in
+      gone_links.gone_by x s k l (counted_at (λ (z : Link). z.number) s.links k l is.agrees.kept.links e) h.slot h.there h.over h.retiring
+      (sub_noted x.book.ledger.links s k l e is.agrees.columns.links) is.agrees.net.subs_are
+      (all_numbered (λ (z : Link). is_some (numbered s.subs z.sub)) s.links k l e is.agrees.kept.dialled) is.agrees.sets.outstanding
 
   noted_first : (k : ℕ) (q : Option Link) → numbered s.links k ≡ q
       → option_map (λ (l : Link). seen_if (is_gone l s) (entry s) l) q
@@ -165,7 +168,7 @@ module _ (waits : Line → Bool) (n : ℕ) (why : EndCause) (x : StateSeen) (o :
     own_number : m.number ≡ k
     own_number = ap (λ (z : Link). z.number) alike ∙ counted_at (λ (z : Link). z.number) s.links k l is.agrees.kept.links was
 
-    has_link : HasLink x s l k
+    has_link : HasNotedLink x s l k
     has_link = is.agrees.links.each k l was
 
     sub_is : sub_of (link_at x.book k) ≡ l.sub
@@ -190,9 +193,9 @@ module _ (waits : Line → Bool) (n : ℕ) (why : EndCause) (x : StateSeen) (o :
     gone_now : gone_by x k (has_outstanding k last) ≡ is_gone m u
     gone_now =
         ap (λ (b : Bool). b || ((tables.is_retiring x.links k || is_of_shut_sub k x) && not (has_outstanding k last)))
-        (ap is_dead_at has_link.there ∙ sym has_link.sees.over ∙ ap (λ (z : Link). is_some z.over) (sym alike))
+        (ap is_dead_at has_link.there ∙ sym has_link.over ∙ ap (λ (z : Link). is_some z.over) (sym alike))
         ∙ ap (λ (b : Bool). is_some m.over || ((b || is_of_shut_sub k x) && not (has_outstanding k last)))
-        (ap is_retiring_at has_link.there ∙ sym has_link.sees.retiring ∙ ap is_retiring (sym alike))
+        (ap is_retiring_at has_link.there ∙ sym has_link.retiring ∙ ap is_retiring (sym alike))
         ∙ ap (λ (b : Bool). is_some m.over || ((is_retiring m || b) && not (has_outstanding k last))) shut_is
         ∙ ap (λ (b : Bool). is_some m.over || ((is_retiring m || is_shutdown_sub u m.sub) && not b)) out_now
 

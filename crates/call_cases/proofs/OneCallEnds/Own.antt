@@ -28,7 +28,7 @@ use Rattle.call_cases.proofs.OneCallEnds.Along.{config_of, resets_carry}
 use Rattle.call_cases.proofs.OneCallEnds.Relent.{AreReadAlike, all_rest, closed_relent, read_alike, relent}
 use Rattle.call_cases.proofs.OneCallEnds.Resets.{KeepsCall, reset_keeps}
 use Rattle.call_cases.proofs.OneCallEnds.Rows.{same}
-use Rattle.call_cases.specs.CallEnds.Ends.{EndsNext}
+use Rattle.call_cases.specs.CallEnds.Ends.{IsToEnd}
 use Rattle.call_cases.proofs.EndsFollow.Follow.{base}
 use Rattle.channel_core.proofs.BookLaws.{number_other}
 use Rattle.channel_core.proofs.Places.{put_there}
@@ -91,7 +91,7 @@ ended_some : (o : Option CallEnd) (why : EndCause) → option_map (λ (e : CallE
 ended_some None why e = absurd (cc)
 ended_some (Some k) why e = refl
 
-module _ (waits : Line → Bool) (n : ℕ) (why : EndCause) (x : StateSeen) (o : OpenEntry) (s : Seen) (is : EndsNext waits n why x o s) where
+module _ (waits : Line → Bool) (n : ℕ) (why : EndCause) (x : StateSeen) (o : OpenEntry) (s : Seen) (is : IsToEnd waits n why x o s) where
   abbrev u : Seen
   u = (resets waits n why x o s is).seen
 

@@ -19,7 +19,7 @@ use Rattle.call_cases.proofs.CallEnds.On.{are_cut, early_by, resets, t, their}
 use Rattle.call_cases.proofs.CallEnds.Sets.{apart, done}
 use Rattle.call_cases.proofs.OneCallEnds.Along.{IsSameBut, cuts_same, owner, resets_carry, same_ended, same_reset}
 use Rattle.call_cases.proofs.OneCallEnds.Left.{Test, all_out_left, all_queue_left, out_exactly, out_none, out_out, out_rest, queue_away, queue_exactly, queue_none, queue_out}
-use Rattle.call_cases.specs.CallEnds.Ends.{EndsNext}
+use Rattle.call_cases.specs.CallEnds.Ends.{IsToEnd}
 use Rattle.channel_core.specs.States.{StateSeen}
 use Rattle.grpc_base.specs.declared.event.EndCause.{EndCause}
 use Rattle.session_actions.specs.Attempts.{is_of, is_outstanding, is_over, is_queued}
@@ -56,7 +56,7 @@ owner_is : (n : ℕ) (q : Option Attempt) → is_of_number n q ≡ holds (λ (k 
 owner_is n None = refl
 owner_is n (Some a) = refl
 
-module _ (waits : Line → Bool) (n : ℕ) (why : EndCause) (x : StateSeen) (o : OpenEntry) (s : Seen) (is : EndsNext waits n why x o s) where
+module _ (waits : Line → Bool) (n : ℕ) (why : EndCause) (x : StateSeen) (o : OpenEntry) (s : Seen) (is : IsToEnd waits n why x o s) where
   abbrev u : Seen
   u = (resets waits n why x o s is).seen
 

@@ -14,13 +14,13 @@ use Rattle.call_cases.specs.OtherCalls.Others.{BooksApart, GoesApart}
 use Rattle.channel_actions.specs.Sets.{SeesSets}
 use Rattle.call_cases.proofs.CallEnds.Alone.{buckets_on, goes_apart}
 use Rattle.call_cases.proofs.CallEnds.Linked.{clock_on, configs_on, links_on, on, slot, timers_on, w, whole}
-use Rattle.call_cases.proofs.CallEnds.On.{resets}
+use Rattle.call_cases.proofs.CallEnds.On.{resets, to_end}
 use Rattle.call_cases.proofs.CallEnds.Sets.{done}
 use Rattle.call_cases.proofs.OneCallEnds.Gone as gone
 use Rattle.call_cases.proofs.OneCallEnds.Own.{calls_are, columns_on, others_slots, own_slot}
-use Rattle.call_cases.proofs.OneCallEnds.Rows.{outstanding_on, patient_on, queue_on}
-use Rattle.call_cases.specs.CallEnds.Ends.{EndsNext, HasEnded}
-use Rattle.call_cases.specs.CallEnds.Laws.{OneCallEnds}
+use Rattle.call_cases.proofs.OneCallEnds.Rows.{outstanding_on, patient_on, queue_on, same}
+use Rattle.call_cases.specs.CallEnds.Ends.{EndsNext, HasEnded, IsToEnd}
+use Rattle.call_cases.specs.CallEnds.Laws.{OneCallEnds, OneCallEndsAhead}
 use Rattle.channel_core.proofs.Resting.{changed_length}
 use Rattle.channel_core.specs.States.{StateSeen}
 use Rattle.channel_core.specs.Steps.{closed}
@@ -45,7 +45,7 @@ over_by k d there =
     let both : Some k.call ≡ Some d = sym k.there ∙ there in
     let one : k.call ≡ d = (cc) in ap (λ (c : Call). is_some c.end) (sym one) ∙ k.ended
 
-module _ (waits : Line → Bool) (n : ℕ) (why : EndCause) (x : StateSeen) (o : OpenEntry) (s : Seen) (is : EndsNext waits n why x o s) where
+module _ (waits : Line → Bool) (n : ℕ) (why : EndCause) (x : StateSeen) (o : OpenEntry) (s : Seen) (is : IsToEnd waits n why x o s) where
   abbrev u : Seen
   u = (resets waits n why x o s is).seen
 
@@ -112,12 +112,13 @@ module _ (waits : Line → Bool) (n : ℕ) (why : EndCause) (x : StateSeen) (o :
     current = (on waits n why x o s is).current;
     still = (on waits n why x o s is).still;
     unreset = (on waits n why x o s is).unreset;
+    links = (same waits n why x o s is).links;
     agrees = agrees;
   }
 
-  pub whole_end : WholeEnd waits n why x o s
+  pub whole_end_ahead : WholeEnd waits n why x o s
   unfolding has_ended
-  whole_end = record {
+  whole_end_ahead = record {
     ended = has_ended;
     rest = (on waits n why x o s is).rest;
     apart = g;
@@ -125,5 +126,11 @@ module _ (waits : Line → Bool) (n : ℕ) (why : EndCause) (x : StateSeen) (o :
     long = count ∙ set_length x.book.calls _ (slot_closed why x (slot waits n why x o s is)) ∙ sym is.agrees.calls.count;
   }
 
+pub one_call_ends_ahead : OneCallEndsAhead
+one_call_ends_ahead waits n why x o s is = has_ended waits n why x o s is
+
+pub whole_end : (waits : Line → Bool) (n : ℕ) (why : EndCause) (x : StateSeen) (o : OpenEntry) (s : Seen) → EndsNext waits n why x o s → WholeEnd waits n why x o s
+whole_end waits n why x o s is = whole_end_ahead waits n why x o s (to_end waits n why x o s is)
+
 pub one_call_ends : OneCallEnds
-one_call_ends waits n why x o s is = has_ended waits n why x o s is
+one_call_ends waits n why x o s is = has_ended waits n why x o s (to_end waits n why x o s is)

@@ -1,7 +1,7 @@
 -- Calls that end: one, for whatever cause; and the cases of events that stand on it.
 -- Example: Cancel of call 1, which is open: EventAnswered Done, then call 1 ends. Cancel of it again is refused with CallEnded.
 use Rattle.std.specs.Prelude.{Bool, None, Some, is_some, true, ℕ, ◌≡◌}
-use Rattle.call_cases.specs.CallEnds.Ends.{EndsApart, EndsNext, EndsOn, HasEnded}
+use Rattle.call_cases.specs.CallEnds.Ends.{EndsApart, EndsNext, EndsOn, HasEnded, IsToEnd}
 use Rattle.channel_actions.specs.Stages.{EventsAnswered}
 use Rattle.channel_core.specs.Applying as channel
 use Rattle.channel_core.specs.States.{StateSeen}
@@ -29,6 +29,11 @@ EndsAgree =
 abbrev pub OneCallEnds : Type 0
 OneCallEnds =
     (waits : Line → Bool) (number : ℕ) (why : EndCause) (x : StateSeen) (o : OpenEntry) (s : Seen) → EndsNext waits number why x o s → HasEnded waits number why x o s
+
+-- so it is where the links of the channel are ahead of it by the resets that it brings
+abbrev pub OneCallEndsAhead : Type 0
+OneCallEndsAhead =
+    (waits : Line → Bool) (number : ℕ) (why : EndCause) (x : StateSeen) (o : OpenEntry) (s : Seen) → IsToEnd waits number why x o s → HasEnded waits number why x o s
 
 -- Cancel of a call that is there
 pub record IsCancelled (e : Event) (x : StateSeen) (s : Seen) : Type 0 where

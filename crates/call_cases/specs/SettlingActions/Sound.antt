@@ -1,7 +1,7 @@
 -- What the steps of a settling ask of session and channel beside that they agree. It holds of new ones, and each step keeps it; that this is so is asked
 -- where it is needed (`SoundStays`).
 -- Example: a call has no config yet. It has no mark and no attempt. Another call has one attempt of 3 that it may have: 2 of it are still to come.
-use Rattle.std.specs.Prelude.{List, length, ◌≤◌}
+use Rattle.std.specs.Prelude.{List, length, ◌<◌, ◌^◌, ◌≤◌}
 use Rattle.channel_actions.specs.Agrees.{Agrees}
 use Rattle.channel_actions.specs.FewCalls.Reached.{IsReached}
 use Rattle.channel_actions.specs.HeldTexts.Fits.{TextsFit}
@@ -14,9 +14,9 @@ use Rattle.session_actions.specs.declared.action.Action.{Action}
 use Rattle.session_actions.specs.declared.seen.Seen.{Seen}
 
 pub record IsSound (x : StateSeen) (s : Seen) : Type 0 where
-  -- (numbers of calls and of attempts do not end, which no session reaches)
-  pub few : length s.calls ≤ 4294967295
-  pub room : all_attempts x ≤ 4294967294
+  -- (no session within the limit of its journal has more calls, or as many attempts)
+  pub few : length s.calls ≤ 1048576
+  pub room : all_attempts x < 2 ^ 43
   -- of the session alone: it began new, and so keeps what every session keeps; to an open call without a config nothing happened, and no stream was reset of an
   -- attempt that goes on
   pub reached : IsReached s

@@ -7,7 +7,7 @@ use Rattle.channel_actions.proofs.KeptSessions.Along.{kept_begins, kept_stays}
 use Rattle.channel_actions.proofs.KeptSessions.Lists.{all_at, all_changed, all_each, all_filter, all_get, all_mapped, all_more, all_wide, own_number}
 use Rattle.channel_actions.proofs.OwnStreams.Along.{frames_are_sendable}
 use Rattle.channel_actions.proofs.OwnStreams.Frames.{control_by, counted, is_opening, opening, total}
-use Rattle.channel_actions.specs.FewCalls.Laws.{StreamsAreOfAttempts}
+use Rattle.channel_actions.specs.FewCalls.Laws.{StreamsAreOfAttempts, is_streaming}
 use Rattle.channel_actions.specs.GreetedLinks.Greeted.{AreGreeted}
 use Rattle.channel_actions.specs.KeptSessions.Kept.{IsKept}
 use Rattle.grpc_base.specs.declared.address.Address.{Address}
@@ -20,7 +20,7 @@ use Rattle.h2_frame.specs.Frames.{FrameSeen}
 use Rattle.h2_frame.specs.Numbers.{headers_type}
 use Rattle.h2_frame.specs.Sent.{data_frame, headers_frame}
 use Rattle.session_actions.specs.Actions.{after, after_if, after_in}
-use Rattle.session_actions.specs.Attempts.{call_of, with_attempt}
+use Rattle.session_actions.specs.Attempts.{call_of, is_outstanding, with_attempt}
 use Rattle.session_actions.specs.Calls.{with_call}
 use Rattle.session_actions.specs.Closing.{entry_made, noted_gone}
 use Rattle.session_actions.specs.Deliveries.{begun_call, call_begun_by, item_taken}
@@ -50,10 +50,11 @@ use Rattle.session_actions.specs.declared.seen.Seen.{Seen}
 use Rattle.session_actions.specs.declared.seen.Setup.{Setup}
 use Rattle.session_actions.specs.declared.subchannel.Subchannel.{Subchannel}
 use Rattle.std.proofs.Common.{Bool, List, None, Option, Some, [], ap, arith, cond, drop, false, filter, if◌then◌else◌, is_none, is_some, length, nat_le, not, option_and_then, option_map, pred, refl, slice_get, slice_set, subst, suc, sym, take, true, zero, ℕ, ◌&&◌, ◌++◌, ◌+◌, ◌-◌, ◌==◌, ◌||◌, ◌∙◌, ◌∷◌, ◌≡◌, ◌≤◌}
-use Rattle.std.proofs.lemmas.Bool.{and_from, and_parts, le-leb, leb-true}
+use Rattle.std.proofs.lemmas.Bool.{and_from, and_parts, le-leb, leb-true, or_right}
+use Rattle.std.proofs.lemmas.List.Sums.{length-filter}
 use Rattle.std.specs.List.{list_all}
 use Rattle.std.specs.Option.{option_map_or, option_or}
-use Rattle.std.specs.Prelude.{nat_lt}
+use Rattle.std.specs.Prelude.{count_by, nat_lt}
 
 -- attempts with a stream
 abbrev one_with : Attempt → ℕ
@@ -426,28 +427,48 @@ long_if : (b : Bool) (a : Attempt) (rest : List Attempt) → length (cond b (a �
 long_if true a rest = (let one : length (a ∷ rest) ≡ 1 + length rest = omega arith in one)
 long_if false a rest = (let none : length rest ≡ 0 + length rest = omega arith in none)
 
-waiting_few : (l : Link) (attempts : List Attempt) → streamed attempts + length (filter lacks (filter (is_outstanding_on l) attempts)) ≤ length attempts
+streaming_if : (b : Bool) (a : Attempt) (rest : List Attempt) → is_streaming a ≡ b → length (cond (is_streaming a) (a ∷ rest) rest) ≡ (if b then 1 else 0) + length rest
+streaming_if b a rest e = long_if (is_streaming a) a rest ∙ ap (λ (c : Bool). (if c then 1 else 0) + length rest) e
+
+-- (of one attempt: it has a stream, or goes on, or neither)
+one_streams : (l : Link) (a : Attempt) → is_outstanding_on l a ≡ true → is_streaming a ≡ true
+one_streams l a e = or_right (is_some a.row.stream) (is_none a.row.ended) (and_parts (is_some a.row.placed) (is_none a.row.ended) (and_parts (is_outstanding a) (holds (λ (at : Placed). at.link == l.number) a.row.placed) e).0).1
+
+with_less : (o : Option ℕ) (d : Bool) → (if is_some o then 1 else 0) ≤ (if is_some o || d then 1 else 0)
+with_less None true = omega arith
+with_less None false = omega arith
+with_less (Some n) d = omega arith
+
+waiting_few : (l : Link) (attempts : List Attempt) → streamed attempts + length (filter lacks (filter (is_outstanding_on l) attempts)) ≤ length (filter is_streaming attempts)
 waiting_few l [] = itself 0
-waiting_few l (a ∷ attempts) = by (is_outstanding_on l a) (waiting_few l attempts)
+waiting_few l (a ∷ attempts) = by (is_outstanding_on l a) refl (waiting_few l attempts)
   where
-    some_on : (n m j k i : ℕ) → n + m ≡ 1 → j + k ≤ i → n + j + (m + k) ≤ suc i
-    some_on n m j k i e f = omega (arith, e, f)
+    some_on : (n m j k i c : ℕ) → n + m ≡ 1 → j + k ≤ i → c ≡ 1 + i → n + j + (m + k) ≤ c
+    some_on n m j k i c e f g = omega (arith, e, f, g)
 
-    none_on : (n m j k i : ℕ) → n + m ≡ 1 → j + k ≤ i → n + j + k ≤ suc i
-    none_on n m j k i e f = omega (arith, e, f)
+    none_on : (n j k i c d : ℕ) → n ≤ d → j + k ≤ i → c ≡ d + i → n + j + k ≤ c
+    none_on n j k i c d e f g = omega (arith, e, f, g)
 
-    by : (b : Bool) → streamed attempts + length (filter lacks (filter (is_outstanding_on l) attempts)) ≤ length attempts
-        → one_with a + streamed attempts + length (filter lacks (cond b (a ∷ filter (is_outstanding_on l) attempts) (filter (is_outstanding_on l) attempts))) ≤ suc (length attempts)
-    by true less =
-        subst (λ (n : ℕ). one_with a + streamed attempts + n ≤ suc (length attempts)) (sym (long_if (lacks a) a (filter lacks (filter (is_outstanding_on l) attempts))))
-        (some_on (one_with a) (if lacks a then 1 else 0) (streamed attempts) (length (filter lacks (filter (is_outstanding_on l) attempts))) (length attempts) (sum_one a.row.stream) less)
-    by false less = none_on (one_with a) (if lacks a then 1 else 0) (streamed attempts) (length (filter lacks (filter (is_outstanding_on l) attempts))) (length attempts) (sum_one a.row.stream) less
+    by : (b : Bool) → is_outstanding_on l a ≡ b → streamed attempts + length (filter lacks (filter (is_outstanding_on l) attempts)) ≤ length (filter is_streaming attempts)
+        → one_with a + streamed attempts + length (filter lacks (cond b (a ∷ filter (is_outstanding_on l) attempts) (filter (is_outstanding_on l) attempts)))
+        ≤ length (cond (is_streaming a) (a ∷ filter is_streaming attempts) (filter is_streaming attempts))
+    by true is less =
+        subst (λ (n : ℕ). one_with a + streamed attempts + n ≤ length (cond (is_streaming a) (a ∷ filter is_streaming attempts) (filter is_streaming attempts)))
+        (sym (long_if (lacks a) a (filter lacks (filter (is_outstanding_on l) attempts))))
+        (some_on (one_with a) (if lacks a then 1 else 0) (streamed attempts) (length (filter lacks (filter (is_outstanding_on l) attempts))) (length (filter is_streaming attempts))
+        (length (cond (is_streaming a) (a ∷ filter is_streaming attempts) (filter is_streaming attempts))) (sum_one a.row.stream) less
+        (streaming_if true a (filter is_streaming attempts) (one_streams l a is)))
+    by false is less =
+        none_on (one_with a) (streamed attempts) (length (filter lacks (filter (is_outstanding_on l) attempts))) (length (filter is_streaming attempts))
+        (length (cond (is_streaming a) (a ∷ filter is_streaming attempts) (filter is_streaming attempts))) (if is_streaming a then 1 else 0) (with_less a.row.stream (is_none a.row.ended)) less
+        (streaming_if (is_streaming a) a (filter is_streaming attempts) refl)
 
 pub streams_are_of_attempts : StreamsAreOfAttempts
 streams_are_of_attempts setup actions s does link l there =
     let k : AreOpened s = opened_along actions (new_session setup) s (kept_begins setup) (greeted_begins setup) refl does in
     let few : length (opened_streams l) ≤ streamed s.attempts = leb-true (length (opened_streams l)) (streamed s.attempts) (all_at (is_open (streamed s.attempts)) s.links link l k there) in
-    all_on (length (opened_streams l)) (streamed s.attempts) (length (waiting_on l s)) (length s.attempts) few (waiting_few l s.attempts)
+    all_on (length (opened_streams l)) (streamed s.attempts) (length (waiting_on l s)) (length (filter is_streaming s.attempts)) (count_by is_streaming s.attempts) few
+    (waiting_few l s.attempts) (length-filter is_streaming s.attempts)
   where
-    all_on : (a b c d : ℕ) → a ≤ b → b + c ≤ d → a + c ≤ d
-    all_on a b c d e f = omega (arith, e, f)
+    all_on : (a b c d e : ℕ) → a ≤ b → b + c ≤ d → d ≡ e → a + c ≤ e
+    all_on a b c d e f g h = omega (arith, f, g, h)

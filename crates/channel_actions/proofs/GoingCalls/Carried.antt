@@ -22,7 +22,7 @@ use Rattle.grpc_base.specs.declared.event.Event.{Event}
 use Rattle.grpc_base.specs.declared.event.Event.TheVariants as event
 use Rattle.grpc_base.specs.declared.plan.Chosen.{Chosen}
 use Rattle.ledger_stamps.specs.Steps.{changed_at, gone_link}
-use Rattle.link_laws.proofs.Knowing.{allowed}
+use Rattle.channel_actions.proofs.ReadConfigs.{allowed}
 use Rattle.service_config.specs.Choice.{chosen_for}
 use Rattle.service_config.specs.declared.config.Config.{Config}
 

@@ -197,7 +197,7 @@ module _ (s : Seen) (kept : IsKept s) where
   calm_by None e n = refl
   calm_by (Some ask) e n = calm_at ask (numbered s.attempts ask.row) e n
 
-  unplacing : next_of_pick s ≡ None → is_placing s ≡ false
+  pub unplacing : next_of_pick s ≡ None → is_placing s ≡ false
   unplacing n = calm_by (last_of s.asks) kept.picked n
 
   -- calls

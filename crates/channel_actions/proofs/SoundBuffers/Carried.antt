@@ -28,7 +28,7 @@ use Rattle.channel_core.specs.Tables.{acted, numbered}
 use Rattle.grpc_base.specs.declared.event.Event.{Event}
 use Rattle.grpc_base.specs.declared.event.Event.TheVariants as event
 use Rattle.grpc_base.specs.declared.plan.Chosen.{Chosen}
-use Rattle.link_laws.proofs.Knowing.{allowed}
+use Rattle.channel_actions.proofs.ReadConfigs.{allowed}
 use Rattle.service_config.specs.Choice.{chosen_for}
 use Rattle.service_config.specs.declared.config.Config.{Config}
 

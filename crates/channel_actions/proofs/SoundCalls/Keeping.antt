@@ -3,7 +3,7 @@ use Rattle.std.proofs.Common.{ℕ, zero, suc, List, [], None, Option, Some, refl
 use Rattle.channel_actions.proofs.GoingCalls.Arms.{CallLaws}
 use Rattle.channel_actions.proofs.SoundCalls.Carried.{AreSound, Keeps, Kept, Settles, carries, configures, rests}
 use Rattle.channel_actions.proofs.SoundCalls.Tables.{AllSound, of_slot, sound_each, sound_last, sound_numbered, to_slot}
-use Rattle.channel_actions.specs.SoundCalls.Laws.{AnswersKeepCalls, AnswersKeepRows, DeadlinesKeepCalls, NewCallsAreSound, SettlingsKeepCalls, SettlingsKeepRows, StepsKeepCalls, StepsKeepRows}
+use Rattle.channel_actions.specs.SoundCalls.Laws.{AnswersKeepCalls, DeadlinesKeepCalls, NewCallsAreSound, SettlingsKeepCalls, StepsKeepCalls}
 use Rattle.channel_actions.specs.GoingCalls.Going.{AllowsAttempts, CallsGoOn, GoesOn}
 use Rattle.channel_actions.specs.SoundCalls.Sound.{AllowsPlans, AreSoundCalls}
 use Rattle.service_config.specs.declared.config.Config.{Config}
@@ -24,7 +24,7 @@ use Rattle.grpc_base.specs.declared.event.Event.{Event}
 use Rattle.grpc_base.specs.declared.event.Event.TheVariants as event
 use Rattle.grpc_base.specs.declared.event.Refusal.{Refusal}
 use Rattle.grpc_base.specs.declared.event.Reply.{Reply}
-use Rattle.link_laws.proofs.Knowing.{allowed}
+use Rattle.channel_actions.proofs.ReadConfigs.{allowed}
 
 pub sound_of : (x : StateSeen) → AreSoundCalls x → AreSound x
 sound_of x k = record {
@@ -103,17 +103,11 @@ module _ (laws : CallLaws) where
   pub answers_keep : AnswersKeepCalls
   answers_keep refused e x y r by k = sound_to y (answers_kept refused e x y r by k).sound
 
-  pub answers_rows : AnswersKeepRows
-  answers_rows refused e x y r by k = (answers_kept refused e x y r by k).rows
-
   settlings_kept : (x : StateSeen) → AreSoundCalls x → Kept x (settled x)
   settlings_kept x k = (settle Settles (rests laws) x (configures laws) (sound_of x k)).kept
 
   pub settlings_keep : SettlingsKeepCalls
   settlings_keep x k = sound_to (settled x) (settlings_kept x k).sound
-
-  pub settlings_rows : SettlingsKeepRows
-  settlings_rows x k = (settlings_kept x k).rows
 
   steps_kept : (entry moment word : ℕ) (e : Event) (old new : StateSeen) (r : Reply) → Stepped entry moment word e old new r → AreSoundCalls old → Kept (begun_at entry moment word old) new
   steps_kept entry moment word e old new r steps k =
@@ -122,6 +116,3 @@ module _ (laws : CallLaws) where
 
   pub steps_keep : StepsKeepCalls
   steps_keep entry moment word e old new r steps k = sound_to new (steps_kept entry moment word e old new r steps k).sound
-
-  pub steps_rows : StepsKeepRows
-  steps_rows entry moment word e old new r steps k = (steps_kept entry moment word e old new r steps k).rows

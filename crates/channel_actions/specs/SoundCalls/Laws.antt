@@ -1,9 +1,8 @@
 -- That the calls of a channel are sound (`AreSoundCalls`) holds of a new channel, and is kept by each step and by each of its parts. It is of the channel alone.
 -- Example: a result of the resolver brings a config whose retryPolicy has maxAttempts 9. It counts as 5 (gRFC A6, "Maximum Number of Retries"), and so each call
 -- that gets this config has a plan of at most 5 attempts.
--- Beside it, no step forgets an attempt.
 use Rattle.std.specs.Global.{Global}
-use Rattle.std.specs.Prelude.{List, Option, length, ℕ, ◌≤◌}
+use Rattle.std.specs.Prelude.{List, Option, ℕ}
 use Rattle.channel_actions.specs.SoundCalls.Sound.{AreSoundCalls}
 use Rattle.channel_core.specs.Applying.{AnswersBy, Stepped, new_state}
 use Rattle.channel_core.specs.Settling.{settled}
@@ -29,16 +28,3 @@ AnswersKeepCalls = (refused : Option Refusal) (e : Event) (x y : StateSeen) (r :
 
 abbrev pub SettlingsKeepCalls : Type 0
 SettlingsKeepCalls = (x : StateSeen) → AreSoundCalls x → AreSoundCalls (settled x)
-
--- no attempt is forgotten
-abbrev pub StepsKeepRows : Type 0
-StepsKeepRows =
-    (entry moment word : ℕ) (e : Event) (old new : StateSeen) (r : Reply) → Stepped entry moment word e old new r → AreSoundCalls old
-    → length old.book.ledger.rows ≤ length new.book.ledger.rows
-
-abbrev pub AnswersKeepRows : Type 0
-AnswersKeepRows =
-    (refused : Option Refusal) (e : Event) (x y : StateSeen) (r : Reply) → AnswersBy refused e x y r → AreSoundCalls x → length x.book.ledger.rows ≤ length y.book.ledger.rows
-
-abbrev pub SettlingsKeepRows : Type 0
-SettlingsKeepRows = (x : StateSeen) → AreSoundCalls x → length x.book.ledger.rows ≤ length (settled x).book.ledger.rows

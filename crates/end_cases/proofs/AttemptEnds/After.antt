@@ -63,12 +63,12 @@ and_swap true true r = cond_swap r
 and_swap true false r = and_right r false refl
 and_swap false q r = refl
 
-module _ (waits : Line → Bool) (also : List ℕ) (a : Attempt) (out : Outcome) (x : StateSeen) (o : OpenEntry) (s : Seen) (is : EndNext waits also a out x o s) where
+module _ (later : List (ℕ × RowEnd)) (waits : Line → Bool) (also : List ℕ) (a : Attempt) (out : Outcome) (x : StateSeen) (o : OpenEntry) (s : Seen) (is : EndNext later waits also a out x o s) where
   abbrev cc0 : Call
-  cc0 = c waits also a out x o s is
+  cc0 = c later waits also a out x o s is
 
   abbrev pub end : RowEnd
-  end = e waits also a out x o s is
+  end = e later waits also a out x o s is
 
   abbrev pub runs : List ThrottleRun
   runs = (option_map_or (with_end_in_run a end s) (call_of a s) s).runs
@@ -77,12 +77,12 @@ module _ (waits : Line → Bool) (also : List ℕ) (a : Attempt) (out : Outcome)
   u = ended_seen (is_some end.word) a.row.call a.place end runs s
 
   pub numbers : AreNumbered 1 s.attempts
-  numbers = (has waits also a out x o s is).sees.order.places
+  numbers = (has later waits also a out x o s is).sees.order.places
 
   pub places : ArePlaced 1 s.attempts
   places = placed_from 1 s.attempts numbers
 
-  pub t_is : t waits also a out x o s is ≡ u
+  pub t_is : t later waits also a out x o s is ≡ u
   t_is = is_ended s a.place end a places is.ending.there
 
   abbrev pub put : Attempt → Attempt
@@ -100,7 +100,7 @@ module _ (waits : Line → Bool) (also : List ℕ) (a : Attempt) (out : Outcome)
   pub d_here : numbered u.calls cc0.number ≡ Some d
   d_here =
       changed_one (noted_call (mark.Ended a.place) (now s)) a.row.call cc0.number s.calls cc0 true
-      (eq-eqb cc0.number a.row.call (sym (call_is waits also a out x o s is))) (here waits also a out x o s is)
+      (eq-eqb cc0.number a.row.call (sym (call_is later waits also a out x o s is))) (here later waits also a out x o s is)
 
   pub entry_is : entry u ≡ entry s
   entry_is =
@@ -183,7 +183,7 @@ module _ (waits : Line → Bool) (also : List ℕ) (a : Attempt) (out : Outcome)
         ∙ ap (holds (λ (g : Call). is_over_in g q v)) at ∙ over_in k v q op fr
 
     pub over_before : (q : Attempt) → (q.row.call == cc0.number) ≡ true → is_over q s ≡ false
-    over_before q mine = over_at s cc0 q (here waits also a out x o s is) mine open_now free
+    over_before q mine = over_at s cc0 q (here later waits also a out x o s is) mine open_now free
 
     pub over_after : (q : Attempt) → (q.row.call == cc0.number) ≡ true → is_over (put q) u ≡ false
     over_after q mine = over_at u d (put q) d_here (ap (λ (n : ℕ). n == cc0.number) (put_call q) ∙ mine) open_now free_then

@@ -58,6 +58,7 @@ use Rattle.channel_core.specs.Steps.{told, with_ledger_links}
 use Rattle.channel_core.specs.Tables.{tokens_in, with_tokens}
 use Rattle.channel_core.specs.Timing.{timer_moved}
 use Rattle.channel_core.specs.declared.state.slots.CallSlot.{CallSlot}
+use Rattle.end_cases.specs.AttemptEnds.Left.{all_left}
 use Rattle.link_actions.proofs.Ended.{noted_call, now_same}
 use Rattle.net_actions.proofs.NetFrames.Left.{net_stays}
 use Rattle.net_actions.specs.Sees.{Sees as SeesNet}
@@ -97,38 +98,38 @@ pub run_away : (place k : ℕ) (q : Option ℕ) (xs : List ThrottleRun) → is_n
 run_away place k None xs e = refl
 run_away place k (Some m) xs e = changed_away _ m k xs (λ same. (let both : false ≡ true = sym e ∙ eq-eqb m k (sym same) in absurd (cc)))
 
-module _ (waits : Line → Bool) (also : List ℕ) (a : Attempt) (out : Outcome) (x : StateSeen) (o : OpenEntry) (s : Seen) (is : EndNext waits also a out x o s)
-    (case : GoesOnAfter s (c waits also a out x o s is) a out) where
+module _ (later : List (ℕ × RowEnd)) (waits : Line → Bool) (also : List ℕ) (a : Attempt) (out : Outcome) (x : StateSeen) (o : OpenEntry) (s : Seen) (is : EndNext later waits also a out x o s)
+    (case : GoesOnAfter s (c later waits also a out x o s is) a out) where
   abbrev k : Call
-  k = call waits also a out x o s is case
+  k = call later waits also a out x o s is case
 
   abbrev pub n : ℕ
   n = k.number
 
   abbrev v : Seen
-  v = then_ waits also a out x o s is case
+  v = then_ later waits also a out x o s is case
 
   abbrev dk : Call
-  dk = called waits also a out x o s is case
+  dk = called later waits also a out x o s is case
 
   abbrev pub aft : Stepped
-  aft = after waits also a out x o s is case
+  aft = after later waits also a out x o s is case
 
   abbrev was : CallSlot
-  was = slot waits also a out x o s is
+  was = slot later waits also a out x o s is
 
   abbrev pub act : Action
-  act = action.AttemptEnds a.place (e waits also a out x o s is)
+  act = action.AttemptEnds a.place (e later waits also a out x o s is)
 
   -- the session goes on by one action
   pub after_is : after_action act s ≡ v
-  after_is = ap (λ (q : Option OpenEntry). after_if q act s) is.current ∙ t_is waits also a out x o s is
+  after_is = ap (λ (q : Option OpenEntry). after_if q act s) is.current ∙ t_is later waits also a out x o s is
 
   pub does : Does (act ∷ []) s v
   does = (is.next, sym after_is)
 
   abbrev kept : IsKept s
-  kept = (books waits also a out x o s is).kept
+  kept = (books later waits also a out x o s is).kept
 
   pub kept_then : IsKept v
   kept_then = kept_along (act ∷ []) s v kept does
@@ -143,7 +144,7 @@ module _ (waits : Line → Bool) (also : List ℕ) (a : Attempt) (out : Outcome)
     apart = (
       record {
         acts = ap (λ (q : Option Attempt). option_map_or (λ (m : ℕ). m == n) (option_map (λ (b : Attempt). b.row.call) q) true) is.ending.there
-            ∙ eq-eqb a.row.call n (call_is waits also a out x o s is);
+            ∙ eq-eqb a.row.call n (call_is later waits also a out x o s is);
         passes = λ g at off. refl;
       },
       tt,
@@ -160,23 +161,23 @@ module _ (waits : Line → Bool) (also : List ℕ) (a : Attempt) (out : Outcome)
 
   pub steady : StaysSteady v n
   steady =
-      subst (λ (w : Seen). StaysSteady w n) (t_is waits also a out x o s is)
-      (ending_keeps s k a.place a (e waits also a out x o s is) kept.book (subst (λ (w : Seen). IsBook w) (sym (t_is waits also a out x o s is)) kept_then.book)
-      (record { own = here waits also a out x o s is; there = is.ending.there; mine = is.ending.own })
+      subst (λ (w : Seen). StaysSteady w n) (t_is later waits also a out x o s is)
+      (ending_keeps s k a.place a (e later waits also a out x o s is) kept.book (subst (λ (w : Seen). IsBook w) (sym (t_is later waits also a out x o s is)) kept_then.book)
+      (record { own = here later waits also a out x o s is; there = is.ending.there; mine = is.ending.own })
       (ap (λ (q : Option RowEnd). is_none q)
-      (ending.unended s k (x2 waits also a out x o s is) a.place a out (sees waits also a out x o s is)
-      (order waits also a out x o s is case) (turn waits also a out x o s is case) is.ending case.counting))
-      case.counting.alone (record { turn = turn waits also a out x o s is case; calm = calm }))
+      (ending.unended s k (x2 later waits also a out x o s is) a.place a out (sees later waits also a out x o s is)
+      (order later waits also a out x o s is case) (turn later waits also a out x o s is case) is.ending case.counting))
+      case.counting.alone (record { turn = turn later waits also a out x o s is case; calm = calm }))
 
   turn_then : IsInTurn v dk
   turn_then =
-      let two : Some steady.call ≡ Some dk = sym steady.own ∙ d_here waits also a out x o s is in
+      let two : Some steady.call ≡ Some dk = sym steady.own ∙ d_here later waits also a out x o s is in
       let same : steady.call ≡ dk = (cc) in
       subst (λ (g : Call). IsInTurn v g) same steady.steady.turn
 
   -- what the channel is
   abbrev pub y1 : StateSeen
-  y1 = told_form a.place n aft was (z waits also a out x o s is)
+  y1 = told_form a.place n aft was (z later waits also a out x o s is)
 
   abbrev p : Option Placed
   p = a.row.placed
@@ -187,45 +188,45 @@ module _ (waits : Line → Bool) (also : List ℕ) (a : Attempt) (out : Outcome)
   abbrev pub w : StateSeen
   w = with_ledger_links stamps y1
 
-  told_so : told a.place (news_of_link.Ended a.place (news waits also a out x o s is)) (z waits also a out x o s is) ≡ y1
+  told_so : told a.place (news_of_link.Ended a.place (news later waits also a out x o s is)) (z later waits also a out x o s is) ≡ y1
   told_so =
-      told_is a.place (news waits also a out x o s is) n (z waits also a out x o s is) was a.row (row_is waits also a out x o s is) (call_is waits also a out x o s is)
-      (slot_there waits also a out x o s is) (ap (λ (q : Stepped). q.acts) (r_is waits also a out x o s is case))
-      ∙ ap (λ (q : Stepped). told_form a.place n q was (z waits also a out x o s is)) (r_is waits also a out x o s is case)
+      told_is a.place (news later waits also a out x o s is) n (z later waits also a out x o s is) was a.row (row_is later waits also a out x o s is) (call_is later waits also a out x o s is)
+      (slot_there later waits also a out x o s is) (ap (λ (q : Stepped). q.acts) (r_is later waits also a out x o s is case))
+      ∙ ap (λ (q : Stepped). told_form a.place n q was (z later waits also a out x o s is)) (r_is later waits also a out x o s is case)
 
-  pub ended_is : ended_in a (news waits also a out x o s is) x ≡ w
+  pub ended_is : ended_in a (news later waits also a out x o s is) x ≡ w
   ended_is =
-      ap (λ (q : StateSeen). gone_with p (told a.place (news_of_link.Ended a.place (news waits also a out x o s is)) q)) (off_is a.row.call a.place p x)
+      ap (λ (q : StateSeen). gone_with p (told a.place (news_of_link.Ended a.place (news later waits also a out x o s is)) q)) (off_is a.row.call a.place p x)
       ∙ ap (gone_with p) told_so ∙ gone_form p y1
 
   -- the clock
   rows_now : numbered aft.ledger.rows a.place ≡ option_map (λ (q : Attempt). q.row) (numbered v.attempts a.place)
-  rows_now = ap (λ (rows : List Row). numbered rows a.place) (sym (sees_then waits also a out x o s is case).rows) ∙ numbered_map (λ (q : Attempt). q.row) v.attempts a.place
+  rows_now = ap (λ (rows : List Row). numbered rows a.place) (sym (sees_then later waits also a out x o s is case).rows) ∙ numbered_map (λ (q : Attempt). q.row) v.attempts a.place
 
-  drew : has_drawn (numbered aft.ledger.rows a.place) ≡ is_some (e waits also a out x o s is).word
+  drew : has_drawn (numbered aft.ledger.rows a.place) ≡ is_some (e later waits also a out x o s is).word
   drew =
-      ap has_drawn (rows_now ∙ ap (option_map (λ (q : Attempt). q.row)) (attempt_at waits also a out x o s is a.place ∙ ap (option_map (put waits also a out x o s is)) is.ending.there))
-      ∙ ap drew_by (put_ended waits also a out x o s is a ∙ ap (λ (b : Bool). if b then Some (end waits also a out x o s is) else a.row.ended) (eq-eqb a.place a.place refl))
+      ap has_drawn (rows_now ∙ ap (option_map (λ (q : Attempt). q.row)) (attempt_at later waits also a out x o s is a.place ∙ ap (option_map (put later waits also a out x o s is)) is.ending.there))
+      ∙ ap drew_by (put_ended later waits also a out x o s is a ∙ ap (λ (b : Bool). if b then Some (end later waits also a out x o s is) else a.row.ended) (eq-eqb a.place a.place refl))
 
-  was_draws : DrawsAlike (Some o) (x1 waits also a out x o s is)
-  was_draws = subst (λ (q : Option OpenEntry). DrawsAlike q (x1 waits also a out x o s is)) is.current (books waits also a out x o s is).clock.draws
+  was_draws : DrawsAlike (Some o) (x1 later waits also a out x o s is)
+  was_draws = subst (λ (q : Option OpenEntry). DrawsAlike q (x1 later waits also a out x o s is)) is.current (books later waits also a out x o s is).clock.draws
 
   abbrev pub entry_then : OpenEntry
-  entry_then = record o { drawn = o.drawn + (if is_some (e waits also a out x o s is).word then 1 else 0) }
+  entry_then = record o { drawn = o.drawn + (if is_some (e later waits also a out x o s is).word then 1 else 0) }
 
   pub current_then : v.current ≡ Some entry_then
-  current_then = ap (option_map (λ (q : OpenEntry). record q { drawn = q.drawn + (if is_some (e waits also a out x o s is).word then 1 else 0) })) is.current
+  current_then = ap (option_map (λ (q : OpenEntry). record q { drawn = q.drawn + (if is_some (e later waits also a out x o s is).word then 1 else 0) })) is.current
 
   draws_then : DrawsAlike (Some entry_then) w
   draws_then = (
     was_draws.0,
-    ap (λ (b : Bool). if b then (x.drawn + 1) % 2 ^ 64 else x.drawn) drew ∙ draw_by (is_some (e waits also a out x o s is).word) x.drawn o.drawn was_draws.1,
+    ap (λ (b : Bool). if b then (x.drawn + 1) % 2 ^ 64 else x.drawn) drew ∙ draw_by (is_some (e later waits also a out x o s is).word) x.drawn o.drawn was_draws.1,
   )
 
   clock_then : SeesClock w v
   clock_then = record {
-    entry_is = entry_is waits also a out x o s is ∙ (books waits also a out x o s is).clock.entry_is;
-    moment = now_same (is_some (e waits also a out x o s is).word) a.row.call a.place (e waits also a out x o s is) (runs waits also a out x o s is) s ∙ moment_is waits also a out x o s is;
+    entry_is = entry_is later waits also a out x o s is ∙ (books later waits also a out x o s is).clock.entry_is;
+    moment = now_same (is_some (e later waits also a out x o s is).word) a.row.call a.place (e later waits also a out x o s is) (runs later waits also a out x o s is) s ∙ moment_is later waits also a out x o s is;
     draws = subst (λ (q : Option OpenEntry). DrawsAlike q w) (sym current_then) draws_then;
   }
 
@@ -233,13 +234,13 @@ module _ (waits : Line → Bool) (also : List ℕ) (a : Attempt) (out : Outcome)
   pub runs_are : v.runs ≡ runs_now a.place k s
   runs_are =
       ap (λ (q : Seen). q.runs)
-      (sym (t_is waits also a out x o s is)
-      ∙ ending.is_ended s k (x2 waits also a out x o s is) a.place a out (sees waits also a out x o s is)
-      (order waits also a out x o s is case) (turn waits also a out x o s is case) is.ending case.counting)
+      (sym (t_is later waits also a out x o s is)
+      ∙ ending.is_ended s k (x2 later waits also a out x o s is) a.place a out (sees later waits also a out x o s is)
+      (order later waits also a out x o s is case) (turn later waits also a out x o s is case) is.ending case.counting)
 
   counted : counts_in act s ≡ run_number k s
   counted =
-      ap (option_and_then (run_counting (e waits also a out x o s is) s)) is.ending.there
+      ap (option_and_then (run_counting (e later waits also a out x o s is) s)) is.ending.there
       ∙ ap (option_and_then (λ (g : Call). if not (is_cut out.cause) && not (is_to_follow g out.cause out.unseen s) then run_number g s else None)) is.there
       ∙ ap (λ (b : Bool). if not b && not (is_to_follow k out.cause out.unseen s) then run_number k s else None) is.ending.uncut
       ∙ ap (λ (b : Bool). if not b then run_number k s else None) case.counting.alone
@@ -253,15 +254,15 @@ module _ (waits : Line → Bool) (also : List ℕ) (a : Attempt) (out : Outcome)
       (tokens_stay s act m kept.book (lines_are_fair s act kept.book is.next) (ap (λ (q : Option ThrottleRun). is_some q) at) (ap (is_number m) counted ∙ off))
 
   has_its : has_config s k ≡ true
-  has_its = all_numbered (has_config s) s.calls n k (here waits also a out x o s is) kept.book.configs
+  has_its = all_numbered (has_config s) s.calls n k (here later waits also a out x o s is) kept.book.configs
 
   place_was : bucket_place s k ≡ was.bucket
-  place_was = (has waits also a out x o s is).sees.bucket
+  place_was = (has later waits also a out x o s is).sees.bucket
 
   buckets_then : SeesBuckets w.book.buckets v
   buckets_then =
       subst (λ (m : ℕ). SeesBuckets (with_tokens m aft.tokens (with_tokens m None x.book.buckets)) v) place_was
-      (buckets_set s v k x.book.buckets aft.tokens (books waits also a out x o s is).buckets refl is.rising has_its (sym (sees_then waits also a out x o s is case).tokens)
+      (buckets_set s v k x.book.buckets aft.tokens (books later waits also a out x o s is).buckets refl is.rising has_its (sym (sees_then later waits also a out x o s is case).tokens)
       (λ m off. other_run m (numbered s.runs m) refl off))
 
   -- the call itself
@@ -270,25 +271,25 @@ module _ (waits : Line → Bool) (also : List ℕ) (a : Attempt) (out : Outcome)
 
   tokens_then : aft.tokens ≡ tokens_in w.book.buckets was.bucket
   tokens_then =
-      sym (sees_then waits also a out x o s is case).tokens ∙ sym (buckets_are_of_runs v w.book.buckets dk buckets_then has_its) ∙ ap (tokens_in w.book.buckets) place_was
+      sym (sees_then later waits also a out x o s is case).tokens ∙ sym (buckets_are_of_runs v w.book.buckets dk buckets_then has_its) ∙ ap (tokens_in w.book.buckets) place_was
 
   pub own : SeesCall w v dk own_slot
   own =
-      own_call attempts_are_due waits also a out x o s is case.counting.goes_on case.free w aft (sees_then waits also a out x o s is case) (order_then waits also a out x o s is case) turn_then
+      own_call attempts_are_due later waits also a out x o s is case.counting.goes_on case.free w aft (sees_then later waits also a out x o s is case) (order_then later waits also a out x o s is case) turn_then
       refl refl tokens_then refl refl refl
 
   own_there : numbered w.book.calls n ≡ Some own_slot
-  own_there = put_there x.book.calls n was own_slot (slot_there waits also a out x o s is)
+  own_there = put_there x.book.calls n was own_slot (slot_there later waits also a out x o s is)
 
   own_has : (g : Call) → numbered v.calls n ≡ Some g → HasSlot w v g n
   own_has g at =
-      let both : Some dk ≡ Some g = sym (d_here waits also a out x o s is) ∙ at in
+      let both : Some dk ≡ Some g = sym (d_here later waits also a out x o s is) ∙ at in
       let same : dk ≡ g = (cc) in
       subst (λ (q : Call). HasSlot w v q n) same (record { slot = own_slot; there = own_there; sees = own })
 
   -- the sets
   others : SetsApart n s v
-  others = sets_stay n (x1 waits also a out x o s is) s v apart (books waits also a out x o s is).calls
+  others = sets_stay n (x1 later waits also a out x o s is) s v apart (books later waits also a out x o s is).calls
 
   abbrev its_sets : StateSeen
   its_sets = record x {
@@ -300,7 +301,7 @@ module _ (waits : Line → Bool) (also : List ℕ) (a : Attempt) (out : Outcome)
   }
 
   abbrev moved : SetsAgree its_sets v
-  moved = sets_then waits also a out x o s is case.counting.goes_on case.free others own_slot own.due own.deadline_is
+  moved = sets_then later waits also a out x o s is case.counting.goes_on case.free others own_slot own.due own.deadline_is
 
   pub sets_now : SetsAgree w v
   sets_now = record {
@@ -318,47 +319,47 @@ module _ (waits : Line → Bool) (also : List ℕ) (a : Attempt) (out : Outcome)
   calls_at m true e =
       let same : m ≡ n = eqb-true m n e in
       subst (λ (i : ℕ). numbered (map (call_seen v) v.calls) i ≡ numbered x.book.ledger.calls i) (sym same)
-      (numbered_map (call_seen v) v.calls n ∙ ap (option_map (call_seen v)) (d_here waits also a out x o s is) ∙ sym (sees_then waits also a out x o s is case).call_is)
+      (numbered_map (call_seen v) v.calls n ∙ ap (option_map (call_seen v)) (d_here later waits also a out x o s is) ∙ sym (sees_then later waits also a out x o s is case).call_is)
   calls_at m false e =
       numbered_map (call_seen v) v.calls m ∙ columns_stay n s v apart m e ∙ sym (numbered_map (call_seen s) s.calls m)
-      ∙ ap (λ (l : List CallSeen). numbered l m) (books waits also a out x o s is).columns.calls
+      ∙ ap (λ (l : List CallSeen). numbered l m) (books later waits also a out x o s is).columns.calls
 
   module _ (noted : links_noted v ≡ stamps) where
     columns_then : SeesColumns w.book.ledger v
     columns_then = record {
-      rows = (sees_then waits also a out x o s is case).rows;
+      rows = (sees_then later waits also a out x o s is case).rows;
       calls = same_numbered (map (call_seen v) v.calls) x.book.ledger.calls (λ m. calls_at m (m == n) refl);
-      asks = (books waits also a out x o s is).columns.asks;
-      generations = (books waits also a out x o s is).columns.generations;
+      asks = (books later waits also a out x o s is).columns.asks;
+      generations = (books later waits also a out x o s is).columns.generations;
       links = noted;
     }
 
-    books_apart : BooksApart n (x1 waits also a out x o s is) w v
+    books_apart : BooksApart n (x1 later waits also a out x o s is) w v
     books_apart = record {
       entry_is = clock_then.entry_is;
       columns = columns_then;
       buckets = buckets_then;
-      slots = λ m off. put_away x.book.calls n m was own_slot (slot_there waits also a out x o s is) off;
+      slots = λ m off. put_away x.book.calls n m was own_slot (slot_there later waits also a out x o s is) off;
     }
 
     count_then : length v.calls ≡ length w.book.calls
     count_then =
-        changed_length (noted_call (mark.Ended a.place) (now s)) a.row.call s.calls ∙ (books waits also a out x o s is).calls.count
+        changed_length (noted_call (mark.Ended a.place) (now s)) a.row.call s.calls ∙ (books later waits also a out x o s is).calls.count
         ∙ sym (set_length x.book.calls (n - 1) own_slot)
 
     calls_then : SeesCalls w v
-    calls_then = all_calls_stay n (x1 waits also a out x o s is) w s v apart books_apart (books waits also a out x o s is).calls count_then own_has
+    calls_then = all_calls_stay n (x1 later waits also a out x o s is) w s v apart books_apart (books later waits also a out x o s is).calls count_then own_has
 
     net_then : SeesNet v x.net
-    net_then = subst (λ (q : Seen). SeesNet q x.net) after_is (net_stays s act x.net refl (books waits also a out x o s is).net)
+    net_then = subst (λ (q : Seen). SeesNet q x.net) after_is (net_stays s act x.net refl (books later waits also a out x o s is).net)
 
     configs_then : SeesConfigs w v
     configs_then = record {
-      authority = (books waits also a out x o s is).configs.authority;
-      shut = (books waits also a out x o s is).configs.shut;
-      held = (books waits also a out x o s is).configs.held;
-      unconfigured = (books waits also a out x o s is).configs.unconfigured;
-      policy = (books waits also a out x o s is).configs.policy;
+      authority = (books later waits also a out x o s is).configs.authority;
+      shut = (books later waits also a out x o s is).configs.shut;
+      held = (books later waits also a out x o s is).configs.held;
+      unconfigured = (books later waits also a out x o s is).configs.unconfigured;
+      policy = (books later waits also a out x o s is).configs.policy;
     }
 
     pub books_then : AgreesOffLinks w v
@@ -369,18 +370,18 @@ module _ (waits : Line → Bool) (also : List ℕ) (a : Attempt) (out : Outcome)
       buckets = buckets_then;
       calls = calls_then;
       net = net_then;
-      orderly = (books waits also a out x o s is).orderly;
+      orderly = (books later waits also a out x o s is).orderly;
       sets = sets_now;
       kept = kept_then;
     }
 
   -- the links are as they were
-  links_was : LinksAhead also x v
-  links_was = subst (λ (q : Seen). LinksAhead also x q) (t_is waits also a out x o s is) is.links
+  links_was : LinksAhead also x (all_left later v)
+  links_was = subst (λ (q : Seen). LinksAhead also x (all_left later q)) (t_is later waits also a out x o s is) is.links
 
-  pub links_then : LinksAhead also w v
+  pub links_then : LinksAhead also w (all_left later v)
   links_then = record {
     count = links_was.count;
-    each = λ m l at. let h : HasLinkAhead x v l m = links_was.each m l at in record { slot = h.slot; there = h.there; sees = h.sees };
+    each = λ m l at. let h : HasLinkAhead x (all_left later v) l m = links_was.each m l at in record { slot = h.slot; there = h.there; sees = h.sees };
     closing = λ m l at off. links_was.closing m l at off;
   }

@@ -58,7 +58,7 @@ draws_of : (q : Option OpenEntry) (ls : List LinkSeen) (x : StateSeen) → Draws
 draws_of None ls x k = tt
 draws_of (Some o) ls x k = (k.0, k.1)
 
-module _ (waits : Line → Bool) (also : List ℕ) (a : Attempt) (out : Outcome) (x : StateSeen) (o : OpenEntry) (s : Seen) (is : EndNext waits also a out x o s) where
+module _ (later : List (ℕ × RowEnd)) (waits : Line → Bool) (also : List ℕ) (a : Attempt) (out : Outcome) (x : StateSeen) (o : OpenEntry) (s : Seen) (is : EndNext later waits also a out x o s) where
   abbrev pub c : Call
   c = is.call
 

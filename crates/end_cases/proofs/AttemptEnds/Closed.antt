@@ -45,62 +45,62 @@ use Rattle.session_order.specs.Calm.{IsStill}
 use Rattle.session_order.specs.declared.line.Line.{Line}
 use Rattle.session_order.specs.declared.line.Line.TheVariants as line
 
-module _ (waits : Line → Bool) (also : List ℕ) (a : Attempt) (out : Outcome) (x : StateSeen) (o : OpenEntry) (s : Seen) (is : EndNext waits also a out x o s)
-    (case : IsCommittedEnd s (c waits also a out x o s is) a out) where
+module _ (later : List (ℕ × RowEnd)) (waits : Line → Bool) (also : List ℕ) (a : Attempt) (out : Outcome) (x : StateSeen) (o : OpenEntry) (s : Seen) (is : EndNext later waits also a out x o s)
+    (case : IsCommittedEnd s (c later waits also a out x o s is) a out) where
   abbrev k : Call
-  k = c waits also a out x o s is
+  k = c later waits also a out x o s is
 
   abbrev n : ℕ
   n = k.number
 
   abbrev lent : Stepped
-  lent = x2 waits also a out x o s is
+  lent = x2 later waits also a out x o s is
 
   abbrev seen : Sees s k lent
-  seen = sees waits also a out x o s is
+  seen = sees later waits also a out x o s is
 
   abbrev order : IsInOrder s k
-  order = closing.order waits also a out x o s is case.counting
+  order = closing.order later waits also a out x o s is case.counting
 
   abbrev turn : IsInTurn s k
-  turn = closing.turn waits also a out x o s is case.counting
+  turn = closing.turn later waits also a out x o s is case.counting
 
   abbrev v : Seen
-  v = u waits also a out x o s is
+  v = u later waits also a out x o s is
 
   abbrev end_ : RowEnd
-  end_ = e waits also a out x o s is
+  end_ = e later waits also a out x o s is
 
   abbrev dk : Call
-  dk = d waits also a out x o s is
+  dk = d later waits also a out x o s is
 
   -- nothing comes between
-  abbrev b : Between waits also a out x o s is case.counting
+  abbrev b : Between later waits also a out x o s is case.counting
   b = record { actions = []; calls = v.calls; attempts = v.attempts; marks = dk.marks; one = with_end end_ a }
 
   abbrev w : Seen
-  w = closing.closed waits also a out x o s is case.counting b
+  w = closing.closed later waits also a out x o s is case.counting b
 
   abbrev ek : Call
-  ek = closing.ended waits also a out x o s is case.counting b
+  ek = closing.ended later waits also a out x o s is case.counting b
 
   -- what the laws of calls say
   abbrev step : Stepped
-  step = ended_at a.place (news waits also a out x o s is) (now s) (next_word s) lent
+  step = ended_at a.place (news later waits also a out x o s is) (now s) (next_word s) lent
 
   its : commitment k s ≡ Some a
-  its = one_is waits also a out x o s is case.counting.goes_on case.committed
+  its = one_is later waits also a out x o s is case.counting.goes_on case.committed
 
   none_else : list_any (λ (q : Attempt). is_live s k q && not (q.place == a.place)) s.attempts ≡ false
-  none_else = alone waits also a out x o s is case.counting.goes_on case.committed
+  none_else = alone later waits also a out x o s is case.counting.goes_on case.committed
 
   keeps : Keeps w n step
   keeps =
-      subst (λ (q : Seen). Keeps (call_ended n ending_cause.Row q) n step) (t_is waits also a out x o s is)
+      subst (λ (q : Seen). Keeps (call_ended n ending_cause.Row q) n step) (t_is later waits also a out x o s is)
       (committed_end.committed_ends_close s k lent a.place a a out seen order turn is.ending case.counting its none_else)
 
   e_here : numbered w.calls n ≡ Some ek
-  e_here = closing.closed_at waits also a out x o s is case.counting b (d_here waits also a out x o s is)
+  e_here = closing.closed_at later waits also a out x o s is case.counting b (d_here later waits also a out x o s is)
 
   same_call : keeps.call ≡ ek
   same_call =
@@ -135,7 +135,7 @@ module _ (waits : Line → Bool) (also : List ℕ) (a : Attempt) (out : Outcome)
       (sym seen.attempts.committed ∙ ap (option_map (λ (q : Attempt). q.place)) its)
       ∙ ap with_live none_live
 
-  abbrev made : Made waits also a out x o s is case.counting
+  abbrev made : Made later waits also a out x o s is case.counting
   made = record {
     attempts = stopped_attempts before.call.attempts;
     rows = before.ledger.rows;
@@ -146,64 +146,64 @@ module _ (waits : Line → Bool) (also : List ℕ) (a : Attempt) (out : Outcome)
   -- what came of its response
   committed_then : commitment ek w ≡ Some (with_end end_ a)
   committed_then =
-      commitment_is waits also a out x o s is k ∙ ap (option_map (put waits also a out x o s is)) its ∙ ap (λ (q : Attempt). Some q) (closing.put_is waits also a out x o s is case.counting)
+      commitment_is later waits also a out x o s is k ∙ ap (option_map (put later waits also a out x o s is)) its ∙ ap (λ (q : Attempt). Some q) (closing.put_is later waits also a out x o s is case.counting)
 
   came_same : came ek w ≡ came k s
   came_same =
       ap (λ (q : Option Attempt). option_map_or (λ (g : Attempt). response_items (response g w)) q []) committed_then
-      ∙ ap response_items (closing.response_same waits also a out x o s is case.counting b (d_here waits also a out x o s is) a.row.committed)
+      ∙ ap response_items (closing.response_same later waits also a out x o s is case.counting b (d_here later waits also a out x o s is) a.row.committed)
       ∙ sym (ap (λ (q : Option Attempt). option_map_or (λ (g : Attempt). response_items (response g s)) q []) its)
 
   abbrev turn_one : IsInTurn v dk
-  turn_one = closing.turn_one waits also a out x o s is case.counting
+  turn_one = closing.turn_one later waits also a out x o s is case.counting
 
-  steps_so : Steps waits also a out x o s is case.counting b made
+  steps_so : Steps later waits also a out x o s is case.counting b made
   steps_so = record {
-    step_is = sym (step_is waits also a out x o s is) ∙ step_form;
+    step_is = sym (step_is later waits also a out x o s is) ∙ step_form;
     sees = subst (Sees w ek) step_form sees_step;
     order = order_then;
     turn = record { unfollowed = turn_one.unfollowed; latest = turn_one.latest; numbers = turn_one.numbers; counted = turn_one.counted };
-    left = λ h. subst (λ (all : List Reply). IsLeft all k.taken (channel_laws.came (closing.was waits also a out x o s is case.counting).call)) (sym came_same) h;
+    left = λ h. subst (λ (all : List Reply). IsLeft all k.taken (channel_laws.came (closing.was later waits also a out x o s is case.counting).call)) (sym came_same) h;
   }
 
   -- the lines
   abbrev p : OpenEntry
-  p = closing.entry_then waits also a out x o s is case.counting
+  p = closing.entry_then later waits also a out x o s is case.counting
 
   over_row : is_over_by_row v dk ≡ true
   over_row =
       ap (λ (q : Option CallEnd). is_none q && holds (λ (g : Attempt). is_counted g v) (commitment dk v)) case.counting.goes_on
-      ∙ ap (holds (λ (g : Attempt). is_counted g v)) committed_then ∙ counted_then waits also a out x o s is case.counting
+      ∙ ap (holds (λ (g : Attempt). is_counted g v)) committed_then ∙ counted_then later waits also a out x o s is case.counting
 
   still_then : (l : Line) → is_of_closing l ≡ false → may_wait l ≡ false → IsStill l p v
-  still_then l off may = ends.still_after waits also a out x o s is case.counting l off may
+  still_then l off may = ends.still_after later waits also a out x o s is case.counting l off may
 
   none_out : (i : ℕ) (q : Attempt) → slice_get v.attempts i ≡ Some q → (q.row.call == n) ≡ true → is_outstanding q ≡ false
-  none_out i q at own = first.none_out waits also a out x o s is none_else i q at own
+  none_out i q at own = first.none_out later waits also a out x o s is none_else i q at own
 
-  goes : Goes waits also a out x o s is case.counting b
+  goes : Goes later waits also a out x o s is case.counting b
   goes = record {
     does = refl;
     apart = tt;
     posts = refl;
     netless = refl;
-    here = d_here waits also a out x o s is;
+    here = d_here later waits also a out x o s is;
     count = refl;
-    one_there = first.one_there waits also a out x o s is;
+    one_there = first.one_there later waits also a out x o s is;
     one_ended = refl;
     tokens = λ i there. refl;
-    unreset = first.unreset_one waits also a out x o s is;
+    unreset = first.unreset_one later waits also a out x o s is;
     none_out = none_out;
-    fewer = first.fewer_one waits also a out x o s is;
+    fewer = first.fewer_one later waits also a out x o s is;
     over = over_row;
     still = still_then;
-    late = ends.late_after waits also a out x o s is case.counting;
-    wire = λ h. first.plain waits also a out x o s is line.WireEnd refl h;
+    late = ends.late_after later waits also a out x o s is case.counting;
+    wire = λ h. first.plain later waits also a out x o s is line.WireEnd refl h;
   }
 
-  has_ended : HasEnded waits also a out x o s
+  has_ended : HasEnded later waits also a out x o s
   has_ended =
-      alone_ends.has_ended waits also a out x o s is case.counting none_else b goes (λ link row. refl) refl (first.links_one waits also a out x o s is) made steps_so refl
+      alone_ends.has_ended later waits also a out x o s is case.counting none_else b goes (λ link row. refl) refl (first.links_one later waits also a out x o s is) made steps_so refl
 
 pub committed_ends_close : CommittedEndsClose
-committed_ends_close waits also a out x o s is case = has_ended waits also a out x o s is case
+committed_ends_close later waits also a out x o s is case = has_ended later waits also a out x o s is case

@@ -42,6 +42,7 @@ use Rattle.end_cases.proofs.AttemptEnds.Closing.{Between, Follows, Goes, Made, P
 use Rattle.end_cases.proofs.AttemptEnds.Told.{gone_form, slot_after}
 use Rattle.call_cases.proofs.ConfiguredCalls.Lists.{changed_length, same_numbered, same_words, set_length}
 use Rattle.attempt_cases.proofs.DialEvents.Words.{draw_by}
+use Rattle.attempt_ledger.specs.declared.row.RowEnd.{RowEnd}
 use Rattle.end_cases.specs.AttemptEnds.Ahead.{AgreesOffLinks, HasLinkAhead, LinksAhead, SetsAgree}
 use Rattle.end_cases.specs.AttemptEnds.Ends.{EndNext, ended_in, gone_with}
 use Rattle.channel_core.proofs.BookLaws.{number_other}
@@ -51,6 +52,7 @@ use Rattle.channel_core.specs.States.{StateSeen}
 use Rattle.channel_core.specs.Steps.{told, with_ledger_links}
 use Rattle.channel_core.specs.Tables.{tokens_in, with_tokens}
 use Rattle.channel_core.specs.declared.state.slots.CallSlot.{CallSlot}
+use Rattle.end_cases.specs.AttemptEnds.Left.{all_left}
 use Rattle.grpc_base.specs.declared.event.EndCause.TheVariants as ending_cause
 use Rattle.ledger_stamps.specs.Steps.{ended_call}
 use Rattle.link_actions.proofs.Ended.{noted_call, now_same}
@@ -76,28 +78,28 @@ pub of_call_on : (number : ℕ) (these those : List Action) (s t : Seen) → Doe
 of_call_on number [] those s t does these_are those_are = subst (λ (q : Seen). AreOfCall number those q) does those_are
 of_call_on number (a ∷ these) those s t does these_are those_are = (these_are.0, of_call_on number these those (after_action a s) t does.1 these_are.1 those_are)
 
-module _ (waits : Line → Bool) (also : List ℕ) (a : Attempt) (out : Outcome) (x : StateSeen) (o : OpenEntry) (s : Seen) (is : EndNext waits also a out x o s)
-    (counting : IsCounting s (c waits also a out x o s is) out) (b : Between waits also a out x o s is counting) (goes : Goes waits also a out x o s is counting b) where
+module _ (later : List (ℕ × RowEnd)) (waits : Line → Bool) (also : List ℕ) (a : Attempt) (out : Outcome) (x : StateSeen) (o : OpenEntry) (s : Seen) (is : EndNext later waits also a out x o s)
+    (counting : IsCounting s (c later waits also a out x o s is) out) (b : Between later waits also a out x o s is counting) (goes : Goes later waits also a out x o s is counting b) where
   abbrev call : Call
-  call = c waits also a out x o s is
+  call = c later waits also a out x o s is
 
   abbrev m : ℕ
   m = call.number
 
   abbrev first : Seen
-  first = closing.v waits also a out x o s is counting
+  first = closing.v later waits also a out x o s is counting
 
   abbrev mid : Seen
-  mid = closing.mid waits also a out x o s is counting b
+  mid = closing.mid later waits also a out x o s is counting b
 
   abbrev then_ : Seen
-  then_ = closing.closed waits also a out x o s is counting b
+  then_ = closing.closed later waits also a out x o s is counting b
 
   abbrev ended : Call
-  ended = closing.ended waits also a out x o s is counting b
+  ended = closing.ended later waits also a out x o s is counting b
 
   abbrev one : Action
-  one = closing.act waits also a out x o s is counting
+  one = closing.act later waits also a out x o s is counting
 
   abbrev pub two : Action
   two = action.CallEnds m ending_cause.Row
@@ -109,17 +111,17 @@ module _ (waits : Line → Bool) (also : List ℕ) (a : Attempt) (out : Outcome)
   booked q h = record { book = h.book; owned = h.owned; reads = h.reads }
 
   abbrev kept : IsKept s
-  kept = closing.kept waits also a out x o s is counting
+  kept = closing.kept later waits also a out x o s is counting
 
   abbrev kept_one : IsKept first
-  kept_one = closing.kept_one waits also a out x o s is counting
+  kept_one = closing.kept_one later waits also a out x o s is counting
 
   -- up to the end of the call
   abbrev pub start : List Action
   start = one ∷ b.actions
 
   does_start : Does start s mid
-  does_start = (is.next, subst (λ (q : Seen). Does b.actions q mid) (sym (closing.after_is waits also a out x o s is counting)) goes.does)
+  does_start = (is.next, subst (λ (q : Seen). Does b.actions q mid) (sym (closing.after_is later waits also a out x o s is counting)) goes.does)
 
   pub kept_mid : IsKept mid
   kept_mid = kept_along start s mid kept does_start
@@ -128,17 +130,17 @@ module _ (waits : Line → Bool) (also : List ℕ) (a : Attempt) (out : Outcome)
   apart_start = (
     record {
       acts = ap (λ (q : Option Attempt). option_map_or (λ (i : ℕ). i == m) (option_map (λ (g : Attempt). g.row.call) q) true) is.ending.there
-          ∙ eq-eqb a.row.call m (call_is waits also a out x o s is);
+          ∙ eq-eqb a.row.call m (call_is later waits also a out x o s is);
       passes = λ g at off. refl;
     },
-    subst (λ (q : Seen). AreOfCall m b.actions q) (sym (closing.after_is waits also a out x o s is counting)) goes.apart,
+    subst (λ (q : Seen). AreOfCall m b.actions q) (sym (closing.after_is later waits also a out x o s is counting)) goes.apart,
   )
 
   pub apart_mid : GoesApart m s mid
   apart_mid = record { actions = start; does = does_start; apart = apart_start; earlier = booked s kept; later = booked mid kept_mid }
 
   pub after_two : after_action two mid ≡ then_
-  after_two = ap (λ (q : Option OpenEntry). after_if q two mid) (closing.current_one waits also a out x o s is counting)
+  after_two = ap (λ (q : Option OpenEntry). after_if q two mid) (closing.current_one later waits also a out x o s is counting)
 
   module _ (next_two : following mid ≡ Some two) where
     does_two : Does (two ∷ []) mid then_
@@ -161,19 +163,19 @@ module _ (waits : Line → Bool) (also : List ℕ) (a : Attempt) (out : Outcome)
 
     -- the sets
     pub others : SetsApart m s then_
-    others = sets_stay m (x1 waits also a out x o s is) s then_ apart (books waits also a out x o s is).calls
+    others = sets_stay m (x1 later waits also a out x o s is) s then_ apart (books later waits also a out x o s is).calls
 
-    module _ (made : Made waits also a out x o s is counting) (steps : Steps waits also a out x o s is counting b made) (parts : Parts waits also a out x o s is counting)
-        (follows : Follows waits also a out x o s is counting b made parts) where
+    module _ (made : Made later waits also a out x o s is counting) (steps : Steps later waits also a out x o s is counting b made) (parts : Parts later waits also a out x o s is counting)
+        (follows : Follows later waits also a out x o s is counting b made parts) where
       abbrev stepped : Stepped
-      stepped = closing.stepped waits also a out x o s is counting made
+      stepped = closing.stepped later waits also a out x o s is counting made
 
       abbrev its_slot : CallSlot
-      its_slot = closing.was waits also a out x o s is counting
+      its_slot = closing.was later waits also a out x o s is counting
 
       -- what the channel is
       abbrev y1 : StateSeen
-      y1 = closing.told_with waits also a out x o s is counting made parts
+      y1 = closing.told_with later waits also a out x o s is counting made parts
 
       abbrev stamps : List LinkSeen
       stamps = (gone_with a.row.placed y1).book.ledger.links
@@ -181,44 +183,44 @@ module _ (waits : Line → Bool) (also : List ℕ) (a : Attempt) (out : Outcome)
       abbrev pub y : StateSeen
       y = with_ledger_links stamps y1
 
-      pub ended_is : ended_in a (news waits also a out x o s is) x ≡ y
+      pub ended_is : ended_in a (news later waits also a out x o s is) x ≡ y
       ended_is =
-          ap (λ (q : StateSeen). gone_with a.row.placed (told a.place (news_of_link.Ended a.place (news waits also a out x o s is)) q)) (off_is a.row.call a.place a.row.placed x)
+          ap (λ (q : StateSeen). gone_with a.row.placed (told a.place (news_of_link.Ended a.place (news later waits also a out x o s is)) q)) (off_is a.row.call a.place a.row.placed x)
           ∙ ap (gone_with a.row.placed) follows.told_is ∙ gone_form a.row.placed y1
 
       -- the clock
       rows_now : numbered stepped.ledger.rows a.place ≡ option_map (λ (q : Attempt). q.row) (numbered then_.attempts a.place)
       rows_now = ap (λ (rows : List Row). numbered rows a.place) (sym steps.sees.rows) ∙ numbered_map (λ (q : Attempt). q.row) then_.attempts a.place
 
-      drew : has_drawn (numbered stepped.ledger.rows a.place) ≡ is_some (e waits also a out x o s is).word
+      drew : has_drawn (numbered stepped.ledger.rows a.place) ≡ is_some (e later waits also a out x o s is).word
       drew = ap has_drawn (rows_now ∙ ap (option_map (λ (q : Attempt). q.row)) goes.one_there) ∙ ap drew_by goes.one_ended
 
-      was_draws : DrawsAlike (Some o) (x1 waits also a out x o s is)
-      was_draws = subst (λ (q : Option OpenEntry). DrawsAlike q (x1 waits also a out x o s is)) is.current (books waits also a out x o s is).clock.draws
+      was_draws : DrawsAlike (Some o) (x1 later waits also a out x o s is)
+      was_draws = subst (λ (q : Option OpenEntry). DrawsAlike q (x1 later waits also a out x o s is)) is.current (books later waits also a out x o s is).clock.draws
 
-      draws_then : DrawsAlike (Some (closing.entry_then waits also a out x o s is counting)) y
+      draws_then : DrawsAlike (Some (closing.entry_then later waits also a out x o s is counting)) y
       draws_then = (
         was_draws.0,
-        ap (λ (q : Bool). if q then (x.drawn + 1) % 2 ^ 64 else x.drawn) drew ∙ draw_by (is_some (e waits also a out x o s is).word) x.drawn o.drawn was_draws.1,
+        ap (λ (q : Bool). if q then (x.drawn + 1) % 2 ^ 64 else x.drawn) drew ∙ draw_by (is_some (e later waits also a out x o s is).word) x.drawn o.drawn was_draws.1,
       )
 
       clock_then : SeesClock y then_
       clock_then = record {
-        entry_is = entry_is waits also a out x o s is ∙ (books waits also a out x o s is).clock.entry_is;
-        moment = now_same (is_some (e waits also a out x o s is).word) a.row.call a.place (e waits also a out x o s is) (runs waits also a out x o s is) s ∙ moment_is waits also a out x o s is;
-        draws = subst (λ (q : Option OpenEntry). DrawsAlike q y) (sym (closing.current_one waits also a out x o s is counting)) draws_then;
+        entry_is = entry_is later waits also a out x o s is ∙ (books later waits also a out x o s is).clock.entry_is;
+        moment = now_same (is_some (e later waits also a out x o s is).word) a.row.call a.place (e later waits also a out x o s is) (runs later waits also a out x o s is) s ∙ moment_is later waits also a out x o s is;
+        draws = subst (λ (q : Option OpenEntry). DrawsAlike q y) (sym (closing.current_one later waits also a out x o s is counting)) draws_then;
       }
 
       -- the tokens
       counted : counts_in one s ≡ run_number call s
       counted =
-          ap (option_and_then (run_counting (e waits also a out x o s is) s)) is.ending.there
+          ap (option_and_then (run_counting (e later waits also a out x o s is) s)) is.ending.there
           ∙ ap (option_and_then (λ (g : Call). if not (is_cut out.cause) && not (is_to_follow g out.cause out.unseen s) then run_number g s else None)) is.there
           ∙ ap (λ (q : Bool). if not q && not (is_to_follow call out.cause out.unseen s) then run_number call s else None) is.ending.uncut
           ∙ ap (λ (q : Bool). if not q then run_number call s else None) counting.alone
 
       run_same : (i : ℕ) → is_number i (run_number call s) ≡ false → numbered first.runs i ≡ numbered s.runs i
-      run_same i off = ap (λ (l : List ThrottleRun). numbered l i) (closing.runs_are waits also a out x o s is counting) ∙ run_away a.place i (run_number call s) s.runs off
+      run_same i off = ap (λ (l : List ThrottleRun). numbered l i) (closing.runs_are later waits also a out x o s is counting) ∙ run_away a.place i (run_number call s) s.runs off
 
       other_run : (i : ℕ) (q : Option ThrottleRun) → numbered s.runs i ≡ q → is_number i (run_number call s) ≡ false → bucket_in then_ (Some i) ≡ bucket_in s (Some i)
       other_run i None at off = ap (option_map (bucket_of then_)) (run_same i off ∙ at) ∙ sym (ap (option_map (bucket_of s)) at)
@@ -226,19 +228,19 @@ module _ (waits : Line → Bool) (also : List ℕ) (a : Attempt) (out : Outcome)
           subst (λ (q : Seen). tokens_in_run q (Some i) ≡ tokens_in_run mid (Some i)) after_two
           (tokens_stay mid two i kept_mid.book tt (ap (λ (q : Option ThrottleRun). is_some q) (run_same i off ∙ at)) refl)
           ∙ goes.tokens i (ap (λ (q : Option ThrottleRun). is_some q) (run_same i off ∙ at))
-          ∙ subst (λ (q : Seen). tokens_in_run q (Some i) ≡ tokens_in_run s (Some i)) (closing.after_is waits also a out x o s is counting)
+          ∙ subst (λ (q : Seen). tokens_in_run q (Some i) ≡ tokens_in_run s (Some i)) (closing.after_is later waits also a out x o s is counting)
           (tokens_stay s one i kept.book (lines_are_fair s one kept.book is.next) (ap (λ (q : Option ThrottleRun). is_some q) at) (ap (is_number i) counted ∙ off))
 
       has_its : has_config s call ≡ true
-      has_its = all_numbered (has_config s) s.calls m call (here waits also a out x o s is) kept.book.configs
+      has_its = all_numbered (has_config s) s.calls m call (here later waits also a out x o s is) kept.book.configs
 
       place_was : bucket_place s call ≡ its_slot.bucket
-      place_was = (has waits also a out x o s is).sees.bucket
+      place_was = (has later waits also a out x o s is).sees.bucket
 
       buckets_then : SeesBuckets y.book.buckets then_
       buckets_then =
           subst (λ (i : ℕ). SeesBuckets (with_tokens i stepped.tokens (with_tokens i None x.book.buckets)) then_) place_was
-          (buckets_set s then_ call x.book.buckets stepped.tokens (books waits also a out x o s is).buckets refl is.rising has_its (sym steps.sees.tokens)
+          (buckets_set s then_ call x.book.buckets stepped.tokens (books later waits also a out x o s is).buckets refl is.rising has_its (sym steps.sees.tokens)
           (λ i off. other_run i (numbered s.runs i) refl off))
 
       -- the call itself
@@ -248,8 +250,8 @@ module _ (waits : Line → Bool) (also : List ℕ) (a : Attempt) (out : Outcome)
       tokens_then : stepped.tokens ≡ tokens_in y.book.buckets its_slot.bucket
       tokens_then = sym steps.sees.tokens ∙ sym (buckets_are_of_runs then_ y.book.buckets ended buckets_then has_its) ∙ ap (tokens_in y.book.buckets) place_was
 
-      abbrev served : Serves s call (lent_to (x1 waits also a out x o s is) s its_slot)
-      served = (has waits also a out x o s is).sees.serves
+      abbrev served : Serves s call (lent_to (x1 later waits also a out x o s is) s its_slot)
+      served = (has later waits also a out x o s is).sees.serves
 
       own_sees : Sees then_ ended (lent_to y then_ own_slot)
       own_sees = record {
@@ -287,11 +289,11 @@ module _ (waits : Line → Bool) (also : List ℕ) (a : Attempt) (out : Outcome)
       own = record { bucket = place_was; serves = own_serves; order = steps.order; turn = steps.turn; due = refl; deadline_is = refl }
 
       own_there : numbered y.book.calls m ≡ Some own_slot
-      own_there = put_there x.book.calls m its_slot own_slot (slot_there waits also a out x o s is)
+      own_there = put_there x.book.calls m its_slot own_slot (slot_there later waits also a out x o s is)
 
       own_has : (g : Call) → numbered then_.calls m ≡ Some g → HasSlot y then_ g m
       own_has g at =
-          let both : Some ended ≡ Some g = sym (closing.closed_here waits also a out x o s is counting b goes) ∙ at in
+          let both : Some ended ≡ Some g = sym (closing.closed_here later waits also a out x o s is counting b goes) ∙ at in
           let same : ended ≡ g = (cc) in
           subst (λ (q : Call). HasSlot y then_ q m) same (record { slot = own_slot; there = own_there; sees = own })
 
@@ -299,10 +301,10 @@ module _ (waits : Line → Bool) (also : List ℕ) (a : Attempt) (out : Outcome)
       sets_now = record {
         queue = follows.queue;
         patient = follows.patient;
-        dues = dues_then waits also a out x o s is counting b goes others own_slot own.due;
-        deadlines = deadlines_then waits also a out x o s is counting b goes others own_slot own.deadline_is;
-        bare = bare_then waits also a out x o s is counting b goes others;
-        impatient = impatient_then waits also a out x o s is counting b goes others;
+        dues = dues_then later waits also a out x o s is counting b goes others own_slot own.due;
+        deadlines = deadlines_then later waits also a out x o s is counting b goes others own_slot own.deadline_is;
+        bare = bare_then later waits also a out x o s is counting b goes others;
+        impatient = impatient_then later waits also a out x o s is counting b goes others;
         outstanding = follows.outs;
       }
 
@@ -314,10 +316,10 @@ module _ (waits : Line → Bool) (also : List ℕ) (a : Attempt) (out : Outcome)
       calls_at i true h =
           let same : i ≡ m = eqb-true i m h in
           subst (λ (j : ℕ). numbered (map (call_seen then_) then_.calls) j ≡ numbered stepped.ledger.calls j) (sym same)
-          (numbered_map (call_seen then_) then_.calls m ∙ ap (option_map (call_seen then_)) (closing.closed_here waits also a out x o s is counting b goes) ∙ sym steps.sees.call_is)
+          (numbered_map (call_seen then_) then_.calls m ∙ ap (option_map (call_seen then_)) (closing.closed_here later waits also a out x o s is counting b goes) ∙ sym steps.sees.call_is)
       calls_at i false h =
           numbered_map (call_seen then_) then_.calls i ∙ columns_stay m s then_ apart i h ∙ sym (numbered_map (call_seen s) s.calls i)
-          ∙ ap (λ (l : List CallSeen). numbered l i) (books waits also a out x o s is).columns.calls ∙ sym (same_words x.book.ledger.calls i)
+          ∙ ap (λ (l : List CallSeen). numbered l i) (books later waits also a out x o s is).columns.calls ∙ sym (same_words x.book.ledger.calls i)
           ∙ sym (number_other (ended_call (record { entry = x.book.ledger.entry; moment = now s; cause = ending_cause.Row })) x.book.ledger.calls its_slot.call.number i (other_number i h))
           ∙ same_words stepped.ledger.calls i
 
@@ -325,52 +327,52 @@ module _ (waits : Line → Bool) (also : List ℕ) (a : Attempt) (out : Outcome)
       columns_then = record {
         rows = steps.sees.rows;
         calls = same_numbered (map (call_seen then_) then_.calls) stepped.ledger.calls (λ i. calls_at i (i == m) refl);
-        asks = (books waits also a out x o s is).columns.asks;
-        generations = (books waits also a out x o s is).columns.generations;
+        asks = (books later waits also a out x o s is).columns.asks;
+        generations = (books later waits also a out x o s is).columns.generations;
         links = follows.noted;
       }
 
-      books_apart : BooksApart m (x1 waits also a out x o s is) y then_
+      books_apart : BooksApart m (x1 later waits also a out x o s is) y then_
       books_apart = record {
         entry_is = clock_then.entry_is;
         columns = columns_then;
         buckets = buckets_then;
-        slots = λ i off. put_away x.book.calls m i its_slot own_slot (slot_there waits also a out x o s is) off;
+        slots = λ i off. put_away x.book.calls m i its_slot own_slot (slot_there later waits also a out x o s is) off;
       }
 
       count_then : length then_.calls ≡ length y.book.calls
       count_then =
           changed_length _ m _ ∙ changed_length _ m mid.calls ∙ goes.count ∙ changed_length (noted_call (mark.Ended a.place) (now s)) a.row.call s.calls
-          ∙ (books waits also a out x o s is).calls.count ∙ sym (set_length x.book.calls (m - 1) own_slot)
+          ∙ (books later waits also a out x o s is).calls.count ∙ sym (set_length x.book.calls (m - 1) own_slot)
 
       calls_then : SeesCalls y then_
-      calls_then = all_calls_stay m (x1 waits also a out x o s is) y s then_ apart books_apart (books waits also a out x o s is).calls count_then own_has
+      calls_then = all_calls_stay m (x1 later waits also a out x o s is) y s then_ apart books_apart (books later waits also a out x o s is).calls count_then own_has
 
       pub books_then : AgreesOffLinks y then_
       books_then = record {
         clock = clock_then;
         columns = columns_then;
         configs = record {
-          authority = (books waits also a out x o s is).configs.authority;
-          shut = (books waits also a out x o s is).configs.shut;
-          held = (books waits also a out x o s is).configs.held;
-          unconfigured = (books waits also a out x o s is).configs.unconfigured;
-          policy = (books waits also a out x o s is).configs.policy;
+          authority = (books later waits also a out x o s is).configs.authority;
+          shut = (books later waits also a out x o s is).configs.shut;
+          held = (books later waits also a out x o s is).configs.held;
+          unconfigured = (books later waits also a out x o s is).configs.unconfigured;
+          policy = (books later waits also a out x o s is).configs.policy;
         };
         buckets = buckets_then;
         calls = calls_then;
         net = net_stays_along (two ∷ []) mid then_ x.net refl does_two
             (net_stays_along b.actions first mid x.net goes.netless goes.does
-            (net_stays_along (one ∷ []) s first x.net refl (closing.does_one waits also a out x o s is counting) (books waits also a out x o s is).net));
-        orderly = (books waits also a out x o s is).orderly;
+            (net_stays_along (one ∷ []) s first x.net refl (closing.does_one later waits also a out x o s is counting) (books later waits also a out x o s is).net));
+        orderly = (books later waits also a out x o s is).orderly;
         sets = sets_now;
         kept = kept_then;
       }
 
       -- the links
-      pub links_then : LinksAhead also y then_
+      pub links_then : LinksAhead also y (all_left later then_)
       links_then = record {
         count = follows.ahead.count;
-        each = λ i l at. let h : HasLinkAhead y1 then_ l i = follows.ahead.each i l at in record { slot = h.slot; there = h.there; sees = h.sees };
+        each = λ i l at. let h : HasLinkAhead y1 (all_left later then_) l i = follows.ahead.each i l at in record { slot = h.slot; there = h.there; sees = h.sees };
         closing = λ i l at off. follows.ahead.closing i l at off;
       }

@@ -1,6 +1,7 @@
 -- An attempt ends, and its call by it: the end of the call is the next action, and then nothing follows at once from it.
 use Rattle.std.proofs.Common.{◌≡◌, ◌&&◌, ◌==◌, ◌++◌, ◌∷◌, ap, refl, subst, sym, ◌∙◌, Bool, true, false, List, [], Some, ℕ, zero, suc, find, nat_lt, option_map, slice_get}
 use Rattle.std.proofs.lemmas.Bool.{eqb-true}
+use Rattle.attempt_ledger.specs.declared.row.RowEnd.{RowEnd}
 use Rattle.call_actions.specs.Laws.{IsCounting}
 use Rattle.channel_actions.proofs.Does.{none_on}
 use Rattle.call_cases.proofs.OtherCalls.Rows.{number_at}
@@ -63,51 +64,51 @@ before_row loses line.Give e X a b c = absurd (cc)
 before_row loses line.Drop e X a b c = absurd (cc)
 before_row loses line.Add e X a b c = absurd (cc)
 
-module _ (waits : Line → Bool) (also : List ℕ) (a : Attempt) (out : Outcome) (x : StateSeen) (o : OpenEntry) (s : Seen) (is : EndNext waits also a out x o s)
-    (counting : IsCounting s (c waits also a out x o s is) out) (b : Between waits also a out x o s is counting) (goes : Goes waits also a out x o s is counting b) where
+module _ (later : List (ℕ × RowEnd)) (waits : Line → Bool) (also : List ℕ) (a : Attempt) (out : Outcome) (x : StateSeen) (o : OpenEntry) (s : Seen) (is : EndNext later waits also a out x o s)
+    (counting : IsCounting s (c later waits also a out x o s is) out) (b : Between later waits also a out x o s is counting) (goes : Goes later waits also a out x o s is counting b) where
   abbrev call : Call
-  call = c waits also a out x o s is
+  call = c later waits also a out x o s is
 
   abbrev m : ℕ
   m = call.number
 
   abbrev mid : Seen
-  mid = closing.mid waits also a out x o s is counting b
+  mid = closing.mid later waits also a out x o s is counting b
 
   abbrev then_ : Seen
-  then_ = closing.closed waits also a out x o s is counting b
+  then_ = closing.closed later waits also a out x o s is counting b
 
   abbrev its : Call
-  its = closing.its waits also a out x o s is counting b
+  its = closing.its later waits also a out x o s is counting b
 
   abbrev ended : Call
-  ended = closing.ended waits also a out x o s is counting b
+  ended = closing.ended later waits also a out x o s is counting b
 
   abbrev two : Action
-  two = agree.two waits also a out x o s is counting b goes
+  two = agree.two later waits also a out x o s is counting b goes
 
   abbrev p : OpenEntry
-  p = closing.entry_then waits also a out x o s is counting
+  p = closing.entry_then later waits also a out x o s is counting
 
   abbrev now_open : mid.current ≡ Some p
-  now_open = closing.current_one waits also a out x o s is counting
+  now_open = closing.current_one later waits also a out x o s is counting
 
   was_still : (l : Line) → is_of_ends l ≡ false → may_wait l ≡ false → IsStill l o s
   was_still l ends may = is.still l ends (early_by (waits l) (may_wait l) (is.late l) may)
 
   abbrev kept : IsKept s
-  kept = closing.kept waits also a out x o s is counting
+  kept = closing.kept later waits also a out x o s is counting
 
   abbrev kept_mid : IsKept mid
-  kept_mid = agree.kept_mid waits also a out x o s is counting b goes
+  kept_mid = agree.kept_mid later waits also a out x o s is counting b goes
 
   abbrev apart_mid : GoesApart m s mid
-  apart_mid = agree.apart_mid waits also a out x o s is counting b goes
+  apart_mid = agree.apart_mid later waits also a out x o s is counting b goes
 
   -- no attempt is to be cut off
   cut_by : (i : ℕ) (q : Attempt) (g : Bool) → slice_get mid.attempts i ≡ Some q → (q.row.call == m) ≡ g → is_to_cut mid q ≡ false
   cut_by i q true at own = ap (λ (g : Bool). g && is_over q mid) (goes.none_out i q at own)
-  cut_by i q false at off = cut_none m (x1 waits also a out x o s is) s mid apart_mid (books waits also a out x o s is).calls kept kept_mid i q at off (was_still line.Cut refl refl)
+  cut_by i q false at off = cut_none m (x1 later waits also a out x o s is) s mid apart_mid (books later waits also a out x o s is).calls kept kept_mid i q at off (was_still line.Cut refl refl)
 
   uncut_mid : IsStill line.Cut p mid
   uncut_mid = none_at (is_to_cut mid) mid.attempts (λ i q at. cut_by i q (q.row.call == m) at refl)
@@ -115,7 +116,7 @@ module _ (waits : Line → Bool) (also : List ℕ) (a : Attempt) (out : Outcome)
   -- the end of the call is next
   row_else : (i : ℕ) (g : Call) → slice_get mid.calls i ≡ Some g → (suc i == m) ≡ false → is_over_by_row mid g ≡ false
   row_else i g at off =
-      row_none m (x1 waits also a out x o s is) s mid apart_mid (books waits also a out x o s is).calls kept kept_mid (suc i) g off at (was_still line.Row refl refl)
+      row_none m (x1 later waits also a out x o s is) s mid apart_mid (books later waits also a out x o s is).calls kept kept_mid (suc i) g off at (was_still line.Row refl refl)
 
   found_by : (j : ℕ) → m ≡ j → numbered mid.calls j ≡ Some its → find (is_over_by_row mid) mid.calls ≡ Some its
   found_by zero same at = absurd (cc)
@@ -134,14 +135,14 @@ module _ (waits : Line → Bool) (also : List ℕ) (a : Attempt) (out : Outcome)
   leaves l off h = ended_leaves m ending_cause.Row p mid now_open (λ i g at. number_at mid.calls i g kept_mid.book.calls at) l p now_open off h
 
   abbrev apart_two : GoesApart m s then_
-  apart_two = agree.apart waits also a out x o s is counting b goes next_two
+  apart_two = agree.apart later waits also a out x o s is counting b goes next_two
 
   abbrev kept_two : IsKept then_
-  kept_two = agree.kept_then waits also a out x o s is counting b goes next_two
+  kept_two = agree.kept_then later waits also a out x o s is counting b goes next_two
 
   cut_then : (i : ℕ) (q : Attempt) (g : Bool) → slice_get then_.attempts i ≡ Some q → (q.row.call == m) ≡ g → is_to_cut then_ q ≡ false
   cut_then i q true at own = ap (λ (g : Bool). g && is_over q then_) (goes.none_out i q at own)
-  cut_then i q false at off = cut_none m (x1 waits also a out x o s is) s then_ apart_two (books waits also a out x o s is).calls kept kept_two i q at off (was_still line.Cut refl refl)
+  cut_then i q false at off = cut_none m (x1 later waits also a out x o s is) s then_ apart_two (books later waits also a out x o s is).calls kept kept_two i q at off (was_still line.Cut refl refl)
 
   uncut : IsStill line.Cut p then_
   uncut = none_at (is_to_cut then_) then_.attempts (λ i q at. cut_then i q (q.row.call == m) at refl)
@@ -150,20 +151,20 @@ module _ (waits : Line → Bool) (also : List ℕ) (a : Attempt) (out : Outcome)
   row_by : (i : ℕ) (g : Call) (q : Bool) → slice_get then_.calls i ≡ Some g → (suc i == m) ≡ q → is_over_by_row then_ g ≡ false
   row_by i g true at own =
       let here_ : numbered then_.calls m ≡ Some g = ap (numbered then_.calls) (sym (eqb-true (suc i) m own)) ∙ at in
-      let two_calls : Some g ≡ Some ended = sym here_ ∙ closing.closed_here waits also a out x o s is counting b goes in
+      let two_calls : Some g ≡ Some ended = sym here_ ∙ closing.closed_here later waits also a out x o s is counting b goes in
       let same : g ≡ ended = (cc) in
       ap (is_over_by_row then_) same
   row_by i g false at off =
-      row_none m (x1 waits also a out x o s is) s then_ apart_two (books waits also a out x o s is).calls kept kept_two (suc i) g off at (was_still line.Row refl refl)
+      row_none m (x1 later waits also a out x o s is) s then_ apart_two (books later waits also a out x o s is).calls kept kept_two (suc i) g off at (was_still line.Row refl refl)
 
   unrowed : IsStill line.Row p then_
   unrowed = none_at (is_over_by_row then_) then_.calls (λ i g at. row_by i g (suc i == m) at refl)
 
   final_by : (i : ℕ) (q : Attempt) (g : Bool) → slice_get then_.attempts i ≡ Some q → (q.row.call == m) ≡ g → is_final_end then_ q ≡ false
   final_by i q true at own =
-      ap (holds (λ (g : Call). is_final_in q then_ g)) (ap (numbered then_.calls) (eqb-true q.row.call m own) ∙ closing.closed_here waits also a out x o s is counting b goes)
+      ap (holds (λ (g : Call). is_final_in q then_ g)) (ap (numbered then_.calls) (eqb-true q.row.call m own) ∙ closing.closed_here later waits also a out x o s is counting b goes)
   final_by i q false at off =
-      final_none m (x1 waits also a out x o s is) s then_ apart_two (books waits also a out x o s is).calls kept kept_two i q at off (was_still line.Final refl refl)
+      final_none m (x1 later waits also a out x o s is) s then_ apart_two (books later waits also a out x o s is).calls kept kept_two i q at off (was_still line.Final refl refl)
 
   unfinal : IsStill line.Final p then_
   unfinal = none_at (is_final_end then_) then_.attempts (λ i q at. final_by i q (q.row.call == m) at refl)
@@ -213,25 +214,25 @@ module _ (waits : Line → Bool) (also : List ℕ) (a : Attempt) (out : Outcome)
   late_then line.Reset late off = absurd (cc)
 
   pub others : SetsApart m s then_
-  others = agree.others waits also a out x o s is counting b goes next_two
+  others = agree.others later waits also a out x o s is counting b goes next_two
 
-  module _ (made : Made waits also a out x o s is counting) (steps : Steps waits also a out x o s is counting b made) (parts : Parts waits also a out x o s is counting)
-      (follows : Follows waits also a out x o s is counting b made parts) where
-    agrees_then : AgreesAhead also (ended_in a (news waits also a out x o s is) x) then_
+  module _ (made : Made later waits also a out x o s is counting) (steps : Steps later waits also a out x o s is counting b made) (parts : Parts later waits also a out x o s is counting)
+      (follows : Follows later waits also a out x o s is counting b made parts) where
+    agrees_then : AgreesAhead later also (ended_in a (news later waits also a out x o s is) x) then_
     agrees_then =
-        subst (λ (q : StateSeen). AgreesAhead also q then_) (sym (agree.ended_is waits also a out x o s is counting b goes next_two made steps parts follows))
+        subst (λ (q : StateSeen). AgreesAhead later also q then_) (sym (agree.ended_is later waits also a out x o s is counting b goes next_two made steps parts follows))
         (record {
-          books = agree.books_then waits also a out x o s is counting b goes next_two made steps parts follows;
-          links = agree.links_then waits also a out x o s is counting b goes next_two made steps parts follows;
+          books = agree.books_then later waits also a out x o s is counting b goes next_two made steps parts follows;
+          links = agree.links_then later waits also a out x o s is counting b goes next_two made steps parts follows;
           unreset = goes.unreset;
         })
 
-    pub has_ended : HasEnded waits also a out x o s
+    pub has_ended : HasEnded later waits also a out x o s
     has_ended = record {
       actions = b.actions ++ two ∷ [];
       seen = then_;
       entry = p;
-      does = agree.does waits also a out x o s is counting b goes next_two;
+      does = agree.does later waits also a out x o s is counting b goes next_two;
       posts = none_on b.actions (two ∷ []) goes.posts refl;
       same = record { moment = refl; word = refl; event = refl; entries = refl; setup = refl };
       stage = refl;

@@ -2,6 +2,7 @@
 use Rattle.std.proofs.Common.{◌≡◌, ◌&&◌, ◌||◌, ◌==◌, not, ap, refl, sym, ◌∙◌, Bool, true, false, List, Option, None, Some, ℕ, is_none, is_some}
 use Rattle.std.proofs.lemmas.Bool.{and_right, eqb-true}
 use Rattle.attempt_ledger.specs.declared.row.Placed.{Placed}
+use Rattle.attempt_ledger.specs.declared.row.RowEnd.{RowEnd}
 use Rattle.call_actions.proofs.Lists.{numbered_not}
 use Rattle.call_actions.proofs.Places.{place_is}
 use Rattle.call_actions.specs.Laws.{IsCounting}
@@ -35,24 +36,24 @@ none_waits true out_ true false e = refl
 none_waits true out_ false off e = refl
 none_waits false out_ q off e = refl
 
-module _ (waits : Line → Bool) (also : List ℕ) (a : Attempt) (out : Outcome) (x : StateSeen) (o : OpenEntry) (s : Seen) (is : EndNext waits also a out x o s)
-    (counting : IsCounting s (c waits also a out x o s is) out) (b : Between waits also a out x o s is counting) (goes : Goes waits also a out x o s is counting b)
-    (none_else : list_any (λ (q : Attempt). is_live s (c waits also a out x o s is) q && not (q.place == a.place)) s.attempts ≡ false)
-    (others : SetsApart (closing.n waits also a out x o s is counting) s (closing.closed waits also a out x o s is counting b)) where
+module _ (later : List (ℕ × RowEnd)) (waits : Line → Bool) (also : List ℕ) (a : Attempt) (out : Outcome) (x : StateSeen) (o : OpenEntry) (s : Seen) (is : EndNext later waits also a out x o s)
+    (counting : IsCounting s (c later waits also a out x o s is) out) (b : Between later waits also a out x o s is counting) (goes : Goes later waits also a out x o s is counting b)
+    (none_else : list_any (λ (q : Attempt). is_live s (c later waits also a out x o s is) q && not (q.place == a.place)) s.attempts ≡ false)
+    (others : SetsApart (closing.n later waits also a out x o s is counting) s (closing.closed later waits also a out x o s is counting b)) where
   abbrev call : Call
-  call = c waits also a out x o s is
+  call = c later waits also a out x o s is
 
   abbrev m : ℕ
   m = call.number
 
   abbrev then_ : Seen
-  then_ = closing.closed waits also a out x o s is counting b
+  then_ = closing.closed later waits also a out x o s is counting b
 
   abbrev ended : Call
-  ended = closing.ended waits also a out x o s is counting b
+  ended = closing.ended later waits also a out x o s is counting b
 
   abbrev ended_here : numbered then_.calls m ≡ Some ended
-  ended_here = closing.closed_here waits also a out x o s is counting b goes
+  ended_here = closing.closed_here later waits also a out x o s is counting b goes
 
   -- no attempt of the call is queued: it has ended; and before, none but this one was
   over_then : (q : Attempt) → (q.row.call == m) ≡ true → is_over q then_ ≡ true
@@ -76,7 +77,7 @@ module _ (waits : Line → Bool) (also : List ℕ) (a : Attempt) (out : Outcome)
   was_by row None there = refl
   was_by row (Some q) there =
       none_waits (is_of call q) (is_outstanding q) (is_queued q s) (not (row == a.place))
-      (ap (λ (i : ℕ). is_live s call q && not (i == a.place)) (sym (place_is row s.attempts q (numbers waits also a out x o s is) there))
+      (ap (λ (i : ℕ). is_live s call q && not (i == a.place)) (sym (place_is row s.attempts q (numbers later waits also a out x o s is) there))
       ∙ numbered_not (λ (g : Attempt). is_live s call g && not (g.place == a.place)) s.attempts row q (none_else) there)
 
   wait_was : (row : ℕ) → (is_waiting s m row && not (row == a.place)) ≡ false
@@ -97,7 +98,7 @@ module _ (waits : Line → Bool) (also : List ℕ) (a : Attempt) (out : Outcome)
       (none_placed : is_some a.row.placed ≡ true → (row : ℕ) → test m row ≡ false) (away : (i row : ℕ) → (i == m) ≡ false → other i row ≡ test i row) where
     pub none_left : (pairs : List (ℕ × ℕ)) → AreExactly pairs test → AreExactly (queue_off a.row.call a.place a.row.placed pairs) other
     none_left pairs h =
-        queue_left waits also a out x o s is test other (λ row. none_then row ∙ sym (none_was row)) away
+        queue_left later waits also a out x o s is test other (λ row. none_then row ∙ sym (none_was row)) away
         (λ some row passes. (let both : false ≡ true = sym (none_placed some row) ∙ passes in absurd (cc))) pairs h
 
   and_swap : (p q r : Bool) → ((p && r) && q) ≡ false → ((p && q) && r) ≡ false
@@ -110,10 +111,10 @@ module _ (waits : Line → Bool) (also : List ℕ) (a : Attempt) (out : Outcome)
   queue_then =
       none_left (is_in_queue s) (is_in_queue then_) (λ row. ap (λ (b : Bool). b && not (is_patient then_ m)) (wait_then row))
       (λ row. and_swap (is_waiting s m row) (not (is_patient s m)) (not (row == a.place)) (ap (λ (b : Bool). b && not (is_patient s m)) (wait_was row)))
-      (λ some row. ap (λ (b : Bool). b && not (is_patient s m)) (not_waiting some row (row == a.place) refl)) (λ i row e. others.queue i row e) x.queue (books waits also a out x o s is).sets.queue
+      (λ some row. ap (λ (b : Bool). b && not (is_patient s m)) (not_waiting some row (row == a.place) refl)) (λ i row e. others.queue i row e) x.queue (books later waits also a out x o s is).sets.queue
 
   pub patient_then : AreExactly (queue_off a.row.call a.place a.row.placed x.patient) (is_in_patient then_)
   patient_then =
       none_left (is_in_patient s) (is_in_patient then_) (λ row. ap (λ (b : Bool). b && is_patient then_ m) (wait_then row))
       (λ row. and_swap (is_waiting s m row) (is_patient s m) (not (row == a.place)) (ap (λ (b : Bool). b && is_patient s m) (wait_was row)))
-      (λ some row. ap (λ (b : Bool). b && is_patient s m) (not_waiting some row (row == a.place) refl)) (λ i row e. others.patient i row e) x.patient (books waits also a out x o s is).sets.patient
+      (λ some row. ap (λ (b : Bool). b && is_patient s m) (not_waiting some row (row == a.place) refl)) (λ i row e. others.patient i row e) x.patient (books later waits also a out x o s is).sets.patient

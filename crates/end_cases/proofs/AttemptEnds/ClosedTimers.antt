@@ -3,6 +3,7 @@ use Rattle.std.proofs.Common.{◌≡◌, ◌&&◌, ◌==◌, not, ap, arith, ref
 use Rattle.std.proofs.lemmas.Bool.{and_right, eqb-true}
 use Rattle.std.proofs.lemmas.Bool.Decides.{nat_tests}
 use Rattle.std.specs.Set.{remove_key}
+use Rattle.attempt_ledger.specs.declared.row.RowEnd.{RowEnd}
 use Rattle.call_actions.specs.Laws.{IsCounting}
 use Rattle.channel_actions.proofs.SetFrames.Pairs.{exactly_by, exactly_remove}
 use Rattle.channel_actions.proofs.SetFrames.Timers.{other_key, own_key, timers_exactly}
@@ -40,23 +41,23 @@ gone_too false q r v e = refl
 zero_turns : (m : ℕ) → (m == 0) ≡ (0 == m)
 zero_turns m = grind (arith, nat_tests)
 
-module _ (waits : Line → Bool) (also : List ℕ) (a : Attempt) (out : Outcome) (x : StateSeen) (o : OpenEntry) (s : Seen) (is : EndNext waits also a out x o s)
-    (counting : IsCounting s (c waits also a out x o s is) out) (b : Between waits also a out x o s is counting) (goes : Goes waits also a out x o s is counting b)
-    (others : SetsApart (closing.n waits also a out x o s is counting) s (closing.closed waits also a out x o s is counting b)) where
+module _ (later : List (ℕ × RowEnd)) (waits : Line → Bool) (also : List ℕ) (a : Attempt) (out : Outcome) (x : StateSeen) (o : OpenEntry) (s : Seen) (is : EndNext later waits also a out x o s)
+    (counting : IsCounting s (c later waits also a out x o s is) out) (b : Between later waits also a out x o s is counting) (goes : Goes later waits also a out x o s is counting b)
+    (others : SetsApart (closing.n later waits also a out x o s is counting) s (closing.closed later waits also a out x o s is counting b)) where
   abbrev call : Call
-  call = c waits also a out x o s is
+  call = c later waits also a out x o s is
 
   abbrev m : ℕ
   m = call.number
 
   abbrev then_ : Seen
-  then_ = closing.closed waits also a out x o s is counting b
+  then_ = closing.closed later waits also a out x o s is counting b
 
   abbrev ended : Call
-  ended = closing.ended waits also a out x o s is counting b
+  ended = closing.ended later waits also a out x o s is counting b
 
   abbrev ended_here : numbered then_.calls m ≡ Some ended
-  ended_here = closing.closed_here waits also a out x o s is counting b goes
+  ended_here = closing.closed_here later waits also a out x o s is counting b goes
 
   -- calls without a config
   none_bare : (j : ℕ) → is_in_bare then_ j m ≡ false
@@ -82,23 +83,23 @@ module _ (waits : Line → Bool) (also : List ℕ) (a : Attempt) (out : Outcome)
   pub bare_then : AreExactly (remove_key (is_same (0, m)) x.bare) (is_in_bare then_)
   bare_then =
       exactly_by (remove_key (is_same (0, m)) x.bare) (λ j i. is_in_bare s j i && not (is_same (0, m) (j, i))) (is_in_bare then_)
-      (exactly_remove x.bare (is_in_bare s) (0, m) (books waits also a out x o s is).sets.bare) (λ j i. bare_by j i (i == m) refl)
+      (exactly_remove x.bare (is_in_bare s) (0, m) (books later waits also a out x o s is).sets.bare) (λ j i. bare_by j i (i == m) refl)
 
   pub impatient_then : AreExactly (remove_key (is_same (0, m)) x.impatient) (is_in_impatient then_)
   impatient_then =
       exactly_by (remove_key (is_same (0, m)) x.impatient) (λ j i. is_in_impatient s j i && not (is_same (0, m) (j, i))) (is_in_impatient then_)
-      (exactly_remove x.impatient (is_in_impatient s) (0, m) (books waits also a out x o s is).sets.impatient) (λ j i. impatient_by j i (i == m) refl)
+      (exactly_remove x.impatient (is_in_impatient s) (0, m) (books later waits also a out x o s is).sets.impatient) (λ j i. impatient_by j i (i == m) refl)
 
   -- the timers of the call
   module _ (after : CallSlot) where
-    pub dues_then : due_of then_ ended ≡ after.due → AreExactly (timer_moved m (slot waits also a out x o s is).due after.due x.dues) (is_in_dues then_)
+    pub dues_then : due_of then_ ended ≡ after.due → AreExactly (timer_moved m (slot later waits also a out x o s is).due after.due x.dues) (is_in_dues then_)
     dues_then due =
-        timers_exactly m x.dues (is_in_dues s) (slot waits also a out x o s is).due after.due (books waits also a out x o s is).sets.dues
-        (λ j. ap (holds (λ (g : Call). is_number j (due_of s g))) (here waits also a out x o s is) ∙ ap (is_number j) (has waits also a out x o s is).sees.due)
+        timers_exactly m x.dues (is_in_dues s) (slot later waits also a out x o s is).due after.due (books later waits also a out x o s is).sets.dues
+        (λ j. ap (holds (λ (g : Call). is_number j (due_of s g))) (here later waits also a out x o s is) ∙ ap (is_number j) (has later waits also a out x o s is).sees.due)
         (is_in_dues then_) (λ j i e. others.dues j i e) (λ j. ap (holds (λ (g : Call). is_number j (due_of then_ g))) ended_here ∙ ap (is_number j) due)
 
-    pub deadlines_then : deadline_of then_ ended ≡ after.deadline → AreExactly (timer_moved m (slot waits also a out x o s is).deadline after.deadline x.deadlines) (is_in_deadlines then_)
+    pub deadlines_then : deadline_of then_ ended ≡ after.deadline → AreExactly (timer_moved m (slot later waits also a out x o s is).deadline after.deadline x.deadlines) (is_in_deadlines then_)
     deadlines_then past =
-        timers_exactly m x.deadlines (is_in_deadlines s) (slot waits also a out x o s is).deadline after.deadline (books waits also a out x o s is).sets.deadlines
-        (λ j. ap (holds (λ (g : Call). is_number j (deadline_of s g))) (here waits also a out x o s is) ∙ ap (is_number j) (has waits also a out x o s is).sees.deadline_is)
+        timers_exactly m x.deadlines (is_in_deadlines s) (slot later waits also a out x o s is).deadline after.deadline (books later waits also a out x o s is).sets.deadlines
+        (λ j. ap (holds (λ (g : Call). is_number j (deadline_of s g))) (here later waits also a out x o s is) ∙ ap (is_number j) (has later waits also a out x o s is).sees.deadline_is)
         (is_in_deadlines then_) (λ j i e. others.deadlines j i e) (λ j. ap (holds (λ (g : Call). is_number j (deadline_of then_ g))) ended_here ∙ ap (is_number j) past)

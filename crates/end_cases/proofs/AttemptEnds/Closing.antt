@@ -47,6 +47,7 @@ use Rattle.grpc_base.specs.declared.event.EndCause.TheVariants as ending_cause
 use Rattle.net_actions.specs.NetFrames.Frames.{is_of_net}
 use Rattle.picker_gate.specs.Pairs.{is_same}
 use Rattle.a6_numbers.specs.Throttling.{Bucket}
+use Rattle.end_cases.specs.AttemptEnds.Left.{all_left}
 use Rattle.session_actions.specs.Actions.{after as after_action}
 use Rattle.session_actions.specs.AttemptEnds.{with_end}
 use Rattle.session_actions.specs.Attempts.{is_of, is_outstanding, wants_follower}
@@ -88,69 +89,69 @@ is_of_closing line.Row = true
 is_of_closing line.Final = true
 is_of_closing _ = false
 
-module _ (waits : Line → Bool) (also : List ℕ) (a : Attempt) (out : Outcome) (x : StateSeen) (o : OpenEntry) (s : Seen) (is : EndNext waits also a out x o s)
-    (counting : IsCounting s (c waits also a out x o s is) out) where
+module _ (later : List (ℕ × RowEnd)) (waits : Line → Bool) (also : List ℕ) (a : Attempt) (out : Outcome) (x : StateSeen) (o : OpenEntry) (s : Seen) (is : EndNext later waits also a out x o s)
+    (counting : IsCounting s (c later waits also a out x o s is) out) where
   abbrev pub k : Call
-  k = c waits also a out x o s is
+  k = c later waits also a out x o s is
 
   abbrev pub n : ℕ
   n = k.number
 
   abbrev pub lent : Stepped
-  lent = x2 waits also a out x o s is
+  lent = x2 later waits also a out x o s is
 
   abbrev pub seen : Sees s k lent
-  seen = sees waits also a out x o s is
+  seen = sees later waits also a out x o s is
 
   abbrev pub order : IsInOrder s k
-  order = (has waits also a out x o s is).sees.order
+  order = (has later waits also a out x o s is).sees.order
 
   abbrev pub turn : IsInTurn s k
-  turn = (has waits also a out x o s is).sees.turn
+  turn = (has later waits also a out x o s is).sees.turn
 
   abbrev pub v : Seen
-  v = u waits also a out x o s is
+  v = u later waits also a out x o s is
 
   abbrev pub end_ : RowEnd
-  end_ = e waits also a out x o s is
+  end_ = e later waits also a out x o s is
 
   abbrev pub was : CallSlot
-  was = slot waits also a out x o s is
+  was = slot later waits also a out x o s is
 
   abbrev pub dk : Call
-  dk = d waits also a out x o s is
+  dk = d later waits also a out x o s is
 
-  abbrev pub put_is : put waits also a out x o s is a ≡ with_end end_ a
-  put_is = first.put_is waits also a out x o s is
+  abbrev pub put_is : put later waits also a out x o s is a ≡ with_end end_ a
+  put_is = first.put_is later waits also a out x o s is
 
   pub unended : a.row.ended ≡ None
   unended = ending.unended s k lent a.place a out seen order turn is.ending counting
 
   -- the attempt ends
   abbrev pub act : Action
-  act = first.act waits also a out x o s is
+  act = first.act later waits also a out x o s is
 
   abbrev pub after_is : after_action act s ≡ v
-  after_is = first.after_is waits also a out x o s is
+  after_is = first.after_is later waits also a out x o s is
 
   abbrev pub does_one : Does (act ∷ []) s v
-  does_one = first.does_one waits also a out x o s is
+  does_one = first.does_one later waits also a out x o s is
 
   abbrev pub kept : IsKept s
-  kept = first.kept waits also a out x o s is
+  kept = first.kept later waits also a out x o s is
 
   abbrev pub kept_one : IsKept v
-  kept_one = first.kept_one waits also a out x o s is
+  kept_one = first.kept_one later waits also a out x o s is
 
   abbrev pub entry_then : OpenEntry
-  entry_then = first.entry_then waits also a out x o s is
+  entry_then = first.entry_then later waits also a out x o s is
 
   abbrev pub current_one : v.current ≡ Some entry_then
-  current_one = first.current_one waits also a out x o s is
+  current_one = first.current_one later waits also a out x o s is
 
   -- the runs of tokens then
   pub runs_are : v.runs ≡ runs_now a.place k s
-  runs_are = ap (λ (q : Seen). q.runs) (sym (t_is waits also a out x o s is) ∙ ending.is_ended s k lent a.place a out seen order turn is.ending counting)
+  runs_are = ap (λ (q : Seen). q.runs) (sym (t_is later waits also a out x o s is) ∙ ending.is_ended s k lent a.place a out seen order turn is.ending counting)
 
   -- its attempts are in turn
   calm : list_any (waits_to_follow s k) s.attempts ≡ false
@@ -160,14 +161,14 @@ module _ (waits : Line → Bool) (also : List ℕ) (a : Attempt) (out : Outcome)
 
   pub steady : StaysSteady v n
   steady =
-      subst (λ (q : Seen). StaysSteady q n) (t_is waits also a out x o s is)
-      (ending_keeps s k a.place a end_ kept.book (subst (λ (q : Seen). IsBook q) (sym (t_is waits also a out x o s is)) kept_one.book)
-      (record { own = here waits also a out x o s is; there = is.ending.there; mine = is.ending.own })
+      subst (λ (q : Seen). StaysSteady q n) (t_is later waits also a out x o s is)
+      (ending_keeps s k a.place a end_ kept.book (subst (λ (q : Seen). IsBook q) (sym (t_is later waits also a out x o s is)) kept_one.book)
+      (record { own = here later waits also a out x o s is; there = is.ending.there; mine = is.ending.own })
       (ap (λ (q : Option RowEnd). is_none q) unended) counting.alone (record { turn = turn; calm = calm }))
 
   pub same_steady : steady.call ≡ dk
   same_steady =
-      let two : Some steady.call ≡ Some dk = sym steady.own ∙ d_here waits also a out x o s is in
+      let two : Some steady.call ≡ Some dk = sym steady.own ∙ d_here later waits also a out x o s is in
       (cc)
 
   pub calm_one : list_any (waits_to_follow v dk) v.attempts ≡ false
@@ -213,7 +214,7 @@ module _ (waits : Line → Bool) (also : List ℕ) (a : Attempt) (out : Outcome)
     limit_same : limit_of_attempt (one_with stamp) (closed b) ≡ limit_of_attempt a s
     limit_same =
         ap (λ (q : Option Call). option_map_or (λ (g : Call). (chosen_of g (closed b)).response) q message_limit)
-        (ap (numbered (closed b).calls) (call_is waits also a out x o s is) ∙ closed_at b at)
+        (ap (numbered (closed b).calls) (call_is later waits also a out x o s is) ∙ closed_at b at)
         ∙ sym (ap (λ (q : Option Call). option_map_or (λ (g : Call). (chosen_of g s).response) q message_limit) is.there)
 
     on_link : (stream : ℕ) (q : Option Link) → link_of a s ≡ q
@@ -222,7 +223,7 @@ module _ (waits : Line → Bool) (also : List ℕ) (a : Attempt) (out : Outcome)
     on_link stream None h = refl
     on_link stream (Some l) h =
         ap (λ (m : ℕ). response_in m stream (traffic_by (read_bytes l) l.traffic)) limit_same
-        ∙ ap (response_in (limit_of_attempt a s) stream) (traffic_all (read_bytes l) l.traffic (first.all_read waits also a out x o s is a.row.placed l h)
+        ∙ ap (response_in (limit_of_attempt a s) stream) (traffic_all (read_bytes l) l.traffic (first.all_read later waits also a out x o s is a.row.placed l h)
         ∙ sym (ap (λ (q : Option RowEnd). option_map_or (λ (g : RowEnd). traffic_by g.seen l.traffic) q l.traffic) unended))
 
     by_stream : (q : Option ℕ) → response_by (one_with stamp) (closed b) q ≡ response_by a s q
@@ -270,7 +271,7 @@ module _ (waits : Line → Bool) (also : List ℕ) (a : Attempt) (out : Outcome)
   }
 
   pub record Steps (b : Between) (m : Made) : Type 0 where
-    pub step_is : r waits also a out x o s is ≡ stepped m
+    pub step_is : r later waits also a out x o s is ≡ stepped m
     pub sees : Sees (closed b) (ended b) (stepped m)
     pub order : IsInOrder (closed b) (ended b)
     pub turn : IsInTurn (closed b) (ended b)
@@ -297,12 +298,12 @@ module _ (waits : Line → Bool) (also : List ℕ) (a : Attempt) (out : Outcome)
   }
 
   abbrev pub told_with : Made → Parts → StateSeen
-  told_with m p = with_parts p (told_form a.place n (stepped m) was (z waits also a out x o s is))
+  told_with m p = with_parts p (told_form a.place n (stepped m) was (z later waits also a out x o s is))
 
   pub record Follows (b : Between) (m : Made) (p : Parts) : Type 0 where
-    pub told_is : told a.place (news_of_link.Ended a.place (news waits also a out x o s is)) (z waits also a out x o s is) ≡ told_with m p
+    pub told_is : told a.place (news_of_link.Ended a.place (news later waits also a out x o s is)) (z later waits also a out x o s is) ≡ told_with m p
     pub outs : AreExactly p.outs (is_in_outstanding (closed b))
     pub queue : AreExactly p.queue (is_in_queue (closed b))
     pub patient : AreExactly p.patient (is_in_patient (closed b))
     pub noted : links_noted (closed b) ≡ (gone_with a.row.placed (told_with m p)).book.ledger.links
-    pub ahead : LinksAhead also (told_with m p) (closed b)
+    pub ahead : LinksAhead also (told_with m p) (all_left later (closed b))

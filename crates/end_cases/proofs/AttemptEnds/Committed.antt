@@ -119,22 +119,22 @@ one_by : (c : Call) (s : Seen) (o : Option Attempt) → commitment c s ≡ o →
 one_by c s None at e = absurd (cc)
 one_by c s (Some k) at e = record { one = k; is = at }
 
-module _ (waits : Line → Bool) (also : List ℕ) (a : Attempt) (out : Outcome) (x : StateSeen) (o : OpenEntry) (s : Seen) (is : EndNext waits also a out x o s)
-    (going : (c waits also a out x o s is).end ≡ None) where
+module _ (later : List (ℕ × RowEnd)) (waits : Line → Bool) (also : List ℕ) (a : Attempt) (out : Outcome) (x : StateSeen) (o : OpenEntry) (s : Seen) (is : EndNext later waits also a out x o s)
+    (going : (c later waits also a out x o s is).end ≡ None) where
   abbrev k : Call
-  k = c waits also a out x o s is
+  k = c later waits also a out x o s is
 
   abbrev lent : Stepped
-  lent = x2 waits also a out x o s is
+  lent = x2 later waits also a out x o s is
 
   abbrev seen : Sees s k lent
-  seen = sees waits also a out x o s is
+  seen = sees later waits also a out x o s is
 
   abbrev order : IsInOrder s k
-  order = (has waits also a out x o s is).sees.order
+  order = (has later waits also a out x o s is).sees.order
 
   abbrev turn : IsInTurn s k
-  turn = (has waits also a out x o s is).sees.turn
+  turn = (has later waits also a out x o s is).sees.turn
 
   was_still : (l : Line) → may_wait l ≡ false → waits l ≡ false
   was_still l may = early_by (waits l) (may_wait l) (is.late l) may
@@ -152,9 +152,9 @@ module _ (waits : Line → Bool) (also : List ℕ) (a : Attempt) (out : Outcome)
   mine_of q lives = (and_parts (is_of k q) (is_outstanding q || is_queued q s) lives).0
 
   -- two that go on with one number are one
-  pub later : (p q : Attempt) (m i : ℕ) → numbered s.attempts m ≡ Some p → slice_get s.attempts i ≡ Some q → is_of k p ≡ true → is_of k q ≡ true → q.row.number ≡ p.row.number
+  pub over_first : (p q : Attempt) (m i : ℕ) → numbered s.attempts m ≡ Some p → slice_get s.attempts i ≡ Some q → is_of k p ≡ true → is_of k q ≡ true → q.row.number ≡ p.row.number
       → is_none p.row.ended ≡ true → nat_lt p.place q.place ≡ true → ⊥
-  later p q m i there at mine yours number going less =
+  over_first p q m i there at mine yours number going less =
       let calls : q.row.call ≡ p.row.call = eqb-true q.row.call k.number yours ∙ sym (eqb-true p.row.call k.number mine) in
       let is_later : is_later_of p q ≡ true
       = ap (λ (b : Bool). (b && (q.row.number == p.row.number)) && nat_lt p.place q.place) (eq-eqb q.row.call p.row.call calls)
@@ -176,7 +176,7 @@ module _ (waits : Line → Bool) (also : List ℕ) (a : Attempt) (out : Outcome)
     number_of : (q : Attempt) (m : ℕ) → numbered s.attempts m ≡ Some q → is_live s k q ≡ true → its.one.row.number ≡ q.row.number
     number_of q m there lives =
         let over : not (its.one.row.number == q.row.number) ≡ false
-        = sym (ap (holds (λ (g : Call). is_over_in g q s)) (ap (numbered s.calls) (eqb-true q.row.call k.number (mine_of q lives)) ∙ here waits also a out x o s is)
+        = sym (ap (holds (λ (g : Call). is_over_in g q s)) (ap (numbered s.calls) (eqb-true q.row.call k.number (mine_of q lives)) ∙ here later waits also a out x o s is)
         ∙ ap (λ (z : Option CallEnd). is_some z || holds (λ (p : Attempt). not (p.row.number == q.row.number)) (commitment k s)) going
         ∙ ap (holds (λ (p : Attempt). not (p.row.number == q.row.number))) its.is)
         ∙ going_over q m there lives in
@@ -196,9 +196,9 @@ module _ (waits : Line → Bool) (also : List ℕ) (a : Attempt) (out : Outcome)
         by_place : (b : Bool) → nat_lt q.place a.place ≡ b → ⊥
         by_place true less =
             let of : (j : ℕ) × (slice_get s.attempts j ≡ Some a) = index_of a a.place is.ending.there in
-            later q a (suc i) of.0 at of.1 (mine_of q lives) is.ending.own same_number (unended_of q lives) less
+            over_first q a (suc i) of.0 at of.1 (mine_of q lives) is.ending.own same_number (unended_of q lives) less
         by_place false less =
-            later a q a.place i is.ending.there at is.ending.own (mine_of q lives) (sym same_number) (unended_of a is.ending.lives) (apart_places q.place a.place off less)
+            over_first a q a.place i is.ending.there at is.ending.own (mine_of q lives) (sym same_number) (unended_of a is.ending.lives) (apart_places q.place a.place off less)
 
     alone_by : (q : Attempt) (i : ℕ) (b g : Bool) → slice_get s.attempts i ≡ Some q → is_live s k q ≡ b → (q.place == a.place) ≡ g → (is_live s k q && not (q.place == a.place)) ≡ false
     alone_by q i b true at lives off = ap (λ (g : Bool). is_live s k q && not g) off ∙ and_no (is_live s k q)
@@ -214,7 +214,7 @@ module _ (waits : Line → Bool) (also : List ℕ) (a : Attempt) (out : Outcome)
 
     -- it has the call
     one_there : numbered s.attempts its.one.place ≡ Some its.one
-    one_there = found_at s.attempts (has waits also a out x o s is).sees.serves.places (is_commitment k) its.one its.is
+    one_there = found_at s.attempts (has later waits also a out x o s is).sees.serves.places (is_commitment k) its.one its.is
 
     one_passes : is_commitment k its.one ≡ true
     one_passes = last_passes (is_commitment k) s.attempts its.one its.is
@@ -232,7 +232,7 @@ module _ (waits : Line → Bool) (also : List ℕ) (a : Attempt) (out : Outcome)
         by_less false e = refl
         by_less true e =
             let of : (j : ℕ) × (slice_get s.attempts j ≡ Some its.one) = index_of its.one its.one.place one_there in
-            absurd (later a its.one a.place of.0 is.ending.there of.1 is.ending.own one_mine one_number (unended_of a is.ending.lives) e)
+            absurd (over_first a its.one a.place of.0 is.ending.there of.1 is.ending.own one_mine one_number (unended_of a is.ending.lives) e)
 
     not_below : nat_lt its.one.place a.place ≡ false
     not_below = by_stamp a.row.committed refl
@@ -255,34 +255,34 @@ module _ (waits : Line → Bool) (also : List ℕ) (a : Attempt) (out : Outcome)
         its.is ∙ sym one_there ∙ ap (numbered s.attempts) place ∙ is.ending.there
 
 -- and its end counts
-module _ (waits : Line → Bool) (also : List ℕ) (a : Attempt) (out : Outcome) (x : StateSeen) (o : OpenEntry) (s : Seen) (is : EndNext waits also a out x o s)
-    (counting : IsCounting s (c waits also a out x o s is) out) where
+module _ (later : List (ℕ × RowEnd)) (waits : Line → Bool) (also : List ℕ) (a : Attempt) (out : Outcome) (x : StateSeen) (o : OpenEntry) (s : Seen) (is : EndNext later waits also a out x o s)
+    (counting : IsCounting s (c later waits also a out x o s is) out) where
   abbrev mine : Call
-  mine = c waits also a out x o s is
+  mine = c later waits also a out x o s is
 
   abbrev given : Stepped
-  given = x2 waits also a out x o s is
+  given = x2 later waits also a out x o s is
 
   abbrev viewed : Sees s mine given
-  viewed = sees waits also a out x o s is
+  viewed = sees later waits also a out x o s is
 
   abbrev ordered : IsInOrder s mine
-  ordered = (has waits also a out x o s is).sees.order
+  ordered = (has later waits also a out x o s is).sees.order
 
   abbrev turned : IsInTurn s mine
-  turned = (has waits also a out x o s is).sees.turn
+  turned = (has later waits also a out x o s is).sees.turn
 
   abbrev v : Seen
-  v = u waits also a out x o s is
+  v = u later waits also a out x o s is
 
   abbrev end_ : RowEnd
-  end_ = e waits also a out x o s is
+  end_ = e later waits also a out x o s is
 
   abbrev t2 : Seen
   t2 = ending.t s mine given a.place a out viewed ordered turned is.ending counting
 
   pub same_then : v ≡ t2
-  same_then = sym (t_is waits also a out x o s is) ∙ ending.is_ended s mine given a.place a out viewed ordered turned is.ending counting
+  same_then = sym (t_is later waits also a out x o s is) ∙ ending.is_ended s mine given a.place a out viewed ordered turned is.ending counting
 
   counts_then : counts_by (with_end end_ a) v end_ ≡ true
   counts_then =

@@ -1,5 +1,6 @@
 -- An attempt has ended, by an end that counts: which lines give nothing then, but those by which its call ends.
 use Rattle.std.proofs.Common.{◌≡◌, ◌&&◌, ◌==◌, ap, refl, sym, ◌∙◌, Bool, true, false, List, Some, ℕ, slice_get, suc}
+use Rattle.attempt_ledger.specs.declared.row.RowEnd.{RowEnd}
 use Rattle.call_actions.proofs.Lists.{numbered_not}
 use Rattle.call_actions.specs.CallsInTurn.Turns.{waits as waits_to_follow}
 use Rattle.call_actions.specs.Laws.{IsCounting}
@@ -26,48 +27,48 @@ use Rattle.session_order.specs.Stirs.{stirs}
 use Rattle.session_order.specs.declared.line.Line.{Line}
 use Rattle.session_order.specs.declared.line.Line.TheVariants as line
 
-module _ (waits : Line → Bool) (also : List ℕ) (a : Attempt) (out : Outcome) (x : StateSeen) (o : OpenEntry) (s : Seen) (is : EndNext waits also a out x o s)
-    (counting : IsCounting s (c waits also a out x o s is) out) where
+module _ (later : List (ℕ × RowEnd)) (waits : Line → Bool) (also : List ℕ) (a : Attempt) (out : Outcome) (x : StateSeen) (o : OpenEntry) (s : Seen) (is : EndNext later waits also a out x o s)
+    (counting : IsCounting s (c later waits also a out x o s is) out) where
   abbrev call : Call
-  call = c waits also a out x o s is
+  call = c later waits also a out x o s is
 
   abbrev m : ℕ
   m = call.number
 
   abbrev v : Seen
-  v = closing.v waits also a out x o s is counting
+  v = closing.v later waits also a out x o s is counting
 
   abbrev act : Action
-  act = closing.act waits also a out x o s is counting
+  act = closing.act later waits also a out x o s is counting
 
   abbrev p : OpenEntry
-  p = closing.entry_then waits also a out x o s is counting
+  p = closing.entry_then later waits also a out x o s is counting
 
   abbrev kept : IsKept s
-  kept = closing.kept waits also a out x o s is counting
+  kept = closing.kept later waits also a out x o s is counting
 
   abbrev kept_one : IsKept v
-  kept_one = closing.kept_one waits also a out x o s is counting
+  kept_one = closing.kept_one later waits also a out x o s is counting
 
   abbrev pub was_still : (l : Line) → is_of_ends l ≡ false → may_wait l ≡ false → IsStill l o s
-  was_still l ends may = first.was_still waits also a out x o s is l ends may
+  was_still l ends may = first.was_still later waits also a out x o s is l ends may
 
   plain : (l : Line) → stirs act l ≡ false → IsStill l o s → IsStill l p v
-  plain l off h = first.plain waits also a out x o s is l off h
+  plain l off h = first.plain later waits also a out x o s is l off h
 
   abbrev pub apart_one : GoesApart m s v
-  apart_one = first.apart_one waits also a out x o s is
+  apart_one = first.apart_one later waits also a out x o s is
 
   -- no attempt waits for its follower
   mine_wants : (i : ℕ) (q : Attempt) → slice_get v.attempts i ≡ Some q → (q.row.call == m) ≡ true → wants_follower q v ≡ false
   mine_wants i q at own =
       ap (λ (b : Bool). b && wants_follower q v) (sym own)
-      ∙ numbered_not (waits_to_follow v (closing.dk waits also a out x o s is counting)) v.attempts (suc i) q (closing.calm_one waits also a out x o s is counting) at
+      ∙ numbered_not (waits_to_follow v (closing.dk later waits also a out x o s is counting)) v.attempts (suc i) q (closing.calm_one later waits also a out x o s is counting) at
 
   wants_by : (i : ℕ) (q : Attempt) (b : Bool) → slice_get v.attempts i ≡ Some q → (q.row.call == m) ≡ b → wants_follower q v ≡ false
   wants_by i q true at own = mine_wants i q at own
   wants_by i q false at off =
-      wants_none m (x1 waits also a out x o s is) s v apart_one (books waits also a out x o s is).calls kept kept_one i q at off (was_still line.Transparent refl refl)
+      wants_none m (x1 later waits also a out x o s is) s v apart_one (books later waits also a out x o s is).calls kept kept_one i q at off (was_still line.Transparent refl refl)
 
   unfollowed : IsStill line.Transparent p v
   unfollowed = none_at (λ (q : Attempt). wants_follower q v) v.attempts (λ i q at. wants_by i q (q.row.call == m) at refl)
@@ -77,7 +78,7 @@ module _ (waits : Line → Bool) (also : List ℕ) (a : Attempt) (out : Outcome)
 
   pub still_after : (l : Line) → is_of_closing l ≡ false → may_wait l ≡ false → IsStill l p v
   still_after line.Transparent off may = unfollowed
-  still_after line.Pick off may = unpicked waits also a out x o s is p
+  still_after line.Pick off may = unpicked later waits also a out x o s is p
   still_after line.Inherited off may = gone_on line.Inherited refl refl refl
   still_after line.Cancelled off may = gone_on line.Cancelled refl refl refl
   still_after line.Request off may = gone_on line.Request refl refl refl

@@ -38,31 +38,31 @@ filter_mapped p f P Q same turn (q ∷ xs) all =
     subst (λ (b : Bool). AllByRecursion Q (cond b (f q ∷ filter p (map f xs)) (filter p (map f xs)))) (sym (same q))
     (filter_by p f P Q q xs (p q) refl (same q) (turn q) all (filter_mapped p f P Q same turn xs))
 
-module _ (waits : Line → Bool) (also : List ℕ) (a : Attempt) (out : Outcome) (x : StateSeen) (o : OpenEntry) (s : Seen) (is : EndNext waits also a out x o s)
-    (open_now : (c waits also a out x o s is).end ≡ None) (free : commitment (c waits also a out x o s is) s ≡ None) where
+module _ (later : List (ℕ × RowEnd)) (waits : Line → Bool) (also : List ℕ) (a : Attempt) (out : Outcome) (x : StateSeen) (o : OpenEntry) (s : Seen) (is : EndNext later waits also a out x o s)
+    (open_now : (c later waits also a out x o s is).end ≡ None) (free : commitment (c later waits also a out x o s is) s ≡ None) where
   abbrev call : Call
-  call = c waits also a out x o s is
+  call = c later waits also a out x o s is
 
   abbrev then_ : Seen
-  then_ = u waits also a out x o s is
+  then_ = u later waits also a out x o s is
 
   abbrev called : Call
-  called = d waits also a out x o s is
+  called = d later waits also a out x o s is
 
   abbrev was_slot : CallSlot
-  was_slot = slot waits also a out x o s is
+  was_slot = slot later waits also a out x o s is
 
-  abbrev served : Serves s call (lent_to (x1 waits also a out x o s is) s was_slot)
-  served = (has waits also a out x o s is).sees.serves
+  abbrev served : Serves s call (lent_to (x1 later waits also a out x o s is) s was_slot)
+  served = (has later waits also a out x o s is).sees.serves
 
   abbrev ended : RowEnd
-  ended = end waits also a out x o s is
+  ended = end later waits also a out x o s is
 
   abbrev put_ : Attempt → Attempt
-  put_ q = put waits also a out x o s is q
+  put_ q = put later waits also a out x o s is q
 
   free_now : commitment called then_ ≡ None
-  free_now = free_then waits also a out x o s is open_now free
+  free_now = free_then later waits also a out x o s is open_now free
 
   abbrev was_buffer : Buffered
   was_buffer = was_slot.call.buffer
@@ -94,10 +94,10 @@ module _ (waits : Line → Bool) (also : List ℕ) (a : Attempt) (out : Outcome)
 
   fed_then : AreFed then_ called buffer_then (filter (is_of called) then_.attempts)
   fed_then =
-      subst (λ (xs : List Attempt). AreFed then_ called buffer_then (filter (is_of called) xs)) (sym (attempts_are waits also a out x o s is))
+      subst (λ (xs : List Attempt). AreFed then_ called buffer_then (filter (is_of called) xs)) (sym (attempts_are later waits also a out x o s is))
       (filter_mapped (is_of call) put_ (λ (q : Attempt). IsFed (taken_by q.place was_buffer) (text_of was_buffer) (is_outstanding q) (drained q s) all)
       (λ (q : Attempt). IsFed (taken_by q.place buffer_then) (text_of buffer_then) (is_outstanding q) (drained q then_) all)
-      (λ q. ap (λ (n : ℕ). n == call.number) (put_call waits also a out x o s is q)) (λ q k. fed_one q (q.place == a.place) refl k) s.attempts was_held.fed)
+      (λ q. ap (λ (n : ℕ). n == call.number) (put_call later waits also a out x o s is q)) (λ q k. fed_one q (q.place == a.place) refl k) s.attempts was_held.fed)
 
   drained_same : drained_so_far called then_ ≡ drained_so_far call s
   drained_same =

@@ -50,42 +50,42 @@ less true p true turn e = absurd (let both : true ≡ false = sym (turn refl) �
 less true p false turn e = refl
 less false p q turn e = refl
 
-module _ (waits : Line → Bool) (also : List ℕ) (a : Attempt) (out : Outcome) (x : StateSeen) (o : OpenEntry) (s : Seen) (is : EndNext waits also a out x o s)
-    (counting : IsCounting s (c waits also a out x o s is) out) (free : commitment (c waits also a out x o s is) s ≡ None) where
+module _ (later : List (ℕ × RowEnd)) (waits : Line → Bool) (also : List ℕ) (a : Attempt) (out : Outcome) (x : StateSeen) (o : OpenEntry) (s : Seen) (is : EndNext later waits also a out x o s)
+    (counting : IsCounting s (c later waits also a out x o s is) out) (free : commitment (c later waits also a out x o s is) s ≡ None) where
   abbrev v : Seen
-  v = closing.v waits also a out x o s is counting
+  v = closing.v later waits also a out x o s is counting
 
   abbrev k : Call
-  k = closing.k waits also a out x o s is counting
+  k = closing.k later waits also a out x o s is counting
 
   abbrev dk : Call
-  dk = closing.dk waits also a out x o s is counting
+  dk = closing.dk later waits also a out x o s is counting
 
   abbrev end_ : RowEnd
-  end_ = e waits also a out x o s is
+  end_ = e later waits also a out x o s is
 
   abbrev put_ : Attempt → Attempt
-  put_ q = put waits also a out x o s is q
+  put_ q = put later waits also a out x o s is q
 
   -- in the words of calls
   abbrev lent : Stepped
-  lent = x2 waits also a out x o s is
+  lent = x2 later waits also a out x o s is
 
   abbrev seen : Sees s k lent
-  seen = sees waits also a out x o s is
+  seen = sees later waits also a out x o s is
 
   abbrev order : IsInOrder s k
-  order = closing.order waits also a out x o s is counting
+  order = closing.order later waits also a out x o s is counting
 
   abbrev turn : IsInTurn s k
-  turn = closing.turn waits also a out x o s is counting
+  turn = closing.turn later waits also a out x o s is counting
 
   abbrev t2 : Seen
   t2 = ending.t s k lent a.place a out seen order turn is.ending counting
 
   same_then : v ≡ t2
   same_then =
-      sym (t_is waits also a out x o s is)
+      sym (t_is later waits also a out x o s is)
       ∙ ending.is_ended s k lent a.place a out seen order turn is.ending counting
 
   pub last_then : last_counted dk v ≡ Some a.place
@@ -96,7 +96,7 @@ module _ (waits : Line → Bool) (also : List ℕ) (a : Attempt) (out : Outcome)
   -- the tokens allow it alike
   throttle_same : option_map (λ (g : ThrottleRun). g.throttle) (run_of dk v) ≡ option_map (λ (g : ThrottleRun). g.throttle) (run_of k s)
   throttle_same =
-      ap (λ (w : List ThrottleRun). option_map (λ (g : ThrottleRun). g.throttle) (run_of k (record s { runs = w }))) (closing.runs_are waits also a out x o s is counting) ∙ throttle_now a.place k s
+      ap (λ (w : List ThrottleRun). option_map (λ (g : ThrottleRun). g.throttle) (run_of k (record s { runs = w }))) (closing.runs_are later waits also a out x o s is counting) ∙ throttle_now a.place k s
 
   pub licensed_same : (number : ℕ) (z : RowEnd) → is_licensed dk number z.code z.pushback z.tokens v ≡ is_licensed k number z.code z.pushback z.tokens s
   licensed_same number z =
@@ -123,15 +123,15 @@ module _ (waits : Line → Bool) (also : List ℕ) (a : Attempt) (out : Outcome)
   going_one : (q : Attempt) (b : Bool) → (q.row.call == k.number) ≡ b
       → (is_of dk (put_ q) && (is_outstanding (put_ q) || is_queued (put_ q) v)) ≡ (is_live s k q && not (q.place == a.place))
   going_one q false off =
-      ap (λ (m : ℕ). (m == k.number) && (is_outstanding (put_ q) || is_queued (put_ q) v)) (put_call waits also a out x o s is q)
+      ap (λ (m : ℕ). (m == k.number) && (is_outstanding (put_ q) || is_queued (put_ q) v)) (put_call later waits also a out x o s is q)
       ∙ ap (λ (b : Bool). b && (is_outstanding (put_ q) || is_queued (put_ q) v)) off
       ∙ sym (ap (λ (b : Bool). (b && (is_outstanding q || is_queued q s)) && not (q.place == a.place)) off)
   going_one q true own =
       let queued : is_queued (put_ q) v ≡ (is_queued q s && not (q.place == a.place))
-      = ap (λ (b : Bool). b && is_queued (put_ q) v) (sym own) ∙ waits_one waits also a out x o s is counting.goes_on free q true own
+      = ap (λ (b : Bool). b && is_queued (put_ q) v) (sym own) ∙ waits_one later waits also a out x o s is counting.goes_on free q true own
       ∙ ap (λ (b : Bool). (b && is_queued q s) && not (q.place == a.place)) own in
-      ap (λ (m : ℕ). (m == k.number) && (is_outstanding (put_ q) || is_queued (put_ q) v)) (put_call waits also a out x o s is q)
-      ∙ ap (λ (b : Bool). (q.row.call == k.number) && (b || is_queued (put_ q) v)) (put_out waits also a out x o s is q)
+      ap (λ (m : ℕ). (m == k.number) && (is_outstanding (put_ q) || is_queued (put_ q) v)) (put_call later waits also a out x o s is q)
+      ∙ ap (λ (b : Bool). (q.row.call == k.number) && (b || is_queued (put_ q) v)) (put_out later waits also a out x o s is q)
       ∙ ap (λ (b : Bool). (q.row.call == k.number) && ((is_outstanding q && not (q.place == a.place)) || b)) queued
       ∙ split (q.row.call == k.number) (is_outstanding q) (is_queued q s) (not (q.place == a.place))
     where
@@ -143,7 +143,7 @@ module _ (waits : Line → Bool) (also : List ℕ) (a : Attempt) (out : Outcome)
 
   pub going_then : has_going dk v ≡ list_any (λ (q : Attempt). is_live s k q && not (q.place == a.place)) s.attempts
   going_then =
-      ap (list_any (λ (q : Attempt). is_of dk q && (is_outstanding q || is_queued q v))) (attempts_are waits also a out x o s is)
+      ap (list_any (λ (q : Attempt). is_of dk q && (is_outstanding q || is_queued q v))) (attempts_are later waits also a out x o s is)
       ∙ any_map_all (λ (q : Attempt). is_of dk q && (is_outstanding q || is_queued q v)) (λ (q : Attempt). is_live s k q && not (q.place == a.place)) put_
       (λ q. going_one q (q.row.call == k.number) refl) s.attempts
 
@@ -167,7 +167,7 @@ module _ (waits : Line → Bool) (also : List ℕ) (a : Attempt) (out : Outcome)
 
   pub free_both : is_free_call v dk ≡ is_free_call s k
   free_both =
-      ap (λ (q : Option Attempt). is_none k.end && is_none q) (free_then waits also a out x o s is counting.goes_on free) ∙ sym (ap (λ (q : Option Attempt). is_none k.end && is_none q) free)
+      ap (λ (q : Option Attempt). is_none k.end && is_none q) (free_then later waits also a out x o s is counting.goes_on free) ∙ sym (ap (λ (q : Option Attempt). is_none k.end && is_none q) free)
 
   pub ended_by : (q : Attempt) (r : Option RowEnd) → q.row.ended ≡ r → (q.place == a.place) ≡ false → is_final_in q s k ≡ false → is_final_in q v dk ≡ false
   ended_by q None e off was =
@@ -183,14 +183,14 @@ module _ (waits : Line → Bool) (also : List ℕ) (a : Attempt) (out : Outcome)
   pub other_final : (i : ℕ) (q : Attempt) (g : Bool) → slice_get v.attempts i ≡ Some q → (q.row.call == k.number) ≡ g → (q.place == a.place) ≡ false → list_any (is_final_end s) s.attempts ≡ false
       → is_final_end v q ≡ false
   other_final i q true at own off none =
-      let from : IsFrom put_ s.attempts i q = from_map put_ s.attempts i q (ap (λ (xs : List Attempt). slice_get xs i) (sym (attempts_are waits also a out x o s is)) ∙ at) in
-      let away : (from.one.place == a.place) ≡ false = ap (λ (j : ℕ). j == a.place) (sym (put_place waits also a out x o s is from.one) ∙ ap (λ (b : Attempt). b.place) (sym from.is)) ∙ off in
+      let from : IsFrom put_ s.attempts i q = from_map put_ s.attempts i q (ap (λ (xs : List Attempt). slice_get xs i) (sym (attempts_are later waits also a out x o s is)) ∙ at) in
+      let away : (from.one.place == a.place) ≡ false = ap (λ (j : ℕ). j == a.place) (sym (put_place later waits also a out x o s is from.one) ∙ ap (λ (b : Attempt). b.place) (sym from.is)) ∙ off in
       let same : q ≡ from.one = from.is ∙ ap (λ (g : Bool). if g then with_end end_ from.one else from.one) away in
       let was : is_final_in q s k ≡ false
-      = sym (ap (holds (λ (g : Call). is_final_in q s g)) (ap (numbered s.calls) (eqb-true q.row.call k.number own) ∙ here waits also a out x o s is))
+      = sym (ap (holds (λ (g : Call). is_final_in q s g)) (ap (numbered s.calls) (eqb-true q.row.call k.number own) ∙ here later waits also a out x o s is))
       ∙ numbered_not (is_final_end s) s.attempts (suc i) q none (from.there ∙ ap (λ (b : Attempt). Some b) (sym same)) in
-      ap (holds (λ (g : Call). is_final_in q v g)) (ap (numbered v.calls) (eqb-true q.row.call k.number own) ∙ d_here waits also a out x o s is)
+      ap (holds (λ (g : Call). is_final_in q v g)) (ap (numbered v.calls) (eqb-true q.row.call k.number own) ∙ d_here later waits also a out x o s is)
       ∙ ended_by q q.row.ended refl off was
   other_final i q false at own off none =
-      final_none k.number (x1 waits also a out x o s is) s v (apart_one waits also a out x o s is) (books waits also a out x o s is).calls
-      (closing.kept waits also a out x o s is counting) (closing.kept_one waits also a out x o s is counting) i q at own none
+      final_none k.number (x1 later waits also a out x o s is) s v (apart_one later waits also a out x o s is) (books later waits also a out x o s is).calls
+      (closing.kept later waits also a out x o s is counting) (closing.kept_one later waits also a out x o s is counting) i q at own none

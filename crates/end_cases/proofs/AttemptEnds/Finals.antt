@@ -42,52 +42,52 @@ either : (p q : Bool) → (p || q) ≡ true → (X : Type 0) → (p ≡ true →
 either true q e X one two = one refl
 either false q e X one two = two e
 
-module _ (waits : Line → Bool) (also : List ℕ) (a : Attempt) (out : Outcome) (x : StateSeen) (o : OpenEntry) (s : Seen) (is : EndNext waits also a out x o s)
-    (case : GoesOnAfter s (c waits also a out x o s is) a out) where
+module _ (later : List (ℕ × RowEnd)) (waits : Line → Bool) (also : List ℕ) (a : Attempt) (out : Outcome) (x : StateSeen) (o : OpenEntry) (s : Seen) (is : EndNext later waits also a out x o s)
+    (case : GoesOnAfter s (c later waits also a out x o s is) a out) where
   abbrev v : Seen
-  v = then_ waits also a out x o s is case
+  v = then_ later waits also a out x o s is case
 
   abbrev k : Call
-  k = call waits also a out x o s is case
+  k = call later waits also a out x o s is case
 
   abbrev dk : Call
-  dk = called waits also a out x o s is case
+  dk = called later waits also a out x o s is case
 
   abbrev end_ : RowEnd
-  end_ = e waits also a out x o s is
+  end_ = e later waits also a out x o s is
 
   -- the end itself
-  due_then : is_some (option_and_then (λ (g : Call). next_due g (t waits also a out x o s is)) (numbered (t waits also a out x o s is).calls k.number)) ≡ true
+  due_then : is_some (option_and_then (λ (g : Call). next_due g (t later waits also a out x o s is)) (numbered (t later waits also a out x o s is).calls k.number)) ≡ true
       → is_none (next_due dk v) ≡ false
   due_then e =
       some_off (next_due dk v)
-      (sym (ap (λ (w : Seen). is_some (option_and_then (λ (g : Call). next_due g w) (numbered w.calls k.number))) (t_is waits also a out x o s is)
-      ∙ ap (λ (q : Option Call). is_some (option_and_then (λ (g : Call). next_due g v) q)) (d_here waits also a out x o s is)) ∙ e)
+      (sym (ap (λ (w : Seen). is_some (option_and_then (λ (g : Call). next_due g w) (numbered w.calls k.number))) (t_is later waits also a out x o s is)
+      ∙ ap (λ (q : Option Call). is_some (option_and_then (λ (g : Call). next_due g v) q)) (d_here later waits also a out x o s is)) ∙ e)
 
   not_last : (p : CallPlan) → plan_of k s ≡ p → goes_on_after p s k a out ≡ true → (q : Attempt) → q.row.number ≡ a.row.number → q.place ≡ a.place → is_final_by p dk q v end_ ≡ false
   not_last plan.None e goes q number place = absurd (cc)
   not_last (plan.Retry p) e goes q number place =
-      ap not (final.licensed_same waits also a out x o s is case.counting case.free q.row.number end_ ∙ ap (λ (m : ℕ). is_licensed k m end_.code end_.pushback end_.tokens s) number ∙ goes)
+      ap not (final.licensed_same later waits also a out x o s is case.counting case.free q.row.number end_ ∙ ap (λ (m : ℕ). is_licensed k m end_.code end_.pushback end_.tokens s) number ∙ goes)
   not_last (plan.Hedge p) e goes q number place =
       let others : Bool = list_any (λ (b : Attempt). is_live s k b && not (b.place == a.place)) s.attempts in
       let both = and_parts (has_code p.codes out.code) _ goes in
       ap (λ (b : Bool). not b || (is_number q.place (last_counted dk v) && is_none (next_due dk v) && not (has_going dk v))) both.0
       ∙ either others _ both.1 ((is_number q.place (last_counted dk v) && is_none (next_due dk v) && not (has_going dk v)) ≡ false)
-      (λ more. ap (λ (b : Bool). is_number q.place (last_counted dk v) && is_none (next_due dk v) && not b) (final.going_then waits also a out x o s is case.counting case.free ∙ more)
+      (λ more. ap (λ (b : Bool). is_number q.place (last_counted dk v) && is_none (next_due dk v) && not b) (final.going_then later waits also a out x o s is case.counting case.free ∙ more)
       ∙ and_right (is_number q.place (last_counted dk v) && is_none (next_due dk v)) false refl)
       (λ due. ap (λ (b : Bool). (is_number q.place (last_counted dk v) && b) && not (has_going dk v)) (due_then due)
       ∙ ap (λ (b : Bool). b && not (has_going dk v)) (and_right (is_number q.place (last_counted dk v)) false refl))
 
   own_final : is_final_end v (with_end end_ a) ≡ false
   own_final =
-      ap (holds (λ (g : Call). is_final_in (with_end end_ a) v g)) (ap (numbered v.calls) (eqb-true a.row.call k.number is.ending.own) ∙ d_here waits also a out x o s is)
+      ap (holds (λ (g : Call). is_final_in (with_end end_ a) v g)) (ap (numbered v.calls) (eqb-true a.row.call k.number is.ending.own) ∙ d_here later waits also a out x o s is)
       ∙ ap (λ (g : Bool). (is_free_call v dk && is_counted (with_end end_ a) v) && g) (not_last (plan_of k s) refl case.goes (with_end end_ a) refl refl)
       ∙ and_right (is_free_call v dk && is_counted (with_end end_ a) v) false refl
 
   final_by : (i : ℕ) (q : Attempt) (b : Bool) → slice_get v.attempts i ≡ Some q → (q.place == a.place) ≡ b → is_final_end v q ≡ false
-  final_by i q true at here_ = ap (is_final_end v) (the_one waits also a out x o s is i q at here_) ∙ own_final
+  final_by i q true at here_ = ap (is_final_end v) (the_one later waits also a out x o s is i q at here_) ∙ own_final
   final_by i q false at off =
-      final.other_final waits also a out x o s is case.counting case.free i q (q.row.call == k.number) at refl off (was_still waits also a out x o s is case line.Final refl refl)
+      final.other_final later waits also a out x o s is case.counting case.free i q (q.row.call == k.number) at refl off (was_still later waits also a out x o s is case line.Final refl refl)
 
-  pub unfinal : IsStill line.Final (entry_then waits also a out x o s is case) v
+  pub unfinal : IsStill line.Final (entry_then later waits also a out x o s is case) v
   unfinal = none_at (is_final_end v) v.attempts (λ i q at. final_by i q (q.place == a.place) at refl)

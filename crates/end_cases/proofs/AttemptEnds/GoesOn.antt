@@ -3,6 +3,7 @@ use Rattle.std.proofs.Common.{◌≡◌, ◌&&◌, ◌==◌, ◌||◌, not, ap, 
 use Rattle.std.proofs.lemmas.Bool.{and_parts}
 use Rattle.std.specs.List.{list_any}
 use Rattle.attempt_ledger.specs.declared.ledger.CallEnd.{CallEnd}
+use Rattle.attempt_ledger.specs.declared.row.RowEnd.{RowEnd}
 use Rattle.call_actions.proofs.Ending as ending
 use Rattle.call_actions.proofs.Hedged.{hedges_go_on}
 use Rattle.call_actions.proofs.LastEnds.Going.{due_hedges_go_on}
@@ -37,53 +38,53 @@ either : (p q : Bool) → (p || q) ≡ true → (X : Type 0) → (p ≡ true →
 either true q e X one two = one refl
 either false q e X one two = two e
 
-module _ (waits : Line → Bool) (also : List ℕ) (a : Attempt) (out : Outcome) (x : StateSeen) (o : OpenEntry) (s : Seen) (is : EndNext waits also a out x o s)
-    (case : GoesOnAfter s (c waits also a out x o s is) a out) where
+module _ (later : List (ℕ × RowEnd)) (waits : Line → Bool) (also : List ℕ) (a : Attempt) (out : Outcome) (x : StateSeen) (o : OpenEntry) (s : Seen) (is : EndNext later waits also a out x o s)
+    (case : GoesOnAfter s (c later waits also a out x o s is) a out) where
   abbrev pub call : Call
-  call = c waits also a out x o s is
+  call = c later waits also a out x o s is
 
   abbrev lent : Stepped
-  lent = x2 waits also a out x o s is
+  lent = x2 later waits also a out x o s is
 
   abbrev seen : Sees s call lent
-  seen = sees waits also a out x o s is
+  seen = sees later waits also a out x o s is
 
   abbrev pub order : IsInOrder s call
-  order = (has waits also a out x o s is).sees.order
+  order = (has later waits also a out x o s is).sees.order
 
   abbrev pub turn : IsInTurn s call
-  turn = (has waits also a out x o s is).sees.turn
+  turn = (has later waits also a out x o s is).sees.turn
 
   abbrev step : Stepped
-  step = ended_at a.place (news waits also a out x o s is) (now s) (next_word s) lent
+  step = ended_at a.place (news later waits also a out x o s is) (now s) (next_word s) lent
 
-  keeps_by : (p : CallPlan) → plan_of call s ≡ p → goes_on_after p s call a out ≡ true → Keeps (t waits also a out x o s is) call.number step
+  keeps_by : (p : CallPlan) → plan_of call s ≡ p → goes_on_after p s call a out ≡ true → Keeps (t later waits also a out x o s is) call.number step
   keeps_by plan.None e goes = absurd (cc)
   keeps_by (plan.Retry p) e goes = retries_are_set s call lent a.place a out p seen order turn is.ending case.counting case.free e goes
   keeps_by (plan.Hedge p) e goes =
       let others : Bool = list_any (λ (q : Attempt). is_live s call q && not (q.place == a.place)) s.attempts in
       let both = and_parts (has_code p.codes out.code) _ goes in
-      either others _ both.1 (Keeps (t waits also a out x o s is) call.number step)
+      either others _ both.1 (Keeps (t later waits also a out x o s is) call.number step)
       (λ more. hedges_go_on s call lent a.place a out p seen order turn is.ending case.counting case.free e both.0 more)
       (λ due. due_hedges_go_on s call lent a.place a out p seen order turn is.ending case.counting case.free e both.0 due)
 
-  keeps : Keeps (t waits also a out x o s is) call.number step
+  keeps : Keeps (t later waits also a out x o s is) call.number step
   keeps = keeps_by (plan_of call s) refl case.goes
 
   -- in the words of the lists
   abbrev pub then_ : Seen
-  then_ = u waits also a out x o s is
+  then_ = u later waits also a out x o s is
 
   abbrev pub called : Call
-  called = d waits also a out x o s is
+  called = d later waits also a out x o s is
 
   keeps_then : Keeps then_ call.number step
-  keeps_then = subst (λ (v : Seen). Keeps v call.number step) (t_is waits also a out x o s is) keeps
+  keeps_then = subst (λ (v : Seen). Keeps v call.number step) (t_is later waits also a out x o s is) keeps
 
   same_call : keeps_then.call ≡ called
   same_call =
       let two : Some keeps_then.call ≡ Some called
-      = sym keeps_then.sees.own ∙ ap (numbered then_.calls) keeps_then.number_is ∙ d_here waits also a out x o s is in
+      = sym keeps_then.sees.own ∙ ap (numbered then_.calls) keeps_then.number_is ∙ d_here later waits also a out x o s is in
       (cc)
 
   sees_step : Sees then_ called step
@@ -110,8 +111,8 @@ module _ (waits : Line → Bool) (also : List ℕ) (a : Attempt) (out : Outcome)
       form_by (ending.judges s call lent a.place a out seen order turn is.ending case.counting).closes
       (ending.channel_is s call lent a.place a out seen order turn is.ending case.counting case.free)
 
-  pub r_is : r waits also a out x o s is ≡ after
-  r_is = sym (step_is waits also a out x o s is) ∙ step_form
+  pub r_is : r later waits also a out x o s is ≡ after
+  r_is = sym (step_is later waits also a out x o s is) ∙ step_form
 
   pub sees_then : Sees then_ called after
   sees_then = subst (Sees then_ called) step_form sees_step

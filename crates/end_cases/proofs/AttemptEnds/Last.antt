@@ -48,10 +48,10 @@ use Rattle.session_actions.specs.declared.response.Outcome.{Outcome}
 use Rattle.session_actions.specs.declared.seen.Seen.{Seen}
 use Rattle.session_order.specs.declared.line.Line.{Line}
 
-module _ (waits : Line → Bool) (also : List ℕ) (a : Attempt) (out : Outcome) (x : StateSeen) (o : OpenEntry) (s : Seen) (is : EndNext waits also a out x o s)
-    (case : IsLoneLastEnd s (c waits also a out x o s is) a out) where
+module _ (later : List (ℕ × RowEnd)) (waits : Line → Bool) (also : List ℕ) (a : Attempt) (out : Outcome) (x : StateSeen) (o : OpenEntry) (s : Seen) (is : EndNext later waits also a out x o s)
+    (case : IsLoneLastEnd s (c later waits also a out x o s is) a out) where
   abbrev k : Call
-  k = c waits also a out x o s is
+  k = c later waits also a out x o s is
 
   abbrev n : ℕ
   n = k.number
@@ -63,48 +63,48 @@ module _ (waits : Line → Bool) (also : List ℕ) (a : Attempt) (out : Outcome)
   free = case.last.free
 
   abbrev lent : Stepped
-  lent = x2 waits also a out x o s is
+  lent = x2 later waits also a out x o s is
 
   abbrev seen : Sees s k lent
-  seen = sees waits also a out x o s is
+  seen = sees later waits also a out x o s is
 
   abbrev order : IsInOrder s k
-  order = closing.order waits also a out x o s is counting
+  order = closing.order later waits also a out x o s is counting
 
   abbrev turn : IsInTurn s k
-  turn = closing.turn waits also a out x o s is counting
+  turn = closing.turn later waits also a out x o s is counting
 
   abbrev v : Seen
-  v = u waits also a out x o s is
+  v = u later waits also a out x o s is
 
   abbrev end_ : RowEnd
-  end_ = e waits also a out x o s is
+  end_ = e later waits also a out x o s is
 
   abbrev dk : Call
-  dk = d waits also a out x o s is
+  dk = d later waits also a out x o s is
 
   abbrev none_else : list_any (λ (q : Attempt). is_live s k q && not (q.place == a.place)) s.attempts ≡ false
   none_else = case.alone
 
   -- between the two the call is committed
-  abbrev b : Between waits also a out x o s is counting
-  b = last.b waits also a out x o s is counting
+  abbrev b : Between later waits also a out x o s is counting
+  b = last.b later waits also a out x o s is counting
 
   abbrev f : Seen
-  f = closing.mid waits also a out x o s is counting b
+  f = closing.mid later waits also a out x o s is counting b
 
   abbrev fk : Call
-  fk = closing.its waits also a out x o s is counting b
+  fk = closing.its later waits also a out x o s is counting b
 
   abbrev w : Seen
-  w = closing.closed waits also a out x o s is counting b
+  w = closing.closed later waits also a out x o s is counting b
 
   abbrev ek : Call
-  ek = closing.ended waits also a out x o s is counting b
+  ek = closing.ended later waits also a out x o s is counting b
 
   -- what the laws of calls say
   abbrev step : Stepped
-  step = ended_at a.place (news waits also a out x o s is) (now s) (next_word s) lent
+  step = ended_at a.place (news later waits also a out x o s is) (now s) (next_word s) lent
 
   abbrev whole_end : Seen → Seen
   whole_end q = call_ended n ending_cause.Row (call_committed a.place q)
@@ -135,13 +135,13 @@ module _ (waits : Line → Bool) (also : List ℕ) (a : Attempt) (out : Outcome)
 
   keeps : Keeps w n step
   keeps =
-      subst (λ (q : Seen). Keeps (call_ended n ending_cause.Row q) n step) (last.f_is waits also a out x o s is counting)
-      (subst (λ (q : Seen). Keeps (whole_end q) n step) (t_is waits also a out x o s is) (keeps_by (plan_of k s) refl case.last.last))
+      subst (λ (q : Seen). Keeps (call_ended n ending_cause.Row q) n step) (last.f_is later waits also a out x o s is counting)
+      (subst (λ (q : Seen). Keeps (whole_end q) n step) (t_is later waits also a out x o s is) (keeps_by (plan_of k s) refl case.last.last))
 
   same_call : keeps.call ≡ ek
   same_call =
       let two : Some keeps.call ≡ Some ek
-      = sym keeps.sees.own ∙ ap (numbered w.calls) keeps.number_is ∙ closing.closed_at waits also a out x o s is counting b (last.f_here waits also a out x o s is counting) in
+      = sym keeps.sees.own ∙ ap (numbered w.calls) keeps.number_is ∙ closing.closed_at later waits also a out x o s is counting b (last.f_here later waits also a out x o s is counting) in
       (cc)
 
   sees_step : Sees w ek step
@@ -177,7 +177,7 @@ module _ (waits : Line → Bool) (also : List ℕ) (a : Attempt) (out : Outcome)
       (ending.channel_is s k lent a.place a out seen order turn is.ending counting free)
       ∙ ap with_live none_live
 
-  abbrev made : Made waits also a out x o s is counting
+  abbrev made : Made later waits also a out x o s is counting
   made = record {
     attempts = stopped_attempts (committed_attempts a.place before.call.attempts);
     rows = (commit_stamped a.place before.ledger).rows;
@@ -185,53 +185,53 @@ module _ (waits : Line → Bool) (also : List ℕ) (a : Attempt) (out : Outcome)
     acts = act_of.End ending_cause.Row ∷ [];
   }
 
-  sees_then : Sees w ek (closing.stepped waits also a out x o s is counting made)
+  sees_then : Sees w ek (closing.stepped later waits also a out x o s is counting made)
   sees_then = subst (Sees w ek) step_form sees_step
 
   -- it has the call then, and nothing came of its response
   committed_then : commitment ek w ≡ Some b.one
-  committed_then = last.has_it waits also a out x o s is counting free case.last.last
+  committed_then = last.has_it later waits also a out x o s is counting free case.last.last
 
   came_same : came ek w ≡ came k s
   came_same =
       ap (λ (q : Option Attempt). option_map_or (λ (g : Attempt). response_items (response g w)) q []) committed_then
-      ∙ ap response_items (closing.response_same waits also a out x o s is counting b (last.f_here waits also a out x o s is counting) (Some (entry v)))
-      ∙ last.nothing_came waits also a out x o s is counting free
+      ∙ ap response_items (closing.response_same later waits also a out x o s is counting b (last.f_here later waits also a out x o s is counting) (Some (entry v)))
+      ∙ last.nothing_came later waits also a out x o s is counting free
       ∙ sym (ap (λ (q : Option Attempt). option_map_or (λ (g : Attempt). response_items (response g s)) q []) free)
 
-  steps_so : Steps waits also a out x o s is counting b made
+  steps_so : Steps later waits also a out x o s is counting b made
   steps_so = record {
-    step_is = sym (step_is waits also a out x o s is) ∙ step_form;
+    step_is = sym (step_is later waits also a out x o s is) ∙ step_form;
     sees = sees_then;
     order = order_then;
-    turn = last.turn_closed waits also a out x o s is counting free case.last.last;
-    left = λ h. subst (λ (all : List Reply). IsLeft all k.taken (channel_laws.came (closing.was waits also a out x o s is counting).call)) (sym came_same) h;
+    turn = last.turn_closed later waits also a out x o s is counting free case.last.last;
+    left = λ h. subst (λ (all : List Reply). IsLeft all k.taken (channel_laws.came (closing.was later waits also a out x o s is counting).call)) (sym came_same) h;
   }
 
-  goes : Goes waits also a out x o s is counting b
+  goes : Goes later waits also a out x o s is counting b
   goes = record {
-    does = last.goes_two waits also a out x o s is counting free case.last.last;
-    apart = last.apart_two waits also a out x o s is counting free case.last.last;
+    does = last.goes_two later waits also a out x o s is counting free case.last.last;
+    apart = last.apart_two later waits also a out x o s is counting free case.last.last;
     posts = refl;
     netless = refl;
-    here = last.f_here waits also a out x o s is counting;
-    count = last.count_two waits also a out x o s is counting;
-    one_there = last.one_there waits also a out x o s is counting;
+    here = last.f_here later waits also a out x o s is counting;
+    count = last.count_two later waits also a out x o s is counting;
+    one_there = last.one_there later waits also a out x o s is counting;
     one_ended = refl;
-    tokens = last.tokens_two waits also a out x o s is counting;
-    unreset = last.unreset_two waits also a out x o s is counting;
-    none_out = last.none_out_two waits also a out x o s is counting (first.none_out waits also a out x o s is none_else);
-    fewer = λ link row h. first.fewer_one waits also a out x o s is link row (sym (last.same_out waits also a out x o s is counting link row) ∙ h);
-    over = last.over_two waits also a out x o s is counting free case.last.last;
-    still = last.still_two waits also a out x o s is counting free case.last.last;
-    late = last.late_two waits also a out x o s is counting free case.last.last;
-    wire = last.wire_two waits also a out x o s is counting free case.last.last;
+    tokens = last.tokens_two later waits also a out x o s is counting;
+    unreset = last.unreset_two later waits also a out x o s is counting;
+    none_out = last.none_out_two later waits also a out x o s is counting (first.none_out later waits also a out x o s is none_else);
+    fewer = λ link row h. first.fewer_one later waits also a out x o s is link row (sym (last.same_out later waits also a out x o s is counting link row) ∙ h);
+    over = last.over_two later waits also a out x o s is counting free case.last.last;
+    still = last.still_two later waits also a out x o s is counting free case.last.last;
+    late = last.late_two later waits also a out x o s is counting free case.last.last;
+    wire = last.wire_two later waits also a out x o s is counting free case.last.last;
   }
 
-  has_ended : HasEnded waits also a out x o s
+  has_ended : HasEnded later waits also a out x o s
   has_ended =
-      alone_ends.has_ended waits also a out x o s is counting none_else b goes (last.same_out waits also a out x o s is counting) (last.same_noted waits also a out x o s is counting)
-      (last.ahead_two waits also a out x o s is counting) made steps_so refl
+      alone_ends.has_ended later waits also a out x o s is counting none_else b goes (last.same_out later waits also a out x o s is counting) (last.same_noted later waits also a out x o s is counting)
+      (last.ahead_two later waits also a out x o s is counting) made steps_so refl
 
 pub lone_last_ends_close : LoneLastEndsClose
-lone_last_ends_close waits also a out x o s is case = has_ended waits also a out x o s is case
+lone_last_ends_close later waits also a out x o s is case = has_ended later waits also a out x o s is case

@@ -46,6 +46,8 @@ use Rattle.end_cases.specs.AttemptEnds.Ahead.{LinksAhead}
 use Rattle.end_cases.specs.AttemptEnds.Ends.{EndNext, may_wait}
 use Rattle.end_cases.specs.AttemptEnds.Laws.{goes_on_after}
 use Rattle.channel_core.specs.States.{StateSeen}
+use Rattle.end_cases.proofs.AttemptEnds.LeftLinks.{commits_left}
+use Rattle.end_cases.specs.AttemptEnds.Left.{all_left}
 use Rattle.grpc_base.specs.Codes.{has_code}
 use Rattle.grpc_base.specs.declared.fields.Field.{Field}
 use Rattle.grpc_base.specs.declared.plan.CallPlan.{CallPlan}
@@ -120,31 +122,31 @@ pub found_one : (p : Attempt → Bool) (n : ℕ) (xs : List Attempt) (y : Attemp
 found_one p zero xs y at pass others = absurd (cc)
 found_one p (suc i) xs y at pass others = find_one p xs i y at pass (λ j q there off. others j q there (next_apart j i off))
 
-module _ (waits : Line → Bool) (also : List ℕ) (a : Attempt) (out : Outcome) (x : StateSeen) (o : OpenEntry) (s : Seen) (is : EndNext waits also a out x o s)
-    (counting : IsCounting s (c waits also a out x o s is) out) where
+module _ (later : List (ℕ × RowEnd)) (waits : Line → Bool) (also : List ℕ) (a : Attempt) (out : Outcome) (x : StateSeen) (o : OpenEntry) (s : Seen) (is : EndNext later waits also a out x o s)
+    (counting : IsCounting s (c later waits also a out x o s is) out) where
   abbrev k : Call
-  k = c waits also a out x o s is
+  k = c later waits also a out x o s is
 
   abbrev n : ℕ
   n = k.number
 
   abbrev v : Seen
-  v = u waits also a out x o s is
+  v = u later waits also a out x o s is
 
   abbrev end_ : RowEnd
-  end_ = e waits also a out x o s is
+  end_ = e later waits also a out x o s is
 
   abbrev dk : Call
-  dk = d waits also a out x o s is
+  dk = d later waits also a out x o s is
 
   abbrev then_ : Attempt
   then_ = with_end end_ a
 
   abbrev there : numbered v.attempts a.place ≡ Some then_
-  there = first.one_there waits also a out x o s is
+  there = first.one_there later waits also a out x o s is
 
   abbrev kept_one : IsKept v
-  kept_one = closing.kept_one waits also a out x o s is counting
+  kept_one = closing.kept_one later waits also a out x o s is counting
 
   pub places : ArePlacedOn 1 v.attempts
   places = placed_from 1 v.attempts kept_one.book.places
@@ -159,7 +161,7 @@ module _ (waits : Line → Bool) (also : List ℕ) (a : Attempt) (out : Outcome)
   abbrev pub then_commits : Action
   then_commits = action.CallCommitted a.place commit.Final
 
-  abbrev pub b : Between waits also a out x o s is counting
+  abbrev pub b : Between later waits also a out x o s is counting
   b = record {
     actions = then_commits ∷ [];
     calls = f0.calls;
@@ -169,20 +171,20 @@ module _ (waits : Line → Bool) (also : List ℕ) (a : Attempt) (out : Outcome)
   }
 
   abbrev f : Seen
-  f = closing.mid waits also a out x o s is counting b
+  f = closing.mid later waits also a out x o s is counting b
 
   abbrev fk : Call
-  fk = closing.its waits also a out x o s is counting b
+  fk = closing.its later waits also a out x o s is counting b
 
   pub f_here : numbered f.calls n ≡ Some fk
   f_here =
-      changed_one (noted_call mark.Committed (now v)) a.row.call n v.calls dk true (eq-eqb n a.row.call (sym (call_is waits also a out x o s is))) (d_here waits also a out x o s is)
+      changed_one (noted_call mark.Committed (now v)) a.row.call n v.calls dk true (eq-eqb n a.row.call (sym (call_is later waits also a out x o s is))) (d_here later waits also a out x o s is)
 
   abbrev p : OpenEntry
-  p = closing.entry_then waits also a out x o s is counting
+  p = closing.entry_then later waits also a out x o s is counting
 
   abbrev now_open : v.current ≡ Some p
-  now_open = closing.current_one waits also a out x o s is counting
+  now_open = closing.current_one later waits also a out x o s is counting
 
   after_two : after_action then_commits v ≡ f
   after_two = ap (λ (q : Option OpenEntry). after_if q then_commits v) now_open ∙ f_is
@@ -192,7 +194,7 @@ module _ (waits : Line → Bool) (also : List ℕ) (a : Attempt) (out : Outcome)
 
   -- what the end is
   parts : (not (is_followed then_ v) ≡ true) × (not (wants_follower_by then_ v end_) ≡ true)
-  parts = counted_parts _ (is_followed then_ v) (wants_follower_by then_ v end_) (counted_then waits also a out x o s is counting)
+  parts = counted_parts _ (is_followed then_ v) (wants_follower_by then_ v end_) (counted_then later waits also a out x o s is counting)
     where
       counted_parts : (p q r : Bool) → ((p && not q) && not r) ≡ true → (not q ≡ true) × (not r ≡ true)
       counted_parts true false false e = (refl, refl)
@@ -212,16 +214,16 @@ module _ (waits : Line → Bool) (also : List ℕ) (a : Attempt) (out : Outcome)
   steady_two book =
       subst (λ (q : Seen). StaysSteady q n) f_is
       (committing_keeps v dk a.place then_ (subst IsBook (sym f_is) book)
-      (record { own = d_here waits also a out x o s is; there = there; mine = is.ending.own })
-      (record { turn = closing.turn_one waits also a out x o s is counting; calm = closing.calm_one waits also a out x o s is counting }))
+      (record { own = d_here later waits also a out x o s is; there = there; mine = is.ending.own })
+      (record { turn = closing.turn_one later waits also a out x o s is counting; calm = closing.calm_one later waits also a out x o s is counting }))
 
   module _ (free : commitment k s ≡ None) (last : goes_on_after (plan_of k s) s k a out ≡ false) where
     free_one : commitment dk v ≡ None
-    free_one = free_then waits also a out x o s is counting.goes_on free
+    free_one = free_then later waits also a out x o s is counting.goes_on free
 
     free_by : (g : Call) → is_of g then_ ≡ true → commitment g v ≡ None
     free_by g mine =
-        let same : g.number ≡ n = sym (eqb-true a.row.call g.number mine) ∙ call_is waits also a out x o s is in
+        let same : g.number ≡ n = sym (eqb-true a.row.call g.number mine) ∙ call_is later waits also a out x o s is in
         ap (λ (m : ℕ). find_last (λ (q : Attempt). (q.row.call == m) && is_some q.row.committed) v.attempts) same ∙ free_one
 
     fits : IsCommittable a.place v
@@ -237,12 +239,12 @@ module _ (waits : Line → Bool) (also : List ℕ) (a : Attempt) (out : Outcome)
     -- the commitment is next: no call ends by its attempt
     row_by : (i : ℕ) (g : Call) (q : Bool) → slice_get v.calls i ≡ Some g → (suc i == n) ≡ q → is_over_by_row v g ≡ false
     row_by i g true at own =
-        let two : Some g ≡ Some dk = sym at ∙ ap (numbered v.calls) (eqb-true (suc i) n own) ∙ d_here waits also a out x o s is in
+        let two : Some g ≡ Some dk = sym at ∙ ap (numbered v.calls) (eqb-true (suc i) n own) ∙ d_here later waits also a out x o s is in
         let same : g ≡ dk = (cc) in
         ap (is_over_by_row v) same ∙ ap (λ (q : Option Attempt). is_none dk.end && holds (λ (h : Attempt). is_counted h v) q) free_one ∙ and_right (is_none dk.end) false refl
     row_by i g false at off =
-        row_none n (x1 waits also a out x o s is) s v (ends.apart_one waits also a out x o s is counting) (books waits also a out x o s is).calls
-        (closing.kept waits also a out x o s is counting) kept_one (suc i) g off at (ends.was_still waits also a out x o s is counting line.Row refl refl)
+        row_none n (x1 later waits also a out x o s is) s v (ends.apart_one later waits also a out x o s is counting) (books later waits also a out x o s is).calls
+        (closing.kept later waits also a out x o s is counting) kept_one (suc i) g off at (ends.was_still later waits also a out x o s is counting line.Row refl refl)
 
     unrowed : IsStill line.Row p v
     unrowed = none_at (is_over_by_row v) v.calls (λ i g at. row_by i g (suc i == n) at refl)
@@ -250,7 +252,7 @@ module _ (waits : Line → Bool) (also : List ℕ) (a : Attempt) (out : Outcome)
     -- the end is final
     final_by : (p : CallPlan) → plan_of k s ≡ p → goes_on_after p s k a out ≡ false → is_final_by p dk then_ v end_ ≡ true
     final_by plan.None h off = refl
-    final_by (plan.Retry q) h off = ap not (final.licensed_same waits also a out x o s is counting free a.row.number end_ ∙ off)
+    final_by (plan.Retry q) h off = ap not (final.licensed_same later waits also a out x o s is counting free a.row.number end_ ∙ off)
     final_by (plan.Hedge q) h off = by_code (has_code q.codes out.code) _ _ off refl refl refl
       where
         none_of : (q : Option ℕ) → is_some q ≡ false → is_none q ≡ true
@@ -259,8 +261,8 @@ module _ (waits : Line → Bool) (also : List ℕ) (a : Attempt) (out : Outcome)
 
         due_same : is_some (option_and_then (λ (g : Call). next_due g (attempt_ended a.place end_ s)) (numbered (attempt_ended a.place end_ s).calls n)) ≡ is_some (next_due dk v)
         due_same =
-            ap (λ (w : Seen). is_some (option_and_then (λ (g : Call). next_due g w) (numbered w.calls n))) (t_is waits also a out x o s is)
-            ∙ ap (λ (q : Option Call). is_some (option_and_then (λ (g : Call). next_due g v) q)) (d_here waits also a out x o s is)
+            ap (λ (w : Seen). is_some (option_and_then (λ (g : Call). next_due g w) (numbered w.calls n))) (t_is later waits also a out x o s is)
+            ∙ ap (λ (q : Option Call). is_some (option_and_then (λ (g : Call). next_due g v) q)) (d_here later waits also a out x o s is)
 
         by_code : (says others due : Bool) → (says && (others || due)) ≡ false → has_code q.codes out.code ≡ says
             → list_any (λ (b : Attempt). is_live s k b && not (b.place == a.place)) s.attempts ≡ others
@@ -272,16 +274,16 @@ module _ (waits : Line → Bool) (also : List ℕ) (a : Attempt) (out : Outcome)
         by_code true false true off says other_is due_is = absurd (cc)
         by_code true false false off says other_is due_is =
             ap (λ (b : Bool). not b || (is_number a.place (last_counted dk v) && is_none (next_due dk v) && not (has_going dk v))) says
-            ∙ ap (λ (r : Option ℕ). is_number a.place r && is_none (next_due dk v) && not (has_going dk v)) (final.last_then waits also a out x o s is counting free)
+            ∙ ap (λ (r : Option ℕ). is_number a.place r && is_none (next_due dk v) && not (has_going dk v)) (final.last_then later waits also a out x o s is counting free)
             ∙ ap (λ (b : Bool). (b && is_none (next_due dk v)) && not (has_going dk v)) (eq-eqb a.place a.place refl)
             ∙ ap (λ (b : Bool). b && not (has_going dk v)) (none_of (next_due dk v) (sym due_same ∙ due_is))
-            ∙ ap not (final.going_then waits also a out x o s is counting free ∙ other_is)
+            ∙ ap not (final.going_then later waits also a out x o s is counting free ∙ other_is)
 
     is_final_then : is_final_end v then_ ≡ true
     is_final_then =
-        ap (holds (λ (g : Call). is_final_in then_ v g)) (ap (numbered v.calls) (call_is waits also a out x o s is) ∙ d_here waits also a out x o s is)
-        ∙ ap (λ (b : Bool). (b && is_counted then_ v) && is_final_by (plan_of k s) dk then_ v end_) (final.free_both waits also a out x o s is counting free ∙ was_free)
-        ∙ ap (λ (b : Bool). b && is_final_by (plan_of k s) dk then_ v end_) (counted_then waits also a out x o s is counting)
+        ap (holds (λ (g : Call). is_final_in then_ v g)) (ap (numbered v.calls) (call_is later waits also a out x o s is) ∙ d_here later waits also a out x o s is)
+        ∙ ap (λ (b : Bool). (b && is_counted then_ v) && is_final_by (plan_of k s) dk then_ v end_) (final.free_both later waits also a out x o s is counting free ∙ was_free)
+        ∙ ap (λ (b : Bool). b && is_final_by (plan_of k s) dk then_ v end_) (counted_then later waits also a out x o s is counting)
         ∙ final_by (plan_of k s) refl last
       where
         was_free : is_free_call s k ≡ true
@@ -289,14 +291,14 @@ module _ (waits : Line → Bool) (also : List ℕ) (a : Attempt) (out : Outcome)
 
     final_else : (i : ℕ) (q : Attempt) → slice_get v.attempts i ≡ Some q → (suc i == a.place) ≡ false → is_final_end v q ≡ false
     final_else i q at off =
-        final.other_final waits also a out x o s is counting free i q (q.row.call == n) at refl
-        (ap (λ (m : ℕ). m == a.place) (place_is (suc i) v.attempts q kept_one.book.places at) ∙ off) (ends.was_still waits also a out x o s is counting line.Final refl refl)
+        final.other_final later waits also a out x o s is counting free i q (q.row.call == n) at refl
+        (ap (λ (m : ℕ). m == a.place) (place_is (suc i) v.attempts q kept_one.book.places at) ∙ off) (ends.was_still later waits also a out x o s is counting line.Final refl refl)
 
     next_commit : following v ≡ Some then_commits
     next_commit =
         first_line_gives line.Final then_commits p v now_open
-        (λ l e. before_final (is_loss p.event) l e (λ (q : Line). IsStill q p v) (ends.uncut waits also a out x o s is counting)
-        (ends.still_after waits also a out x o s is counting line.Transparent refl refl) (ends.still_after waits also a out x o s is counting line.Inherited refl refl) unrowed)
+        (λ l e. before_final (is_loss p.event) l e (λ (q : Line). IsStill q p v) (ends.uncut later waits also a out x o s is counting)
+        (ends.still_after later waits also a out x o s is counting line.Transparent refl refl) (ends.still_after later waits also a out x o s is counting line.Inherited refl refl) unrowed)
         (ap (option_map (committing commit.Final)) (found_one (is_final_end v) a.place v.attempts then_ there is_final_then final_else))
 
     does_two : Does (then_commits ∷ []) v f
@@ -309,7 +311,7 @@ module _ (waits : Line → Bool) (also : List ℕ) (a : Attempt) (out : Outcome)
     apart_two = (
       record {
         acts = ap (λ (q : Option Attempt). option_map_or (λ (i : ℕ). i == n) (option_map (λ (g : Attempt). g.row.call) q) true) there
-            ∙ eq-eqb a.row.call n (call_is waits also a out x o s is);
+            ∙ eq-eqb a.row.call n (call_is later waits also a out x o s is);
         passes = λ g at off. refl;
       },
       tt,
@@ -323,7 +325,7 @@ module _ (waits : Line → Bool) (also : List ℕ) (a : Attempt) (out : Outcome)
     pub turn_two : IsInTurn f fk
     turn_two = subst (λ (g : Call). IsInTurn f g) same_steady (steady_two kept_two.book).steady.turn
 
-    pub turn_closed : IsInTurn (closing.closed waits also a out x o s is counting b) (closing.ended waits also a out x o s is counting b)
+    pub turn_closed : IsInTurn (closing.closed later waits also a out x o s is counting b) (closing.ended later waits also a out x o s is counting b)
     turn_closed = record { unfollowed = turn_two.unfollowed; latest = turn_two.latest; numbers = turn_two.numbers; counted = turn_two.counted }
 
     -- the lines then
@@ -331,7 +333,7 @@ module _ (waits : Line → Bool) (also : List ℕ) (a : Attempt) (out : Outcome)
     moves l off none h = subst (IsStill l p) f_is (committed_leaves a.place commit.Final p v now_open fits l p (ap (λ (q : Seen). q.current) f_is ∙ now_open) off none h)
 
     from_one : (l : Line) → is_of_closing l ≡ false → may_wait l ≡ false → is_line l line.Final ≡ false → stirs then_commits l ≡ false → IsStill l p f
-    from_one l off may final_off none = moves l final_off none (ends.still_after waits also a out x o s is counting l off may)
+    from_one l off may final_off none = moves l final_off none (ends.still_after later waits also a out x o s is counting l off may)
 
     pub still_two : (l : Line) → is_of_closing l ≡ false → may_wait l ≡ false → IsStill l p f
     still_two line.Transparent off may = from_one line.Transparent refl refl refl refl
@@ -356,12 +358,12 @@ module _ (waits : Line → Bool) (also : List ℕ) (a : Attempt) (out : Outcome)
     still_two line.Add off may = absurd (cc)
 
     pub late_two : (l : Line) → is_late l ≡ true → waits l ≡ false → IsStill l p f
-    late_two line.Shut late off = moves line.Shut refl refl (ends.late_after waits also a out x o s is counting line.Shut refl off)
-    late_two line.Retire late off = moves line.Retire refl refl (ends.late_after waits also a out x o s is counting line.Retire refl off)
-    late_two line.Begin late off = moves line.Begin refl refl (ends.late_after waits also a out x o s is counting line.Begin refl off)
-    late_two line.Give late off = moves line.Give refl refl (ends.late_after waits also a out x o s is counting line.Give refl off)
-    late_two line.Drop late off = moves line.Drop refl refl (ends.late_after waits also a out x o s is counting line.Drop refl off)
-    late_two line.Add late off = moves line.Add refl refl (ends.late_after waits also a out x o s is counting line.Add refl off)
+    late_two line.Shut late off = moves line.Shut refl refl (ends.late_after later waits also a out x o s is counting line.Shut refl off)
+    late_two line.Retire late off = moves line.Retire refl refl (ends.late_after later waits also a out x o s is counting line.Retire refl off)
+    late_two line.Begin late off = moves line.Begin refl refl (ends.late_after later waits also a out x o s is counting line.Begin refl off)
+    late_two line.Give late off = moves line.Give refl refl (ends.late_after later waits also a out x o s is counting line.Give refl off)
+    late_two line.Drop late off = moves line.Drop refl refl (ends.late_after later waits also a out x o s is counting line.Drop refl off)
+    late_two line.Add late off = moves line.Add refl refl (ends.late_after later waits also a out x o s is counting line.Add refl off)
     late_two line.Transparent late off = absurd (cc)
     late_two line.Row late off = absurd (cc)
     late_two line.Final late off = absurd (cc)
@@ -378,7 +380,7 @@ module _ (waits : Line → Bool) (also : List ℕ) (a : Attempt) (out : Outcome)
     late_two line.Reset late off = absurd (cc)
 
     pub wire_two : IsStill line.WireEnd o s → IsStill line.WireEnd p f
-    wire_two h = moves line.WireEnd refl refl (first.plain waits also a out x o s is line.WireEnd refl h)
+    wire_two h = moves line.WireEnd refl refl (first.plain later waits also a out x o s is line.WireEnd refl h)
 
     -- it has the call
     pub has_it : commitment fk f ≡ Some b.one
@@ -411,7 +413,7 @@ module _ (waits : Line → Bool) (also : List ℕ) (a : Attempt) (out : Outcome)
     none_of_some (Some meta) h = absurd (cc)
 
     was_unheaded : is_headed s a ≡ false
-    was_unheaded = numbered_not (is_headed s) s.attempts a.place a (ends.was_still waits also a out x o s is counting line.Head refl refl) is.ending.there
+    was_unheaded = numbered_not (is_headed s) s.attempts a.place a (ends.was_still later waits also a out x o s is counting line.Head refl refl) is.ending.there
 
     unheaded_by : (b : Bool) → is_outstanding a ≡ b → (response a s).head ≡ None
     unheaded_by true h =
@@ -426,7 +428,7 @@ module _ (waits : Line → Bool) (also : List ℕ) (a : Attempt) (out : Outcome)
         off_link q e None = refl
         off_link None e (Some stream) = ap (λ (p : Option Placed). (option_map_or (response_on a stream s) (option_and_then (λ (at : Placed). numbered s.links at.link) p) no_response).head) e
         off_link (Some at) e (Some stream) =
-            let on : is_outstanding a ≡ true = ap (λ (p : Option Placed). is_some p && is_none a.row.ended) e ∙ ap (λ (q : Option RowEnd). is_none q) (closing.unended waits also a out x o s is counting) in
+            let on : is_outstanding a ≡ true = ap (λ (p : Option Placed). is_some p && is_none a.row.ended) e ∙ ap (λ (q : Option RowEnd). is_none q) (closing.unended later waits also a out x o s is counting) in
             let both : true ≡ false = sym on ∙ h in absurd (cc)
 
     pub nothing_came : response_items (response a s) ≡ []
@@ -443,11 +445,11 @@ module _ (waits : Line → Bool) (also : List ℕ) (a : Attempt) (out : Outcome)
       (λ l. ap (λ (g : Bool). link_seen (if is_none l.gone && (is_some l.over || ((is_retiring l || is_shutdown_sub v l.sub) && not g)) then record l { gone = Some (entry v) } else l))
       (any_changed (is_outstanding_on l) (with_commitment (entry v)) (λ q. refl) a.place v.attempts)) v.links
 
-  pub ahead_two : LinksAhead also x f
-  ahead_two = commits.commits_ahead v a.place then_ there places also x (first.links_one waits also a out x o s is)
+  pub ahead_two : LinksAhead also x (all_left later f)
+  ahead_two = commits_left later v a.place then_ there places also x (first.links_one later waits also a out x o s is)
 
   pub unreset_two : AreUnreset f
-  unreset_two = all_changed is_unreset (with_commitment (entry v)) (λ q e. e) a.place v.attempts (first.unreset_one waits also a out x o s is)
+  unreset_two = all_changed is_unreset (with_commitment (entry v)) (λ q e. e) a.place v.attempts (first.unreset_one later waits also a out x o s is)
 
   pub tokens_two : (i : ℕ) → is_some (numbered v.runs i) ≡ true → tokens_in_run f (Some i) ≡ tokens_in_run v (Some i)
   tokens_two i there_ = subst (λ (q : Seen). tokens_in_run q (Some i) ≡ tokens_in_run v (Some i)) after_two (tokens_stay v then_commits i kept_one.book tt there_ refl)

@@ -6,6 +6,7 @@ use Rattle.std.specs.List.{list_any}
 use Rattle.std.specs.Option.{option_map_or}
 use Rattle.attempt_ledger.specs.declared.ledger.LinkSeen.{LinkSeen}
 use Rattle.attempt_ledger.specs.declared.row.Placed.{Placed}
+use Rattle.attempt_ledger.specs.declared.row.RowEnd.{RowEnd}
 use Rattle.call_actions.proofs.CallsInTurn.Changes.{any_keep}
 use Rattle.channel_actions.proofs.Gone.{all_numbered}
 use Rattle.channel_actions.proofs.Outstanding.{any_of}
@@ -26,6 +27,7 @@ use Rattle.channel_core.specs.Tables as channel_tables
 use Rattle.channel_core.specs.Tables.{is_dead_at, is_retiring_at}
 use Rattle.channel_core.specs.declared.state.links.LinkSlot.{LinkSlot}
 use Rattle.channel_net.specs.Steps.{NetSeen}
+use Rattle.end_cases.specs.AttemptEnds.Left.{all_left}
 use Rattle.ledger_stamps.specs.Steps.{gone_link}
 use Rattle.net_actions.specs.Sees.{AreSubs}
 use Rattle.session_actions.specs.AttemptEnds.{with_end}
@@ -67,26 +69,26 @@ sub_in at z k e = sub_by (channel.is_gone at.link z) (numbered z.book.ledger.lin
     sub_by false None f = absurd (cc)
     sub_by false (Some i) f = let same : i ≡ k = (cc) in ap (λ (q : LinkSeen). q.sub) same
 
-module _ (waits : Line → Bool) (also : List ℕ) (a : Attempt) (out : Outcome) (x : StateSeen) (o : OpenEntry) (s : Seen) (is : EndNext waits also a out x o s) where
+module _ (later : List (ℕ × RowEnd)) (waits : Line → Bool) (also : List ℕ) (a : Attempt) (out : Outcome) (x : StateSeen) (o : OpenEntry) (s : Seen) (is : EndNext later waits also a out x o s) where
   abbrev v : Seen
-  v = u waits also a out x o s is
+  v = u later waits also a out x o s is
 
   abbrev kept : IsKept s
-  kept = (books waits also a out x o s is).kept
+  kept = (books later waits also a out x o s is).kept
 
   -- a link on which the attempt is not
   out_same : (l : Link) → is_outstanding_on l a ≡ false → list_any (is_outstanding_on l) v.attempts ≡ list_any (is_outstanding_on l) s.attempts
   out_same l off =
-      any_keep (is_outstanding_on l) (is_outstanding_on l) (with_end (end waits also a out x o s is)) a (λ q. refl)
+      any_keep (is_outstanding_on l) (is_outstanding_on l) (with_end (end later waits also a out x o s is)) a (λ q. refl)
       (gone_off (is_some a.row.placed) (holds (λ (at : Placed). at.link == l.number) a.row.placed) ∙ sym off) s.attempts a.place is.ending.there
 
   gone_same : (l : Link) → is_outstanding_on l a ≡ false → noted_gone v l ≡ noted_gone s l
   gone_same l off =
       ap (λ (b : Bool). if is_none l.gone && (is_some l.over || ((is_retiring l || is_shutdown_sub s l.sub) && not b)) then record l { gone = Some (entry v) } else l) (out_same l off)
-      ∙ ap (λ (m : ℕ). if is_none l.gone && is_gone l s then record l { gone = Some m } else l) (entry_is waits also a out x o s is)
+      ∙ ap (λ (m : ℕ). if is_none l.gone && is_gone l s then record l { gone = Some m } else l) (entry_is later waits also a out x o s is)
 
   was_noted : links_noted s ≡ (gone_with a.row.placed x).book.ledger.links
-  was_noted = (books waits also a out x o s is).columns.links
+  was_noted = (books later waits also a out x o s is).columns.links
 
   -- with what the channel then is
   module _ (y : StateSeen) (ledger_same : y.book.ledger.links ≡ x.book.ledger.links) (entry_same : y.book.ledger.entry ≡ x.book.ledger.entry) (links_same : y.links ≡ x.links)
@@ -133,8 +135,8 @@ module _ (waits : Line → Bool) (also : List ℕ) (a : Attempt) (out : Outcome)
       gone_s : is_gone l s ≡ is_some l.over
       gone_s = going_gone l s (any_here a.place is.ending.there)
 
-      has_link : HasLinkAhead x v l at.link
-      has_link = (subst (λ (q : Seen). LinksAhead also x q) (t_is waits also a out x o s is) is.links).each at.link l came.1
+      has_link : HasLinkAhead x (all_left later v) l at.link
+      has_link = (subst (λ (q : Seen). LinksAhead also x (all_left later q)) (t_is later waits also a out x o s is) is.links).each at.link l came.1
 
       dead : (z : StateSeen) → z.links ≡ x.links → channel_tables.is_dead z.links at.link ≡ is_some l.over
       dead z same = ap (λ (ls : List LinkSlot). is_dead_at (numbered ls at.link)) same ∙ ap is_dead_at has_link.there ∙ sym has_link.sees.over
@@ -148,7 +150,7 @@ module _ (waits : Line → Bool) (also : List ℕ) (a : Attempt) (out : Outcome)
           ∙ numbered_map (λ (q : Link). link_seen (noted_gone s q)) s.links at.link ∙ ap (option_map (λ (q : Link). link_seen (noted_gone s q))) came.1
 
       outs_before : AreExactly x.outstanding (is_in_outstanding s)
-      outs_before = (books waits also a out x o s is).sets.outstanding
+      outs_before = (books later waits also a out x o s is).sets.outstanding
 
       -- which sub it is of, whether or not it is stamped
       sub_same : sub_of (numbered x.book.ledger.links at.link) ≡ l.sub
@@ -161,7 +163,7 @@ module _ (waits : Line → Bool) (also : List ℕ) (a : Attempt) (out : Outcome)
       gone_x : channel.is_gone at.link x ≡ is_some l.over
       gone_x =
           gone_is x s at.link l
-          (record { there = came.1; dead = dead x refl; retiring = retiring x refl; sub = sub_same; out = outs_before; subs = (books waits also a out x o s is).net.subs_are; kept = kept })
+          (record { there = came.1; dead = dead x refl; retiring = retiring x refl; sub = sub_same; out = outs_before; subs = (books later waits also a out x o s is).net.subs_are; kept = kept })
           ∙ gone_s
 
       gone_y : sub_of (numbered x.book.ledger.links at.link) ≡ l.sub → channel.is_gone at.link y ≡ is_gone l v
@@ -173,14 +175,14 @@ module _ (waits : Line → Bool) (also : List ℕ) (a : Attempt) (out : Outcome)
             retiring = retiring y links_same;
             sub = ap (λ (ls : List LinkSeen). sub_of (numbered ls at.link)) ledger_same ∙ sub;
             out = outs;
-            subs = subst (λ (q : NetSeen). AreSubs 1 s.subs q.board q.links) (sym net_same) (books waits also a out x o s is).net.subs_are;
+            subs = subst (λ (q : NetSeen). AreSubs 1 s.subs q.board q.links) (sym net_same) (books later waits also a out x o s is).net.subs_are;
             kept = kept_then;
           })
 
       here_noted : numbered (gone_with (Some at) y).book.ledger.links at.link ≡ Some (link_seen (noted_gone v l))
       here_noted =
-          one_noted at x y s v l ledger_same (sym (books waits also a out x o s is).clock.entry_is) (entry_same ∙ sym (books waits also a out x o s is).clock.entry_is)
-          (entry_is waits also a out x o s is) gone_x gone_s gone_y noted_here
+          one_noted at x y s v l ledger_same (sym (books later waits also a out x o s is).clock.entry_is) (entry_same ∙ sym (books later waits also a out x o s is).clock.entry_is)
+          (entry_is later waits also a out x o s is) gone_x gone_s gone_y noted_here
 
       away_off : (m : ℕ) (q : Link) → numbered s.links m ≡ Some q → (m == at.link) ≡ false → is_outstanding_on q a ≡ false
       away_off m q here off =

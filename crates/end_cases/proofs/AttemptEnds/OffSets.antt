@@ -5,6 +5,7 @@ use Rattle.std.proofs.lemmas.Bool.Decides.{nat_tests}
 use Rattle.std.specs.Option.{option_map_or}
 use Rattle.std.specs.Set.{remove_key}
 use Rattle.attempt_ledger.specs.declared.row.Placed.{Placed}
+use Rattle.attempt_ledger.specs.declared.row.RowEnd.{RowEnd}
 use Rattle.channel_actions.proofs.SetFrames.Pairs.{exactly_by, exactly_remove}
 use Rattle.channel_actions.specs.Sets.{AreExactly, is_in_outstanding}
 use Rattle.end_cases.proofs.AttemptEnds.Base.{books, c, call_is, out_off, queue_off}
@@ -41,9 +42,9 @@ and_keep : (p q : Bool) → (p ≡ true → q ≡ false) → (p && not q) ≡ p
 and_keep true q turn = ap not (turn refl)
 and_keep false q turn = refl
 
-module _ (waits : Line → Bool) (also : List ℕ) (a : Attempt) (out : Outcome) (x : StateSeen) (o : OpenEntry) (s : Seen) (is : EndNext waits also a out x o s) where
+module _ (later : List (ℕ × RowEnd)) (waits : Line → Bool) (also : List ℕ) (a : Attempt) (out : Outcome) (x : StateSeen) (o : OpenEntry) (s : Seen) (is : EndNext later waits also a out x o s) where
   abbrev n : ℕ
-  n = (c waits also a out x o s is).number
+  n = (c later waits also a out x o s is).number
 
   -- the queue of those that wait for ready, or the other one, by a test of the call
   module _ (test other : ℕ → ℕ → Bool) (own : (row : ℕ) → other n row ≡ (test n row && not (row == a.place))) (away : (k row : ℕ) → (k == n) ≡ false → other k row ≡ test k row)
@@ -65,7 +66,7 @@ module _ (waits : Line → Bool) (also : List ℕ) (a : Attempt) (out : Outcome)
 
     pub queue_left : (pairs : List (ℕ × ℕ)) → AreExactly pairs test → AreExactly (queue_off a.row.call a.place a.row.placed pairs) other
     queue_left pairs h =
-        subst (λ (m : ℕ). AreExactly (queue_off m a.place a.row.placed pairs) other) (sym (call_is waits also a out x o s is)) (left_by a.row.placed refl pairs h)
+        subst (λ (m : ℕ). AreExactly (queue_off m a.place a.row.placed pairs) other) (sym (call_is later waits also a out x o s is)) (left_by a.row.placed refl pairs h)
 
   -- the outstanding ones
   module _ (then_ : Seen) (out_same : (link row : ℕ) → is_in_outstanding then_ link row ≡ (is_in_outstanding s link row && not (row == a.place))) where
@@ -98,10 +99,10 @@ module _ (waits : Line → Bool) (also : List ℕ) (a : Attempt) (out : Outcome)
         (none ∙ sym (out_same link a.place ∙ ap (λ (b : Bool). b && not (a.place == a.place)) none))
 
     out_left_by : (p : Option Placed) → a.row.placed ≡ p → AreExactly (out_off a.place p x.outstanding) (is_in_outstanding then_)
-    out_left_by None e = exactly_by x.outstanding (is_in_outstanding s) (is_in_outstanding then_) (books waits also a out x o s is).sets.outstanding (λ link row. none_by e link row (row == a.place) refl)
+    out_left_by None e = exactly_by x.outstanding (is_in_outstanding s) (is_in_outstanding then_) (books later waits also a out x o s is).sets.outstanding (λ link row. none_by e link row (row == a.place) refl)
     out_left_by (Some at) e =
         exactly_by (remove_key (is_same (at.link, a.place)) x.outstanding) (λ link row. is_in_outstanding s link row && not (is_same (at.link, a.place) (link, row))) (is_in_outstanding then_)
-        (exactly_remove x.outstanding (is_in_outstanding s) (at.link, a.place) (books waits also a out x o s is).sets.outstanding) (λ link row. out_by at e link row (row == a.place) refl)
+        (exactly_remove x.outstanding (is_in_outstanding s) (at.link, a.place) (books later waits also a out x o s is).sets.outstanding) (λ link row. out_by at e link row (row == a.place) refl)
 
     pub out_left : AreExactly (out_off a.place a.row.placed x.outstanding) (is_in_outstanding then_)
     out_left = out_left_by a.row.placed refl

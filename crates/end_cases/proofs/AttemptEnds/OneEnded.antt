@@ -23,6 +23,7 @@ use Rattle.end_cases.proofs.AttemptEnds.Lists.{IsFrom, from_map}
 use Rattle.end_cases.specs.AttemptEnds.Ahead.{LinksAhead}
 use Rattle.end_cases.specs.AttemptEnds.Ends.{EndNext, is_of_ends, may_wait}
 use Rattle.channel_core.specs.States.{StateSeen}
+use Rattle.end_cases.specs.AttemptEnds.Left.{all_left}
 use Rattle.session_actions.specs.Actions.{after as after_action, after_if}
 use Rattle.session_actions.specs.AttemptEnds.{with_end}
 use Rattle.session_actions.specs.Attempts.{is_of, is_outstanding, is_queued}
@@ -52,27 +53,27 @@ none_goes true true q false e m = refl
 none_goes true false q off e m = refl
 none_goes false out_ q off e m = absurd (cc)
 
-module _ (waits : Line → Bool) (also : List ℕ) (a : Attempt) (out : Outcome) (x : StateSeen) (o : OpenEntry) (s : Seen) (is : EndNext waits also a out x o s) where
+module _ (later : List (ℕ × RowEnd)) (waits : Line → Bool) (also : List ℕ) (a : Attempt) (out : Outcome) (x : StateSeen) (o : OpenEntry) (s : Seen) (is : EndNext later waits also a out x o s) where
   abbrev n : ℕ
-  n = (c waits also a out x o s is).number
+  n = (c later waits also a out x o s is).number
 
   abbrev v : Seen
-  v = u waits also a out x o s is
+  v = u later waits also a out x o s is
 
   abbrev end_ : RowEnd
-  end_ = e waits also a out x o s is
+  end_ = e later waits also a out x o s is
 
   abbrev pub act : Action
   act = action.AttemptEnds a.place end_
 
   pub after_is : after_action act s ≡ v
-  after_is = ap (λ (q : Option OpenEntry). after_if q act s) is.current ∙ t_is waits also a out x o s is
+  after_is = ap (λ (q : Option OpenEntry). after_if q act s) is.current ∙ t_is later waits also a out x o s is
 
   pub does_one : Does (act ∷ []) s v
   does_one = (is.next, sym after_is)
 
   abbrev pub kept : IsKept s
-  kept = (books waits also a out x o s is).kept
+  kept = (books later waits also a out x o s is).kept
 
   pub kept_one : IsKept v
   kept_one = kept_along (act ∷ []) s v kept does_one
@@ -90,7 +91,7 @@ module _ (waits : Line → Bool) (also : List ℕ) (a : Attempt) (out : Outcome)
   of_call_one = (
     record {
       acts = ap (λ (q : Option Attempt). option_map_or (λ (i : ℕ). i == n) (option_map (λ (b : Attempt). b.row.call) q) true) is.ending.there
-          ∙ eq-eqb a.row.call n (call_is waits also a out x o s is);
+          ∙ eq-eqb a.row.call n (call_is later waits also a out x o s is);
       passes = λ g at off. refl;
     },
     tt,
@@ -111,16 +112,16 @@ module _ (waits : Line → Bool) (also : List ℕ) (a : Attempt) (out : Outcome)
 
   pub plain : (l : Line) → stirs act l ≡ false → IsStill l o s → IsStill l entry_then v
   plain l off h =
-      subst (λ (q : Seen). q.current ≡ Some entry_then → IsStill l entry_then q) (t_is waits also a out x o s is)
+      subst (λ (q : Seen). q.current ≡ Some entry_then → IsStill l entry_then q) (t_is later waits also a out x o s is)
       (λ now. attempt_leaves a.place end_ o s is.current tt l entry_then now off h) current_one
 
-  pub put_is : put waits also a out x o s is a ≡ with_end end_ a
+  pub put_is : put later waits also a out x o s is a ≡ with_end end_ a
   put_is = ap (λ (b : Bool). if b then with_end end_ a else a) (eq-eqb a.place a.place refl)
 
   -- the attempt then, and those that are outstanding
   pub one_there : numbered v.attempts a.place ≡ Some (with_end end_ a)
   one_there =
-      attempt_at waits also a out x o s is a.place ∙ ap (option_map (put waits also a out x o s is)) is.ending.there
+      attempt_at later waits also a out x o s is a.place ∙ ap (option_map (put later waits also a out x o s is)) is.ending.there
       ∙ ap (λ (q : Attempt). Some q) put_is
 
   pub the_one : (i : ℕ) (q : Attempt) → slice_get v.attempts i ≡ Some q → (q.place == a.place) ≡ true → q ≡ with_end end_ a
@@ -130,26 +131,26 @@ module _ (waits : Line → Bool) (also : List ℕ) (a : Attempt) (out : Outcome)
       (cc)
 
   pub unreset_one : AreUnreset v
-  unreset_one = all_changed is_unreset (with_end (end waits also a out x o s is)) (λ b e. refl) a.place s.attempts is.unreset
+  unreset_one = all_changed is_unreset (with_end (end later waits also a out x o s is)) (λ b e. refl) a.place s.attempts is.unreset
 
   pub fewer_one : (link row : ℕ) → is_in_outstanding v link row ≡ true → is_in_outstanding s link row ≡ true
-  fewer_one link row e = left_of (is_in_outstanding s link row) (not (row == a.place)) (sym (in_out waits also a out x o s is link row) ∙ e)
+  fewer_one link row e = left_of (is_in_outstanding s link row) (not (row == a.place)) (sym (in_out later waits also a out x o s is link row) ∙ e)
 
-  pub links_one : LinksAhead also x v
-  links_one = subst (λ (q : Seen). LinksAhead also x q) (t_is waits also a out x o s is) is.links
+  pub links_one : LinksAhead also x (all_left later v)
+  links_one = subst (λ (q : Seen). LinksAhead also x (all_left later q)) (t_is later waits also a out x o s is) is.links
 
   -- all that came on its link was read
   pub all_read : (q : Option Placed) (l : Link) → option_and_then (λ (at : Placed). numbered s.links at.link) q ≡ Some l → list_all (is_read_by (read_bytes l)) l.traffic ≡ true
   all_read None l h = absurd (cc)
   all_read (Some at) l h = all_numbered (λ (g : Link). list_all (is_read_by (read_bytes g)) g.traffic) s.links at.link l h kept.reads
 
-  pub none_out : list_any (λ (q : Attempt). is_live s (c waits also a out x o s is) q && not (q.place == a.place)) s.attempts ≡ false
+  pub none_out : list_any (λ (q : Attempt). is_live s (c later waits also a out x o s is) q && not (q.place == a.place)) s.attempts ≡ false
       → (i : ℕ) (q : Attempt) → slice_get v.attempts i ≡ Some q → (q.row.call == n) ≡ true → is_outstanding q ≡ false
   none_out none_else i q at own =
-      let from : IsFrom (λ (g : Attempt). put waits also a out x o s is g) s.attempts i q
-      = from_map (λ (g : Attempt). put waits also a out x o s is g) s.attempts i q (ap (λ (xs : List Attempt). slice_get xs i) (sym (attempts_are waits also a out x o s is)) ∙ at) in
-      let mine : is_of (c waits also a out x o s is) from.one ≡ true
-      = ap (λ (j : ℕ). j == n) (sym (put_call waits also a out x o s is from.one) ∙ ap (λ (b : Attempt). b.row.call) (sym from.is)) ∙ own in
-      ap is_outstanding from.is ∙ put_out waits also a out x o s is from.one
-      ∙ none_goes (is_of (c waits also a out x o s is) from.one) (is_outstanding from.one) (is_queued from.one s) (not (from.one.place == a.place))
-      (numbered_not (λ (g : Attempt). is_live s (c waits also a out x o s is) g && not (g.place == a.place)) s.attempts (suc i) from.one none_else from.there) mine
+      let from : IsFrom (λ (g : Attempt). put later waits also a out x o s is g) s.attempts i q
+      = from_map (λ (g : Attempt). put later waits also a out x o s is g) s.attempts i q (ap (λ (xs : List Attempt). slice_get xs i) (sym (attempts_are later waits also a out x o s is)) ∙ at) in
+      let mine : is_of (c later waits also a out x o s is) from.one ≡ true
+      = ap (λ (j : ℕ). j == n) (sym (put_call later waits also a out x o s is from.one) ∙ ap (λ (b : Attempt). b.row.call) (sym from.is)) ∙ own in
+      ap is_outstanding from.is ∙ put_out later waits also a out x o s is from.one
+      ∙ none_goes (is_of (c later waits also a out x o s is) from.one) (is_outstanding from.one) (is_queued from.one s) (not (from.one.place == a.place))
+      (numbered_not (λ (g : Attempt). is_live s (c later waits also a out x o s is) g && not (g.place == a.place)) s.attempts (suc i) from.one none_else from.there) mine

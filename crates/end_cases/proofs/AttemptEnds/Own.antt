@@ -4,6 +4,7 @@ use Rattle.std.specs.Option.{option_map_or}
 use Rattle.attempt_buffer.specs.Buffers.{Buffered, closed}
 use Rattle.attempt_ledger.specs.declared.ledger.CallEnd.{CallEnd}
 use Rattle.attempt_ledger.specs.declared.ledger.CallSeen.{CallSeen}
+use Rattle.attempt_ledger.specs.declared.row.RowEnd.{RowEnd}
 use Rattle.call_actions.proofs.TakeActions.Deadlines.{deadline_is}
 use Rattle.call_actions.specs.Laws.{AttemptsAreDue}
 use Rattle.call_actions.specs.Order.{AreNumbered, IsInOrder, IsInTurn}
@@ -47,25 +48,25 @@ none_cause (Some k) (Some why) h = refl
 none_cause None (Some why) h = absurd (cc)
 none_cause (Some k) None h = absurd (cc)
 
-module _ (due : AttemptsAreDue) (waits : Line → Bool) (also : List ℕ) (a : Attempt) (out : Outcome) (x : StateSeen) (o : OpenEntry) (s : Seen) (is : EndNext waits also a out x o s)
-    (open_now : (c waits also a out x o s is).end ≡ None) (free : commitment (c waits also a out x o s is) s ≡ None) where
+module _ (due : AttemptsAreDue) (later : List (ℕ × RowEnd)) (waits : Line → Bool) (also : List ℕ) (a : Attempt) (out : Outcome) (x : StateSeen) (o : OpenEntry) (s : Seen) (is : EndNext later waits also a out x o s)
+    (open_now : (c later waits also a out x o s is).end ≡ None) (free : commitment (c later waits also a out x o s is) s ≡ None) where
   abbrev call : Call
-  call = c waits also a out x o s is
+  call = c later waits also a out x o s is
 
   abbrev then_ : Seen
-  then_ = u waits also a out x o s is
+  then_ = u later waits also a out x o s is
 
   abbrev called : Call
-  called = d waits also a out x o s is
+  called = d later waits also a out x o s is
 
   abbrev was_slot : CallSlot
-  was_slot = slot waits also a out x o s is
+  was_slot = slot later waits also a out x o s is
 
-  abbrev served : Serves s call (lent_to (x1 waits also a out x o s is) s was_slot)
-  served = (has waits also a out x o s is).sees.serves
+  abbrev served : Serves s call (lent_to (x1 later waits also a out x o s is) s was_slot)
+  served = (has later waits also a out x o s is).sees.serves
 
   free_now : commitment called then_ ≡ None
-  free_now = free_then waits also a out x o s is open_now free
+  free_now = free_then later waits also a out x o s is open_now free
 
   -- what the channel then has of the call
   module _ (y : StateSeen) (r : Stepped) (sees : Sees then_ called r) (order : IsInOrder then_ called) (turn : IsInTurn then_ called)
@@ -104,8 +105,8 @@ module _ (due : AttemptsAreDue) (waits : Line → Bool) (also : List ℕ) (a : A
         (subst (λ (i : Inbox). IsLeft (came call s) call.taken (channel_laws.head_items i.head ++ channel_laws.message_items i.messages)) (sym inbox) k)
 
     -- its messages
-    buffer_is : r.call.buffer ≡ buffer_then waits also a out x o s is open_now free
-    buffer_is = buffer ∙ closed_is was_slot.call.buffer a.place (free_buffer waits also a out x o s is open_now free)
+    buffer_is : r.call.buffer ≡ buffer_then later waits also a out x o s is open_now free
+    buffer_is = buffer ∙ closed_is was_slot.call.buffer a.place (free_buffer later waits also a out x o s is open_now free)
 
     pub own_serves : Serves then_ called (lent_to y then_ own_slot)
     own_serves = record {
@@ -118,7 +119,7 @@ module _ (due : AttemptsAreDue) (waits : Line → Bool) (also : List ℕ) (a : A
       end_taken = served.end_taken ∙ sym (ap (λ (i : Inbox). i.is_end_taken) inbox);
       going = served.going;
       left = λ e. left_is (served.left e);
-      holds = λ e. subst (λ (b : Buffered). Holds then_ called b) (sym buffer_is) (holds_then waits also a out x o s is open_now free);
+      holds = λ e. subst (λ (b : Buffered). Holds then_ called b) (sym buffer_is) (holds_then later waits also a out x o s is open_now free);
     }
 
     ended_none : is_none called.end ≡ is_none r.call.ended
@@ -136,7 +137,7 @@ module _ (due : AttemptsAreDue) (waits : Line → Bool) (also : List ℕ) (a : A
 
     pub own_call : SeesCall y then_ called own_slot
     own_call = record {
-      bucket = (has waits also a out x o s is).sees.bucket;
+      bucket = (has later waits also a out x o s is).sees.bucket;
       serves = own_serves;
       order = order;
       turn = turn;

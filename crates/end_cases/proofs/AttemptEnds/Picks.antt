@@ -3,6 +3,7 @@ use Rattle.std.proofs.Common.{◌≡◌, ◌==◌, ◌&&◌, ap, refl, sym, ◌�
 use Rattle.std.proofs.lemmas.Bool.{and_parts, and_right, eqb-false}
 use Rattle.std.specs.Prelude.{option_and_then}
 use Rattle.attempt_ledger.specs.declared.ledger.Ask.{Ask}
+use Rattle.attempt_ledger.specs.declared.row.RowEnd.{RowEnd}
 use Rattle.end_cases.proofs.AttemptEnds.After.{attempt_at, end, entry_is, put, u}
 use Rattle.end_cases.proofs.AttemptEnds.Agreeing.{early_by}
 use Rattle.end_cases.specs.AttemptEnds.Ends.{EndNext, is_of_ends, may_wait}
@@ -56,9 +57,9 @@ abbrev ends_row : Action → Option ℕ
 ends_row (action.AttemptEnds row stamp) = Some row
 ends_row _ = None
 
-module _ (waits : Line → Bool) (also : List ℕ) (a : Attempt) (out : Outcome) (x : StateSeen) (o : OpenEntry) (s : Seen) (is : EndNext waits also a out x o s) where
+module _ (later : List (ℕ × RowEnd)) (waits : Line → Bool) (also : List ℕ) (a : Attempt) (out : Outcome) (x : StateSeen) (o : OpenEntry) (s : Seen) (is : EndNext later waits also a out x o s) where
   abbrev v : Seen
-  v = u waits also a out x o s is
+  v = u later waits also a out x o s is
 
   before : (m : Line) → nat_lt (rank (is_loss o.event) m) (rank (is_loss o.event) line.Pick) ≡ true → IsStill m o s
   before m e =
@@ -101,23 +102,23 @@ module _ (waits : Line → Bool) (also : List ℕ) (a : Attempt) (out : Outcome)
   none_by ask None true last there e =
       let off : is_to_follow_pick v ask ≡ false
       = ap (λ (q : Option Attempt). (holds is_unfollowed q && (ask.entry == entry v)) && can_follow v ask.answer)
-      (attempt_at waits also a out x o s is ask.row ∙ ap (option_map (put waits also a out x o s is)) there) in
+      (attempt_at later waits also a out x o s is ask.row ∙ ap (option_map (put later waits also a out x o s is)) there) in
       sym e ∙ off
   none_by ask (Some q) true last there e =
-      let put_ : Attempt = put waits also a out x o s is q in
+      let put_ : Attempt = put later waits also a out x o s is q in
       let whole : ((is_unfollowed put_ && (ask.entry == entry v)) && can_follow v ask.answer) ≡ true
       = sym (ap (λ (r : Option Attempt). (holds is_unfollowed r && (ask.entry == entry v)) && can_follow v ask.answer)
-      (attempt_at waits also a out x o s is ask.row ∙ ap (option_map (put waits also a out x o s is)) there)) ∙ e in
+      (attempt_at later waits also a out x o s is ask.row ∙ ap (option_map (put later waits also a out x o s is)) there)) ∙ e in
       by_place (q.place == a.place) refl whole
     where
       by_place : (c : Bool) → (q.place == a.place) ≡ c
-          → ((is_unfollowed (if c then with_end (end waits also a out x o s is) q else q) && (ask.entry == entry v)) && can_follow v ask.answer) ≡ true → true ≡ false
+          → ((is_unfollowed (if c then with_end (end later waits also a out x o s is) q else q) && (ask.entry == entry v)) && can_follow v ask.answer) ≡ true → true ≡ false
       by_place true f whole =
           sym whole ∙ ap (λ (g : Bool). (g && (ask.entry == entry v)) && can_follow v ask.answer) (and_right (is_none q.row.placed) false refl)
       by_place false f whole =
           let both = and_parts (is_unfollowed q && (ask.entry == entry v)) (can_follow v ask.answer) whole in
           let may : (is_unfollowed q && (ask.entry == entry s)) ≡ true
-          = ap (λ (m : ℕ). is_unfollowed q && (ask.entry == m)) (sym (entry_is waits also a out x o s is)) ∙ both.0 in
+          = ap (λ (m : ℕ). is_unfollowed q && (ask.entry == m)) (sym (entry_is later waits also a out x o s is)) ∙ both.0 in
           absurd (eqb-false q.place a.place f (of_pick ask q ask.answer refl last there may both.1))
 
   still_by : (r : Option Ask) → last_of s.asks ≡ r → holds (is_to_follow_pick v) r ≡ false

@@ -2,6 +2,7 @@
 use Rattle.std.proofs.Common.{◌≡◌, ◌&&◌, ◌==◌, not, ap, refl, subst, sym, ◌∙◌, Bool, true, false, List, Option, None, Some, ℕ, is_none, is_some}
 use Rattle.std.proofs.lemmas.Bool.{and_parts, and_right, eq-eqb, eqb-true}
 use Rattle.attempt_ledger.specs.declared.row.Placed.{Placed}
+use Rattle.attempt_ledger.specs.declared.row.RowEnd.{RowEnd}
 use Rattle.channel_actions.proofs.SetFrames.Pairs.{exactly_by}
 use Rattle.channel_actions.proofs.SetFrames.Timers.{timers_exactly}
 use Rattle.channel_actions.specs.Calls.{deadline_of, due_of}
@@ -37,34 +38,34 @@ unplaced_by : (o : Option Placed) (n p over : Bool) → is_some o ≡ true → (
 unplaced_by None n p over e = absurd (cc)
 unplaced_by (Some at) n p over e = refl
 
-module _ (waits : Line → Bool) (also : List ℕ) (a : Attempt) (out : Outcome) (x : StateSeen) (o : OpenEntry) (s : Seen) (is : EndNext waits also a out x o s)
-    (open_now : (c waits also a out x o s is).end ≡ None) (free : commitment (c waits also a out x o s is) s ≡ None) (others : SetsApart (c waits also a out x o s is).number s (u waits also a out x o s is)) where
+module _ (later : List (ℕ × RowEnd)) (waits : Line → Bool) (also : List ℕ) (a : Attempt) (out : Outcome) (x : StateSeen) (o : OpenEntry) (s : Seen) (is : EndNext later waits also a out x o s)
+    (open_now : (c later waits also a out x o s is).end ≡ None) (free : commitment (c later waits also a out x o s is) s ≡ None) (others : SetsApart (c later waits also a out x o s is).number s (u later waits also a out x o s is)) where
   abbrev call : Call
-  call = c waits also a out x o s is
+  call = c later waits also a out x o s is
 
   abbrev n : ℕ
   n = call.number
 
   abbrev then_ : Seen
-  then_ = u waits also a out x o s is
+  then_ = u later waits also a out x o s is
 
   abbrev sets : SetsAgree x s
   sets = record {
-    queue = (books waits also a out x o s is).sets.queue;
-    patient = (books waits also a out x o s is).sets.patient;
-    dues = (books waits also a out x o s is).sets.dues;
-    deadlines = (books waits also a out x o s is).sets.deadlines;
-    bare = (books waits also a out x o s is).sets.bare;
-    impatient = (books waits also a out x o s is).sets.impatient;
-    outstanding = (books waits also a out x o s is).sets.outstanding;
+    queue = (books later waits also a out x o s is).sets.queue;
+    patient = (books later waits also a out x o s is).sets.patient;
+    dues = (books later waits also a out x o s is).sets.dues;
+    deadlines = (books later waits also a out x o s is).sets.deadlines;
+    bare = (books later waits also a out x o s is).sets.bare;
+    impatient = (books later waits also a out x o s is).sets.impatient;
+    outstanding = (books later waits also a out x o s is).sets.outstanding;
   }
 
   -- whether the call waits for ready
   patient_same : is_patient then_ n ≡ is_patient s n
-  patient_same = ap (holds (λ (k : Call). waits_for_ready k then_)) (d_here waits also a out x o s is) ∙ sym (ap (holds (λ (k : Call). waits_for_ready k s)) (here waits also a out x o s is))
+  patient_same = ap (holds (λ (k : Call). waits_for_ready k then_)) (d_here later waits also a out x o s is) ∙ sym (ap (holds (λ (k : Call). waits_for_ready k s)) (here later waits also a out x o s is))
 
   wait_same : (row : ℕ) → is_waiting then_ n row ≡ (is_waiting s n row && not (row == a.place))
-  wait_same row = in_wait waits also a out x o s is open_now free row
+  wait_same row = in_wait later waits also a out x o s is open_now free row
 
   -- it waited for a pick, or not
   not_waiting : is_some a.row.placed ≡ true → (row : ℕ) (b : Bool) → (row == a.place) ≡ b → is_waiting s n row ≡ true → (row == a.place) ≡ false
@@ -84,14 +85,14 @@ module _ (waits : Line → Bool) (also : List ℕ) (a : Attempt) (out : Outcome)
 
   pub queue_then : AreExactly (queue_off a.row.call a.place a.row.placed x.queue) (is_in_queue then_)
   queue_then =
-      queue_left waits also a out x o s is (is_in_queue s) (is_in_queue then_)
+      queue_left later waits also a out x o s is (is_in_queue s) (is_in_queue then_)
       (λ row. ap (λ (b : Bool). b && not (is_patient then_ n)) (wait_same row) ∙ ap (λ (b : Bool). (is_waiting s n row && not (row == a.place)) && not b) patient_same
       ∙ queue_by (not (is_patient s n)) row)
       (λ k row e. others.queue k row e) (λ some row e. not_waiting some row (row == a.place) refl (waiting_of (not (is_patient s n)) row e)) x.queue sets.queue
 
   pub patient_then : AreExactly (queue_off a.row.call a.place a.row.placed x.patient) (is_in_patient then_)
   patient_then =
-      queue_left waits also a out x o s is (is_in_patient s) (is_in_patient then_)
+      queue_left later waits also a out x o s is (is_in_patient s) (is_in_patient then_)
       (λ row. ap (λ (b : Bool). b && is_patient then_ n) (wait_same row) ∙ ap (λ (b : Bool). (is_waiting s n row && not (row == a.place)) && b) patient_same ∙ queue_by (is_patient s n) row)
       (λ k row e. others.patient k row e) (λ some row e. not_waiting some row (row == a.place) refl (waiting_of (is_patient s n) row e)) x.patient sets.patient
 
@@ -99,8 +100,8 @@ module _ (waits : Line → Bool) (also : List ℕ) (a : Attempt) (out : Outcome)
   bare_by : (z k : ℕ) (b : Bool) → (k == n) ≡ b → is_in_bare s z k ≡ is_in_bare then_ z k
   bare_by z k true e =
       subst (λ (m : ℕ). is_in_bare s z m ≡ is_in_bare then_ z m) (sym (eqb-true k n e))
-      (ap (λ (r : Option Call). (z == 0) && holds (λ (g : Call). is_open_call g && is_none g.config) r) (here waits also a out x o s is)
-      ∙ sym (ap (λ (r : Option Call). (z == 0) && holds (λ (g : Call). is_open_call g && is_none g.config) r) (d_here waits also a out x o s is)))
+      (ap (λ (r : Option Call). (z == 0) && holds (λ (g : Call). is_open_call g && is_none g.config) r) (here later waits also a out x o s is)
+      ∙ sym (ap (λ (r : Option Call). (z == 0) && holds (λ (g : Call). is_open_call g && is_none g.config) r) (d_here later waits also a out x o s is)))
   bare_by z k false e = sym (others.bare z k e)
 
   impatient_by : (z k : ℕ) (b : Bool) → (k == n) ≡ b → is_in_impatient s z k ≡ is_in_impatient then_ z k
@@ -110,26 +111,26 @@ module _ (waits : Line → Bool) (also : List ℕ) (a : Attempt) (out : Outcome)
   impatient_by z k false e = sym (others.impatient z k e)
 
   -- with the timers of the call
-  module _ (after : CallSlot) (due : due_of then_ (d waits also a out x o s is) ≡ after.due) (past : deadline_of then_ (d waits also a out x o s is) ≡ after.deadline) where
+  module _ (after : CallSlot) (due : due_of then_ (d later waits also a out x o s is) ≡ after.due) (past : deadline_of then_ (d later waits also a out x o s is) ≡ after.deadline) where
     pub sets_then : SetsAgree (record x {
       queue = queue_off a.row.call a.place a.row.placed x.queue;
       patient = queue_off a.row.call a.place a.row.placed x.patient;
       outstanding = out_off a.place a.row.placed x.outstanding;
-      dues = timer_moved n (slot waits also a out x o s is).due after.due x.dues;
-      deadlines = timer_moved n (slot waits also a out x o s is).deadline after.deadline x.deadlines;
+      dues = timer_moved n (slot later waits also a out x o s is).due after.due x.dues;
+      deadlines = timer_moved n (slot later waits also a out x o s is).deadline after.deadline x.deadlines;
     }) then_
     sets_then = record {
       queue = queue_then;
       patient = patient_then;
-      dues = timers_exactly n x.dues (is_in_dues s) (slot waits also a out x o s is).due after.due sets.dues
-          (λ m. ap (holds (λ (k : Call). is_number m (due_of s k))) (here waits also a out x o s is) ∙ ap (is_number m) (has waits also a out x o s is).sees.due)
+      dues = timers_exactly n x.dues (is_in_dues s) (slot later waits also a out x o s is).due after.due sets.dues
+          (λ m. ap (holds (λ (k : Call). is_number m (due_of s k))) (here later waits also a out x o s is) ∙ ap (is_number m) (has later waits also a out x o s is).sees.due)
           (is_in_dues then_) (λ m k e. others.dues m k e)
-          (λ m. ap (holds (λ (k : Call). is_number m (due_of then_ k))) (d_here waits also a out x o s is) ∙ ap (is_number m) due);
-      deadlines = timers_exactly n x.deadlines (is_in_deadlines s) (slot waits also a out x o s is).deadline after.deadline sets.deadlines
-          (λ m. ap (holds (λ (k : Call). is_number m (deadline_of s k))) (here waits also a out x o s is) ∙ ap (is_number m) (has waits also a out x o s is).sees.deadline_is)
+          (λ m. ap (holds (λ (k : Call). is_number m (due_of then_ k))) (d_here later waits also a out x o s is) ∙ ap (is_number m) due);
+      deadlines = timers_exactly n x.deadlines (is_in_deadlines s) (slot later waits also a out x o s is).deadline after.deadline sets.deadlines
+          (λ m. ap (holds (λ (k : Call). is_number m (deadline_of s k))) (here later waits also a out x o s is) ∙ ap (is_number m) (has later waits also a out x o s is).sees.deadline_is)
           (is_in_deadlines then_) (λ m k e. others.deadlines m k e)
-          (λ m. ap (holds (λ (k : Call). is_number m (deadline_of then_ k))) (d_here waits also a out x o s is) ∙ ap (is_number m) past);
+          (λ m. ap (holds (λ (k : Call). is_number m (deadline_of then_ k))) (d_here later waits also a out x o s is) ∙ ap (is_number m) past);
       bare = exactly_by x.bare (is_in_bare s) (is_in_bare then_) sets.bare (λ z k. bare_by z k (k == n) refl);
       impatient = exactly_by x.impatient (is_in_impatient s) (is_in_impatient then_) sets.impatient (λ z k. impatient_by z k (k == n) refl);
-      outstanding = out_left waits also a out x o s is then_ (in_out waits also a out x o s is);
+      outstanding = out_left later waits also a out x o s is then_ (in_out later waits also a out x o s is);
     }

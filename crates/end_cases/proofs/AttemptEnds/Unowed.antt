@@ -23,7 +23,7 @@ none_owed s none l =
     ap (λ (xs : List Attempt). map (owed_reset s) (by_stream xs))
     (filter_none (is_owed_on l s) (is_to_reset s) (λ a e. ap (λ (b : Bool). b && (link_number a == l.number)) e) s.attempts none)
 
-module _ (x : StateSeen) (s : Seen) (h : AgreesAhead [] x s) (none : list_any (is_to_reset s) s.attempts ≡ false) (closed : x.resets ≡ []) where
+module _ (x : StateSeen) (s : Seen) (h : AgreesAhead [] [] x s) (none : list_any (is_to_reset s) s.attempts ≡ false) (closed : x.resets ≡ []) where
   nothing : (l : Link) → resets_owed l s ≡ []
   nothing = none_owed s none
 
@@ -90,7 +90,7 @@ module _ (also : List ℕ) (x : StateSeen) (s : Seen) (h : Agrees x s) (unreset 
     sees = record { over = is.sees.over; retiring = is.sees.retiring; going = λ goes. ahead l is.slot (is.sees.going goes) };
   }
 
-  pub agrees_ahead : AgreesAhead also x s
+  pub agrees_ahead : AgreesAhead [] also x s
   agrees_ahead = record {
     books = record {
       clock = h.clock;

@@ -1,5 +1,6 @@
 -- An attempt ends, and its call goes on: put together.
 use Rattle.std.proofs.Common.{◌≡◌, ◌==◌, ◌&&◌, not, refl, subst, sym, ◌∙◌, Bool, true, false, List, [], ℕ}
+use Rattle.attempt_ledger.specs.declared.row.RowEnd.{RowEnd}
 use Rattle.call_actions.proofs.CallsApart.Moves.{all_changed}
 use Rattle.call_cases.specs.EndsFollow.Cuts.{AreUnreset, is_unreset}
 use Rattle.call_cases.specs.EndsFollow.Laws.{is_late}
@@ -29,27 +30,27 @@ fewer_by : (p q : Bool) → (p && q) ≡ true → p ≡ true
 fewer_by true q e = refl
 fewer_by false q e = absurd (cc)
 
-module _ (waits : Line → Bool) (also : List ℕ) (a : Attempt) (out : Outcome) (x : StateSeen) (o : OpenEntry) (s : Seen) (is : EndNext waits also a out x o s)
-    (case : GoesOnAfter s (c waits also a out x o s is) a out) where
+module _ (later : List (ℕ × RowEnd)) (waits : Line → Bool) (also : List ℕ) (a : Attempt) (out : Outcome) (x : StateSeen) (o : OpenEntry) (s : Seen) (is : EndNext later waits also a out x o s)
+    (case : GoesOnAfter s (c later waits also a out x o s is) a out) where
   abbrev v : Seen
-  v = then_ waits also a out x o s is case
+  v = then_ later waits also a out x o s is case
 
   abbrev p : OpenEntry
-  p = entry_then waits also a out x o s is case
+  p = entry_then later waits also a out x o s is case
 
   still_then : (l : Line) → may_wait l ≡ false → IsStill l p v
-  still_then line.Transparent may = unfollowed waits also a out x o s is case
-  still_then line.Row may = unended waits also a out x o s is case
-  still_then line.Final may = unfinal waits also a out x o s is case
-  still_then line.Pick may = unpicked waits also a out x o s is p
-  still_then line.Cut may = plain waits also a out x o s is case line.Cut refl (was_still waits also a out x o s is case line.Cut refl refl)
-  still_then line.Inherited may = plain waits also a out x o s is case line.Inherited refl (was_still waits also a out x o s is case line.Inherited refl refl)
-  still_then line.Cancelled may = plain waits also a out x o s is case line.Cancelled refl (was_still waits also a out x o s is case line.Cancelled refl refl)
-  still_then line.Request may = plain waits also a out x o s is case line.Request refl (was_still waits also a out x o s is case line.Request refl refl)
-  still_then line.Response may = plain waits also a out x o s is case line.Response refl (was_still waits also a out x o s is case line.Response refl refl)
-  still_then line.Overflow may = plain waits also a out x o s is case line.Overflow refl (was_still waits also a out x o s is case line.Overflow refl refl)
-  still_then line.Head may = plain waits also a out x o s is case line.Head refl (was_still waits also a out x o s is case line.Head refl refl)
-  still_then line.Link may = plain waits also a out x o s is case line.Link refl (was_still waits also a out x o s is case line.Link refl refl)
+  still_then line.Transparent may = unfollowed later waits also a out x o s is case
+  still_then line.Row may = unended later waits also a out x o s is case
+  still_then line.Final may = unfinal later waits also a out x o s is case
+  still_then line.Pick may = unpicked later waits also a out x o s is p
+  still_then line.Cut may = plain later waits also a out x o s is case line.Cut refl (was_still later waits also a out x o s is case line.Cut refl refl)
+  still_then line.Inherited may = plain later waits also a out x o s is case line.Inherited refl (was_still later waits also a out x o s is case line.Inherited refl refl)
+  still_then line.Cancelled may = plain later waits also a out x o s is case line.Cancelled refl (was_still later waits also a out x o s is case line.Cancelled refl refl)
+  still_then line.Request may = plain later waits also a out x o s is case line.Request refl (was_still later waits also a out x o s is case line.Request refl refl)
+  still_then line.Response may = plain later waits also a out x o s is case line.Response refl (was_still later waits also a out x o s is case line.Response refl refl)
+  still_then line.Overflow may = plain later waits also a out x o s is case line.Overflow refl (was_still later waits also a out x o s is case line.Overflow refl refl)
+  still_then line.Head may = plain later waits also a out x o s is case line.Head refl (was_still later waits also a out x o s is case line.Head refl refl)
+  still_then line.Link may = plain later waits also a out x o s is case line.Link refl (was_still later waits also a out x o s is case line.Link refl refl)
   still_then line.WireEnd may = absurd (cc)
   still_then line.Reset may = absurd (cc)
   still_then line.Shut may = absurd (cc)
@@ -60,12 +61,12 @@ module _ (waits : Line → Bool) (also : List ℕ) (a : Attempt) (out : Outcome)
   still_then line.Add may = absurd (cc)
 
   late_then : (l : Line) → is_late l ≡ true → waits l ≡ false → IsStill l p v
-  late_then line.Shut late off = plain waits also a out x o s is case line.Shut refl (is.still line.Shut refl off)
-  late_then line.Retire late off = plain waits also a out x o s is case line.Retire refl (is.still line.Retire refl off)
-  late_then line.Begin late off = plain waits also a out x o s is case line.Begin refl (is.still line.Begin refl off)
-  late_then line.Give late off = plain waits also a out x o s is case line.Give refl (is.still line.Give refl off)
-  late_then line.Drop late off = plain waits also a out x o s is case line.Drop refl (is.still line.Drop refl off)
-  late_then line.Add late off = plain waits also a out x o s is case line.Add refl (is.still line.Add refl off)
+  late_then line.Shut late off = plain later waits also a out x o s is case line.Shut refl (is.still line.Shut refl off)
+  late_then line.Retire late off = plain later waits also a out x o s is case line.Retire refl (is.still line.Retire refl off)
+  late_then line.Begin late off = plain later waits also a out x o s is case line.Begin refl (is.still line.Begin refl off)
+  late_then line.Give late off = plain later waits also a out x o s is case line.Give refl (is.still line.Give refl off)
+  late_then line.Drop late off = plain later waits also a out x o s is case line.Drop refl (is.still line.Drop refl off)
+  late_then line.Add late off = plain later waits also a out x o s is case line.Add refl (is.still line.Add refl off)
   late_then line.Transparent late off = absurd (cc)
   late_then line.Row late off = absurd (cc)
   late_then line.Final late off = absurd (cc)
@@ -82,37 +83,37 @@ module _ (waits : Line → Bool) (also : List ℕ) (a : Attempt) (out : Outcome)
   late_then line.Reset late off = absurd (cc)
 
   unreset_then : AreUnreset v
-  unreset_then = all_changed is_unreset (with_end (end waits also a out x o s is)) (λ b e. refl) a.place s.attempts is.unreset
+  unreset_then = all_changed is_unreset (with_end (end later waits also a out x o s is)) (λ b e. refl) a.place s.attempts is.unreset
 
-  agrees_then : AgreesAhead also (ended_in a (news waits also a out x o s is) x) v
+  agrees_then : AgreesAhead later also (ended_in a (news later waits also a out x o s is) x) v
   agrees_then =
-      subst (λ (y : StateSeen). AgreesAhead also y v) (sym (ended_is waits also a out x o s is case))
+      subst (λ (y : StateSeen). AgreesAhead later also y v) (sym (ended_is later waits also a out x o s is case))
       (record {
-        books = books_then waits also a out x o s is case
-            (noted_then waits also a out x o s is (y1 waits also a out x o s is case) refl refl refl refl
-            (sets_now waits also a out x o s is case).outstanding (kept_then waits also a out x o s is case));
-        links = links_then waits also a out x o s is case;
+        books = books_then later waits also a out x o s is case
+            (noted_then later waits also a out x o s is (y1 later waits also a out x o s is case) refl refl refl refl
+            (sets_now later waits also a out x o s is case).outstanding (kept_then later waits also a out x o s is case));
+        links = links_then later waits also a out x o s is case;
         unreset = unreset_then;
       })
 
-  has_ended : HasEnded waits also a out x o s
+  has_ended : HasEnded later waits also a out x o s
   has_ended = record {
     actions = [];
     seen = v;
     entry = p;
-    does = does waits also a out x o s is case;
+    does = does later waits also a out x o s is case;
     posts = refl;
     same = record { moment = refl; word = refl; event = refl; entries = refl; setup = refl };
     stage = refl;
     reply = refl;
     turn = refl;
-    current = current_then waits also a out x o s is case;
+    current = current_then later waits also a out x o s is case;
     still = still_then;
     late = late_then;
-    wire = λ h. plain waits also a out x o s is case line.WireEnd refl h;
-    fewer = λ link row e. fewer_by (is_in_outstanding s link row) (not (row == a.place)) (sym (in_out waits also a out x o s is link row) ∙ e);
+    wire = λ h. plain later waits also a out x o s is case line.WireEnd refl h;
+    fewer = λ link row e. fewer_by (is_in_outstanding s link row) (not (row == a.place)) (sym (in_out later waits also a out x o s is link row) ∙ e);
     agrees = agrees_then;
   }
 
 pub calls_go_on_after_ends : CallsGoOnAfterEnds
-calls_go_on_after_ends waits also a out x o s is case = has_ended waits also a out x o s is case
+calls_go_on_after_ends later waits also a out x o s is case = has_ended later waits also a out x o s is case

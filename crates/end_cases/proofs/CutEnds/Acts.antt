@@ -18,6 +18,7 @@ use Rattle.end_cases.proofs.AttemptEnds.Closing.{Parts}
 use Rattle.end_cases.proofs.AttemptEnds.Told.{book_with, slot_after, step_of, told_form}
 use Rattle.end_cases.proofs.AttemptEnds.ToldEnd.{acted_so, b, slot_is}
 use Rattle.attempt_cases.proofs.CallCommits.Linked.{all_passing}
+use Rattle.attempt_ledger.specs.declared.row.RowEnd.{RowEnd}
 use Rattle.call_cases.proofs.ConfiguredCalls.Lists.{same_words}
 use Rattle.end_cases.proofs.CutEnds.Ahead.{key_of}
 use Rattle.end_cases.proofs.CutEnds.Call.{done, given_rows, goes_else, made, steps_so, whole}
@@ -99,34 +100,34 @@ module _ (place : ℕ) (end : EndNews) (n : ℕ) (z : StateSeen) (held : CallSlo
       ∙ ap (λ (q : StateSeen). timers_moved_to n (Some v0) (clothed n q)) form
       ∙ timed
 
-module _ (waits : Line → Bool) (also : List ℕ) (a : Attempt) (out : Outcome) (x : StateSeen) (o : OpenEntry) (s : Seen) (is : EndNext waits also a out x o s)
-    (counting : IsCounting s (c waits also a out x o s is) out) (free : commitment (c waits also a out x o s is) s ≡ None)
-    (final : goes_on_after (plan_of (c waits also a out x o s is) s) s (c waits also a out x o s is) a out ≡ false)
-    (last_end : is_last_end (plan_of (c waits also a out x o s is) s) (c waits also a out x o s is) a out s ≡ true) where
+module _ (later : List (ℕ × RowEnd)) (waits : Line → Bool) (also : List ℕ) (a : Attempt) (out : Outcome) (x : StateSeen) (o : OpenEntry) (s : Seen) (is : EndNext later waits also a out x o s)
+    (counting : IsCounting s (c later waits also a out x o s is) out) (free : commitment (c later waits also a out x o s is) s ≡ None)
+    (final : goes_on_after (plan_of (c later waits also a out x o s is) s) s (c later waits also a out x o s is) a out ≡ false)
+    (last_end : is_last_end (plan_of (c later waits also a out x o s is) s) (c later waits also a out x o s is) a out s ≡ true) where
   abbrev n : ℕ
-  n = (c waits also a out x o s is).number
+  n = (c later waits also a out x o s is).number
 
   abbrev z1 : StateSeen
-  z1 = z waits also a out x o s is
+  z1 = z later waits also a out x o s is
 
   abbrev was : CallSlot
-  was = closing.was waits also a out x o s is counting
+  was = closing.was later waits also a out x o s is counting
 
   abbrev rows1 : List LiveRow
-  rows1 = given_rows waits also a out x o s is counting free final last_end
+  rows1 = given_rows later waits also a out x o s is counting free final last_end
 
   abbrev stepped1 : Stepped
-  stepped1 = closing.stepped waits also a out x o s is counting (made waits also a out x o s is counting free final last_end)
+  stepped1 = closing.stepped later waits also a out x o s is counting (made later waits also a out x o s is counting free final last_end)
 
   abbrev t : Seen
-  t = (whole waits also a out x o s is counting free final last_end).seen
+  t = (whole later waits also a out x o s is counting free final last_end).seen
 
-  abbrev walked : Walked waits also a out x o s is counting free final t
-  walked = (done waits also a out x o s is counting free final last_end).walked
+  abbrev walked : Walked later waits also a out x o s is counting free final t
+  walked = (done later waits also a out x o s is counting free final last_end).walked
 
   -- the channel, where the acts of the call begin, and where they end
   abbrev pub first : StateSeen
-  first = begun a.place (news waits also a out x o s is) n z1 was a.row (row_is waits also a out x o s is) (call_is waits also a out x o s is) (slot_there waits also a out x o s is) ending_cause.Row rows1 stepped1
+  first = begun a.place (news later waits also a out x o s is) n z1 was a.row (row_is later waits also a out x o s is) (call_is later waits also a out x o s is) (slot_there later waits also a out x o s is) ending_cause.Row rows1 stepped1
 
   abbrev pub last : StateSeen
   last = acts_done n (map given rows1) first
@@ -139,8 +140,8 @@ module _ (waits : Line → Bool) (also : List ℕ) (a : Attempt) (out : Outcome)
   row_link : (i : ℕ) (q : Attempt) → slice_get s.attempts i ≡ Some q → link_of (tables.numbered stepped1.ledger.rows q.place) ≡ link_of_placed q.row.placed
   row_link i q at =
       let rows_same : stepped1.ledger.rows ≡ map (λ (g : Attempt). g.row) t.attempts
-      = sym (steps_so waits also a out x o s is counting free final last_end).sees.rows in
-      let here : numbered s.attempts q.place ≡ Some q = ap (numbered s.attempts) (place_of waits also a out x o s is counting q i at) ∙ at in
+      = sym (steps_so later waits also a out x o s is counting free final last_end).sees.rows in
+      let here : numbered s.attempts q.place ≡ Some q = ap (numbered s.attempts) (place_of later waits also a out x o s is counting q i at) ∙ at in
       ap link_of (same_words stepped1.ledger.rows q.place)
       ∙ ap (λ (rs : List Row). link_of (numbered rs q.place)) rows_same
       ∙ ap link_of (numbered_map (λ (g : Attempt). g.row) t.attempts q.place)
@@ -154,14 +155,14 @@ module _ (waits : Line → Bool) (also : List ℕ) (a : Attempt) (out : Outcome)
 
   pub linked : AllByRecursion (λ (r : LiveRow). LinkIn first.book.ledger.rows r.place r.link) rows1
   linked =
-      all_passing (λ (r : LiveRow). LinkIn first.book.ledger.rows r.place r.link) (goes_else waits also a out x o s is counting free final last_end) s.attempts
+      all_passing (λ (r : LiveRow). LinkIn first.book.ledger.rows r.place r.link) (goes_else later waits also a out x o s is counting free final last_end) s.attempts
       (λ i q at. linked_by q.place q.row.placed (row_link i q at))
 
   pub is_done : IsDone n rows1 first last
   is_done = all_done n rows1 first linked
 
   -- what the channel then is
-  abbrev pub parts : Parts waits also a out x o s is counting
+  abbrev pub parts : Parts later waits also a out x o s is counting
   parts = record {
     links = last.links;
     resets = last.resets;
@@ -172,13 +173,13 @@ module _ (waits : Line → Bool) (also : List ℕ) (a : Attempt) (out : Outcome)
   }
 
   abbrev pub then_ : StateSeen
-  then_ = closing.told_with waits also a out x o s is counting (made waits also a out x o s is counting free final last_end) parts
+  then_ = closing.told_with later waits also a out x o s is counting (made later waits also a out x o s is counting free final last_end) parts
 
-  pub told_is : told a.place (news_of_link.Ended a.place (news waits also a out x o s is)) z1 ≡ then_
+  pub told_is : told a.place (news_of_link.Ended a.place (news later waits also a out x o s is)) z1 ≡ then_
   told_is =
-      told_rows a.place (news waits also a out x o s is) n z1 was a.row (row_is waits also a out x o s is) (call_is waits also a out x o s is) (slot_there waits also a out x o s is)
-      ending_cause.Row rows1 (ap (λ (q : Stepped). q.acts) (steps_so waits also a out x o s is counting free final last_end).step_is)
-      ∙ ap (λ (q : Stepped). closed_rows a.place (news waits also a out x o s is) n z1 was a.row (row_is waits also a out x o s is) (call_is waits also a out x o s is)
-      (slot_there waits also a out x o s is) ending_cause.Row rows1 q) (steps_so waits also a out x o s is counting free final last_end).step_is
+      told_rows a.place (news later waits also a out x o s is) n z1 was a.row (row_is later waits also a out x o s is) (call_is later waits also a out x o s is) (slot_there later waits also a out x o s is)
+      ending_cause.Row rows1 (ap (λ (q : Stepped). q.acts) (steps_so later waits also a out x o s is counting free final last_end).step_is)
+      ∙ ap (λ (q : Stepped). closed_rows a.place (news later waits also a out x o s is) n z1 was a.row (row_is later waits also a out x o s is) (call_is later waits also a out x o s is)
+      (slot_there later waits also a out x o s is) ending_cause.Row rows1 q) (steps_so later waits also a out x o s is counting free final last_end).step_is
       ∙ ap (λ (pairs : List (ℕ × ℕ)). record then_ { bare = remove_key (is_same (0, n)) pairs; impatient = remove_key (is_same (0, n)) last.impatient }) is_done.bare
       ∙ ap (λ (pairs : List (ℕ × ℕ)). record then_ { impatient = remove_key (is_same (0, n)) pairs }) is_done.impatient

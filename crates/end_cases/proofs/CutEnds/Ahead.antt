@@ -233,7 +233,7 @@ module _ (s : Seen) (a : Attempt) (out : IsOut s a) (places : ArePlaced 1 s.atte
         (readers_elsewhere s a out places l off slot.link.readers (readers_of l s slot.link.readers is.readers))
 
 -- what is left of the links that are to be closed
-one_more : (xs ys : List ℕ) (n : ℕ) → is_one_of (xs ++ ys) n ≡ (is_one_of xs n || is_one_of ys n)
+pub one_more : (xs ys : List ℕ) (n : ℕ) → is_one_of (xs ++ ys) n ≡ (is_one_of xs n || is_one_of ys n)
 one_more [] ys n = refl
 one_more (x ∷ xs) ys n = ap (λ (b : Bool). (x == n) || b) (one_more xs ys n) ∙ joined (x == n) (is_one_of xs n) (is_one_of ys n)
   where

@@ -29,6 +29,7 @@ use Rattle.end_cases.proofs.AttemptEnds.Closing as closing
 use Rattle.end_cases.proofs.AttemptEnds.Closing.{Between, Goes, Made, Steps}
 use Rattle.end_cases.proofs.AttemptEnds.LastCommits as last
 use Rattle.attempt_cases.proofs.CallCommits.Given.{cut_is, else_is, elses, told_is}
+use Rattle.attempt_ledger.specs.declared.row.RowEnd.{RowEnd}
 use Rattle.call_cases.proofs.ConfiguredCalls.Lists.{same_words}
 use Rattle.end_cases.proofs.CutEnds.Ends as ending_cuts
 use Rattle.end_cases.proofs.CutEnds.Ends.{b as between}
@@ -129,71 +130,71 @@ gone_reads : (p : Option Placed) (z : StateSeen) → AreReadAlike (gone_with p z
 gone_reads None z = record { each = λ k. refl }
 gone_reads (Some at) z = gone_by_test z.book.ledger.entry at.link z (is_gone at.link z)
 
-module _ (waits : Line → Bool) (also : List ℕ) (a : Attempt) (out : Outcome) (x : StateSeen) (o : OpenEntry) (s : Seen) (is : EndNext waits also a out x o s)
-    (counting : IsCounting s (c waits also a out x o s is) out) (free : commitment (c waits also a out x o s is) s ≡ None)
-    (final : goes_on_after (plan_of (c waits also a out x o s is) s) s (c waits also a out x o s is) a out ≡ false)
-    (last_end : is_last_end (plan_of (c waits also a out x o s is) s) (c waits also a out x o s is) a out s ≡ true) where
+module _ (later : List (ℕ × RowEnd)) (waits : Line → Bool) (also : List ℕ) (a : Attempt) (out : Outcome) (x : StateSeen) (o : OpenEntry) (s : Seen) (is : EndNext later waits also a out x o s)
+    (counting : IsCounting s (c later waits also a out x o s is) out) (free : commitment (c later waits also a out x o s is) s ≡ None)
+    (final : goes_on_after (plan_of (c later waits also a out x o s is) s) s (c later waits also a out x o s is) a out ≡ false)
+    (last_end : is_last_end (plan_of (c later waits also a out x o s is) s) (c later waits also a out x o s is) a out s ≡ true) where
   abbrev k : Call
-  k = c waits also a out x o s is
+  k = c later waits also a out x o s is
 
   abbrev n : ℕ
   n = k.number
 
   abbrev v : Seen
-  v = closing.v waits also a out x o s is counting
+  v = closing.v later waits also a out x o s is counting
 
   abbrev order : IsInOrder s k
-  order = closing.order waits also a out x o s is counting
+  order = closing.order later waits also a out x o s is counting
 
   abbrev turn : IsInTurn s k
-  turn = closing.turn waits also a out x o s is counting
+  turn = closing.turn later waits also a out x o s is counting
 
   -- with the links of the session in the ledger
   abbrev links_seen : List LinkSeen
   links_seen = map link_seen s.links
 
   abbrev lent_s : Stepped
-  lent_s = lent_to (x1 waits also a out x o s is) s (slot waits also a out x o s is)
+  lent_s = lent_to (x1 later waits also a out x o s is) s (slot later waits also a out x o s is)
 
   abbrev seen_s : Sees s k lent_s
-  seen_s = (has waits also a out x o s is).sees.serves.sees
+  seen_s = (has later waits also a out x o s is).sees.serves.sees
 
   abbrev step_of : Stepped → Stepped
-  step_of z = ended_at a.place (news waits also a out x o s is) (now s) (next_word s) z
+  step_of z = ended_at a.place (news later waits also a out x o s is) (now s) (next_word s) z
 
   pub whole : ClosesWithCuts s k a.place (end_of a out s) (step_of lent_s)
   whole =
       final_ends_cut_others s k lent_s a.place a out (ap (λ (q : Option OpenEntry). is_some q) is.current) seen_s order turn refl is.ending counting free last_end
 
-  are : AreCut n whole.cuts (f waits also a out x o s is counting free final) whole.seen
+  are : AreCut n whole.cuts (f later waits also a out x o s is counting free final) whole.seen
   are =
-      subst (λ (z : Seen). AreCut n whole.cuts z whole.seen) (last.f_is waits also a out x o s is counting)
-      (subst (λ (z : Seen). AreCut n whole.cuts (call_committed a.place z) whole.seen) (t_is waits also a out x o s is) whole.cut)
+      subst (λ (z : Seen). AreCut n whole.cuts z whole.seen) (last.f_is later waits also a out x o s is counting)
+      (subst (λ (z : Seen). AreCut n whole.cuts (call_committed a.place z) whole.seen) (t_is later waits also a out x o s is) whole.cut)
 
-  pub done : Done waits also a out x o s is counting free final (f waits also a out x o s is counting free final) whole.seen
-  done = walk waits also a out x o s is counting free final whole.cuts (f waits also a out x o s is counting free final) whole.seen (start waits also a out x o s is counting free final) are
+  pub done : Done later waits also a out x o s is counting free final (f later waits also a out x o s is counting free final) whole.seen
+  done = walk later waits also a out x o s is counting free final whole.cuts (f later waits also a out x o s is counting free final) whole.seen (start later waits also a out x o s is counting free final) are
 
-  abbrev pub b : Between waits also a out x o s is counting
-  b = between waits also a out x o s is counting free final whole.seen done.walked done.none
+  abbrev pub b : Between later waits also a out x o s is counting
+  b = between later waits also a out x o s is counting free final whole.seen done.walked done.none
 
   abbrev pub w : Seen
-  w = closing.closed waits also a out x o s is counting b
+  w = closing.closed later waits also a out x o s is counting b
 
   abbrev pub ek : Call
-  ek = closing.ended waits also a out x o s is counting b
+  ek = closing.ended later waits also a out x o s is counting b
 
-  pub goes : Goes waits also a out x o s is counting b
-  goes = ending_cuts.goes waits also a out x o s is counting free final whole.seen done.walked done.none
+  pub goes : Goes later waits also a out x o s is counting b
+  goes = ending_cuts.goes later waits also a out x o s is counting free final whole.seen done.walked done.none
 
   keeps : Keeps w n (step_of lent_s)
   keeps =
-      subst (λ (z : Seen). Keeps (call_ended n ending_cause.Row z) n (step_of lent_s)) (ending_cuts.form waits also a out x o s is counting free final whole.seen done.walked done.none)
+      subst (λ (z : Seen). Keeps (call_ended n ending_cause.Row z) n (step_of lent_s)) (ending_cuts.form later waits also a out x o s is counting free final whole.seen done.walked done.none)
       whole.closes
 
   same_call : keeps.call ≡ ek
   same_call =
       let two : Some keeps.call ≡ Some ek
-      = sym keeps.sees.own ∙ ap (numbered w.calls) keeps.number_is ∙ closing.closed_at waits also a out x o s is counting b goes.here in
+      = sym keeps.sees.own ∙ ap (numbered w.calls) keeps.number_is ∙ closing.closed_at later waits also a out x o s is counting b goes.here in
       (cc)
 
   sees_step : Sees w ek (step_of lent_s)
@@ -207,10 +208,10 @@ module _ (waits : Line → Bool) (also : List ℕ) (a : Attempt) (out : Outcome)
   before_s = ending.after s k lent_s a.place a out seen_s order turn is.ending counting
 
   abbrev lent : Stepped
-  lent = x2 waits also a out x o s is
+  lent = x2 later waits also a out x o s is
 
   abbrev seen : Sees s k lent
-  seen = sees waits also a out x o s is
+  seen = sees later waits also a out x o s is
 
   abbrev before : Stepped
   before = ending.after s k lent a.place a out seen order turn is.ending counting
@@ -244,7 +245,7 @@ module _ (waits : Line → Bool) (also : List ℕ) (a : Attempt) (out : Outcome)
   given_rows = map live_row (filter goes_else s.attempts)
 
   abbrev live : List LiveRow
-  live = without a.place (slot waits also a out x o s is).call.live
+  live = without a.place (slot later waits also a out x o s is).call.live
 
   rows_are : given_rows ≡ live
   rows_are = ending.rest_is s k lent a.place a out seen order turn is.ending counting
@@ -261,7 +262,7 @@ module _ (waits : Line → Bool) (also : List ℕ) (a : Attempt) (out : Outcome)
   abbrev pub stamped : Ledger
   stamped = commit_stamped a.place before.ledger
 
-  abbrev pub made : Made waits also a out x o s is counting
+  abbrev pub made : Made later waits also a out x o s is counting
   made = record {
     attempts = stopped_attempts (committed_attempts a.place before.call.attempts);
     rows = (cut_all None (now s) tokens given_rows stamped).rows;
@@ -287,11 +288,11 @@ module _ (waits : Line → Bool) (also : List ℕ) (a : Attempt) (out : Outcome)
   shaped : (ledger : Ledger) → shape (kept_alone a.place live) (cut_all (Some a.place) (now s) tokens live ledger) (told_all (Some a.place) live [])
       ≡ shape [] (cut_all None (now s) tokens given_rows ledger) (map given given_rows)
   shaped ledger =
-      ap (λ (rs : List LiveRow). shape rs (cut_all (Some a.place) (now s) tokens live ledger) (told_all (Some a.place) live [])) (none_kept a.place (slot waits also a out x o s is).call.live)
+      ap (λ (rs : List LiveRow). shape rs (cut_all (Some a.place) (now s) tokens live ledger) (told_all (Some a.place) live [])) (none_kept a.place (slot later waits also a out x o s is).call.live)
       ∙ ap (λ (l : Ledger). shape [] l (told_all (Some a.place) live [])) (cut_rows ledger)
       ∙ ap (λ (acts : List CallAct). shape [] (cut_all None (now s) tokens given_rows ledger) acts) acts_are
 
-  step_form : step_of lent ≡ closing.stepped waits also a out x o s is counting made
+  step_form : step_of lent ≡ closing.stepped later waits also a out x o s is counting made
   step_form =
       closed_ ∙ shaped stamped
       ∙ ap (λ (l : Ledger). shape [] l (map given given_rows)) (all_rest (now s) tokens given_rows stamped)
@@ -303,10 +304,10 @@ module _ (waits : Line → Bool) (also : List ℕ) (a : Attempt) (out : Outcome)
       (λ l. sym (stamp_keeps (λ (g : Link). is_gone_in g s) (λ g z. refl) read_bytes (λ g z. refl) (entry s) l)) s.links in
       record {
         each = λ i.
-            noted.each i ∙ ap (λ (ls : List LinkSeen). read_of ls i) (books waits also a out x o s is).columns.links ∙ (gone_reads a.row.placed x).each i;
+            noted.each i ∙ ap (λ (ls : List LinkSeen). read_of ls i) (books later waits also a out x o s is).columns.links ∙ (gone_reads a.row.placed x).each i;
       }
 
-  form_s : step_of lent_s ≡ relent links_seen (closing.stepped waits also a out x o s is counting made)
+  form_s : step_of lent_s ≡ relent links_seen (closing.stepped later waits also a out x o s is counting made)
   form_s =
       closed_s ∙ shaped (with_links links_seen stamped)
       ∙ ap (λ (l : Ledger). shape [] l (map given given_rows))
@@ -334,16 +335,16 @@ module _ (waits : Line → Bool) (also : List ℕ) (a : Attempt) (out : Outcome)
   came_same : came ek w ≡ came k s
   came_same =
       ap (λ (q : Option Attempt). option_map_or (λ (g : Attempt). response_items (response g w)) q [])
-      (ending_cuts.has_call_then waits also a out x o s is counting free final whole.seen done.walked done.none)
-      ∙ ap response_items (closing.response_same waits also a out x o s is counting b goes.here (Some (entry v)))
-      ∙ last.nothing_came waits also a out x o s is counting free
+      (ending_cuts.has_call_then later waits also a out x o s is counting free final whole.seen done.walked done.none)
+      ∙ ap response_items (closing.response_same later waits also a out x o s is counting b goes.here (Some (entry v)))
+      ∙ last.nothing_came later waits also a out x o s is counting free
       ∙ sym (ap (λ (q : Option Attempt). option_map_or (λ (g : Attempt). response_items (response g s)) q []) free)
 
-  pub steps_so : Steps waits also a out x o s is counting b made
+  pub steps_so : Steps later waits also a out x o s is counting b made
   steps_so = record {
-    step_is = sym (step_is waits also a out x o s is) ∙ step_form;
-    sees = sees_with (closing.stepped waits also a out x o s is counting made) (subst (λ (z : Stepped). Sees w ek z) form_s sees_step);
+    step_is = sym (step_is later waits also a out x o s is) ∙ step_form;
+    sees = sees_with (closing.stepped later waits also a out x o s is counting made) (subst (λ (z : Stepped). Sees w ek z) form_s sees_step);
     order = order_then;
-    turn = ending_cuts.turn_closed waits also a out x o s is counting free final whole.seen done.walked done.none;
-    left = λ h. subst (λ (all : List Reply). IsLeft all k.taken (channel_laws.came (closing.was waits also a out x o s is counting).call)) (sym came_same) h;
+    turn = ending_cuts.turn_closed later waits also a out x o s is counting free final whole.seen done.walked done.none;
+    left = λ h. subst (λ (all : List Reply). IsLeft all k.taken (channel_laws.came (closing.was later waits also a out x o s is counting).call)) (sym came_same) h;
   }

@@ -1,6 +1,7 @@
 -- All other attempts of the call are cut off: what the session then is, and that the end of the call is next.
 use Rattle.attempt_ledger.specs.Ends.{is_cut}
 use Rattle.attempt_ledger.specs.declared.ledger.CallEnd.{CallEnd}
+use Rattle.attempt_ledger.specs.declared.row.RowEnd.{RowEnd}
 use Rattle.call_actions.proofs.Lists.{numbered_not}
 use Rattle.call_actions.proofs.Places.{place_is}
 use Rattle.call_actions.specs.CallsApart.Laws.{tokens_in_run}
@@ -13,7 +14,7 @@ use Rattle.end_cases.proofs.AttemptEnds.After.{numbers}
 use Rattle.end_cases.proofs.AttemptEnds.Base.{c}
 use Rattle.end_cases.proofs.AttemptEnds.Closing as closing
 use Rattle.end_cases.proofs.AttemptEnds.Closing.{Between, Goes}
-use Rattle.end_cases.proofs.AttemptEnds.Committed.{apart_places, index_of, later, mine_of, unended_of}
+use Rattle.end_cases.proofs.AttemptEnds.Committed.{apart_places, index_of, mine_of, over_first, unended_of}
 use Rattle.call_cases.proofs.CommitsFollow.Cuts.{none_out}
 use Rattle.end_cases.proofs.CutEnds.Walk.{Walked, one}
 use Rattle.end_cases.specs.AttemptEnds.Ends.{EndNext}
@@ -60,10 +61,10 @@ passes_here p (y ∷ ys) (suc i) q at on none = passes_here p ys i q at on (rest
     rest_by true e = absurd (cc)
     rest_by false e = e
 
-module _ (waits : Line → Bool) (also : List ℕ) (a : Attempt) (out : Outcome) (x : StateSeen) (o : OpenEntry) (s : Seen) (is : EndNext waits also a out x o s)
-    (counting : IsCounting s (c waits also a out x o s is) out) where
+module _ (later : List (ℕ × RowEnd)) (waits : Line → Bool) (also : List ℕ) (a : Attempt) (out : Outcome) (x : StateSeen) (o : OpenEntry) (s : Seen) (is : EndNext later waits also a out x o s)
+    (counting : IsCounting s (c later waits also a out x o s is) out) where
   abbrev k : Call
-  k = c waits also a out x o s is
+  k = c later waits also a out x o s is
 
   abbrev n : ℕ
   n = k.number
@@ -74,41 +75,41 @@ module _ (waits : Line → Bool) (also : List ℕ) (a : Attempt) (out : Outcome)
     where
       by_place : (b : Bool) → nat_lt q.place a.place ≡ b → ⊥
       by_place true less =
-          let of : (j : ℕ) × (slice_get s.attempts j ≡ Some a) = index_of waits also a out x o s is counting.goes_on a a.place is.ending.there in
-          later waits also a out x o s is counting.goes_on q a (suc i) of.0 at of.1 (mine_of waits also a out x o s is counting.goes_on q lives) is.ending.own (sym number)
-          (unended_of waits also a out x o s is counting.goes_on q lives) less
+          let of : (j : ℕ) × (slice_get s.attempts j ≡ Some a) = index_of later waits also a out x o s is counting.goes_on a a.place is.ending.there in
+          over_first later waits also a out x o s is counting.goes_on q a (suc i) of.0 at of.1 (mine_of later waits also a out x o s is counting.goes_on q lives) is.ending.own (sym number)
+          (unended_of later waits also a out x o s is counting.goes_on q lives) less
       by_place false less =
-          later waits also a out x o s is counting.goes_on a q a.place i is.ending.there at is.ending.own (mine_of waits also a out x o s is counting.goes_on q lives) number
-          (unended_of waits also a out x o s is counting.goes_on a is.ending.lives) (apart_places q.place a.place off less)
+          over_first later waits also a out x o s is counting.goes_on a q a.place i is.ending.there at is.ending.own (mine_of later waits also a out x o s is counting.goes_on q lives) number
+          (unended_of later waits also a out x o s is counting.goes_on a is.ending.lives) (apart_places q.place a.place off less)
 
   pub place_of : (q : Attempt) (i : ℕ) → slice_get s.attempts i ≡ Some q → q.place ≡ suc i
-  place_of q i at = place_is (suc i) s.attempts q (numbers waits also a out x o s is) at
+  place_of q i at = place_is (suc i) s.attempts q (numbers later waits also a out x o s is) at
 
   pub mine_is : (q : Attempt) → (q.row.call == n) ≡ true → is_outstanding q ≡ true → is_live s k q ≡ true
   mine_is q own on = ap (λ (b : Bool). b && (is_outstanding q || is_queued q s)) own ∙ ap (λ (b : Bool). b || is_queued q s) on
 
-  module _ (free : commitment k s ≡ None) (final : goes_on_after (plan_of k s) s k a out ≡ false) (t : Seen) (h : Walked waits also a out x o s is counting free final t)
+  module _ (free : commitment k s ≡ None) (final : goes_on_after (plan_of k s) s k a out ≡ false) (t : Seen) (h : Walked later waits also a out x o s is counting free final t)
       (none : next_cut_of n t ≡ None) where
     abbrev v : Seen
-    v = closing.v waits also a out x o s is counting
+    v = closing.v later waits also a out x o s is counting
 
     abbrev dk : Call
-    dk = closing.dk waits also a out x o s is counting
+    dk = closing.dk later waits also a out x o s is counting
 
     abbrev p : OpenEntry
-    p = closing.entry_then waits also a out x o s is counting
+    p = closing.entry_then later waits also a out x o s is counting
 
     abbrev its_one : Attempt
-    its_one = one waits also a out x o s is counting free final
+    its_one = one later waits also a out x o s is counting free final
 
-    abbrev pub b : Between waits also a out x o s is counting
+    abbrev pub b : Between later waits also a out x o s is counting
     b = record { actions = h.actions; calls = t.calls; attempts = t.attempts; marks = h.taken.call.marks; one = its_one }
 
     abbrev mid : Seen
-    mid = closing.mid waits also a out x o s is counting b
+    mid = closing.mid later waits also a out x o s is counting b
 
     abbrev its : Call
-    its = closing.its waits also a out x o s is counting b
+    its = closing.its later waits also a out x o s is counting b
 
     pub form : t ≡ mid
     form = h.form
@@ -170,7 +171,7 @@ module _ (waits : Line → Bool) (also : List ℕ) (a : Attempt) (out : Outcome)
     there_too : (P : Seen → Type 0) → P t → P mid
     there_too P holds_ = subst P form holds_
 
-    pub goes : Goes waits also a out x o s is counting b
+    pub goes : Goes later waits also a out x o s is counting b
     goes = record {
       does = there_too (λ (z : Seen). Does h.actions v z) h.does;
       apart = h.apart;
@@ -199,8 +200,8 @@ module _ (waits : Line → Bool) (also : List ℕ) (a : Attempt) (out : Outcome)
     turn_mid : IsInTurn mid its
     turn_mid = there_too (λ (z : Seen). IsInTurn z its) (subst (λ (g : Call). IsInTurn t g) same_steady h.steady.steady.turn)
 
-    pub turn_closed : IsInTurn (closing.closed waits also a out x o s is counting b) (closing.ended waits also a out x o s is counting b)
+    pub turn_closed : IsInTurn (closing.closed later waits also a out x o s is counting b) (closing.ended later waits also a out x o s is counting b)
     turn_closed = record { unfollowed = turn_mid.unfollowed; latest = turn_mid.latest; numbers = turn_mid.numbers; counted = turn_mid.counted }
 
-    pub has_call_then : commitment (closing.ended waits also a out x o s is counting b) (closing.closed waits also a out x o s is counting b) ≡ Some its_one
+    pub has_call_then : commitment (closing.ended later waits also a out x o s is counting b) (closing.closed later waits also a out x o s is counting b) ≡ Some its_one
     has_call_then = has_call

@@ -2,6 +2,7 @@
 use Rattle.attempt_ledger.specs.declared.ledger.LinkSeen.{LinkSeen}
 use Rattle.attempt_ledger.specs.declared.row.Placed.{Placed}
 use Rattle.attempt_ledger.specs.declared.row.Row.{Row}
+use Rattle.attempt_ledger.specs.declared.row.RowEnd.{RowEnd}
 use Rattle.call_actions.proofs.Ranks.{numbered_map}
 use Rattle.call_actions.specs.Laws.{IsCounting, is_last_end}
 use Rattle.call_core.specs.declared.live.LiveRow.{LiveRow}
@@ -28,6 +29,7 @@ use Rattle.call_cases.proofs.OneCallEnds.Stamps.{IsNoted, all_noted, gone_by, st
 use Rattle.end_cases.specs.AttemptEnds.Ahead.{HasLinkAhead}
 use Rattle.end_cases.specs.AttemptEnds.Ends.{EndNext, gone_with}
 use Rattle.end_cases.specs.AttemptEnds.Laws.{goes_on_after}
+use Rattle.end_cases.specs.AttemptEnds.Left.{all_left}
 use Rattle.channel_core.specs.States.{StateSeen}
 use Rattle.channel_core.specs.Steps.{acts_done, has_outstanding, is_gone, is_of_shut_sub, sub_of, with_ledger_links}
 use Rattle.channel_core.specs.Tables as tables
@@ -70,34 +72,34 @@ links_by : (b : Bool) (ls : List LinkSeen) (y z : StateSeen) → y.book.ledger.l
 links_by true ls y z same = refl
 links_by false ls y z same = same
 
-module _ (waits : Line → Bool) (also : List ℕ) (a : Attempt) (out : Outcome) (x : StateSeen) (o : OpenEntry) (s : Seen) (is : EndNext waits also a out x o s)
-    (counting : IsCounting s (c waits also a out x o s is) out) (free : commitment (c waits also a out x o s is) s ≡ None)
-    (final : goes_on_after (plan_of (c waits also a out x o s is) s) s (c waits also a out x o s is) a out ≡ false)
-    (last_end : is_last_end (plan_of (c waits also a out x o s is) s) (c waits also a out x o s is) a out s ≡ true) where
+module _ (later : List (ℕ × RowEnd)) (waits : Line → Bool) (also : List ℕ) (a : Attempt) (out : Outcome) (x : StateSeen) (o : OpenEntry) (s : Seen) (is : EndNext later waits also a out x o s)
+    (counting : IsCounting s (c later waits also a out x o s is) out) (free : commitment (c later waits also a out x o s is) s ≡ None)
+    (final : goes_on_after (plan_of (c later waits also a out x o s is) s) s (c later waits also a out x o s is) a out ≡ false)
+    (last_end : is_last_end (plan_of (c later waits also a out x o s is) s) (c later waits also a out x o s is) a out s ≡ true) where
   abbrev n : ℕ
-  n = (c waits also a out x o s is).number
+  n = (c later waits also a out x o s is).number
 
   abbrev v : Seen
-  v = closing.v waits also a out x o s is counting
+  v = closing.v later waits also a out x o s is counting
 
   abbrev mid : Seen
-  mid = closing.mid waits also a out x o s is counting (b waits also a out x o s is counting free final last_end)
+  mid = closing.mid later waits also a out x o s is counting (b later waits also a out x o s is counting free final last_end)
 
   abbrev kept_v : IsKept v
-  kept_v = closing.kept_one waits also a out x o s is counting
+  kept_v = closing.kept_one later waits also a out x o s is counting
 
   kept_mid : IsKept mid
-  kept_mid = agree.kept_mid waits also a out x o s is counting (b waits also a out x o s is counting free final last_end) (goes waits also a out x o s is counting free final last_end)
+  kept_mid = agree.kept_mid later waits also a out x o s is counting (b later waits also a out x o s is counting free final last_end) (goes later waits also a out x o s is counting free final last_end)
 
   abbrev rows1 : List LiveRow
-  rows1 = given_rows waits also a out x o s is counting free final last_end
+  rows1 = given_rows later waits also a out x o s is counting free final last_end
 
   -- where the acts begin and end; and with the stamp of the first attempt's link written before them
   abbrev begin : StateSeen
-  begin = first waits also a out x o s is counting free final last_end
+  begin = first later waits also a out x o s is counting free final last_end
 
   abbrev end_ : StateSeen
-  end_ = last waits also a out x o s is counting free final last_end
+  end_ = last later waits also a out x o s is counting free final last_end
 
   abbrev start_ : StateSeen
   start_ = gone_with a.row.placed begin
@@ -106,7 +108,7 @@ module _ (waits : Line → Bool) (also : List ℕ) (a : Attempt) (out : Outcome)
   finish = acts_done n (map given rows1) start_
 
   outs_v : AreExactly begin.outstanding (is_in_outstanding v)
-  outs_v = out_left waits also a out x o s is v (in_out waits also a out x o s is)
+  outs_v = out_left later waits also a out x o s is v (in_out later waits also a out x o s is)
 
   same_finish : gone_with a.row.placed end_ ≡ finish
   same_finish = gone_before n a.row.placed rows1 begin outs_v.rising
@@ -125,10 +127,10 @@ module _ (waits : Line → Bool) (also : List ℕ) (a : Attempt) (out : Outcome)
 
   entry_start : entry v ≡ start_.book.ledger.entry
   entry_start =
-      entry_is waits also a out x o s is ∙ (books waits also a out x o s is).clock.entry_is ∙ sym (ap (λ (z : StateSeen). z.book.ledger.entry) start_form)
+      entry_is later waits also a out x o s is ∙ (books later waits also a out x o s is).clock.entry_is ∙ sym (ap (λ (z : StateSeen). z.book.ledger.entry) start_form)
 
   noted_v : links_noted v ≡ start_.book.ledger.links
-  noted_v = noted_then waits also a out x o s is begin refl refl refl refl outs_v kept_v
+  noted_v = noted_then later waits also a out x o s is begin refl refl refl refl outs_v kept_v
 
   -- a link, in the ledger before the acts
   was_at : (k : ℕ) → tables.numbered start_.book.ledger.links k ≡ option_map (λ (l : Link). seen_if (is_gone_in l v) (entry v) l) (numbered v.links k)
@@ -137,8 +139,8 @@ module _ (waits : Line → Bool) (also : List ℕ) (a : Attempt) (out : Outcome)
       ∙ numbered_map (λ (l : Link). link_seen (noted_gone v l)) v.links k
 
   module _ (k : ℕ) (l : Link) (here : numbered v.links k ≡ Some l) where
-    has_link : HasLinkAhead x v l k
-    has_link = (first_end.links_one waits also a out x o s is).each k l here
+    has_link : HasLinkAhead x (all_left later v) l k
+    has_link = (first_end.links_one later waits also a out x o s is).each k l here
 
     sub_is : sub_of (tables.numbered start_.book.ledger.links k) ≡ l.sub
     sub_is =
@@ -153,7 +155,7 @@ module _ (waits : Line → Bool) (also : List ℕ) (a : Attempt) (out : Outcome)
       sub = ap (λ (ls : List LinkSeen). sub_of (tables.numbered ls k)) stamps ∙ sub_is;
       out = outs;
       subs = subst (λ (q : List Subchannel). AreSubs 1 q z.net.board z.net.links) (sym subs)
-          (subst (λ (q : NetSeen). AreSubs 1 v.subs q.board q.links) (sym (net ∙ net_start)) (books waits also a out x o s is).net.subs_are);
+          (subst (λ (q : NetSeen). AreSubs 1 v.subs q.board q.links) (sym (net ∙ net_start)) (books later waits also a out x o s is).net.subs_are);
       kept = kept;
     }
 
@@ -186,7 +188,7 @@ module _ (waits : Line → Bool) (also : List ℕ) (a : Attempt) (out : Outcome)
   linked_start : AllByRecursion (λ (r : LiveRow). LinkIn start_.book.ledger.rows r.place r.link) rows1
   linked_start =
       subst (λ (rows : List Row). AllByRecursion (λ (r : LiveRow). LinkIn rows r.place r.link) rows1) (sym (ap (λ (z : StateSeen). z.book.ledger.rows) start_form))
-      (linked waits also a out x o s is counting free final last_end)
+      (linked later waits also a out x o s is counting free final last_end)
 
   ends_ : IsNoted start_ finish
   ends_ = all_noted start_ n rows1 start_ linked_start begins
@@ -200,7 +202,7 @@ module _ (waits : Line → Bool) (also : List ℕ) (a : Attempt) (out : Outcome)
 
   outs_mid : AreExactly finish.outstanding (is_in_outstanding mid)
   outs_mid =
-      subst (λ (pairs : List (ℕ × ℕ)). AreExactly pairs (is_in_outstanding mid)) (sym out_finish) (outstanding_on waits also a out x o s is counting free final last_end)
+      subst (λ (pairs : List (ℕ × ℕ)). AreExactly pairs (is_in_outstanding mid)) (sym out_finish) (outstanding_on later waits also a out x o s is counting free final last_end)
 
   module _ (k : ℕ) (l : Link) (here : numbered v.links k ≡ Some l) where
     abbrev gone_then : Bool
@@ -233,14 +235,14 @@ module _ (waits : Line → Bool) (also : List ℕ) (a : Attempt) (out : Outcome)
       ∙ sym (ends_.noted k) ∙ same_words finish.book.ledger.links k
 
   -- the channel once it has followed the acts has the same stamps
-  stamps_by : (p : Option Placed) → (gone_with p end_).book.ledger.links ≡ (gone_with p (then_ waits also a out x o s is counting free final last_end)).book.ledger.links
+  stamps_by : (p : Option Placed) → (gone_with p end_).book.ledger.links ≡ (gone_with p (then_ later waits also a out x o s is counting free final last_end)).book.ledger.links
   stamps_by None = refl
   stamps_by (Some at) =
       ap (λ (z : StateSeen). (gone_with (Some at) z).book.ledger.links) (acts_form n (map given rows1) begin)
-      ∙ links_by (is_gone at.link (then_ waits also a out x o s is counting free final last_end))
-      (changed_at (gone_link (then_ waits also a out x o s is counting free final last_end).book.ledger.entry) end_.book.ledger.links at.link) (parts_of end_ begin)
-      (then_ waits also a out x o s is counting free final last_end) refl
+      ∙ links_by (is_gone at.link (then_ later waits also a out x o s is counting free final last_end))
+      (changed_at (gone_link (then_ later waits also a out x o s is counting free final last_end).book.ledger.entry) end_.book.ledger.links at.link) (parts_of end_ begin)
+      (then_ later waits also a out x o s is counting free final last_end) refl
 
-  pub noted_on : links_noted (w waits also a out x o s is counting free final last_end) ≡ (gone_with a.row.placed (then_ waits also a out x o s is counting free final last_end)).book.ledger.links
+  pub noted_on : links_noted (w later waits also a out x o s is counting free final last_end) ≡ (gone_with a.row.placed (then_ later waits also a out x o s is counting free final last_end)).book.ledger.links
   noted_on =
       same_numbered (links_noted mid) finish.book.ledger.links noted_at ∙ ap (λ (z : StateSeen). z.book.ledger.links) (sym same_finish) ∙ stamps_by a.row.placed

@@ -1,5 +1,6 @@
 -- The sets of rows once the call has ended: its attempts wait no more, and none of them is outstanding; those of other calls are as before.
 use Rattle.attempt_ledger.specs.declared.row.Placed.{Placed}
+use Rattle.attempt_ledger.specs.declared.row.RowEnd.{RowEnd}
 use Rattle.call_actions.proofs.Ranks.{numbered_map}
 use Rattle.call_actions.specs.Laws.{IsCounting, is_last_end}
 use Rattle.call_actions.specs.Sees.{is_live}
@@ -68,56 +69,56 @@ owner_is : (n : ℕ) (q : Option Attempt) → is_of_number n q ≡ holds (λ (i 
 owner_is n None = refl
 owner_is n (Some a) = refl
 
-module _ (waits : Line → Bool) (also : List ℕ) (a : Attempt) (out : Outcome) (x : StateSeen) (o : OpenEntry) (s : Seen) (is : EndNext waits also a out x o s)
-    (counting : IsCounting s (c waits also a out x o s is) out) (free : commitment (c waits also a out x o s is) s ≡ None)
-    (final : goes_on_after (plan_of (c waits also a out x o s is) s) s (c waits also a out x o s is) a out ≡ false)
-    (last_end : is_last_end (plan_of (c waits also a out x o s is) s) (c waits also a out x o s is) a out s ≡ true) where
+module _ (later : List (ℕ × RowEnd)) (waits : Line → Bool) (also : List ℕ) (a : Attempt) (out : Outcome) (x : StateSeen) (o : OpenEntry) (s : Seen) (is : EndNext later waits also a out x o s)
+    (counting : IsCounting s (c later waits also a out x o s is) out) (free : commitment (c later waits also a out x o s is) s ≡ None)
+    (final : goes_on_after (plan_of (c later waits also a out x o s is) s) s (c later waits also a out x o s is) a out ≡ false)
+    (last_end : is_last_end (plan_of (c later waits also a out x o s is) s) (c later waits also a out x o s is) a out s ≡ true) where
   abbrev n : ℕ
-  n = (c waits also a out x o s is).number
+  n = (c later waits also a out x o s is).number
 
   abbrev k : Call
-  k = c waits also a out x o s is
+  k = c later waits also a out x o s is
 
   abbrev v : Seen
-  v = closing.v waits also a out x o s is counting
+  v = closing.v later waits also a out x o s is counting
 
   abbrev t : Seen
-  t = (whole waits also a out x o s is counting free final last_end).seen
+  t = (whole later waits also a out x o s is counting free final last_end).seen
 
-  abbrev walked : Walked waits also a out x o s is counting free final t
-  walked = (done waits also a out x o s is counting free final last_end).walked
+  abbrev walked : Walked later waits also a out x o s is counting free final t
+  walked = (done later waits also a out x o s is counting free final last_end).walked
 
   abbrev none_left : next_cut_of n t ≡ None
-  none_left = (done waits also a out x o s is counting free final last_end).none
+  none_left = (done later waits also a out x o s is counting free final last_end).none
 
   abbrev closed_ : Seen
-  closed_ = w waits also a out x o s is counting free final last_end
+  closed_ = w later waits also a out x o s is counting free final last_end
 
   abbrev rows1 : List LiveRow
-  rows1 = given_rows waits also a out x o s is counting free final last_end
+  rows1 = given_rows later waits also a out x o s is counting free final last_end
 
   abbrev gone : Attempt → Bool
-  gone q = goes_else waits also a out x o s is counting free final last_end q
+  gone q = goes_else later waits also a out x o s is counting free final last_end q
 
   abbrev begin : StateSeen
-  begin = first waits also a out x o s is counting free final last_end
+  begin = first later waits also a out x o s is counting free final last_end
 
   abbrev end_ : StateSeen
-  end_ = last waits also a out x o s is counting free final last_end
+  end_ = last later waits also a out x o s is counting free final last_end
 
   those_done : IsDone n rows1 begin end_
-  those_done = is_done waits also a out x o s is counting free final last_end
+  those_done = is_done later waits also a out x o s is counting free final last_end
 
   others : SetsApart n s closed_
   others =
-      lines.others waits also a out x o s is counting (b waits also a out x o s is counting free final last_end)
-      (goes waits also a out x o s is counting free final last_end)
+      lines.others later waits also a out x o s is counting (b later waits also a out x o s is counting free final last_end)
+      (goes later waits also a out x o s is counting free final last_end)
 
   others_v : SetsApart n s v
-  others_v = sets_stay n (x1 waits also a out x o s is) s v (first_end.apart_one waits also a out x o s is) (books waits also a out x o s is).calls
+  others_v = sets_stay n (x1 later waits also a out x o s is) s v (first_end.apart_one later waits also a out x o s is) (books later waits also a out x o s is).calls
 
   place_at : (i : ℕ) (q : Attempt) → slice_get s.attempts i ≡ Some q → q.place ≡ suc i
-  place_at i q at = place_of waits also a out x o s is counting q i at
+  place_at i q at = place_of later waits also a out x o s is counting q i at
 
   -- one of the call that went on, and is not the one that ended
   passes : (i : ℕ) (q : Attempt) → slice_get s.attempts i ≡ Some q → (q.row.call == n) ≡ true → (is_outstanding q || is_queued q s) ≡ true → not (suc i == a.place) ≡ true
@@ -140,7 +141,7 @@ module _ (waits : Line → Bool) (also : List ℕ) (a : Attempt) (out : Outcome)
   waiting_v : (row : ℕ) → is_waiting v n row ≡ true → (test : Test) → all_queue_left n rows1 test n row ≡ false
   waiting_v row h test =
       let those : (is_waiting s n row ≡ true) × (not (row == a.place) ≡ true)
-      = and_parts (is_waiting s n row) (not (row == a.place)) (sym (in_wait waits also a out x o s is counting.goes_on free row) ∙ h) in
+      = and_parts (is_waiting s n row) (not (row == a.place)) (sym (in_wait later waits also a out x o s is counting.goes_on free row) ∙ h) in
       waits_by row test (numbered s.attempts row) refl those.0 those.1
 
   -- it has ended
@@ -148,7 +149,7 @@ module _ (waits : Line → Bool) (also : List ℕ) (a : Attempt) (out : Outcome)
   over_then q mine =
       ap (holds (λ (g : Call). is_over_in g q closed_))
       (ap (numbered closed_.calls) (eqb-true q.row.call n mine)
-      ∙ closing.closed_here waits also a out x o s is counting (b waits also a out x o s is counting free final last_end) (goes waits also a out x o s is counting free final last_end))
+      ∙ closing.closed_here later waits also a out x o s is counting (b later waits also a out x o s is counting free final last_end) (goes later waits also a out x o s is counting free final last_end))
 
   wait_one : (q : Attempt) (g : Bool) → (q.row.call == n) ≡ g → ((q.row.call == n) && is_queued q closed_) ≡ false
   wait_one q false mine = ap (λ (g : Bool). g && is_queued q closed_) mine
@@ -183,14 +184,14 @@ module _ (waits : Line → Bool) (also : List ℕ) (a : Attempt) (out : Outcome)
       subst (λ (pairs : List (ℕ × ℕ)). AreExactly pairs (is_in_queue closed_)) (sym those_done.queue)
       (pairs_left (is_in_queue v) (is_in_queue closed_) (λ row e. (and_parts (is_waiting v n row) (not (is_patient v n)) e).0)
       (λ row. ap (λ (g : Bool). g && not (is_patient closed_ n)) (none_waits row)) (λ i row e. others.queue i row e ∙ sym (others_v.queue i row e)) begin.queue
-      (queue_then waits also a out x o s is counting.goes_on free others_v))
+      (queue_then later waits also a out x o s is counting.goes_on free others_v))
 
   pub patient_on : AreExactly end_.patient (is_in_patient closed_)
   patient_on =
       subst (λ (pairs : List (ℕ × ℕ)). AreExactly pairs (is_in_patient closed_)) (sym those_done.patient)
       (pairs_left (is_in_patient v) (is_in_patient closed_) (λ row e. (and_parts (is_waiting v n row) (is_patient v n) e).0)
       (λ row. ap (λ (g : Bool). g && is_patient closed_ n) (none_waits row)) (λ i row e. others.patient i row e ∙ sym (others_v.patient i row e)) begin.patient
-      (patient_then waits also a out x o s is counting.goes_on free others_v))
+      (patient_then later waits also a out x o s is counting.goes_on free others_v))
 
   -- those that were outstanding
   owned_alike : (row : ℕ) → is_of_number n (numbered closed_.attempts row) ≡ is_of_number n (numbered s.attempts row)
@@ -204,14 +205,14 @@ module _ (waits : Line → Bool) (also : List ℕ) (a : Attempt) (out : Outcome)
       owner_is n (numbered v.attempts row)
       ∙ ap (holds (λ (i : ℕ). i == n))
       (sym (numbered_map owner v.attempts row)
-      ∙ ap (λ (l : List ℕ). numbered l row) (map_changed owner (with_end (e waits also a out x o s is)) (λ q. refl) a.place s.attempts) ∙ numbered_map owner s.attempts row)
+      ∙ ap (λ (l : List ℕ). numbered l row) (map_changed owner (with_end (e later waits also a out x o s is)) (λ q. refl) a.place s.attempts) ∙ numbered_map owner s.attempts row)
       ∙ sym (owner_is n (numbered s.attempts row))
 
   in_by : (link row : ℕ) (q : Option Attempt) → numbered t.attempts row ≡ q → is_of_number n q ≡ true → holds (λ (g : Attempt). is_outstanding g && (link_number g == link)) q ≡ false
   in_by link row None at mine = refl
   in_by link zero (Some q) at mine = absurd (cc)
   in_by link (suc i) (Some q) at mine =
-      ap (λ (g : Bool). g && (link_number q == link)) (none_outstanding waits also a out x o s is counting free final t walked none_left i q at mine)
+      ap (λ (g : Bool). g && (link_number q == link)) (none_outstanding later waits also a out x o s is counting free final t walked none_left i q at mine)
 
   placed_out : (link i : ℕ) (q : Attempt) (test : Test) (p : Option Placed) → q.row.placed ≡ p → slice_get s.attempts i ≡ Some q → gone q ≡ true
       → (is_some p && is_none q.row.ended) ≡ true → (option_map_or (λ (at : Placed). at.link) p 0 == link) ≡ true → all_out_left rows1 test link (suc i) ≡ false
@@ -232,7 +233,7 @@ module _ (waits : Line → Bool) (also : List ℕ) (a : Attempt) (out : Outcome)
       → all_out_left rows1 (is_in_outstanding v) link row ≡ false
   own_out link row true h mine =
       let those : (is_in_outstanding s link row ≡ true) × (not (row == a.place) ≡ true)
-      = and_parts (is_in_outstanding s link row) (not (row == a.place)) (sym (in_out waits also a out x o s is link row) ∙ h) in
+      = and_parts (is_in_outstanding s link row) (not (row == a.place)) (sym (in_out later waits also a out x o s is link row) ∙ h) in
       out_by link row (is_in_outstanding v) (numbered s.attempts row) refl mine those.0 those.1
   own_out link row false h mine = out_none rows1 (is_in_outstanding v) link row h
 
@@ -256,5 +257,5 @@ module _ (waits : Line → Bool) (also : List ℕ) (a : Attempt) (out : Outcome)
   outstanding_on =
       subst (λ (pairs : List (ℕ × ℕ)). AreExactly pairs (is_in_outstanding closed_)) (sym those_done.outstanding)
       (exactly_by (all_out_gone rows1 begin.outstanding) (all_out_left rows1 (is_in_outstanding v)) (is_in_outstanding closed_)
-      (out_exactly rows1 begin.outstanding (is_in_outstanding v) (out_left waits also a out x o s is v (in_out waits also a out x o s is)))
+      (out_exactly rows1 begin.outstanding (is_in_outstanding v) (out_left later waits also a out x o s is v (in_out later waits also a out x o s is)))
       (λ link row. out_pair link row (is_of_number n (numbered closed_.attempts row)) refl))

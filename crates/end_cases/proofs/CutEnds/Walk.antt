@@ -95,57 +95,57 @@ map_put : (f : Attempt → Attempt) → ((q : Attempt) → key_of (f q) ≡ key_
 map_put f same [] = refl
 map_put f same (q ∷ xs) = ap (λ (k : Option Placed × Option ℕ). k ∷ map key_of (map f xs)) (same q) ∙ ap (λ (ks : List (Option Placed × Option ℕ)). key_of q ∷ ks) (map_put f same xs)
 
-module _ (waits : Line → Bool) (also : List ℕ) (a : Attempt) (out : Outcome) (x : StateSeen) (o : OpenEntry) (s : Seen) (is : EndNext waits also a out x o s)
-    (counting : IsCounting s (c waits also a out x o s is) out) (free : commitment (c waits also a out x o s is) s ≡ None)
-    (final : goes_on_after (plan_of (c waits also a out x o s is) s) s (c waits also a out x o s is) a out ≡ false) where
+module _ (later : List (ℕ × RowEnd)) (waits : Line → Bool) (also : List ℕ) (a : Attempt) (out : Outcome) (x : StateSeen) (o : OpenEntry) (s : Seen) (is : EndNext later waits also a out x o s)
+    (counting : IsCounting s (c later waits also a out x o s is) out) (free : commitment (c later waits also a out x o s is) s ≡ None)
+    (final : goes_on_after (plan_of (c later waits also a out x o s is) s) s (c later waits also a out x o s is) a out ≡ false) where
   abbrev n : ℕ
-  n = (c waits also a out x o s is).number
+  n = (c later waits also a out x o s is).number
 
   abbrev v : Seen
-  v = closing.v waits also a out x o s is counting
+  v = closing.v later waits also a out x o s is counting
 
   abbrev dk : Call
-  dk = closing.dk waits also a out x o s is counting
+  dk = closing.dk later waits also a out x o s is counting
 
   abbrev p : OpenEntry
-  p = closing.entry_then waits also a out x o s is counting
+  p = closing.entry_then later waits also a out x o s is counting
 
-  abbrev b1 : Between waits also a out x o s is counting
-  b1 = last.b waits also a out x o s is counting
+  abbrev b1 : Between later waits also a out x o s is counting
+  b1 = last.b later waits also a out x o s is counting
 
   abbrev pub f : Seen
-  f = closing.mid waits also a out x o s is counting b1
+  f = closing.mid later waits also a out x o s is counting b1
 
   abbrev pub one : Attempt
   one = b1.one
 
   abbrev kept : IsKept s
-  kept = closing.kept waits also a out x o s is counting
+  kept = closing.kept later waits also a out x o s is counting
 
   abbrev kept_one : IsKept v
-  kept_one = closing.kept_one waits also a out x o s is counting
+  kept_one = closing.kept_one later waits also a out x o s is counting
 
-  abbrev calls_s : SeesCalls (x1 waits also a out x o s is) s
-  calls_s = (books waits also a out x o s is).calls
+  abbrev calls_s : SeesCalls (x1 later waits also a out x o s is) s
+  calls_s = (books later waits also a out x o s is).calls
 
   was_still : (l : Line) → is_of_ends l ≡ false → may_wait l ≡ false → IsStill l o s
-  was_still l ends_ may = ends.was_still waits also a out x o s is counting l ends_ may
+  was_still l ends_ may = ends.was_still later waits also a out x o s is counting l ends_ may
 
   booked : (q : Seen) → IsKept q → IsBooked q
   booked q h = record { book = h.book; owned = h.owned; reads = h.reads }
 
   -- from the begin
   abbrev first_act : Action
-  first_act = closing.act waits also a out x o s is counting
+  first_act = closing.act later waits also a out x o s is counting
 
   pub does_from : (actions : List Action) (w : Seen) → Does actions v w → Does (first_act ∷ actions) s w
-  does_from actions w does = (is.next, subst (λ (q : Seen). Does actions q w) (sym (closing.after_is waits also a out x o s is counting)) does)
+  does_from actions w does = (is.next, subst (λ (q : Seen). Does actions q w) (sym (closing.after_is later waits also a out x o s is counting)) does)
 
   pub apart_from : (actions : List Action) (w : Seen) → Does actions v w → AreOfCall n actions v → GoesApart n s w
   apart_from actions w does apart = record {
     actions = first_act ∷ actions;
     does = does_from actions w does;
-    apart = ((first.of_call_one waits also a out x o s is).0, subst (λ (q : Seen). AreOfCall n actions q) (sym (closing.after_is waits also a out x o s is counting)) apart);
+    apart = ((first.of_call_one later waits also a out x o s is).0, subst (λ (q : Seen). AreOfCall n actions q) (sym (closing.after_is later waits also a out x o s is counting)) apart);
     earlier = booked s kept;
     later = booked w (kept_along actions v w kept_one does);
   }
@@ -178,7 +178,7 @@ module _ (waits : Line → Bool) (also : List ℕ) (a : Attempt) (out : Outcome)
   kept_in w h = kept_along h.actions v w kept_one h.does
 
   pub open_in : (w : Seen) → Walked w → w.current ≡ Some p
-  open_in w h = ap (λ (z : Seen). z.current) h.form ∙ closing.current_one waits also a out x o s is counting
+  open_in w h = ap (λ (z : Seen). z.current) h.form ∙ closing.current_one later waits also a out x o s is counting
 
   pub apart_in : (w : Seen) → Walked w → GoesApart n s w
   apart_in w h = apart_from h.actions w h.does h.apart
@@ -213,7 +213,7 @@ module _ (waits : Line → Bool) (also : List ℕ) (a : Attempt) (out : Outcome)
     cut_line =
         first_own (cut w) (λ (r : Attempt). r.row.call == n) w.attempts
         (λ i r at off. ap (λ (g : Bool). if g then Some (action.AttemptEnds r.place (end_of r cut_end w)) else None)
-        (cut_none n (x1 waits also a out x o s is) s w (apart_in w h) calls_s kept kept_w i r at off (was_still line.Cut refl refl)))
+        (cut_none n (x1 later waits also a out x o s is) s w (apart_in w h) calls_s kept kept_w i r at off (was_still line.Cut refl refl)))
 
     next_is : following w ≡ Some act1
     next_is =
@@ -262,7 +262,7 @@ module _ (waits : Line → Bool) (also : List ℕ) (a : Attempt) (out : Outcome)
         cut_.after_is
         ∙ ap (λ (z : Seen). record z { attempts = changed put q.place w.attempts; calls = changed mark_ q.row.call w.calls; current = Some p }) h.form
         ∙ ap (λ (r : Option OpenEntry). record v { attempts = changed put q.place w.attempts; calls = changed mark_ q.row.call w.calls; current = r })
-        (sym (closing.current_one waits also a out x o s is counting))
+        (sym (closing.current_one later waits also a out x o s is counting))
 
     form1 : w1 ≡ record v { calls = w1.calls; attempts = w1.attempts }
     form1 =
@@ -321,7 +321,7 @@ module _ (waits : Line → Bool) (also : List ℕ) (a : Attempt) (out : Outcome)
         second (r.row.call == steady1.call.number) (wants_follower r w1) (ap (λ (m : ℕ). r.row.call == m) number ∙ own)
         (numbered_not (waits_for w1 steady1.call) w1.attempts (suc i) r steady1.steady.calm at)
     wants_by i r false at off =
-        wants_none n (x1 waits also a out x o s is) s w1 goes1 calls_s kept kept1 i r at off (was_still line.Transparent refl refl)
+        wants_none n (x1 later waits also a out x o s is) s w1 goes1 calls_s kept kept1 i r at off (was_still line.Transparent refl refl)
 
     transparent1 : IsStill line.Transparent p w1
     transparent1 = none_at (λ (r : Attempt). wants_follower r w1) w1.attempts (λ i r at. wants_by i r (r.row.call == n) at refl)
@@ -432,15 +432,15 @@ module _ (waits : Line → Bool) (also : List ℕ) (a : Attempt) (out : Outcome)
       }
 
   -- it begins where the call has just been committed
-  put_same : (q : Attempt) (b : Bool) → b ≡ false → (if b then with_end (e waits also a out x o s is) q else q) ≡ q
+  put_same : (q : Attempt) (b : Bool) → b ≡ false → (if b then with_end (e later waits also a out x o s is) q else q) ≡ q
   put_same q false off = refl
   put_same q true off = absurd (cc)
 
   v_same : (i : ℕ) (q : Attempt) → slice_get v.attempts i ≡ Some q → (suc i == a.place) ≡ false → slice_get s.attempts i ≡ Some q
   v_same i q at off =
-      let from_ : IsFrom (λ (g : Attempt). end_put waits also a out x o s is g) s.attempts i q
-      = from_map (λ (g : Attempt). end_put waits also a out x o s is g) s.attempts i q (ap (λ (xs : List Attempt). slice_get xs i) (sym (attempts_are waits also a out x o s is)) ∙ at) in
-      let place : from_.one.place ≡ suc i = place_is (suc i) s.attempts from_.one (numbers waits also a out x o s is) from_.there in
+      let from_ : IsFrom (λ (g : Attempt). end_put later waits also a out x o s is g) s.attempts i q
+      = from_map (λ (g : Attempt). end_put later waits also a out x o s is g) s.attempts i q (ap (λ (xs : List Attempt). slice_get xs i) (sym (attempts_are later waits also a out x o s is)) ∙ at) in
+      let place : from_.one.place ≡ suc i = place_is (suc i) s.attempts from_.one (numbers later waits also a out x o s is) from_.there in
       let same : q ≡ from_.one
       = from_.is ∙ put_same from_.one (from_.one.place == a.place) (ap (λ (m : ℕ). m == a.place) place ∙ off) in
       from_.there ∙ ap (λ (r : Attempt). Some r) (sym same)
@@ -449,10 +449,10 @@ module _ (waits : Line → Bool) (also : List ℕ) (a : Attempt) (out : Outcome)
   commits r = with_commitment (entry v) r
 
   abbrev its_end : Attempt
-  its_end = with_end (e waits also a out x o s is) a
+  its_end = with_end (e later waits also a out x o s is) a
 
   abbrev end_there : numbered v.attempts a.place ≡ Some its_end
-  end_there = first.one_there waits also a out x o s is
+  end_there = first.one_there later waits also a out x o s is
 
   f_same_by : (i : ℕ) (q : Attempt) (b : Bool) → (suc i == a.place) ≡ b → numbered (changed commits a.place v.attempts) (suc i) ≡ Some q → is_outstanding q ≡ true → slice_get s.attempts i ≡ Some q
   f_same_by i q true e at on =
@@ -460,36 +460,36 @@ module _ (waits : Line → Bool) (also : List ℕ) (a : Attempt) (out : Outcome)
       absurd (both_ways (is_outstanding q) (ap is_outstanding same ∙ and_right (is_some a.row.placed) false refl) on)
   f_same_by i q false e at on = v_same i q ((at_by commits a.place (suc i) v.attempts its_end q false e end_there at).1 refl) e
 
-  put_key : (q : Attempt) (b : Bool) → key_of (if b then with_end (e waits also a out x o s is) q else q) ≡ key_of q
+  put_key : (q : Attempt) (b : Bool) → key_of (if b then with_end (e later waits also a out x o s is) q else q) ≡ key_of q
   put_key q true = refl
   put_key q false = refl
 
   pub start : Walked f
   start = record {
     actions = b1.actions;
-    does = last.goes_two waits also a out x o s is counting free final;
-    apart = last.apart_two waits also a out x o s is counting free final;
+    does = last.goes_two later waits also a out x o s is counting free final;
+    apart = last.apart_two later waits also a out x o s is counting free final;
     posts = refl;
     netless = refl;
     form = refl;
     taken = record {
-      call = closing.its waits also a out x o s is counting b1;
-      there = last.f_here waits also a out x o s is counting;
+      call = closing.its later waits also a out x o s is counting b1;
+      there = last.f_here later waits also a out x o s is counting;
       going = counting.goes_on;
-      is = last.has_it waits also a out x o s is counting free final;
+      is = last.has_it later waits also a out x o s is counting free final;
     };
     call_is = refl;
-    one_there = last.one_there waits also a out x o s is counting;
-    count = last.count_two waits also a out x o s is counting;
-    steady = last.steady_two waits also a out x o s is counting (last.kept_two waits also a out x o s is counting free final).book;
-    unreset = last.unreset_two waits also a out x o s is counting;
+    one_there = last.one_there later waits also a out x o s is counting;
+    count = last.count_two later waits also a out x o s is counting;
+    steady = last.steady_two later waits also a out x o s is counting (last.kept_two later waits also a out x o s is counting free final).book;
+    unreset = last.unreset_two later waits also a out x o s is counting;
     same = λ i q at on. f_same_by i q (suc i == a.place) refl at on;
-    unfollowed = any_changed (is_later_of its_end) commits (λ r. refl) a.place v.attempts ∙ last.unfollowed waits also a out x o s is counting;
-    still = last.still_two waits also a out x o s is counting free final;
-    late = last.late_two waits also a out x o s is counting free final;
-    wire = last.wire_two waits also a out x o s is counting free final;
-    tokens = last.tokens_two waits also a out x o s is counting;
-    keys = map_changed key_of commits (λ r. refl) a.place v.attempts ∙ ap (map key_of) (attempts_are waits also a out x o s is)
-        ∙ map_put (λ (g : Attempt). end_put waits also a out x o s is g) (λ q. put_key q (q.place == a.place)) s.attempts;
-    owners = map_changed owner commits (λ r. refl) a.place v.attempts ∙ map_changed owner (with_end (e waits also a out x o s is)) (λ r. refl) a.place s.attempts;
+    unfollowed = any_changed (is_later_of its_end) commits (λ r. refl) a.place v.attempts ∙ last.unfollowed later waits also a out x o s is counting;
+    still = last.still_two later waits also a out x o s is counting free final;
+    late = last.late_two later waits also a out x o s is counting free final;
+    wire = last.wire_two later waits also a out x o s is counting free final;
+    tokens = last.tokens_two later waits also a out x o s is counting;
+    keys = map_changed key_of commits (λ r. refl) a.place v.attempts ∙ ap (map key_of) (attempts_are later waits also a out x o s is)
+        ∙ map_put (λ (g : Attempt). end_put later waits also a out x o s is g) (λ q. put_key q (q.place == a.place)) s.attempts;
+    owners = map_changed owner commits (λ r. refl) a.place v.attempts ∙ map_changed owner (with_end (e later waits also a out x o s is)) (λ r. refl) a.place s.attempts;
   }

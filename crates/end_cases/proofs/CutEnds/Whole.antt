@@ -7,7 +7,6 @@ use Rattle.call_cases.proofs.LinkEnds.Cutting.{IsPut, is_put}
 use Rattle.channel_actions.specs.KeptSessions.Kept.{IsKept}
 use Rattle.call_cases.specs.LinkEnds.Cuts.{links_cut}
 use Rattle.end_cases.proofs.AttemptEnds.After.{placed_from}
-use Rattle.end_cases.proofs.AttemptEnds.AheadStays.{calls_end_ahead}
 use Rattle.end_cases.proofs.AttemptEnds.Base.{c, e}
 use Rattle.end_cases.proofs.AttemptEnds.ClosedLines as lines
 use Rattle.end_cases.proofs.AttemptEnds.Closing as closing
@@ -15,8 +14,9 @@ use Rattle.end_cases.proofs.AttemptEnds.Closing.{Follows}
 use Rattle.end_cases.proofs.AttemptEnds.LastCommits as last_commits
 use Rattle.end_cases.proofs.AttemptEnds.OneEnded as first_end
 use Rattle.attempt_cases.proofs.CallCommits.Given.{IsPlain, given_same}
+use Rattle.attempt_ledger.specs.declared.row.RowEnd.{RowEnd}
 use Rattle.end_cases.proofs.CutEnds.Acts.{first, is_done, last, parts, then_, told_is}
-use Rattle.end_cases.proofs.CutEnds.Ahead.{IsReady, all_reset, apart_still, cuts_ahead, reset_links, reset_owed}
+use Rattle.end_cases.proofs.CutEnds.Ahead.{IsReady, all_reset, apart_still, reset_links, reset_owed}
 use Rattle.end_cases.proofs.CutEnds.Call.{b, done, given_rows, goes, goes_else, made, steps_so, w, whole}
 use Rattle.end_cases.proofs.CutEnds.Ends.{mine_is, place_of, twin}
 use Rattle.end_cases.proofs.CutEnds.Noted.{noted_on}
@@ -30,6 +30,9 @@ use Rattle.end_cases.specs.AttemptEnds.Laws.{LastEndsCutOff, OneAttemptEnds, goe
 use Rattle.call_cases.specs.CommitsFollow.Laws.{is_other_out}
 use Rattle.channel_core.specs.States.{StateSeen}
 use Rattle.channel_core.specs.declared.state.links.LinkSlot.{LinkSlot}
+use Rattle.end_cases.proofs.AttemptEnds.LeftLinks.{calls_end_left}
+use Rattle.end_cases.proofs.CutEnds.LeftCuts.{cuts_left}
+use Rattle.end_cases.specs.AttemptEnds.Left.{all_left}
 use Rattle.grpc_base.specs.declared.event.EndCause.TheVariants as ending_cause
 use Rattle.grpc_base.specs.declared.plan.CallPlan.{CallPlan}
 use Rattle.lb_policy.specs.Table.{is_one_of}
@@ -110,30 +113,30 @@ unplaced_by None e v l f = refl
 unplaced_by (Some at) true v l f = absurd (cc)
 unplaced_by (Some at) false v l f = absurd (cc)
 
-module _ (waits : Line → Bool) (also : List ℕ) (a : Attempt) (out : Outcome) (x : StateSeen) (o : OpenEntry) (s : Seen) (is : EndNext waits also a out x o s)
-    (counting : IsCounting s (c waits also a out x o s is) out) (free : commitment (c waits also a out x o s is) s ≡ None)
-    (final : goes_on_after (plan_of (c waits also a out x o s is) s) s (c waits also a out x o s is) a out ≡ false)
-    (last_end : is_last_end (plan_of (c waits also a out x o s is) s) (c waits also a out x o s is) a out s ≡ true) where
+module _ (later : List (ℕ × RowEnd)) (waits : Line → Bool) (also : List ℕ) (a : Attempt) (out : Outcome) (x : StateSeen) (o : OpenEntry) (s : Seen) (is : EndNext later waits also a out x o s)
+    (counting : IsCounting s (c later waits also a out x o s is) out) (free : commitment (c later waits also a out x o s is) s ≡ None)
+    (final : goes_on_after (plan_of (c later waits also a out x o s is) s) s (c later waits also a out x o s is) a out ≡ false)
+    (last_end : is_last_end (plan_of (c later waits also a out x o s is) s) (c later waits also a out x o s is) a out s ≡ true) where
   abbrev k : Call
-  k = c waits also a out x o s is
+  k = c later waits also a out x o s is
 
   abbrev n : ℕ
   n = k.number
 
   abbrev begun_at : Seen
-  begun_at = f waits also a out x o s is counting free final
+  begun_at = f later waits also a out x o s is counting free final
 
   abbrev t : Seen
-  t = (whole waits also a out x o s is counting free final last_end).seen
+  t = (whole later waits also a out x o s is counting free final last_end).seen
 
   abbrev cuts : List Attempt
-  cuts = (done waits also a out x o s is counting free final last_end).those
+  cuts = (done later waits also a out x o s is counting free final last_end).those
 
-  started : Walked waits also a out x o s is counting free final begun_at
-  started = start waits also a out x o s is counting free final
+  started : Walked later waits also a out x o s is counting free final begun_at
+  started = start later waits also a out x o s is counting free final
 
   kept_f : IsKept begun_at
-  kept_f = kept_in waits also a out x o s is counting free final begun_at started
+  kept_f = kept_in later waits also a out x o s is counting free final begun_at started
 
   ready : IsReady begun_at
   ready = record {
@@ -144,18 +147,18 @@ module _ (waits : Line → Bool) (also : List ℕ) (a : Attempt) (out : Outcome)
     reads = kept_f.reads;
   }
 
-  ahead_t : LinksAhead also (all_reset cuts x) t
+  ahead_t : LinksAhead also (all_reset cuts x) (all_left later t)
   ahead_t =
-      cuts_ahead cuts begun_at t also x (done waits also a out x o s is counting free final last_end).off ready (last_commits.ahead_two waits also a out x o s is counting)
+      cuts_left later cuts begun_at t also x (done later waits also a out x o s is counting free final last_end).off ready kept_f.owned (last_commits.ahead_two later waits also a out x o s is counting)
 
-  ahead_closed : LinksAhead also (all_reset cuts x) (w waits also a out x o s is counting free final last_end)
+  ahead_closed : LinksAhead also (all_reset cuts x) (all_left later (w later waits also a out x o s is counting free final last_end))
   ahead_closed =
-      calls_end_ahead (closing.mid waits also a out x o s is counting (b waits also a out x o s is counting free final last_end)) n ending_cause.Row also (all_reset cuts x)
-      (subst (LinksAhead also (all_reset cuts x)) (done waits also a out x o s is counting free final last_end).walked.form ahead_t)
+      calls_end_left later (closing.mid later waits also a out x o s is counting (b later waits also a out x o s is counting free final last_end)) n ending_cause.Row also (all_reset cuts x)
+      (subst (λ (q : Seen). LinksAhead also (all_reset cuts x) (all_left later q)) (done later waits also a out x o s is counting free final last_end).walked.form ahead_t)
 
   -- which attempts are cut off, and which rows are given up
   abbrev given_up : Attempt → Bool
-  given_up q = goes_else waits also a out x o s is counting free final last_end q
+  given_up q = goes_else later waits also a out x o s is counting free final last_end q
 
   abbrev cut_out : Attempt → Bool
   cut_out q = is_other_out n a.row.number q
@@ -166,11 +169,11 @@ module _ (waits : Line → Bool) (also : List ℕ) (a : Attempt) (out : Outcome)
 
   cuts_are : cuts ≡ filter cut_out s.attempts
   cuts_are =
-      (done waits also a out x o s is counting free final last_end).all
-      ∙ out_same cut_out (with_commitment (entry (closing.v waits also a out x o s is counting))) a.place (closing.v waits also a out x o s is counting).attempts
-      (with_end (e waits also a out x o s is) a) (first_end.one_there waits also a out x o s is) (own_number (with_end (e waits also a out x o s is) a) refl)
-      (own_number (with_commitment (entry (closing.v waits also a out x o s is counting)) (with_end (e waits also a out x o s is) a)) refl)
-      ∙ out_same cut_out (with_end (e waits also a out x o s is)) a.place s.attempts a is.ending.there (own_number a refl) (own_number (with_end (e waits also a out x o s is) a) refl)
+      (done later waits also a out x o s is counting free final last_end).all
+      ∙ out_same cut_out (with_commitment (entry (closing.v later waits also a out x o s is counting))) a.place (closing.v later waits also a out x o s is counting).attempts
+      (with_end (e later waits also a out x o s is) a) (first_end.one_there later waits also a out x o s is) (own_number (with_end (e later waits also a out x o s is) a) refl)
+      (own_number (with_commitment (entry (closing.v later waits also a out x o s is counting)) (with_end (e later waits also a out x o s is) a)) refl)
+      ∙ out_same cut_out (with_end (e later waits also a out x o s is)) a.place s.attempts a is.ending.there (own_number a refl) (own_number (with_end (e later waits also a out x o s is) a) refl)
 
   waits_by : (i : ℕ) (q : Attempt) (r m : Bool) → slice_get s.attempts i ≡ Some q → given_up q ≡ true → cut_out q ≡ false → is_outstanding q ≡ r → (a.row.number == q.row.number) ≡ m
       → q.row.placed ≡ None
@@ -183,13 +186,13 @@ module _ (waits : Line → Bool) (also : List ℕ) (a : Attempt) (out : Outcome)
       (all_three (q.row.call == n) (is_outstanding q) (a.row.number == q.row.number) (and_parts (is_of k q) (is_outstanding q || is_queued q s) lives).0 on number))
   waits_by i q true true at goes_ off on number =
       let those : (is_live s k q ≡ true) × (not (q.place == a.place) ≡ true) = and_parts (is_live s k q) (not (q.place == a.place)) goes_ in
-      absurd (twin waits also a out x o s is counting q i at those.0 (sym (eqb-true a.row.number q.row.number number)) (not_so (q.place == a.place) those.1))
+      absurd (twin later waits also a out x o s is counting q i at those.0 (sym (eqb-true a.row.number q.row.number number)) (not_so (q.place == a.place) those.1))
 
   place_by : (i : ℕ) (q : Attempt) (m : Bool) → slice_get s.attempts i ≡ Some q → (q.place == a.place) ≡ m → not (a.row.number == q.row.number) ≡ true → m ≡ false
   place_by i q false at same other = refl
   place_by i q true at same other =
       let here : numbered s.attempts a.place ≡ Some q
-      = ap (numbered s.attempts) (sym (eqb-true q.place a.place same) ∙ place_of waits also a out x o s is counting q i at) ∙ at in
+      = ap (numbered s.attempts) (sym (eqb-true q.place a.place same) ∙ place_of later waits also a out x o s is counting q i at) ∙ at in
       let two : Some q ≡ Some a = sym here ∙ is.ending.there in
       let one_ : q ≡ a = (cc) in
       let on : (a.row.number == q.row.number) ≡ true = ap (λ (r : Attempt). a.row.number == r.row.number) one_ ∙ eq-eqb a.row.number a.row.number refl in
@@ -202,7 +205,7 @@ module _ (waits : Line → Bool) (also : List ℕ) (a : Attempt) (out : Outcome)
         let one_ : ((q.row.call == n) ≡ true) × ((is_outstanding q && not (a.row.number == q.row.number)) ≡ true)
         = and_parts (q.row.call == n) (is_outstanding q && not (a.row.number == q.row.number)) on in
         let two : (is_outstanding q ≡ true) × (not (a.row.number == q.row.number) ≡ true) = and_parts (is_outstanding q) (not (a.row.number == q.row.number)) one_.1 in
-        ap (λ (g : Bool). g && not (q.place == a.place)) (mine_is waits also a out x o s is counting q one_.0 two.0)
+        ap (λ (g : Bool). g && not (q.place == a.place)) (mine_is later waits also a out x o s is counting q one_.0 two.0)
         ∙ ap not (place_by i q (q.place == a.place) at refl two.1);
     placed = λ on.
         let one_ : ((q.row.call == n) ≡ true) × ((is_outstanding q && not (a.row.number == q.row.number)) ≡ true)
@@ -214,11 +217,11 @@ module _ (waits : Line → Bool) (also : List ℕ) (a : Attempt) (out : Outcome)
   plain = all_from (IsPlain given_up cut_out) s.attempts plain_at
 
   abbrev then_now : StateSeen
-  then_now = then_ waits also a out x o s is counting free final last_end
+  then_now = then_ later waits also a out x o s is counting free final last_end
 
-  those_done : IsDone n (given_rows waits also a out x o s is counting free final last_end) (first waits also a out x o s is counting free final last_end)
-      (last waits also a out x o s is counting free final last_end)
-  those_done = is_done waits also a out x o s is counting free final last_end
+  those_done : IsDone n (given_rows later waits also a out x o s is counting free final last_end) (first later waits also a out x o s is counting free final last_end)
+      (last later waits also a out x o s is counting free final last_end)
+  those_done = is_done later waits also a out x o s is counting free final last_end
 
   links_are : (all_reset cuts x).links ≡ then_now.links
   links_are =
@@ -229,26 +232,26 @@ module _ (waits : Line → Bool) (also : List ℕ) (a : Attempt) (out : Outcome)
       reset_owed cuts x ∙ ap (λ (xs : List Attempt). x.resets ++ map link_number xs) cuts_are
       ∙ ap (λ (ls : List ℕ). x.resets ++ ls) (sym (links_same given_up cut_out s.attempts plain)) ∙ sym those_done.resets
 
-  follows : Follows waits also a out x o s is counting (b waits also a out x o s is counting free final last_end) (made waits also a out x o s is counting free final last_end)
-      (parts waits also a out x o s is counting free final last_end)
+  follows : Follows later waits also a out x o s is counting (b later waits also a out x o s is counting free final last_end) (made later waits also a out x o s is counting free final last_end)
+      (parts later waits also a out x o s is counting free final last_end)
   follows = record {
-    told_is = told_is waits also a out x o s is counting free final last_end;
-    outs = outstanding_on waits also a out x o s is counting free final last_end;
-    queue = queue_on waits also a out x o s is counting free final last_end;
-    patient = patient_on waits also a out x o s is counting free final last_end;
-    noted = noted_on waits also a out x o s is counting free final last_end;
-    ahead = ahead_alike also (all_reset cuts x) then_now (w waits also a out x o s is counting free final last_end) links_are resets_are ahead_closed;
+    told_is = told_is later waits also a out x o s is counting free final last_end;
+    outs = outstanding_on later waits also a out x o s is counting free final last_end;
+    queue = queue_on later waits also a out x o s is counting free final last_end;
+    patient = patient_on later waits also a out x o s is counting free final last_end;
+    noted = noted_on later waits also a out x o s is counting free final last_end;
+    ahead = ahead_alike also (all_reset cuts x) then_now (all_left later (w later waits also a out x o s is counting free final last_end)) links_are resets_are ahead_closed;
   }
 
-  pub has_ended : HasEnded waits also a out x o s
+  pub has_ended : HasEnded later waits also a out x o s
   has_ended =
-      lines.has_ended waits also a out x o s is counting (b waits also a out x o s is counting free final last_end) (goes waits also a out x o s is counting free final last_end)
-      (made waits also a out x o s is counting free final last_end) (steps_so waits also a out x o s is counting free final last_end)
-      (parts waits also a out x o s is counting free final last_end) follows
+      lines.has_ended later waits also a out x o s is counting (b later waits also a out x o s is counting free final last_end) (goes later waits also a out x o s is counting free final last_end)
+      (made later waits also a out x o s is counting free final last_end) (steps_so later waits also a out x o s is counting free final last_end)
+      (parts later waits also a out x o s is counting free final last_end) follows
 
 pub last_ends_cut_off : LastEndsCutOff
-last_ends_cut_off waits also a out x o s is case =
-    has_ended waits also a out x o s is case.last.counting case.last.free case.last.last
+last_ends_cut_off later waits also a out x o s is case =
+    has_ended later waits also a out x o s is case.last.counting case.last.free case.last.last
     (ap (λ (q : CallPlan). is_last_end q is.call a out s) case.hedged ∙ ap not case.unnamed)
 
 pub one_attempt_ends : OneAttemptEnds

@@ -3,6 +3,7 @@ use Rattle.std.proofs.Common.{◌≡◌, ◌&&◌, ◌||◌, ◌==◌, ◌∷◌
 use Rattle.std.specs.List.{list_any}
 use Rattle.std.specs.Option.{option_and_then}
 use Rattle.std.specs.Prelude.{filter}
+use Rattle.attempt_ledger.specs.declared.row.RowEnd.{RowEnd}
 use Rattle.call_actions.proofs.Again.{any_here}
 use Rattle.call_actions.proofs.Dues.{plan_is}
 use Rattle.call_actions.specs.Sees.{is_live, live_row}
@@ -60,27 +61,27 @@ unnamed_by true true due e f = e
 unnamed_by true false due e f = absurd (let bad : false ≡ true = f in (cc))
 unnamed_by false others due e f = refl
 
-module _ (waits : Line → Bool) (also : List ℕ) (a : Attempt) (out : Outcome) (x : StateSeen) (o : OpenEntry) (s : Seen) (is : EndNext waits also a out x o s) where
+module _ (later : List (ℕ × RowEnd)) (waits : Line → Bool) (also : List ℕ) (a : Attempt) (out : Outcome) (x : StateSeen) (o : OpenEntry) (s : Seen) (is : EndNext later waits also a out x o s) where
   abbrev k : Call
-  k = c waits also a out x o s is
+  k = c later waits also a out x o s is
 
   abbrev held : CallSlot
-  held = slot waits also a out x o s is
+  held = slot later waits also a out x o s is
 
   pub going_on : GoesOn held.call
-  going_on = all_numbered (λ call. GoesOn call) x.book.calls k.number held is.going.calls (slot_there waits also a out x o s is)
+  going_on = all_numbered (λ call. GoesOn call) x.book.calls k.number held is.going.calls (slot_there later waits also a out x o s is)
 
   module _ (last : IsLastEnd s k a out) (others : list_any (λ (q : Attempt). is_live s k q && not (q.place == a.place)) s.attempts ≡ true) where
     live_here : list_any (λ (r : LiveRow). r.place == a.place) held.call.live ≡ true
     live_here =
-        sym (ap (λ (l : List LiveRow). list_any (λ (r : LiveRow). r.place == a.place) l) (sees waits also a out x o s is).live)
+        sym (ap (λ (l : List LiveRow). list_any (λ (r : LiveRow). r.place == a.place) l) (sees later waits also a out x o s is).live)
         ∙ rows_any (is_live s k) (λ (n : ℕ). n == a.place) s.attempts
         ∙ any_here (λ (q : Attempt). is_live s k q && (q.place == a.place)) s.attempts a.place a is.ending.there
         (ap (λ (b : Bool). b && (a.place == a.place)) is.ending.lives ∙ eq-eqb a.place a.place refl)
 
     live_other : list_any (λ (r : LiveRow). not (r.place == a.place)) held.call.live ≡ true
     live_other =
-        sym (ap (λ (l : List LiveRow). list_any (λ (r : LiveRow). not (r.place == a.place)) l) (sees waits also a out x o s is).live)
+        sym (ap (λ (l : List LiveRow). list_any (λ (r : LiveRow). not (r.place == a.place)) l) (sees later waits also a out x o s is).live)
         ∙ rows_any (is_live s k) (λ (n : ℕ). not (n == a.place)) s.attempts ∙ others
 
     not_one : HasAtMostOne held.call → ⊥
@@ -89,7 +90,7 @@ module _ (waits : Line → Bool) (also : List ℕ) (a : Attempt) (out : Outcome)
 
     unhedged : hedges (plan_of k s) ≡ false → ⊥
     unhedged off =
-        not_one (going_on.going.alone (sym (ap hedges (plan_is s k (x2 waits also a out x o s is) (sees waits also a out x o s is))) ∙ off))
+        not_one (going_on.going.alone (sym (ap hedges (plan_is s k (x2 later waits also a out x o s is) (sees later waits also a out x o s is))) ∙ off))
 
     by_plan : (p : CallPlan) → plan_of k s ≡ p → goes_on_after p s k a out ≡ false → IsLastOfSeveral s k a out
     by_plan plan.None e off = absurd (unhedged (ap hedges e))

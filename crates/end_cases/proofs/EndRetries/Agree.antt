@@ -54,6 +54,7 @@ use Rattle.end_cases.proofs.AttemptEnds.Told.{gone_form, slot_after}
 use Rattle.end_cases.proofs.EndRetries.ToldQueue.{queued_form, told_queue}
 use Rattle.call_cases.proofs.ConfiguredCalls.Lists.{changed_length, same_numbered, same_words, set_length}
 use Rattle.attempt_cases.proofs.DialEvents.Words.{draw_by}
+use Rattle.attempt_ledger.specs.declared.row.RowEnd.{RowEnd}
 use Rattle.end_cases.specs.AttemptEnds.Ahead.{AgreesAhead, AgreesOffLinks, HasLinkAhead, LinksAhead, SetsAgree}
 use Rattle.end_cases.specs.AttemptEnds.Ends.{EndNext, HasEnded, ended_in, gone_with}
 use Rattle.channel_core.proofs.BookLaws.{number_other}
@@ -63,6 +64,7 @@ use Rattle.channel_core.specs.States.{StateSeen}
 use Rattle.channel_core.specs.Steps.{told, with_ledger_links}
 use Rattle.channel_core.specs.Tables.{tokens_in, with_tokens}
 use Rattle.channel_core.specs.declared.state.slots.CallSlot.{CallSlot}
+use Rattle.end_cases.specs.AttemptEnds.Left.{all_left}
 use Rattle.ledger_stamps.specs.Steps.{noted_call as ledger_noted}
 use Rattle.link_actions.proofs.Ended.{noted_call, now_same}
 use Rattle.net_actions.proofs.NetFrames.Left.{net_stays_along}
@@ -90,56 +92,56 @@ use Rattle.session_actions.specs.declared.seen.Seen.{Seen}
 use Rattle.session_order.proofs.Begun.{numbered_more}
 use Rattle.session_order.specs.declared.line.Line.{Line}
 
-module _ (waits : Line → Bool) (also : List ℕ) (a : Attempt) (out : Outcome) (x : StateSeen) (o : OpenEntry) (s : Seen) (is : EndNext waits also a out x o s)
-    (going : (c waits also a out x o s is).end ≡ None) (follows : is_to_follow (c waits also a out x o s is) out.cause out.unseen s ≡ true)
-    (r : Retry waits also a out x o s is going follows) (leads : Leads waits also a out x o s is going follows r)
-    (keeps : Keeps (retry.done waits also a out x o s is going follows r) (c waits also a out x o s is).number
-    (ended_at a.place (news waits also a out x o s is) (now s) (next_word s) (x2 waits also a out x o s is)))
-    (holds_then : Holds (retry.done waits also a out x o s is going follows r) (retry.its waits also a out x o s is going follows r) (closed a.place (slot waits also a out x o s is).call.buffer))
-    (came_same : came (retry.its waits also a out x o s is going follows r) (retry.done waits also a out x o s is going follows r) ≡ came (c waits also a out x o s is) s)
-    (ahead : LinksAhead also x (retry.done waits also a out x o s is going follows r)) where
+module _ (later : List (ℕ × RowEnd)) (waits : Line → Bool) (also : List ℕ) (a : Attempt) (out : Outcome) (x : StateSeen) (o : OpenEntry) (s : Seen) (is : EndNext later waits also a out x o s)
+    (going : (c later waits also a out x o s is).end ≡ None) (follows : is_to_follow (c later waits also a out x o s is) out.cause out.unseen s ≡ true)
+    (r : Retry later waits also a out x o s is going follows) (leads : Leads later waits also a out x o s is going follows r)
+    (keeps : Keeps (retry.done later waits also a out x o s is going follows r) (c later waits also a out x o s is).number
+    (ended_at a.place (news later waits also a out x o s is) (now s) (next_word s) (x2 later waits also a out x o s is)))
+    (holds_then : Holds (retry.done later waits also a out x o s is going follows r) (retry.its later waits also a out x o s is going follows r) (closed a.place (slot later waits also a out x o s is).call.buffer))
+    (came_same : came (retry.its later waits also a out x o s is going follows r) (retry.done later waits also a out x o s is going follows r) ≡ came (c later waits also a out x o s is) s)
+    (ahead : LinksAhead also x (all_left later (retry.done later waits also a out x o s is going follows r))) where
   abbrev k : Call
-  k = c waits also a out x o s is
+  k = c later waits also a out x o s is
 
   abbrev n : ℕ
   n = k.number
 
   abbrev v : Seen
-  v = retry.v waits also a out x o s is going follows
+  v = retry.v later waits also a out x o s is going follows
 
   abbrev w : Seen
-  w = retry.done waits also a out x o s is going follows r
+  w = retry.done later waits also a out x o s is going follows r
 
   abbrev dw : Call
-  dw = retry.its waits also a out x o s is going follows r
+  dw = retry.its later waits also a out x o s is going follows r
 
   abbrev new : Attempt
-  new = retry.fresh waits also a out x o s is going follows r
+  new = retry.fresh later waits also a out x o s is going follows r
 
   abbrev was : CallSlot
-  was = slot waits also a out x o s is
+  was = slot later waits also a out x o s is
 
   abbrev z0 : StateSeen
-  z0 = z waits also a out x o s is
+  z0 = z later waits also a out x o s is
 
   abbrev then_ : Attempt
-  then_ = with_end (e waits also a out x o s is) a
+  then_ = with_end (e later waits also a out x o s is) a
 
   abbrev entry_then : OpenEntry
-  entry_then = first.entry_then waits also a out x o s is
+  entry_then = first.entry_then later waits also a out x o s is
 
   abbrev kept : IsKept s
-  kept = first.kept waits also a out x o s is
+  kept = first.kept later waits also a out x o s is
 
   abbrev kept_one : IsKept v
-  kept_one = first.kept_one waits also a out x o s is
+  kept_one = first.kept_one later waits also a out x o s is
 
   abbrev act : Action
-  act = first.act waits also a out x o s is
+  act = first.act later waits also a out x o s is
 
   -- what the channel's call is
   abbrev made : Stepped
-  made = aft waits also a out x o s is follows
+  made = aft later waits also a out x o s is follows
 
   same_call : keeps.call ≡ dw
   same_call =
@@ -147,19 +149,19 @@ module _ (waits : Line → Bool) (also : List ℕ) (a : Attempt) (out : Outcome)
       (cc)
 
   sees_then : Sees w dw made
-  sees_then = subst (Sees w dw) (step_form waits also a out x o s is follows) (subst (λ (g : Call). Sees w g (ended_at a.place (news waits also a out x o s is) (now s) (next_word s) (x2 waits also a out x o s is))) same_call keeps.sees)
+  sees_then = subst (Sees w dw) (step_form later waits also a out x o s is follows) (subst (λ (g : Call). Sees w g (ended_at a.place (news later waits also a out x o s is) (now s) (next_word s) (x2 later waits also a out x o s is))) same_call keeps.sees)
 
   order_then : IsInOrder w dw
   order_then = subst (λ (g : Call). IsInOrder w g) same_call keeps.order
 
   abbrev apart : GoesApart n s w
-  apart = lines.apart_two waits also a out x o s is going follows r leads
+  apart = lines.apart_two later waits also a out x o s is going follows r leads
 
   abbrev kept_then : IsKept w
-  kept_then = lines.kept_two waits also a out x o s is going follows r leads
+  kept_then = lines.kept_two later waits also a out x o s is going follows r leads
 
   others : SetsApart n s w
-  others = sets_stay n (x1 waits also a out x o s is) s w apart (books waits also a out x o s is).calls
+  others = sets_stay n (x1 later waits also a out x o s is) s w apart (books later waits also a out x o s is).calls
 
   -- what the channel is
   abbrev y1 : StateSeen
@@ -171,72 +173,72 @@ module _ (waits : Line → Bool) (also : List ℕ) (a : Attempt) (out : Outcome)
   abbrev y : StateSeen
   y = with_ledger_links stamps y1
 
-  told_so : told a.place (news_of_link.Ended a.place (news waits also a out x o s is)) z0 ≡ y1
+  told_so : told a.place (news_of_link.Ended a.place (news later waits also a out x o s is)) z0 ≡ y1
   told_so =
-      told_queue a.place (news waits also a out x o s is) n z0 was a.row (row_is waits also a out x o s is) (call_is waits also a out x o s is) (slot_there waits also a out x o s is)
-      (length v.attempts + 1) (ap (λ (q : Stepped). q.acts) (r_is waits also a out x o s is follows) ∙ acts_are waits also a out x o s is follows)
-      ∙ ap (λ (q : Stepped). queued_form a.place n (length v.attempts + 1) q was z0) (r_is waits also a out x o s is follows)
+      told_queue a.place (news later waits also a out x o s is) n z0 was a.row (row_is later waits also a out x o s is) (call_is later waits also a out x o s is) (slot_there later waits also a out x o s is)
+      (length v.attempts + 1) (ap (λ (q : Stepped). q.acts) (r_is later waits also a out x o s is follows) ∙ acts_are later waits also a out x o s is follows)
+      ∙ ap (λ (q : Stepped). queued_form a.place n (length v.attempts + 1) q was z0) (r_is later waits also a out x o s is follows)
 
-  ended_is : ended_in a (news waits also a out x o s is) x ≡ y
+  ended_is : ended_in a (news later waits also a out x o s is) x ≡ y
   ended_is =
-      ap (λ (q : StateSeen). gone_with a.row.placed (told a.place (news_of_link.Ended a.place (news waits also a out x o s is)) q)) (off_is a.row.call a.place a.row.placed x)
+      ap (λ (q : StateSeen). gone_with a.row.placed (told a.place (news_of_link.Ended a.place (news later waits also a out x o s is)) q)) (off_is a.row.call a.place a.row.placed x)
       ∙ ap (gone_with a.row.placed) told_so ∙ gone_form a.row.placed y1
 
   -- the clock
   one_then : numbered w.attempts a.place ≡ Some then_
   one_then =
-      numbered_more v.attempts new a.place (within v.attempts a.place then_ (first.one_there waits also a out x o s is)) ∙ first.one_there waits also a out x o s is
+      numbered_more v.attempts new a.place (within v.attempts a.place then_ (first.one_there later waits also a out x o s is)) ∙ first.one_there later waits also a out x o s is
 
   rows_now : numbered made.ledger.rows a.place ≡ option_map (λ (q : Attempt). q.row) (numbered w.attempts a.place)
   rows_now = ap (λ (rows : List Row). numbered rows a.place) (sym sees_then.rows) ∙ numbered_map (λ (q : Attempt). q.row) w.attempts a.place
 
-  drew : has_drawn (numbered made.ledger.rows a.place) ≡ is_some (e waits also a out x o s is).word
+  drew : has_drawn (numbered made.ledger.rows a.place) ≡ is_some (e later waits also a out x o s is).word
   drew = ap has_drawn (rows_now ∙ ap (option_map (λ (q : Attempt). q.row)) one_then)
 
-  was_draws : DrawsAlike (Some o) (x1 waits also a out x o s is)
-  was_draws = subst (λ (q : Option OpenEntry). DrawsAlike q (x1 waits also a out x o s is)) is.current (books waits also a out x o s is).clock.draws
+  was_draws : DrawsAlike (Some o) (x1 later waits also a out x o s is)
+  was_draws = subst (λ (q : Option OpenEntry). DrawsAlike q (x1 later waits also a out x o s is)) is.current (books later waits also a out x o s is).clock.draws
 
   draws_then : DrawsAlike (Some entry_then) y
   draws_then = (
     was_draws.0,
-    ap (λ (q : Bool). if q then (x.drawn + 1) % 2 ^ 64 else x.drawn) drew ∙ draw_by (is_some (e waits also a out x o s is).word) x.drawn o.drawn was_draws.1,
+    ap (λ (q : Bool). if q then (x.drawn + 1) % 2 ^ 64 else x.drawn) drew ∙ draw_by (is_some (e later waits also a out x o s is).word) x.drawn o.drawn was_draws.1,
   )
 
   clock_then : SeesClock y w
   clock_then = record {
-    entry_is = entry_is waits also a out x o s is ∙ (books waits also a out x o s is).clock.entry_is;
-    moment = now_same (is_some (e waits also a out x o s is).word) a.row.call a.place (e waits also a out x o s is) (runs waits also a out x o s is) s ∙ moment_is waits also a out x o s is;
-    draws = subst (λ (q : Option OpenEntry). DrawsAlike q y) (sym (first.current_one waits also a out x o s is)) draws_then;
+    entry_is = entry_is later waits also a out x o s is ∙ (books later waits also a out x o s is).clock.entry_is;
+    moment = now_same (is_some (e later waits also a out x o s is).word) a.row.call a.place (e later waits also a out x o s is) (runs later waits also a out x o s is) s ∙ moment_is later waits also a out x o s is;
+    draws = subst (λ (q : Option OpenEntry). DrawsAlike q y) (sym (first.current_one later waits also a out x o s is)) draws_then;
   }
 
   -- the tokens: no end was counted
   none_counted : counts_in act s ≡ None
   none_counted =
-      ap (option_and_then (run_counting (e waits also a out x o s is) s)) is.ending.there
+      ap (option_and_then (run_counting (e later waits also a out x o s is) s)) is.ending.there
       ∙ ap (option_and_then (λ (g : Call). if not (is_cut out.cause) && not (is_to_follow g out.cause out.unseen s) then run_number g s else None)) is.there
       ∙ ap (λ (q : Bool). if not q && not (is_to_follow k out.cause out.unseen s) then run_number k s else None) is.ending.uncut
       ∙ ap (λ (q : Bool). if not q then run_number k s else None) follows
 
   run_is : (i : ℕ) → numbered v.runs i ≡ numbered s.runs i
-  run_is i = ap (λ (l : List ThrottleRun). numbered l i) (runs_same waits also a out x o s is going follows)
+  run_is i = ap (λ (l : List ThrottleRun). numbered l i) (runs_same later waits also a out x o s is going follows)
 
   any_run : (i : ℕ) (q : Option ThrottleRun) → numbered s.runs i ≡ q → bucket_in w (Some i) ≡ bucket_in s (Some i)
   any_run i None at = ap (option_map (bucket_of w)) (run_is i ∙ at) ∙ sym (ap (option_map (bucket_of s)) at)
   any_run i (Some g) at =
       leads.tokens i (ap (λ (q : Option ThrottleRun). is_some q) (run_is i ∙ at))
-      ∙ subst (λ (q : Seen). tokens_in_run q (Some i) ≡ tokens_in_run s (Some i)) (first.after_is waits also a out x o s is)
+      ∙ subst (λ (q : Seen). tokens_in_run q (Some i) ≡ tokens_in_run s (Some i)) (first.after_is later waits also a out x o s is)
       (tokens_stay s act i kept.book (lines_are_fair s act kept.book is.next) (ap (λ (q : Option ThrottleRun). is_some q) at) (ap (is_number i) none_counted))
 
   has_its : has_config s k ≡ true
-  has_its = all_numbered (has_config s) s.calls n k (here waits also a out x o s is) kept.book.configs
+  has_its = all_numbered (has_config s) s.calls n k (here later waits also a out x o s is) kept.book.configs
 
   place_was : bucket_place s k ≡ was.bucket
-  place_was = (has waits also a out x o s is).sees.bucket
+  place_was = (has later waits also a out x o s is).sees.bucket
 
   buckets_then : SeesBuckets y.book.buckets w
   buckets_then =
       subst (λ (i : ℕ). SeesBuckets (with_tokens i made.tokens (with_tokens i None x.book.buckets)) w) place_was
-      (buckets_set s w k x.book.buckets made.tokens (books waits also a out x o s is).buckets refl is.rising has_its (sym sees_then.tokens) (λ i off. any_run i (numbered s.runs i) refl))
+      (buckets_set s w k x.book.buckets made.tokens (books later waits also a out x o s is).buckets refl is.rising has_its (sym sees_then.tokens) (λ i off. any_run i (numbered s.runs i) refl))
 
   -- the call itself
   abbrev own_slot : CallSlot
@@ -245,8 +247,8 @@ module _ (waits : Line → Bool) (also : List ℕ) (a : Attempt) (out : Outcome)
   tokens_then : made.tokens ≡ tokens_in y.book.buckets was.bucket
   tokens_then = sym sees_then.tokens ∙ sym (buckets_are_of_runs w y.book.buckets dw buckets_then has_its) ∙ ap (tokens_in y.book.buckets) place_was
 
-  abbrev served : Serves s k (lent_to (x1 waits also a out x o s is) s was)
-  served = (has waits also a out x o s is).sees.serves
+  abbrev served : Serves s k (lent_to (x1 later waits also a out x o s is) s was)
+  served = (has later waits also a out x o s is).sees.serves
 
   own_sees : Sees w dw (lent_to y w own_slot)
   own_sees = record {
@@ -300,7 +302,7 @@ module _ (waits : Line → Bool) (also : List ℕ) (a : Attempt) (out : Outcome)
   own = record { bucket = place_was; serves = own_serves; order = order_then; turn = leads.turn; due = own_due; deadline_is = own_deadline }
 
   own_there : numbered y.book.calls n ≡ Some own_slot
-  own_there = put_there x.book.calls n was own_slot (slot_there waits also a out x o s is)
+  own_there = put_there x.book.calls n was own_slot (slot_there later waits also a out x o s is)
 
   own_has : (g : Call) → numbered w.calls n ≡ Some g → HasSlot y w g n
   own_has g at =
@@ -311,13 +313,13 @@ module _ (waits : Line → Bool) (also : List ℕ) (a : Attempt) (out : Outcome)
   -- the sets
   sets_now : SetsAgree y w
   sets_now = record {
-    queue = sets.queue_then waits also a out x o s is going follows r leads others made sees_then;
-    patient = sets.patient_then waits also a out x o s is going follows r leads others made sees_then;
-    dues = sets.dues_then waits also a out x o s is going follows r leads others own_slot own_due;
-    deadlines = sets.deadlines_then waits also a out x o s is going follows r leads others own_slot own_deadline;
-    bare = sets.bare_then waits also a out x o s is going follows r leads others;
-    impatient = sets.impatient_then waits also a out x o s is going follows r leads others;
-    outstanding = sets.outs_then waits also a out x o s is going follows r leads others;
+    queue = sets.queue_then later waits also a out x o s is going follows r leads others made sees_then;
+    patient = sets.patient_then later waits also a out x o s is going follows r leads others made sees_then;
+    dues = sets.dues_then later waits also a out x o s is going follows r leads others own_slot own_due;
+    deadlines = sets.deadlines_then later waits also a out x o s is going follows r leads others own_slot own_deadline;
+    bare = sets.bare_then later waits also a out x o s is going follows r leads others;
+    impatient = sets.impatient_then later waits also a out x o s is going follows r leads others;
+    outstanding = sets.outs_then later waits also a out x o s is going follows r leads others;
   }
 
   -- the columns
@@ -331,7 +333,7 @@ module _ (waits : Line → Bool) (also : List ℕ) (a : Attempt) (out : Outcome)
       (numbered_map (call_seen w) w.calls n ∙ ap (option_map (call_seen w)) leads.here ∙ sym sees_then.call_is)
   calls_at i false h =
       numbered_map (call_seen w) w.calls i ∙ columns_stay n s w apart i h ∙ sym (numbered_map (call_seen s) s.calls i)
-      ∙ ap (λ (l : List CallSeen). numbered l i) (books waits also a out x o s is).columns.calls ∙ sym (same_words x.book.ledger.calls i)
+      ∙ ap (λ (l : List CallSeen). numbered l i) (books later waits also a out x o s is).columns.calls ∙ sym (same_words x.book.ledger.calls i)
       ∙ sym (number_other (ledger_noted x.book.ledger.entry) x.book.ledger.calls was.call.number i (other_number i h)) ∙ same_words made.ledger.calls i
 
   noted_more : links_noted w ≡ links_noted v
@@ -342,86 +344,86 @@ module _ (waits : Line → Bool) (also : List ℕ) (a : Attempt) (out : Outcome)
 
   outs_one : AreExactly y1.outstanding (is_in_outstanding v)
   outs_one =
-      exactly_by y1.outstanding (is_in_outstanding w) (is_in_outstanding v) (sets.outs_then waits also a out x o s is going follows r leads others)
-      (sets.out_more waits also a out x o s is going follows r leads others)
+      exactly_by y1.outstanding (is_in_outstanding w) (is_in_outstanding v) (sets.outs_then later waits also a out x o s is going follows r leads others)
+      (sets.out_more later waits also a out x o s is going follows r leads others)
 
   noted : links_noted w ≡ stamps
-  noted = noted_more ∙ noted_then waits also a out x o s is y1 refl refl refl refl outs_one kept_one
+  noted = noted_more ∙ noted_then later waits also a out x o s is y1 refl refl refl refl outs_one kept_one
 
   columns_then : SeesColumns y.book.ledger w
   columns_then = record {
     rows = sees_then.rows;
     calls = same_numbered (map (call_seen w) w.calls) made.ledger.calls (λ i. calls_at i (i == n) refl);
-    asks = (books waits also a out x o s is).columns.asks;
-    generations = (books waits also a out x o s is).columns.generations;
+    asks = (books later waits also a out x o s is).columns.asks;
+    generations = (books later waits also a out x o s is).columns.generations;
     links = noted;
   }
 
-  books_apart : BooksApart n (x1 waits also a out x o s is) y w
+  books_apart : BooksApart n (x1 later waits also a out x o s is) y w
   books_apart = record {
     entry_is = clock_then.entry_is;
     columns = columns_then;
     buckets = buckets_then;
-    slots = λ i off. put_away x.book.calls n i was own_slot (slot_there waits also a out x o s is) off;
+    slots = λ i off. put_away x.book.calls n i was own_slot (slot_there later waits also a out x o s is) off;
   }
 
   count_then : length w.calls ≡ length y.book.calls
   count_then =
-      leads.count ∙ changed_length (noted_call (mark.Ended a.place) (now s)) a.row.call s.calls ∙ (books waits also a out x o s is).calls.count
+      leads.count ∙ changed_length (noted_call (mark.Ended a.place) (now s)) a.row.call s.calls ∙ (books later waits also a out x o s is).calls.count
       ∙ sym (set_length x.book.calls (n - 1) own_slot)
 
   calls_then : SeesCalls y w
-  calls_then = all_calls_stay n (x1 waits also a out x o s is) y s w apart books_apart (books waits also a out x o s is).calls count_then own_has
+  calls_then = all_calls_stay n (x1 later waits also a out x o s is) y s w apart books_apart (books later waits also a out x o s is).calls count_then own_has
 
   books_then : AgreesOffLinks y w
   books_then = record {
     clock = clock_then;
     columns = columns_then;
     configs = record {
-      authority = (books waits also a out x o s is).configs.authority;
-      shut = (books waits also a out x o s is).configs.shut;
-      held = (books waits also a out x o s is).configs.held;
-      unconfigured = (books waits also a out x o s is).configs.unconfigured;
-      policy = (books waits also a out x o s is).configs.policy;
+      authority = (books later waits also a out x o s is).configs.authority;
+      shut = (books later waits also a out x o s is).configs.shut;
+      held = (books later waits also a out x o s is).configs.held;
+      unconfigured = (books later waits also a out x o s is).configs.unconfigured;
+      policy = (books later waits also a out x o s is).configs.policy;
     };
     buckets = buckets_then;
     calls = calls_then;
     net = net_stays_along r.actions v w x.net leads.netless leads.does
-        (net_stays_along (act ∷ []) s v x.net refl (first.does_one waits also a out x o s is) (books waits also a out x o s is).net);
-    orderly = (books waits also a out x o s is).orderly;
+        (net_stays_along (act ∷ []) s v x.net refl (first.does_one later waits also a out x o s is) (books later waits also a out x o s is).net);
+    orderly = (books later waits also a out x o s is).orderly;
     sets = sets_now;
     kept = kept_then;
   }
 
   -- the links
-  links_then : LinksAhead also y w
+  links_then : LinksAhead also y (all_left later w)
   links_then = record {
     count = ahead.count;
-    each = λ i l at. let h : HasLinkAhead x w l i = ahead.each i l at in record { slot = h.slot; there = h.there; sees = h.sees };
+    each = λ i l at. let h : HasLinkAhead x (all_left later w) l i = ahead.each i l at in record { slot = h.slot; there = h.there; sees = h.sees };
     closing = λ i l at off. ahead.closing i l at off;
   }
 
   unreset_then : AreUnreset w
-  unreset_then = list_all-append is_unreset v.attempts (new ∷ []) ∙ ap (λ (g : Bool). g && true) (first.unreset_one waits also a out x o s is)
+  unreset_then = list_all-append is_unreset v.attempts (new ∷ []) ∙ ap (λ (g : Bool). g && true) (first.unreset_one later waits also a out x o s is)
 
-  agrees_then : AgreesAhead also (ended_in a (news waits also a out x o s is) x) w
-  agrees_then = subst (λ (q : StateSeen). AgreesAhead also q w) (sym ended_is) (record { books = books_then; links = links_then; unreset = unreset_then })
+  agrees_then : AgreesAhead later also (ended_in a (news later waits also a out x o s is) x) w
+  agrees_then = subst (λ (q : StateSeen). AgreesAhead later also q w) (sym ended_is) (record { books = books_then; links = links_then; unreset = unreset_then })
 
-  pub has_ended : HasEnded waits also a out x o s
+  pub has_ended : HasEnded later waits also a out x o s
   has_ended = record {
     actions = r.actions;
     seen = w;
     entry = entry_then;
-    does = lines.does waits also a out x o s is going follows r leads;
+    does = lines.does later waits also a out x o s is going follows r leads;
     posts = leads.posts;
     same = record { moment = refl; word = refl; event = refl; entries = refl; setup = refl };
     stage = refl;
     reply = refl;
     turn = refl;
-    current = first.current_one waits also a out x o s is;
-    still = lines.still_two waits also a out x o s is going follows r leads;
-    late = lines.late_two waits also a out x o s is going follows r leads;
-    wire = lines.wire_two waits also a out x o s is going follows r leads;
-    fewer = λ link row h. first.fewer_one waits also a out x o s is link row (sym (sets.out_more waits also a out x o s is going follows r leads others link row) ∙ h);
+    current = first.current_one later waits also a out x o s is;
+    still = lines.still_two later waits also a out x o s is going follows r leads;
+    late = lines.late_two later waits also a out x o s is going follows r leads;
+    wire = lines.wire_two later waits also a out x o s is going follows r leads;
+    fewer = λ link row h. first.fewer_one later waits also a out x o s is link row (sym (sets.out_more later waits also a out x o s is going follows r leads others link row) ∙ h);
     agrees = agrees_then;
   }

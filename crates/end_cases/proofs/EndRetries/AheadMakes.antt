@@ -57,7 +57,7 @@ module _ (u : Seen) (call number : ℕ) (due : ℕ) where
   abbrev noted : Call → Call
   noted c = record c { marks = c.marks ++ record { what = mark.Made (length u.attempts + 1); moment = now u } ∷ [] }
 
-  abbrev v : Seen
+  abbrev pub v : Seen
   v = record u { attempts = u.attempts ++ new ∷ []; calls = changed noted call u.calls }
 
   limit_same : (a : Attempt) → limit_of_attempt a v ≡ limit_of_attempt a u

@@ -73,30 +73,30 @@ code_off false false g e f = absurd (cc)
 pub just_before : (m k : ℕ) → m ≤ k → nat_lt m (k + 1) ≡ true
 just_before m k e = grind (arith, nat_tests, e)
 
-module _ (waits : Line → Bool) (also : List ℕ) (a : Attempt) (out : Outcome) (x : StateSeen) (o : OpenEntry) (s : Seen) (is : EndNext waits also a out x o s)
-    (going : (c waits also a out x o s is).end ≡ None) (follows : is_to_follow (c waits also a out x o s is) out.cause out.unseen s ≡ true) where
+module _ (later : List (ℕ × RowEnd)) (waits : Line → Bool) (also : List ℕ) (a : Attempt) (out : Outcome) (x : StateSeen) (o : OpenEntry) (s : Seen) (is : EndNext later waits also a out x o s)
+    (going : (c later waits also a out x o s is).end ≡ None) (follows : is_to_follow (c later waits also a out x o s is) out.cause out.unseen s ≡ true) where
   abbrev k : Call
-  k = c waits also a out x o s is
+  k = c later waits also a out x o s is
 
   abbrev n : ℕ
   n = k.number
 
   abbrev v : Seen
-  v = retry.v waits also a out x o s is going follows
+  v = retry.v later waits also a out x o s is going follows
 
   abbrev end_ : RowEnd
-  end_ = e waits also a out x o s is
+  end_ = e later waits also a out x o s is
 
   abbrev then_ : Attempt
   then_ = with_end end_ a
 
   -- the retry is a later one of the attempt
   pub after_it : nat_lt a.place (length v.attempts + 1) ≡ true
-  after_it = just_before a.place (length v.attempts) (within v.attempts a.place then_ (first.one_there waits also a out x o s is))
+  after_it = just_before a.place (length v.attempts) (within v.attempts a.place then_ (first.one_there later waits also a out x o s is))
 
-  pub later : is_later_of then_ (retry.new waits also a out x o s is going follows) ≡ true
-  later =
-      ap (λ (b : Bool). (b && (a.row.number == a.row.number)) && nat_lt a.place (length v.attempts + 1)) (eqb-turned a.row.call n (call_is waits also a out x o s is))
+  pub comes_later : is_later_of then_ (retry.new later waits also a out x o s is going follows) ≡ true
+  comes_later =
+      ap (λ (b : Bool). (b && (a.row.number == a.row.number)) && nat_lt a.place (length v.attempts + 1)) (eqb-turned a.row.call n (call_is later waits also a out x o s is))
       ∙ ap (λ (b : Bool). b && nat_lt a.place (length v.attempts + 1)) (eq-eqb a.row.number a.row.number refl) ∙ after_it
     where
       eqb-turned : (m i : ℕ) → m ≡ i → (i == m) ≡ true
@@ -110,31 +110,31 @@ module _ (waits : Line → Bool) (also : List ℕ) (a : Attempt) (out : Outcome)
       (run_number k s) s else s).runs) (ap (λ (b : Bool). not (is_cut out.cause) && not b) follows ∙ and_right (not (is_cut out.cause)) false refl)
 
   module _ (free : commitment k s ≡ None) where
-    abbrev pub r : Retry waits also a out x o s is going follows
+    abbrev pub r : Retry later waits also a out x o s is going follows
     r = record {
-      actions = retry.makes waits also a out x o s is going follows ∷ [];
-      calls = changed (retry.noted waits also a out x o s is going follows) n v.calls;
-      marks = (retry.dt waits also a out x o s is going follows).marks;
+      actions = retry.makes later waits also a out x o s is going follows ∷ [];
+      calls = changed (retry.noted later waits also a out x o s is going follows) n v.calls;
+      marks = (retry.dt later waits also a out x o s is going follows).marks;
       stamp = None;
     }
 
     abbrev pub new : Attempt
-    new = retry.fresh waits also a out x o s is going follows r
+    new = retry.fresh later waits also a out x o s is going follows r
 
     abbrev added : Seen
-    added = retry.grown waits also a out x o s is going follows r
+    added = retry.grown later waits also a out x o s is going follows r
 
     abbrev pub t : Seen
-    t = retry.done waits also a out x o s is going follows r
+    t = retry.done later waits also a out x o s is going follows r
 
     abbrev pub dt : Call
-    dt = retry.its waits also a out x o s is going follows r
+    dt = retry.its later waits also a out x o s is going follows r
 
     commitment_same : (g : Call) → commitment g added ≡ commitment g v
     commitment_same g = find_last_more (is_commitment g) v.attempts new (and_right (is_of g new) false refl)
 
     pub free_now : commitment dt t ≡ None
-    free_now = commitment_same k ∙ free_then waits also a out x o s is going free
+    free_now = commitment_same k ∙ free_then later waits also a out x o s is going free
 
     over_same : (q : Attempt) → is_over q added ≡ is_over q v
     over_same q =
@@ -151,7 +151,7 @@ module _ (waits : Line → Bool) (also : List ℕ) (a : Attempt) (out : Outcome)
 
     inherited_new : is_inherited added new ≡ false
     inherited_new =
-        ap (holds (is_inherited_in new added)) (retry.dk_here waits also a out x o s is going follows)
+        ap (holds (is_inherited_in new added)) (retry.dk_here later waits also a out x o s is going follows)
         ∙ ap (λ (r : Option Attempt). is_none k.end && holds (is_inherited_by new) r) free_now ∙ and_right (is_none k.end) false refl
 
     row_then : is_over_by_row t dt ≡ false
@@ -161,7 +161,7 @@ module _ (waits : Line → Bool) (also : List ℕ) (a : Attempt) (out : Outcome)
     going_new : (is_of dt new && (is_outstanding new || is_queued new t)) ≡ true
     going_new =
         ap (λ (b : Bool). b && (is_outstanding new || is_queued new t)) (eq-eqb n n refl)
-        ∙ ap not (ap (holds (λ (g : Call). is_over_in g new t)) (retry.dt_here waits also a out x o s is going follows)
+        ∙ ap not (ap (holds (λ (g : Call). is_over_in g new t)) (retry.dt_here later waits also a out x o s is going follows)
         ∙ ap (λ (z : Option CallEnd). is_some z || holds (λ (b : Attempt). not (b.row.number == new.row.number)) (commitment dt t)) going
         ∙ ap (holds (λ (b : Attempt). not (b.row.number == new.row.number))) free_now)
 
@@ -182,9 +182,9 @@ module _ (waits : Line → Bool) (also : List ℕ) (a : Attempt) (out : Outcome)
         let none : is_followed q v ≡ false = or_off (is_followed q v) _ (sym (list_any-append (is_later_of q) v.attempts (new ∷ [])) ∙ not_so (is_followed q t) parts.1) in
         let wants : wants_follower_by q s z ≡ false
         = sym (ap (holds (wants_follower_by q s)) at)
-        ∙ numbered_not (λ (b : Attempt). wants_follower b s) s.attempts (suc i) q (first.was_still waits also a out x o s is line.Transparent refl refl) there in
+        ∙ numbered_not (λ (b : Attempt). wants_follower b s) s.attempts (suc i) q (first.was_still later waits also a out x o s is line.Transparent refl refl) there in
         ap (λ (b : Bool). (b && not (is_followed q s)) && not (wants_follower_by q s z)) parts.0
-        ∙ ap (λ (b : Bool). not b && not (wants_follower_by q s z)) (sym (retry.followed_same waits also a out x o s is going follows q) ∙ none) ∙ ap not wants
+        ∙ ap (λ (b : Bool). not b && not (wants_follower_by q s z)) (sym (retry.followed_same later waits also a out x o s is going follows q) ∙ none) ∙ ap not wants
 
     was_free : is_free_call s k ≡ true
     was_free = ap (λ (q : Option CallEnd). is_none q && is_none (commitment k s)) going ∙ ap (λ (q : Option Attempt). is_none q) free
@@ -192,25 +192,25 @@ module _ (waits : Line → Bool) (also : List ℕ) (a : Attempt) (out : Outcome)
     final_was : (i : ℕ) (q : Attempt) (z : RowEnd) → numbered s.attempts (suc i) ≡ Some q → (q.row.call == n) ≡ true → q.row.ended ≡ Some z
         → (counts_by q s z && is_final_by (plan_of k s) k q s z) ≡ false
     final_was i q z there own at =
-        sym (ap (holds (λ (g : Call). is_final_in q s g)) (ap (numbered s.calls) (eqb-true q.row.call n own) ∙ here waits also a out x o s is)
+        sym (ap (holds (λ (g : Call). is_final_in q s g)) (ap (numbered s.calls) (eqb-true q.row.call n own) ∙ here later waits also a out x o s is)
         ∙ ap (λ (b : Bool). (b && is_counted q s) && holds (is_final_by (plan_of k s) k q s) q.row.ended) was_free
         ∙ ap (λ (r : Option RowEnd). holds (counts_by q s) r && holds (is_final_by (plan_of k s) k q s) r) at)
-        ∙ numbered_not (is_final_end s) s.attempts (suc i) q (first.was_still waits also a out x o s is line.Final refl refl) there
+        ∙ numbered_not (is_final_end s) s.attempts (suc i) q (first.was_still later waits also a out x o s is line.Final refl refl) there
 
     -- the attempt that ended is followed now
     not_counted : (z : RowEnd) → counts_by then_ t z ≡ false
     not_counted z =
-        ap (λ (b : Bool). (not (is_cut z.cause) && not b) && not (wants_follower_by then_ t z)) (any_last (is_later_of then_) v.attempts new later)
+        ap (λ (b : Bool). (not (is_cut z.cause) && not b) && not (wants_follower_by then_ t z)) (any_last (is_later_of then_) v.attempts new comes_later)
         ∙ ap (λ (b : Bool). b && not (wants_follower_by then_ t z)) (and_right (not (is_cut z.cause)) false refl)
 
     final_old : (i : ℕ) (q : Attempt) (z : RowEnd) (b : Bool) → slice_get v.attempts i ≡ Some q → (q.row.call == n) ≡ true → q.row.ended ≡ Some z → (q.place == a.place) ≡ b
         → ((is_free_call t dt && counts_by q t z) && is_final_by (plan_of k s) dt q t z) ≡ false
     final_old i q z true at own ended here_ =
-        ap (λ (g : Attempt). (is_free_call t dt && counts_by g t z) && is_final_by (plan_of k s) dt g t z) (first.the_one waits also a out x o s is i q at here_)
+        ap (λ (g : Attempt). (is_free_call t dt && counts_by g t z) && is_final_by (plan_of k s) dt g t z) (first.the_one later waits also a out x o s is i q at here_)
         ∙ ap (λ (b : Bool). (is_free_call t dt && b) && is_final_by (plan_of k s) dt then_ t z) (not_counted z)
         ∙ ap (λ (b : Bool). b && is_final_by (plan_of k s) dt then_ t z) (and_right (is_free_call t dt) false refl)
     final_old i q z false at own ended off =
-        let there : numbered s.attempts (suc i) ≡ Some q = retry.was_there waits also a out x o s is going follows i q at off in
+        let there : numbered s.attempts (suc i) ≡ Some q = retry.was_there later waits also a out x o s is going follows i q at off in
         less_final (is_free_call t dt) (counts_by q t z) (counts_by q s z) (is_final_by (plan_of k s) dt q t z) (is_final_by (plan_of k s) k q s z)
         (counts_so i q z there ended) (final_so (plan_of k s) q z) (final_was i q z there own ended)
 
@@ -223,24 +223,24 @@ module _ (waits : Line → Bool) (also : List ℕ) (a : Attempt) (out : Outcome)
         (λ old. final_old i q z (q.place == a.place) old own ended refl)
         (λ same. (let none : None ≡ Some z = ap (λ (g : Attempt). g.row.ended) same ∙ ended in absurd (cc)))
 
-    pub leads : Leads waits also a out x o s is going follows r
+    pub leads : Leads later waits also a out x o s is going follows r
     leads = record {
-      does = retry.does_two waits also a out x o s is going follows;
-      of_call = retry.of_call_two waits also a out x o s is going follows;
+      does = retry.does_two later waits also a out x o s is going follows;
+      of_call = retry.of_call_two later waits also a out x o s is going follows;
       posts = refl;
       netless = refl;
-      here = retry.dt_here waits also a out x o s is going follows;
-      count = changed_length (retry.noted waits also a out x o s is going follows) n v.calls;
-      told = λ l off h. marked_still added n (λ (g : Call). g.marks ++ record { what = mark.Made (length v.attempts + 1); moment = retry.at waits also a out x o s is going follows } ∷ [])
-          l (retry.p waits also a out x o s is going follows) off h;
-      turn = retry.turn_two waits also a out x o s is going follows;
-      calm = retry.calm_two waits also a out x o s is going follows;
+      here = retry.dt_here later waits also a out x o s is going follows;
+      count = changed_length (retry.noted later waits also a out x o s is going follows) n v.calls;
+      told = λ l off h. marked_still added n (λ (g : Call). g.marks ++ record { what = mark.Made (length v.attempts + 1); moment = retry.at later waits also a out x o s is going follows } ∷ [])
+          l (retry.p later waits also a out x o s is going follows) off h;
+      turn = retry.turn_two later waits also a out x o s is going follows;
+      calm = retry.calm_two later waits also a out x o s is going follows;
       over = over_same;
       free = λ g. ap (λ (r : Option Attempt). is_none r) (commitment_same g);
       long = λ g h. long_same g ∙ h;
       inherited = any_more (is_inherited added) v.attempts new inherited_new ∙ any_same (is_inherited added) (is_inherited v) inherited_same v.attempts
-          ∙ retry.uninherited waits also a out x o s is going follows;
+          ∙ retry.uninherited later waits also a out x o s is going follows;
       row = row_then;
       final = λ i q at own. final_by i q q.row.ended refl at own;
-      tokens = λ i there. retry.tokens_two waits also a out x o s is going follows i there;
+      tokens = λ i there. retry.tokens_two later waits also a out x o s is going follows i there;
     }

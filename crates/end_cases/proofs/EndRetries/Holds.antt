@@ -21,6 +21,7 @@ use Rattle.end_cases.proofs.EndRetries.Next as retry
 use Rattle.end_cases.proofs.EndRetries.Step.{rows_before}
 use Rattle.end_cases.proofs.EndRetries.Taken as taken_retry
 use Rattle.attempt_cases.proofs.MakingSteps.Made.{none_held}
+use Rattle.attempt_ledger.specs.declared.row.RowEnd.{RowEnd}
 use Rattle.end_cases.specs.AttemptEnds.Ends.{EndNext, IsHeld}
 use Rattle.channel_core.specs.States.{StateSeen}
 use Rattle.channel_core.specs.declared.state.slots.CallSlot.{CallSlot}
@@ -81,34 +82,34 @@ of_by : (b : Buffered) (o : Option Committed) → b.committed ≡ o → is_some 
 of_by b None e some = absurd (cc)
 of_by b (Some m) e some = record { row = m; is = e }
 
-module _ (waits : Line → Bool) (also : List ℕ) (a : Attempt) (out : Outcome) (x : StateSeen) (o : OpenEntry) (s : Seen) (is : EndNext waits also a out x o s)
-    (going : (c waits also a out x o s is).end ≡ None) (follows : is_to_follow (c waits also a out x o s is) out.cause out.unseen s ≡ true) where
+module _ (later : List (ℕ × RowEnd)) (waits : Line → Bool) (also : List ℕ) (a : Attempt) (out : Outcome) (x : StateSeen) (o : OpenEntry) (s : Seen) (is : EndNext later waits also a out x o s)
+    (going : (c later waits also a out x o s is).end ≡ None) (follows : is_to_follow (c later waits also a out x o s is) out.cause out.unseen s ≡ true) where
   abbrev k : Call
-  k = c waits also a out x o s is
+  k = c later waits also a out x o s is
 
   abbrev n : ℕ
   n = k.number
 
   abbrev v : Seen
-  v = retry.v waits also a out x o s is going follows
+  v = retry.v later waits also a out x o s is going follows
 
   abbrev place : ℕ
-  place = retry.place waits also a out x o s is going follows
+  place = retry.place later waits also a out x o s is going follows
 
   abbrev was : CallSlot
-  was = slot waits also a out x o s is
+  was = slot later waits also a out x o s is
 
   abbrev b : Buffered
   b = was.call.buffer
 
-  abbrev served : Serves s k (lent_to (x1 waits also a out x o s is) s was)
-  served = (has waits also a out x o s is).sees.serves
+  abbrev served : Serves s k (lent_to (x1 later waits also a out x o s is) s was)
+  served = (has later waits also a out x o s is).sees.serves
 
   was_held : Holds s k b
   was_held = served.holds going
 
   its_held : IsHeld (length x.book.ledger.rows) b
-  its_held = is.held follows n was (slot_there waits also a out x o s is)
+  its_held = is.held follows n was (slot_there later waits also a out x o s is)
 
   abbrev all : List ℕ
   all = framed_all k.messages
@@ -119,64 +120,64 @@ module _ (waits : Line → Bool) (also : List ℕ) (a : Attempt) (out : Outcome)
   -- a call that is not committed
   module _ (free : commitment k s ≡ None) where
     abbrev t : Seen
-    t = free_retry.t waits also a out x o s is going follows free
+    t = free_retry.t later waits also a out x o s is going follows free
 
     abbrev dt : Call
-    dt = free_retry.dt waits also a out x o s is going follows free
+    dt = free_retry.dt later waits also a out x o s is going follows free
 
     abbrev new : Attempt
-    new = free_retry.new waits also a out x o s is going follows free
+    new = free_retry.new later waits also a out x o s is going follows free
 
     abbrev z : Buffered
-    z = buffer_then waits also a out x o s is going free
+    z = buffer_then later waits also a out x o s is going free
 
     pub free_came : came dt t ≡ came k s
     free_came =
-        ap (λ (q : Option Attempt). option_map_or (λ (g : Attempt). response_items (response g t)) q []) (free_retry.free_now waits also a out x o s is going follows free)
+        ap (λ (q : Option Attempt). option_map_or (λ (g : Attempt). response_items (response g t)) q []) (free_retry.free_now later waits also a out x o s is going follows free)
         ∙ sym (ap (λ (q : Option Attempt). option_map_or (λ (g : Attempt). response_items (response g s)) q []) free)
 
     none_before : taken_by place b ≡ None
     none_before =
-        ap (taken_from place b.cursors) (none_of b.committed (free_buffer waits also a out x o s is going free))
-        ∙ ap (λ (m : ℕ). taken_uncommitted (m + 1) b.cursors) (sym (rows_before waits also a out x o s is follows))
+        ap (taken_from place b.cursors) (none_of b.committed (free_buffer later waits also a out x o s is going free))
+        ∙ ap (λ (m : ℕ). taken_uncommitted (m + 1) b.cursors) (sym (rows_before later waits also a out x o s is follows))
         ∙ ap (option_map (λ (q : Cursor). q.taken)) (none_held (length x.book.ledger.rows) b.cursors its_held.rows_are)
 
     none_then : taken_by place z ≡ None
     none_then =
-        taken_kept b a.place (free_buffer waits also a out x o s is going free) place
-        (behind a.place (length v.attempts) (within v.attempts a.place (with_end (e waits also a out x o s is) a) (first.one_there waits also a out x o s is)))
+        taken_kept b a.place (free_buffer later waits also a out x o s is going free) place
+        (behind a.place (length v.attempts) (within v.attempts a.place (with_end (e later waits also a out x o s is) a) (first.one_there later waits also a out x o s is)))
         ∙ none_before
 
     fed_new : IsFed (taken_by place z) (text_of z) false (drained new t) all
     fed_new = subst (λ (q : Option ℕ). IsFed q (text_of z) false (drained new t) all) (sym none_then) tt
 
-    held_then : Holds v (retry.dk waits also a out x o s is going follows) z
-    held_then = holds_then waits also a out x o s is going free
+    held_then : Holds v (retry.dk later waits also a out x o s is going follows) z
+    held_then = holds_then later waits also a out x o s is going free
 
     holds_more : Holds t dt z
     holds_more = record {
       fed = subst (λ (l : List Attempt). AreFed t dt z l) (sym (own_more new (eq-eqb n n refl)))
           (all_snoc (λ (q : Attempt). IsFed (taken_by q.place z) (text_of z) (is_outstanding q) (drained q t) all) (filter (is_of k) v.attempts) new held_then.fed fed_new);
       held = subst (λ (m : ℕ). IsAt (passed z) (text_of z) m all)
-          (ap (λ (q : Option Attempt). option_map_or (λ (g : Attempt). drained g v) q 0) (free_then waits also a out x o s is going free)
-          ∙ sym (ap (λ (q : Option Attempt). option_map_or (λ (g : Attempt). drained g t) q 0) (free_retry.free_now waits also a out x o s is going follows free))) held_then.held;
-      committed = held_then.committed ∙ ap (λ (q : Option Attempt). is_some q) (free_then waits also a out x o s is going free)
-          ∙ sym (ap (λ (q : Option Attempt). is_some q) (free_retry.free_now waits also a out x o s is going follows free));
+          (ap (λ (q : Option Attempt). option_map_or (λ (g : Attempt). drained g v) q 0) (free_then later waits also a out x o s is going free)
+          ∙ sym (ap (λ (q : Option Attempt). option_map_or (λ (g : Attempt). drained g t) q 0) (free_retry.free_now later waits also a out x o s is going follows free))) held_then.held;
+      committed = held_then.committed ∙ ap (λ (q : Option Attempt). is_some q) (free_then later waits also a out x o s is going free)
+          ∙ sym (ap (λ (q : Option Attempt). is_some q) (free_retry.free_now later waits also a out x o s is going follows free));
     }
 
     pub free_holds : Holds t dt (closed a.place b)
-    free_holds = subst (λ (q : Buffered). Holds t dt q) (sym (closed_is b a.place (free_buffer waits also a out x o s is going free))) holds_more
+    free_holds = subst (λ (q : Buffered). Holds t dt q) (sym (closed_is b a.place (free_buffer later waits also a out x o s is going free))) holds_more
 
   -- a call that is committed to the attempt: this was never sent
   module _ (held : commitment k s ≡ Some a) where
     abbrev w : Seen
-    w = taken_retry.w waits also a out x o s is going follows held
+    w = taken_retry.w later waits also a out x o s is going follows held
 
     abbrev dw : Call
-    dw = taken_retry.dw waits also a out x o s is going follows held
+    dw = taken_retry.dw later waits also a out x o s is going follows held
 
     abbrev taken : Attempt
-    taken = taken_retry.taken waits also a out x o s is going follows held
+    taken = taken_retry.taken later waits also a out x o s is going follows held
 
     was_unsent : is_unsent out.cause ≡ true
     was_unsent =
@@ -198,7 +199,7 @@ module _ (waits : Line → Bool) (also : List ℕ) (a : Attempt) (out : Outcome)
 
     pub taken_came : came dw w ≡ came k s
     taken_came =
-        ap (λ (q : Option Attempt). option_map_or (λ (g : Attempt). response_items (response g w)) q []) (taken_retry.has_it waits also a out x o s is going follows held)
+        ap (λ (q : Option Attempt). option_map_or (λ (g : Attempt). response_items (response g w)) q []) (taken_retry.has_it later waits also a out x o s is going follows held)
         ∙ sym (ap (λ (q : Option Attempt). option_map_or (λ (g : Attempt). response_items (response g s)) q []) held
         ∙ ap (λ (q : Option ℕ). response_items (response_by a s q)) streamless)
 
@@ -240,7 +241,7 @@ module _ (waits : Line → Bool) (also : List ℕ) (a : Attempt) (out : Outcome)
     none_out : (i : ℕ) (q : Attempt) → slice_get (v.attempts ++ taken ∷ []) i ≡ Some q → is_of k q ≡ true → is_outstanding q ≡ false
     none_out i q at own =
         snoc_by v.attempts taken i q at (is_outstanding q ≡ false)
-        (λ old. first.none_out waits also a out x o s is (alone waits also a out x o s is going (ap (λ (r : Option Attempt). is_some r) held)) i q old own)
+        (λ old. first.none_out later waits also a out x o s is (alone later waits also a out x o s is going (ap (λ (r : Option Attempt). is_some r) held)) i q old own)
         (λ same. ap is_outstanding (sym same))
 
     fed_none : (q : Attempt) → is_outstanding q ≡ false → IsFed (taken_by q.place y) (text_of y) (is_outstanding q) (drained q w) all
@@ -250,7 +251,7 @@ module _ (waits : Line → Bool) (also : List ℕ) (a : Attempt) (out : Outcome)
     drained_then =
         ap (λ (q : Option Attempt). option_map_or (λ (g : Attempt). drained g s) q 0) held
         ∙ ap (λ (q : Option ℕ). drained (record a { row = record a.row { stream = q } }) s) streamless
-        ∙ sym (ap (λ (q : Option Attempt). option_map_or (λ (g : Attempt). drained g w) q 0) (taken_retry.has_it waits also a out x o s is going follows held))
+        ∙ sym (ap (λ (q : Option Attempt). option_map_or (λ (g : Attempt). drained g w) q 0) (taken_retry.has_it later waits also a out x o s is going follows held))
 
     passed_same : passed b ≡ passed y
     passed_same = ap (λ (q : Option Committed). option_map_or (λ (m : Committed). m.taken) q 0) of.is
@@ -261,7 +262,7 @@ module _ (waits : Line → Bool) (also : List ℕ) (a : Attempt) (out : Outcome)
           (λ i q at own. fed_none q (none_out i q at own));
       held = subst (λ (m : ℕ). IsAt (passed y) (text_of y) m all) drained_then
           (subst (λ (m : ℕ). IsAt m (text_of b) (drained_so_far k s) all) passed_same was_held.held);
-      committed = sym (ap (λ (q : Option Attempt). is_some q) (taken_retry.has_it waits also a out x o s is going follows held));
+      committed = sym (ap (λ (q : Option Attempt). is_some q) (taken_retry.has_it later waits also a out x o s is going follows held));
     }
 
     pub taken_holds : Holds w dw (closed a.place b)

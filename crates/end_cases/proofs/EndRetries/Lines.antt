@@ -4,6 +4,7 @@ use Rattle.std.proofs.lemmas.Bool.{and_right, eqb-true}
 use Rattle.std.specs.List.{list_any}
 use Rattle.std.specs.Option.{option_map_or}
 use Rattle.attempt_ledger.specs.declared.ledger.Ask.{Ask}
+use Rattle.attempt_ledger.specs.declared.row.RowEnd.{RowEnd}
 use Rattle.call_actions.proofs.Lists.{numbered_not}
 use Rattle.call_actions.specs.CallsInTurn.Turns.{waits as waits_to_follow}
 use Rattle.channel_actions.proofs.KeptSessions.Along.{kept_along}
@@ -56,38 +57,38 @@ asked s kept ask at = below_by (numbered s.attempts ask.row) refl (sym (ap (λ (
         let both : false ≡ true = sym (ap (holds (λ (g : Attempt). not (is_unfollowed g && (ask.entry == entry s)) || has_link_for s.subs ask.answer)) there) ∙ e in absurd (cc)
     below_by (Some g) there e = within s.attempts ask.row g there
 
-module _ (waits : Line → Bool) (also : List ℕ) (a : Attempt) (out : Outcome) (x : StateSeen) (o : OpenEntry) (s : Seen) (is : EndNext waits also a out x o s)
-    (going : (c waits also a out x o s is).end ≡ None) (follows : is_to_follow (c waits also a out x o s is) out.cause out.unseen s ≡ true)
-    (r : Retry waits also a out x o s is going follows) (leads : Leads waits also a out x o s is going follows r) where
+module _ (later : List (ℕ × RowEnd)) (waits : Line → Bool) (also : List ℕ) (a : Attempt) (out : Outcome) (x : StateSeen) (o : OpenEntry) (s : Seen) (is : EndNext later waits also a out x o s)
+    (going : (c later waits also a out x o s is).end ≡ None) (follows : is_to_follow (c later waits also a out x o s is) out.cause out.unseen s ≡ true)
+    (r : Retry later waits also a out x o s is going follows) (leads : Leads later waits also a out x o s is going follows r) where
   abbrev n : ℕ
-  n = retry.n waits also a out x o s is going follows
+  n = retry.n later waits also a out x o s is going follows
 
   abbrev v : Seen
-  v = retry.v waits also a out x o s is going follows
+  v = retry.v later waits also a out x o s is going follows
 
   abbrev new : Attempt
-  new = retry.fresh waits also a out x o s is going follows r
+  new = retry.fresh later waits also a out x o s is going follows r
 
   abbrev added : Seen
-  added = retry.grown waits also a out x o s is going follows r
+  added = retry.grown later waits also a out x o s is going follows r
 
   abbrev t : Seen
-  t = retry.done waits also a out x o s is going follows r
+  t = retry.done later waits also a out x o s is going follows r
 
   abbrev dt : Call
-  dt = retry.its waits also a out x o s is going follows r
+  dt = retry.its later waits also a out x o s is going follows r
 
   abbrev p : OpenEntry
-  p = retry.p waits also a out x o s is going follows
+  p = retry.p later waits also a out x o s is going follows
 
   abbrev act : Action
-  act = first.act waits also a out x o s is
+  act = first.act later waits also a out x o s is
 
   abbrev kept : IsKept s
-  kept = first.kept waits also a out x o s is
+  kept = first.kept later waits also a out x o s is
 
   abbrev kept_one : IsKept v
-  kept_one = first.kept_one waits also a out x o s is
+  kept_one = first.kept_one later waits also a out x o s is
 
   -- the session goes there
   pub kept_two : IsKept t
@@ -97,13 +98,13 @@ module _ (waits : Line → Bool) (also : List ℕ) (a : Attempt) (out : Outcome)
   booked q h = record { book = h.book; owned = h.owned; reads = h.reads }
 
   pub does : Does (act ∷ r.actions) s t
-  does = (is.next, subst (λ (q : Seen). Does r.actions q t) (sym (first.after_is waits also a out x o s is)) leads.does)
+  does = (is.next, subst (λ (q : Seen). Does r.actions q t) (sym (first.after_is later waits also a out x o s is)) leads.does)
 
   pub apart_two : GoesApart n s t
   apart_two = record {
     actions = act ∷ r.actions;
     does = does;
-    apart = of_call_on n (act ∷ []) r.actions s v (first.does_one waits also a out x o s is) (first.of_call_one waits also a out x o s is) leads.of_call;
+    apart = of_call_on n (act ∷ []) r.actions s v (first.does_one later waits also a out x o s is) (first.of_call_one later waits also a out x o s is) leads.of_call;
     earlier = booked s kept;
     later = booked t kept_two;
   }
@@ -138,14 +139,14 @@ module _ (waits : Line → Bool) (also : List ℕ) (a : Attempt) (out : Outcome)
       ∙ ap (λ (q : Option Attempt). holds is_unfollowed q && (ask.entry == entry v) && can_follow v ask.answer) (numbered_more v.attempts new ask.row (asked v kept_one ask at)) ∙ h
 
   gone_on : (l : Line) → stirs act l ≡ false → is_of_ends l ≡ false → may_wait l ≡ false → IsStill l p v
-  gone_on l off ends may = first.plain waits also a out x o s is l off (first.was_still waits also a out x o s is l ends may)
+  gone_on l off ends may = first.plain later waits also a out x o s is l off (first.was_still later waits also a out x o s is l ends may)
 
   -- of other calls, and of this one
   wants_two : (i : ℕ) (q : Attempt) (g : Bool) → slice_get t.attempts i ≡ Some q → (q.row.call == n) ≡ g → wants_follower q t ≡ false
   wants_two i q true at mine = ap (λ (b : Bool). b && wants_follower q t) (sym mine) ∙ numbered_not (waits_to_follow t dt) t.attempts (suc i) q leads.calm at
   wants_two i q false at off =
-      wants_none n (x1 waits also a out x o s is) s t apart_two (books waits also a out x o s is).calls kept kept_two i q at off
-      (first.was_still waits also a out x o s is line.Transparent refl refl)
+      wants_none n (x1 later waits also a out x o s is) s t apart_two (books later waits also a out x o s is).calls kept kept_two i q at off
+      (first.was_still later waits also a out x o s is line.Transparent refl refl)
 
   row_two : (i : ℕ) (g : Call) (q : Bool) → slice_get t.calls i ≡ Some g → (suc i == n) ≡ q → is_over_by_row t g ≡ false
   row_two i g true at own =
@@ -153,12 +154,12 @@ module _ (waits : Line → Bool) (also : List ℕ) (a : Attempt) (out : Outcome)
       let same : g ≡ dt = (cc) in
       ap (is_over_by_row t) same ∙ leads.row
   row_two i g false at off =
-      row_none n (x1 waits also a out x o s is) s t apart_two (books waits also a out x o s is).calls kept kept_two (suc i) g off at (first.was_still waits also a out x o s is line.Row refl refl)
+      row_none n (x1 later waits also a out x o s is) s t apart_two (books later waits also a out x o s is).calls kept kept_two (suc i) g off at (first.was_still later waits also a out x o s is line.Row refl refl)
 
   final_two : (i : ℕ) (q : Attempt) (g : Bool) → slice_get t.attempts i ≡ Some q → (q.row.call == n) ≡ g → is_final_end t q ≡ false
   final_two i q true at own = ap (holds (λ (g : Call). is_final_in q t g)) (ap (numbered t.calls) (eqb-true q.row.call n own) ∙ leads.here) ∙ leads.final i q at own
   final_two i q false at off =
-      final_none n (x1 waits also a out x o s is) s t apart_two (books waits also a out x o s is).calls kept kept_two i q at off (first.was_still waits also a out x o s is line.Final refl refl)
+      final_none n (x1 later waits also a out x o s is) s t apart_two (books later waits also a out x o s is).calls kept kept_two i q at off (first.was_still later waits also a out x o s is line.Final refl refl)
 
   pub still_two : (l : Line) → may_wait l ≡ false → IsStill l p t
   still_two line.Cut may =
@@ -169,7 +170,7 @@ module _ (waits : Line → Bool) (also : List ℕ) (a : Attempt) (out : Outcome)
   still_two line.Inherited may = leads.told line.Inherited refl leads.inherited
   still_two line.Row may = none_at (is_over_by_row t) t.calls (λ i g at. row_two i g (suc i == n) at refl)
   still_two line.Final may = none_at (is_final_end t) t.attempts (λ i q at. final_two i q (q.row.call == n) at refl)
-  still_two line.Pick may = leads.told line.Pick refl (pick_by (last_of v.asks) refl (unpicked waits also a out x o s is p))
+  still_two line.Pick may = leads.told line.Pick refl (pick_by (last_of v.asks) refl (unpicked later waits also a out x o s is p))
   still_two line.Cancelled may = leads.told line.Cancelled refl (gone_on line.Cancelled refl refl refl)
   still_two line.Request may = leads.told line.Request refl (aside_request p v added ∙ gone_on line.Request refl refl refl)
   still_two line.Response may =
@@ -193,10 +194,10 @@ module _ (waits : Line → Bool) (also : List ℕ) (a : Attempt) (out : Outcome)
       leads.told line.WireEnd refl
       (none_more (is_to_end added) v.attempts new
       (any_same (is_to_end added) (is_to_end v) (λ q. ap (λ (b : Bool). (is_outstanding q && not b) && is_some (outcome_of q v)) (leads.over q)) v.attempts
-      ∙ first.plain waits also a out x o s is line.WireEnd refl h) refl)
+      ∙ first.plain later waits also a out x o s is line.WireEnd refl h) refl)
 
   late_one : (l : Line) → stirs act l ≡ false → is_of_ends l ≡ false → waits l ≡ false → IsStill l p v
-  late_one l off ends wait = first.plain waits also a out x o s is l off (is.still l ends wait)
+  late_one l off ends wait = first.plain later waits also a out x o s is l off (is.still l ends wait)
 
   pub late_two : (l : Line) → is_late l ≡ true → waits l ≡ false → IsStill l p t
   late_two line.Shut late off = leads.told line.Shut refl (late_one line.Shut refl refl off)

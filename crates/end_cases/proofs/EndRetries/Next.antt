@@ -91,40 +91,40 @@ none_map f (Some x) = refl
 flat : (p q r : Bool) → r ≡ false → ((p && q) && r) ≡ ((p && false) && r)
 flat p q r e = ap (λ (b : Bool). (p && q) && b) e ∙ and_right (p && q) false refl ∙ sym (ap (λ (b : Bool). (p && false) && b) e ∙ and_right (p && false) false refl)
 
-module _ (waits : Line → Bool) (also : List ℕ) (a : Attempt) (out : Outcome) (x : StateSeen) (o : OpenEntry) (s : Seen) (is : EndNext waits also a out x o s)
-    (going : (c waits also a out x o s is).end ≡ None) (follows : is_to_follow (c waits also a out x o s is) out.cause out.unseen s ≡ true) where
+module _ (later : List (ℕ × RowEnd)) (waits : Line → Bool) (also : List ℕ) (a : Attempt) (out : Outcome) (x : StateSeen) (o : OpenEntry) (s : Seen) (is : EndNext later waits also a out x o s)
+    (going : (c later waits also a out x o s is).end ≡ None) (follows : is_to_follow (c later waits also a out x o s is) out.cause out.unseen s ≡ true) where
   abbrev pub k : Call
-  k = c waits also a out x o s is
+  k = c later waits also a out x o s is
 
   abbrev pub n : ℕ
   n = k.number
 
   abbrev pub v : Seen
-  v = u waits also a out x o s is
+  v = u later waits also a out x o s is
 
   abbrev end_ : RowEnd
-  end_ = e waits also a out x o s is
+  end_ = e later waits also a out x o s is
 
   abbrev pub dk : Call
-  dk = d waits also a out x o s is
+  dk = d later waits also a out x o s is
 
   abbrev then_ : Attempt
   then_ = with_end end_ a
 
   abbrev there : numbered v.attempts a.place ≡ Some then_
-  there = first.one_there waits also a out x o s is
+  there = first.one_there later waits also a out x o s is
 
   abbrev kept : IsKept s
-  kept = first.kept waits also a out x o s is
+  kept = first.kept later waits also a out x o s is
 
   abbrev kept_one : IsKept v
-  kept_one = first.kept_one waits also a out x o s is
+  kept_one = first.kept_one later waits also a out x o s is
 
   abbrev pub p : OpenEntry
-  p = first.entry_then waits also a out x o s is
+  p = first.entry_then later waits also a out x o s is
 
   abbrev pub now_open : v.current ≡ Some p
-  now_open = first.current_one waits also a out x o s is
+  now_open = first.current_one later waits also a out x o s is
 
   -- the session once the retry is made
   abbrev pub place : ℕ
@@ -150,10 +150,10 @@ module _ (waits : Line → Bool) (also : List ℕ) (a : Attempt) (out : Outcome)
   at = now v
 
   pub dk_here : numbered v.calls n ≡ Some dk
-  dk_here = d_here waits also a out x o s is
+  dk_here = d_here later waits also a out x o s is
 
   pub dt_here : numbered t.calls n ≡ Some dt
-  dt_here = changed_here noted n v.calls dk (d_here waits also a out x o s is)
+  dt_here = changed_here noted n v.calls dk (d_here later waits also a out x o s is)
 
   abbrev pub makes : Action
   makes = action.AttemptMade n a.row.number kind.Transparent (now v)
@@ -166,16 +166,16 @@ module _ (waits : Line → Bool) (also : List ℕ) (a : Attempt) (out : Outcome)
   unended = unended_by (is_of k a) (is_some a.row.placed) (is_none a.row.placed) (is_none a.row.ended) (is_over a s) is.ending.lives
 
   own : IsOwn s k a.place a
-  own = record { own = here waits also a out x o s is; there = is.ending.there; mine = is.ending.own }
+  own = record { own = here later waits also a out x o s is; there = is.ending.there; mine = is.ending.own }
 
   turn : IsInTurn s k
-  turn = (has waits also a out x o s is).sees.turn
+  turn = (has later waits also a out x o s is).sees.turn
 
   unfollowed : is_followed a s ≡ false
   unfollowed = unfollowed_of s k a.place a own unended turn.unfollowed
 
   pub calm : list_any (waits_to_follow s k) s.attempts ≡ false
-  calm = none_of (is_of k) (λ (q : Attempt). wants_follower q s) s.attempts (first.was_still waits also a out x o s is line.Transparent refl refl)
+  calm = none_of (is_of k) (λ (q : Attempt). wants_follower q s) s.attempts (first.was_still later waits also a out x o s is line.Transparent refl refl)
 
   steady : IsSteady s k
   steady = record { turn = turn; calm = calm }
@@ -196,12 +196,12 @@ module _ (waits : Line → Bool) (also : List ℕ) (a : Attempt) (out : Outcome)
 
   pub followed_same : (q : Attempt) → is_followed q v ≡ is_followed q s
   followed_same q =
-      columns.followed_now s v k dk.marks pl en co a.place a kept_one.book (here waits also a out x o s is) (d_here waits also a out x o s is) refl refl is.ending.there is.ending.own
+      columns.followed_now s v k dk.marks pl en co a.place a kept_one.book (here later waits also a out x o s is) (d_here later waits also a out x o s is) refl refl is.ending.there is.ending.own
       (λ none. unended) refused (λ was. was) steady q
 
   waits_so : (q : Attempt) → waits_to_follow s k q ≡ false → waits_to_follow v dk q ≡ false
   waits_so q off =
-      columns.waits_so s v k dk.marks pl en co a.place a kept_one.book (here waits also a out x o s is) (d_here waits also a out x o s is) refl refl is.ending.there is.ending.own
+      columns.waits_so s v k dk.marks pl en co a.place a kept_one.book (here later waits also a out x o s is) (d_here later waits also a out x o s is) refl refl is.ending.there is.ending.own
       (λ none. unended) refused (λ was. was) steady q off
 
   -- it is the one that is to be followed
@@ -215,22 +215,22 @@ module _ (waits : Line → Bool) (also : List ℕ) (a : Attempt) (out : Outcome)
 
   follow_then : is_to_follow dk out.cause out.unseen v ≡ true
   follow_then =
-      ap (λ (q : Option Attempt). is_unsent out.cause || (((out.unseen && is_by_peer out.cause) && is_none q) && not (was_retried_so dk v))) (commitment_is waits also a out x o s is k)
-      ∙ ap (λ (b : Bool). is_unsent out.cause || (((out.unseen && is_by_peer out.cause) && b) && not (was_retried_so dk v))) (none_map (put waits also a out x o s is) (commitment k s))
+      ap (λ (q : Option Attempt). is_unsent out.cause || (((out.unseen && is_by_peer out.cause) && is_none q) && not (was_retried_so dk v))) (commitment_is later waits also a out x o s is k)
+      ∙ ap (λ (b : Bool). is_unsent out.cause || (((out.unseen && is_by_peer out.cause) && b) && not (was_retried_so dk v))) (none_map (put later waits also a out x o s is) (commitment k s))
       ∙ ap (λ (b : Bool). is_unsent out.cause || (((out.unseen && is_by_peer out.cause) && is_none (commitment k s)) && not b)) retried_same ∙ follows
 
   wants_one : wants_follower then_ v ≡ true
   wants_one =
       ap (λ (b : Bool). not b && holds (λ (g : Call). is_to_follow g out.cause out.unseen v) (numbered v.calls a.row.call)) (followed_same a ∙ unfollowed)
-      ∙ ap (holds (λ (g : Call). is_to_follow g out.cause out.unseen v)) (ap (numbered v.calls) (call_is waits also a out x o s is) ∙ d_here waits also a out x o s is) ∙ follow_then
+      ∙ ap (holds (λ (g : Call). is_to_follow g out.cause out.unseen v)) (ap (numbered v.calls) (call_is later waits also a out x o s is) ∙ d_here later waits also a out x o s is) ∙ follow_then
 
   -- another one was there before
   pub was_there : (i : ℕ) (q : Attempt) → slice_get v.attempts i ≡ Some q → (q.place == a.place) ≡ false → numbered s.attempts (suc i) ≡ Some q
   was_there i q at off =
-      let from : IsFrom (λ (b : Attempt). put waits also a out x o s is b) s.attempts i q
-      = from_map (λ (b : Attempt). put waits also a out x o s is b) s.attempts i q (ap (λ (xs : List Attempt). slice_get xs i) (sym (attempts_are waits also a out x o s is)) ∙ at) in
+      let from : IsFrom (λ (b : Attempt). put later waits also a out x o s is b) s.attempts i q
+      = from_map (λ (b : Attempt). put later waits also a out x o s is b) s.attempts i q (ap (λ (xs : List Attempt). slice_get xs i) (sym (attempts_are later waits also a out x o s is)) ∙ at) in
       let away : (from.one.place == a.place) ≡ false
-      = ap (λ (j : ℕ). j == a.place) (sym (put_place waits also a out x o s is from.one) ∙ ap (λ (b : Attempt). b.place) (sym from.is)) ∙ off in
+      = ap (λ (j : ℕ). j == a.place) (sym (put_place later waits also a out x o s is from.one) ∙ ap (λ (b : Attempt). b.place) (sym from.is)) ∙ off in
       let same : q ≡ from.one = from.is ∙ ap (λ (b : Bool). if b then with_end end_ from.one else from.one) away in
       from.there ∙ ap (λ (b : Attempt). Some b) (sym same)
 
@@ -239,18 +239,18 @@ module _ (waits : Line → Bool) (also : List ℕ) (a : Attempt) (out : Outcome)
       let away : (q.place == a.place) ≡ false = ap (λ (m : ℕ). m == a.place) (place_is (suc i) v.attempts q kept_one.book.places at) ∙ off in
       ap (λ (b : Bool). b && wants_follower q v) (sym mine) ∙ waits_so q (numbered_not (waits_to_follow s k) s.attempts (suc i) q calm (was_there i q at away))
   wants_else i q false at off other =
-      wants_none n (x1 waits also a out x o s is) s v (first.apart_one waits also a out x o s is) (books waits also a out x o s is).calls kept kept_one i q at other
-      (first.was_still waits also a out x o s is line.Transparent refl refl)
+      wants_none n (x1 later waits also a out x o s is) s v (first.apart_one later waits also a out x o s is) (books later waits also a out x o s is).calls kept kept_one i q at other
+      (first.was_still later waits also a out x o s is line.Transparent refl refl)
 
   pub uncut : IsStill line.Cut p v
-  uncut = first.plain waits also a out x o s is line.Cut refl (first.was_still waits also a out x o s is line.Cut refl refl)
+  uncut = first.plain later waits also a out x o s is line.Cut refl (first.was_still later waits also a out x o s is line.Cut refl refl)
 
   pub next_two : following v ≡ Some makes
   next_two =
       first_line_gives line.Transparent makes p v now_open (λ l less. before_retry (is_loss p.event) l less (λ (q : Line). IsStill q p v) uncut)
       (ap (option_map (transparent_retry v))
       (found_one (λ (q : Attempt). wants_follower q v) a.place v.attempts then_ there wants_one (λ i q at off. wants_else i q (q.row.call == n) at off refl))
-      ∙ ap (λ (m : ℕ). Some (action.AttemptMade m a.row.number kind.Transparent (now v))) (call_is waits also a out x o s is))
+      ∙ ap (λ (m : ℕ). Some (action.AttemptMade m a.row.number kind.Transparent (now v))) (call_is later waits also a out x o s is))
 
   pub does_two : Does (makes ∷ []) v t
   does_two = (next_two, sym after_two)
@@ -265,28 +265,28 @@ module _ (waits : Line → Bool) (also : List ℕ) (a : Attempt) (out : Outcome)
   booked q h = record { book = h.book; owned = h.owned; reads = h.reads }
 
   abbrev act : Action
-  act = first.act waits also a out x o s is
+  act = first.act later waits also a out x o s is
 
   does_both : Does (act ∷ makes ∷ []) s t
-  does_both = (is.next, subst (λ (q : Seen). Does (makes ∷ []) q t) (sym (first.after_is waits also a out x o s is)) does_two)
+  does_both = (is.next, subst (λ (q : Seen). Does (makes ∷ []) q t) (sym (first.after_is later waits also a out x o s is)) does_two)
 
   pub apart_two : GoesApart n s t
   apart_two = record {
     actions = act ∷ makes ∷ [];
     does = does_both;
-    apart = of_call_on n (act ∷ []) (makes ∷ []) s v (first.does_one waits also a out x o s is) (first.of_call_one waits also a out x o s is) of_call_two;
+    apart = of_call_on n (act ∷ []) (makes ∷ []) s v (first.does_one later waits also a out x o s is) (first.of_call_one later waits also a out x o s is) of_call_two;
     earlier = booked s kept;
     later = booked t kept_two;
   }
 
   -- the call is in turn
   made_then : attempt_made n a.row.number kind.Transparent (now v) (attempt_ended a.place end_ s) ≡ t
-  made_then = ap (attempt_made n a.row.number kind.Transparent (now v)) (t_is waits also a out x o s is)
+  made_then = ap (attempt_made n a.row.number kind.Transparent (now v)) (t_is later waits also a out x o s is)
 
   turned : StaysSteady t n
   turned =
       subst (λ (q : Seen). StaysSteady q n) made_then
-      (retrying_keeps s k a.place a end_ (now v) kept.book (subst IsBook (sym (t_is waits also a out x o s is)) kept_one.book) (subst IsBook (sym made_then) kept_two.book)
+      (retrying_keeps s k a.place a end_ (now v) kept.book (subst IsBook (sym (t_is later waits also a out x o s is)) kept_one.book) (subst IsBook (sym made_then) kept_two.book)
       own unended steady)
 
   same_turned : turned.call ≡ dt
@@ -301,7 +301,7 @@ module _ (waits : Line → Bool) (also : List ℕ) (a : Attempt) (out : Outcome)
   calm_two = subst (λ (g : Call). list_any (waits_to_follow t g) t.attempts ≡ false) same_turned turned.steady.calm
 
   pub uninherited : IsStill line.Inherited p v
-  uninherited = first.plain waits also a out x o s is line.Inherited refl (first.was_still waits also a out x o s is line.Inherited refl refl)
+  uninherited = first.plain later waits also a out x o s is line.Inherited refl (first.was_still later waits also a out x o s is line.Inherited refl refl)
 
   pub tokens_two : (i : ℕ) → is_some (numbered v.runs i) ≡ true → tokens_in_run t (Some i) ≡ tokens_in_run v (Some i)
   tokens_two i some = subst (λ (q : Seen). tokens_in_run q (Some i) ≡ tokens_in_run v (Some i)) after_two (tokens_stay v makes i kept_one.book tt some refl)

@@ -98,42 +98,42 @@ pair_parts n row i j e = (grind (arith, nat_tests, e), grind (arith, nat_tests, 
 turn_pair : (n row i j : ℕ) → is_same (n, row) (i, j) ≡ is_same (i, j) (n, row)
 turn_pair n row i j = grind (arith, nat_tests)
 
-module _ (waits : Line → Bool) (also : List ℕ) (a : Attempt) (out : Outcome) (x : StateSeen) (o : OpenEntry) (s : Seen) (is : EndNext waits also a out x o s)
-    (going : (c waits also a out x o s is).end ≡ None) (follows : is_to_follow (c waits also a out x o s is) out.cause out.unseen s ≡ true)
-    (r : Retry waits also a out x o s is going follows) (leads : Leads waits also a out x o s is going follows r)
-    (others : SetsApart (retry.n waits also a out x o s is going follows) s (retry.done waits also a out x o s is going follows r)) where
+module _ (later : List (ℕ × RowEnd)) (waits : Line → Bool) (also : List ℕ) (a : Attempt) (out : Outcome) (x : StateSeen) (o : OpenEntry) (s : Seen) (is : EndNext later waits also a out x o s)
+    (going : (c later waits also a out x o s is).end ≡ None) (follows : is_to_follow (c later waits also a out x o s is) out.cause out.unseen s ≡ true)
+    (r : Retry later waits also a out x o s is going follows) (leads : Leads later waits also a out x o s is going follows r)
+    (others : SetsApart (retry.n later waits also a out x o s is going follows) s (retry.done later waits also a out x o s is going follows r)) where
   abbrev k : Call
-  k = c waits also a out x o s is
+  k = c later waits also a out x o s is
 
   abbrev n : ℕ
   n = k.number
 
   abbrev v : Seen
-  v = retry.v waits also a out x o s is going follows
+  v = retry.v later waits also a out x o s is going follows
 
   abbrev w : Seen
-  w = retry.done waits also a out x o s is going follows r
+  w = retry.done later waits also a out x o s is going follows r
 
   abbrev grown : Seen
-  grown = retry.grown waits also a out x o s is going follows r
+  grown = retry.grown later waits also a out x o s is going follows r
 
   abbrev dk : Call
-  dk = retry.dk waits also a out x o s is going follows
+  dk = retry.dk later waits also a out x o s is going follows
 
   abbrev dw : Call
-  dw = retry.its waits also a out x o s is going follows r
+  dw = retry.its later waits also a out x o s is going follows r
 
   abbrev new : Attempt
-  new = retry.fresh waits also a out x o s is going follows r
+  new = retry.fresh later waits also a out x o s is going follows r
 
   abbrev place : ℕ
   place = length v.attempts + 1
 
   abbrev end_ : RowEnd
-  end_ = e waits also a out x o s is
+  end_ = e later waits also a out x o s is
 
   abbrev put_ : Attempt → Attempt
-  put_ q = put waits also a out x o s is q
+  put_ q = put later waits also a out x o s is q
 
   -- which attempts of the call are over, is as it was
   number_by : (q : Attempt) (g : Bool) → (if g then with_end end_ q else q).row.number ≡ q.row.number
@@ -142,28 +142,28 @@ module _ (waits : Line → Bool) (also : List ℕ) (a : Attempt) (out : Outcome)
 
   over_one : (q : Attempt) → (q.row.call == n) ≡ true → is_over (put_ q) v ≡ is_over q s
   over_one q own =
-      ap (λ (m : ℕ). holds (λ (g : Call). is_over_in g (put_ q) v) (numbered v.calls m)) (put_call waits also a out x o s is q ∙ eqb-true q.row.call n own)
-      ∙ ap (holds (λ (g : Call). is_over_in g (put_ q) v)) (d_here waits also a out x o s is)
-      ∙ ap (λ (r : Option Attempt). is_some k.end || holds (λ (b : Attempt). not (b.row.number == (put_ q).row.number)) r) (commitment_is waits also a out x o s is k)
+      ap (λ (m : ℕ). holds (λ (g : Call). is_over_in g (put_ q) v) (numbered v.calls m)) (put_call later waits also a out x o s is q ∙ eqb-true q.row.call n own)
+      ∙ ap (holds (λ (g : Call). is_over_in g (put_ q) v)) (d_here later waits also a out x o s is)
+      ∙ ap (λ (r : Option Attempt). is_some k.end || holds (λ (b : Attempt). not (b.row.number == (put_ q).row.number)) r) (commitment_is later waits also a out x o s is k)
       ∙ ap (λ (g : Bool). is_some k.end || g)
       (holds_map (λ (b : Attempt). not (b.row.number == (put_ q).row.number)) (λ (b : Attempt). not (b.row.number == q.row.number)) put_
       (λ b. ap (λ (m : ℕ). not (m == (put_ q).row.number)) (number_by b (b.place == a.place)) ∙ ap (λ (m : ℕ). not (b.row.number == m)) (number_by q (q.place == a.place))) (commitment k s))
-      ∙ sym (ap (holds (λ (g : Call). is_over_in g q s)) (ap (numbered s.calls) (eqb-true q.row.call n own) ∙ here waits also a out x o s is))
+      ∙ sym (ap (holds (λ (g : Call). is_over_in g q s)) (ap (numbered s.calls) (eqb-true q.row.call n own) ∙ here later waits also a out x o s is))
 
   over_two : (q : Attempt) → (q.row.call == n) ≡ true → is_over q w ≡ is_over q v
   over_two q own =
       ap (holds (λ (g : Call). is_over_in g q w)) (ap (numbered w.calls) (eqb-true q.row.call n own) ∙ leads.here)
-      ∙ sym (ap (holds (λ (g : Call). is_over_in g q grown)) (ap (numbered v.calls) (eqb-true q.row.call n own) ∙ d_here waits also a out x o s is)) ∙ leads.over q
+      ∙ sym (ap (holds (λ (g : Call). is_over_in g q grown)) (ap (numbered v.calls) (eqb-true q.row.call n own) ∙ d_here later waits also a out x o s is)) ∙ leads.over q
 
   wait_one : (q : Attempt) (g : Bool) → (q.row.call == n) ≡ g → (((put_ q).row.call == n) && is_queued (put_ q) v) ≡ (((q.row.call == n) && is_queued q s) && not (q.place == a.place))
   wait_one q false off =
-      ap (λ (m : ℕ). (m == n) && is_queued (put_ q) v) (put_call waits also a out x o s is q) ∙ ap (λ (g : Bool). g && is_queued (put_ q) v) off
+      ap (λ (m : ℕ). (m == n) && is_queued (put_ q) v) (put_call later waits also a out x o s is q) ∙ ap (λ (g : Bool). g && is_queued (put_ q) v) off
       ∙ sym (ap (λ (g : Bool). (g && is_queued q s) && not (q.place == a.place)) off)
   wait_one q true own =
-      ap (λ (m : ℕ). (m == n) && is_queued (put_ q) v) (put_call waits also a out x o s is q)
+      ap (λ (m : ℕ). (m == n) && is_queued (put_ q) v) (put_call later waits also a out x o s is q)
       ∙ ap (λ (g : Bool). (q.row.call == n) && ((is_none (put_ q).row.placed && is_none (put_ q).row.ended) && not g)) (over_one q own)
-      ∙ ap (λ (z : Option Placed). (q.row.call == n) && ((is_none z && is_none (put_ q).row.ended) && not (is_over q s))) (put_placed waits also a out x o s is q)
-      ∙ ap (λ (z : Option RowEnd). (q.row.call == n) && ((is_none q.row.placed && is_none z) && not (is_over q s))) (put_ended waits also a out x o s is q)
+      ∙ ap (λ (z : Option Placed). (q.row.call == n) && ((is_none z && is_none (put_ q).row.ended) && not (is_over q s))) (put_placed later waits also a out x o s is q)
+      ∙ ap (λ (z : Option RowEnd). (q.row.call == n) && ((is_none q.row.placed && is_none z) && not (is_over q s))) (put_ended later waits also a out x o s is q)
       ∙ ap (λ (g : Bool). (q.row.call == n) && g) (waits_by (q.place == a.place) end_ q.row.placed q.row.ended (is_over q s))
       ∙ ap (λ (g : Bool). g && (is_queued q s && not (q.place == a.place))) own ∙ sym (ap (λ (g : Bool). (g && is_queued q s) && not (q.place == a.place)) own)
 
@@ -175,13 +175,13 @@ module _ (waits : Line → Bool) (also : List ℕ) (a : Attempt) (out : Outcome)
       → holds (λ (b : Attempt). ((b.row.call == n) && is_queued b s) && not (b.place == a.place)) q ≡ (holds (λ (b : Attempt). (b.row.call == n) && is_queued b s) q && not (row == a.place))
   was_by row None at = refl
   was_by row (Some b) at =
-      ap (λ (m : ℕ). ((b.row.call == n) && is_queued b s) && not (m == a.place)) (place_is row s.attempts b (first.kept waits also a out x o s is).book.places at)
+      ap (λ (m : ℕ). ((b.row.call == n) && is_queued b s) && not (m == a.place)) (place_is row s.attempts b (first.kept later waits also a out x o s is).book.places at)
 
   waiting : (row : ℕ) → (is_waiting w n row && not (row == place)) ≡ (is_waiting s n row && not (row == a.place))
   waiting row =
       off_last (λ (q : Attempt). (q.row.call == n) && is_queued q w) v.attempts new row
       ∙ holds_same (λ (q : Attempt). (q.row.call == n) && is_queued q w) (λ (q : Attempt). (q.row.call == n) && is_queued q v) (λ q. wait_two q (q.row.call == n) refl) (numbered v.attempts row)
-      ∙ ap (holds (λ (q : Attempt). (q.row.call == n) && is_queued q v)) (attempt_at waits also a out x o s is row)
+      ∙ ap (holds (λ (q : Attempt). (q.row.call == n) && is_queued q v)) (attempt_at later waits also a out x o s is row)
       ∙ holds_map (λ (q : Attempt). (q.row.call == n) && is_queued q v) (λ (q : Attempt). ((q.row.call == n) && is_queued q s) && not (q.place == a.place)) put_
       (λ q. wait_one q (q.row.call == n) refl) (numbered s.attempts row)
       ∙ was_by row (numbered s.attempts row) refl
@@ -189,10 +189,10 @@ module _ (waits : Line → Bool) (also : List ℕ) (a : Attempt) (out : Outcome)
   -- the retry waits
   over_new : is_over new w ≡ false
   over_new =
-      over_two new (eq-eqb n n refl) ∙ ap (holds (λ (g : Call). is_over_in g new v)) (d_here waits also a out x o s is)
-      ∙ sym (ap (holds (λ (g : Call). is_over_in g (with_end end_ a) v)) (ap (numbered v.calls) (eqb-true a.row.call n is.ending.own) ∙ d_here waits also a out x o s is))
-      ∙ sym (ap (λ (b : Attempt). is_over b v) (first.put_is waits also a out x o s is)) ∙ over_one a is.ending.own
-      ∙ going_over waits also a out x o s is going a a.place is.ending.there is.ending.lives
+      over_two new (eq-eqb n n refl) ∙ ap (holds (λ (g : Call). is_over_in g new v)) (d_here later waits also a out x o s is)
+      ∙ sym (ap (holds (λ (g : Call). is_over_in g (with_end end_ a) v)) (ap (numbered v.calls) (eqb-true a.row.call n is.ending.own) ∙ d_here later waits also a out x o s is))
+      ∙ sym (ap (λ (b : Attempt). is_over b v) (first.put_is later waits also a out x o s is)) ∙ over_one a is.ending.own
+      ∙ going_over later waits also a out x o s is going a a.place is.ending.there is.ending.lives
 
   waits_new : is_waiting w n place ≡ true
   waits_new =
@@ -201,7 +201,7 @@ module _ (waits : Line → Bool) (also : List ℕ) (a : Attempt) (out : Outcome)
 
   -- whether the call waits for ready
   patient_same : is_patient w n ≡ is_patient s n
-  patient_same = ap (holds (λ (g : Call). waits_for_ready g w)) leads.here ∙ sym (ap (holds (λ (g : Call). waits_for_ready g s)) (here waits also a out x o s is))
+  patient_same = ap (holds (λ (g : Call). waits_for_ready g w)) leads.here ∙ sym (ap (holds (λ (g : Call). waits_for_ready g s)) (here later waits also a out x o s is))
 
   -- it was placed, and did not wait; or it waited
   not_waiting : is_some a.row.placed ≡ true → (row : ℕ) (g : Bool) → (row == a.place) ≡ g → is_waiting s n row ≡ true → (row == a.place) ≡ false
@@ -230,7 +230,7 @@ module _ (waits : Line → Bool) (also : List ℕ) (a : Attempt) (out : Outcome)
 
     left : AreExactly (queue_off a.row.call a.place a.row.placed pairs) rest
     left =
-        queue_left waits also a out x o s is before rest rest_own rest_away
+        queue_left later waits also a out x o s is before rest rest_own rest_away
         (λ some row passes. not_waiting some row (row == a.place) refl (and_parts (is_waiting s n row) waits_so (sym (was row) ∙ passes)).0) pairs exact
 
     here_after : (i row : ℕ) → is_same (i, row) (n, place) ≡ true → after i row ≡ waits_so
@@ -259,19 +259,19 @@ module _ (waits : Line → Bool) (also : List ℕ) (a : Attempt) (out : Outcome)
         → AreExactly (if g then queue_off a.row.call a.place a.row.placed x.queue else insert_key pair_cmp (queue_off a.row.call a.place a.row.placed x.queue) (n, place)) (is_in_queue w)
     queue_by true e =
         left_out (not (is_patient w n)) (is_in_queue s) (is_in_queue w) (λ row. ap (λ (g : Bool). is_waiting s n row && not g) (sym patient_same)) (λ row. refl)
-        (λ i row off. others.queue i row off) x.queue (books waits also a out x o s is).sets.queue (ap not (patient_is ∙ e))
+        (λ i row off. others.queue i row off) x.queue (books later waits also a out x o s is).sets.queue (ap not (patient_is ∙ e))
     queue_by false e =
         put_in (not (is_patient w n)) (is_in_queue s) (is_in_queue w) (λ row. ap (λ (g : Bool). is_waiting s n row && not g) (sym patient_same)) (λ row. refl)
-        (λ i row off. others.queue i row off) x.queue (books waits also a out x o s is).sets.queue (ap not (patient_is ∙ e))
+        (λ i row off. others.queue i row off) x.queue (books later waits also a out x o s is).sets.queue (ap not (patient_is ∙ e))
 
     patient_by : (g : Bool) → waits_for z.call ≡ g
         → AreExactly (if g then insert_key pair_cmp (queue_off a.row.call a.place a.row.placed x.patient) (n, place) else queue_off a.row.call a.place a.row.placed x.patient) (is_in_patient w)
     patient_by true e =
         put_in (is_patient w n) (is_in_patient s) (is_in_patient w) (λ row. ap (λ (g : Bool). is_waiting s n row && g) (sym patient_same)) (λ row. refl)
-        (λ i row off. others.patient i row off) x.patient (books waits also a out x o s is).sets.patient (patient_is ∙ e)
+        (λ i row off. others.patient i row off) x.patient (books later waits also a out x o s is).sets.patient (patient_is ∙ e)
     patient_by false e =
         left_out (is_patient w n) (is_in_patient s) (is_in_patient w) (λ row. ap (λ (g : Bool). is_waiting s n row && g) (sym patient_same)) (λ row. refl)
-        (λ i row off. others.patient i row off) x.patient (books waits also a out x o s is).sets.patient (patient_is ∙ e)
+        (λ i row off. others.patient i row off) x.patient (books later waits also a out x o s is).sets.patient (patient_is ∙ e)
 
     abbrev queue_with : Bool → List (ℕ × ℕ)
     queue_with g = if g then queue_off a.row.call a.place a.row.placed x.queue else insert_key pair_cmp (queue_off a.row.call a.place a.row.placed x.queue) (n, place)
@@ -290,13 +290,13 @@ module _ (waits : Line → Bool) (also : List ℕ) (a : Attempt) (out : Outcome)
   out_more link row = more_looks (λ (q : Attempt). is_outstanding q && (link_number q == link)) v.attempts new row refl
 
   pub outs_then : AreExactly (out_off a.place a.row.placed x.outstanding) (is_in_outstanding w)
-  outs_then = out_left waits also a out x o s is w (λ link row. out_more link row ∙ in_out waits also a out x o s is link row)
+  outs_then = out_left later waits also a out x o s is w (λ link row. out_more link row ∙ in_out later waits also a out x o s is link row)
 
   -- calls without a config
   bare_by : (z j : ℕ) (g : Bool) → (j == n) ≡ g → is_in_bare s z j ≡ is_in_bare w z j
   bare_by z j true e =
       subst (λ (m : ℕ). is_in_bare s z m ≡ is_in_bare w z m) (sym (eqb-true j n e))
-      (ap (λ (q : Option Call). (z == 0) && holds (λ (g : Call). is_open_call g && is_none g.config) q) (here waits also a out x o s is)
+      (ap (λ (q : Option Call). (z == 0) && holds (λ (g : Call). is_open_call g && is_none g.config) q) (here later waits also a out x o s is)
       ∙ sym (ap (λ (q : Option Call). (z == 0) && holds (λ (g : Call). is_open_call g && is_none g.config) q) leads.here))
   bare_by z j false e = sym (others.bare z j e)
 
@@ -307,21 +307,21 @@ module _ (waits : Line → Bool) (also : List ℕ) (a : Attempt) (out : Outcome)
   impatient_by z j false e = sym (others.impatient z j e)
 
   pub bare_then : AreExactly x.bare (is_in_bare w)
-  bare_then = exactly_by x.bare (is_in_bare s) (is_in_bare w) (books waits also a out x o s is).sets.bare (λ z j. bare_by z j (j == n) refl)
+  bare_then = exactly_by x.bare (is_in_bare s) (is_in_bare w) (books later waits also a out x o s is).sets.bare (λ z j. bare_by z j (j == n) refl)
 
   pub impatient_then : AreExactly x.impatient (is_in_impatient w)
-  impatient_then = exactly_by x.impatient (is_in_impatient s) (is_in_impatient w) (books waits also a out x o s is).sets.impatient (λ z j. impatient_by z j (j == n) refl)
+  impatient_then = exactly_by x.impatient (is_in_impatient s) (is_in_impatient w) (books later waits also a out x o s is).sets.impatient (λ z j. impatient_by z j (j == n) refl)
 
   -- the timers of the call
   module _ (then_slot : CallSlot) where
-    pub dues_then : due_of w dw ≡ then_slot.due → AreExactly (timer_moved n (slot waits also a out x o s is).due then_slot.due x.dues) (is_in_dues w)
+    pub dues_then : due_of w dw ≡ then_slot.due → AreExactly (timer_moved n (slot later waits also a out x o s is).due then_slot.due x.dues) (is_in_dues w)
     dues_then due =
-        timers_exactly n x.dues (is_in_dues s) (slot waits also a out x o s is).due then_slot.due (books waits also a out x o s is).sets.dues
-        (λ m. ap (holds (λ (g : Call). is_number m (due_of s g))) (here waits also a out x o s is) ∙ ap (is_number m) (has waits also a out x o s is).sees.due)
+        timers_exactly n x.dues (is_in_dues s) (slot later waits also a out x o s is).due then_slot.due (books later waits also a out x o s is).sets.dues
+        (λ m. ap (holds (λ (g : Call). is_number m (due_of s g))) (here later waits also a out x o s is) ∙ ap (is_number m) (has later waits also a out x o s is).sees.due)
         (is_in_dues w) (λ m j e. others.dues m j e) (λ m. ap (holds (λ (g : Call). is_number m (due_of w g))) leads.here ∙ ap (is_number m) due)
 
-    pub deadlines_then : deadline_of w dw ≡ then_slot.deadline → AreExactly (timer_moved n (slot waits also a out x o s is).deadline then_slot.deadline x.deadlines) (is_in_deadlines w)
+    pub deadlines_then : deadline_of w dw ≡ then_slot.deadline → AreExactly (timer_moved n (slot later waits also a out x o s is).deadline then_slot.deadline x.deadlines) (is_in_deadlines w)
     deadlines_then past =
-        timers_exactly n x.deadlines (is_in_deadlines s) (slot waits also a out x o s is).deadline then_slot.deadline (books waits also a out x o s is).sets.deadlines
-        (λ m. ap (holds (λ (g : Call). is_number m (deadline_of s g))) (here waits also a out x o s is) ∙ ap (is_number m) (has waits also a out x o s is).sees.deadline_is)
+        timers_exactly n x.deadlines (is_in_deadlines s) (slot later waits also a out x o s is).deadline then_slot.deadline (books later waits also a out x o s is).sets.deadlines
+        (λ m. ap (holds (λ (g : Call). is_number m (deadline_of s g))) (here later waits also a out x o s is) ∙ ap (is_number m) (has later waits also a out x o s is).sees.deadline_is)
         (is_in_deadlines w) (λ m j e. others.deadlines m j e) (λ m. ap (holds (λ (g : Call). is_number m (deadline_of w g))) leads.here ∙ ap (is_number m) past)

@@ -88,51 +88,51 @@ before_taking loses line.Add e X a b = absurd (cc)
 not_behind : (m i : ℕ) → i ≤ m → nat_lt (m + 1) i ≡ false
 not_behind m i e = grind (arith, nat_tests, e)
 
-module _ (waits : Line → Bool) (also : List ℕ) (a : Attempt) (out : Outcome) (x : StateSeen) (o : OpenEntry) (s : Seen) (is : EndNext waits also a out x o s)
-    (going : (c waits also a out x o s is).end ≡ None) (follows : is_to_follow (c waits also a out x o s is) out.cause out.unseen s ≡ true)
-    (held : commitment (c waits also a out x o s is) s ≡ Some a) where
+module _ (later : List (ℕ × RowEnd)) (waits : Line → Bool) (also : List ℕ) (a : Attempt) (out : Outcome) (x : StateSeen) (o : OpenEntry) (s : Seen) (is : EndNext later waits also a out x o s)
+    (going : (c later waits also a out x o s is).end ≡ None) (follows : is_to_follow (c later waits also a out x o s is) out.cause out.unseen s ≡ true)
+    (held : commitment (c later waits also a out x o s is) s ≡ Some a) where
   abbrev k : Call
-  k = c waits also a out x o s is
+  k = c later waits also a out x o s is
 
   abbrev n : ℕ
   n = k.number
 
   abbrev v : Seen
-  v = retry.v waits also a out x o s is going follows
+  v = retry.v later waits also a out x o s is going follows
 
   abbrev end_ : RowEnd
-  end_ = e waits also a out x o s is
+  end_ = e later waits also a out x o s is
 
   abbrev then_ : Attempt
   then_ = with_end end_ a
 
   abbrev p : OpenEntry
-  p = retry.p waits also a out x o s is going follows
+  p = retry.p later waits also a out x o s is going follows
 
   abbrev now_open : v.current ≡ Some p
-  now_open = retry.now_open waits also a out x o s is going follows
+  now_open = retry.now_open later waits also a out x o s is going follows
 
   abbrev kept_one : IsKept v
-  kept_one = first.kept_one waits also a out x o s is
+  kept_one = first.kept_one later waits also a out x o s is
 
   -- the session once the retry is made
   abbrev place : ℕ
-  place = retry.place waits also a out x o s is going follows
+  place = retry.place later waits also a out x o s is going follows
 
   abbrev pub new : Attempt
-  new = retry.new waits also a out x o s is going follows
+  new = retry.new later waits also a out x o s is going follows
 
   abbrev pub t : Seen
-  t = retry.t waits also a out x o s is going follows
+  t = retry.t later waits also a out x o s is going follows
 
   abbrev pub dt : Call
-  dt = retry.dt waits also a out x o s is going follows
+  dt = retry.dt later waits also a out x o s is going follows
 
   abbrev noted : Call → Call
-  noted g = retry.noted waits also a out x o s is going follows g
+  noted g = retry.noted later waits also a out x o s is going follows g
 
   abbrev kept_two : IsKept t
-  kept_two = retry.kept_two waits also a out x o s is going follows
+  kept_two = retry.kept_two later waits also a out x o s is going follows
 
   pub new_there : numbered t.attempts place ≡ Some new
   new_there = numbered_last v.attempts new
@@ -141,7 +141,7 @@ module _ (waits : Line → Bool) (also : List ℕ) (a : Attempt) (out : Outcome)
   places = placed_from 1 t.attempts kept_two.book.places
 
   held_one : commitment k v ≡ Some then_
-  held_one = commitment_is waits also a out x o s is k ∙ ap (option_map (put waits also a out x o s is)) held ∙ ap (λ (q : Attempt). Some q) (first.put_is waits also a out x o s is)
+  held_one = commitment_is later waits also a out x o s is k ∙ ap (option_map (put later waits also a out x o s is)) held ∙ ap (λ (q : Attempt). Some q) (first.put_is later waits also a out x o s is)
 
   commitment_same : (g : Call) → commitment g t ≡ commitment g v
   commitment_same g = find_last_more (is_commitment g) v.attempts new (and_right (is_of g new) false refl)
@@ -149,10 +149,10 @@ module _ (waits : Line → Bool) (also : List ℕ) (a : Attempt) (out : Outcome)
   -- it is the one that takes the commitment over
   takes_over : is_inherited t new ≡ true
   takes_over =
-      ap (holds (is_inherited_in new t)) (retry.dt_here waits also a out x o s is going follows)
+      ap (holds (is_inherited_in new t)) (retry.dt_here later waits also a out x o s is going follows)
       ∙ ap (λ (z : Option CallEnd). is_none z && holds (is_inherited_by new) (commitment dt t)) going
       ∙ ap (holds (is_inherited_by new)) (commitment_same k ∙ held_one)
-      ∙ ap (λ (b : Bool). b && nat_lt a.place (length v.attempts + 1)) (eq-eqb a.row.number a.row.number refl) ∙ after_it waits also a out x o s is going follows
+      ∙ ap (λ (b : Bool). b && nat_lt a.place (length v.attempts + 1)) (eq-eqb a.row.number a.row.number refl) ∙ after_it later waits also a out x o s is going follows
 
   takes_same : (q : Attempt) → is_inherited t q ≡ is_inherited v q
   takes_same q =
@@ -163,7 +163,7 @@ module _ (waits : Line → Bool) (also : List ℕ) (a : Attempt) (out : Outcome)
   takes_else : (i : ℕ) (q : Attempt) → slice_get t.attempts i ≡ Some q → (suc i == place) ≡ false → is_inherited t q ≡ false
   takes_else i q at off =
       snoc_by v.attempts new i q at (is_inherited t q ≡ false)
-      (λ old. takes_same q ∙ numbered_not (is_inherited v) v.attempts (suc i) q (retry.uninherited waits also a out x o s is going follows) old)
+      (λ old. takes_same q ∙ numbered_not (is_inherited v) v.attempts (suc i) q (retry.uninherited later waits also a out x o s is going follows) old)
       (λ same. (let here : (suc i == place) ≡ true
       = eq-eqb (suc i) place (sym (place_is (suc i) t.attempts q kept_two.book.places at) ∙ ap (λ (g : Attempt). g.place) (sym same)) in
       let both : true ≡ false = sym here ∙ off in absurd (cc)))
@@ -178,15 +178,15 @@ module _ (waits : Line → Bool) (also : List ℕ) (a : Attempt) (out : Outcome)
   uncut_two : IsStill line.Cut p t
   uncut_two =
       none_more (is_to_cut t) v.attempts new
-      (any_same (is_to_cut t) (is_to_cut v) (λ q. ap (λ (b : Bool). is_outstanding q && b) (over_same q)) v.attempts ∙ retry.uncut waits also a out x o s is going follows) refl
+      (any_same (is_to_cut t) (is_to_cut v) (λ q. ap (λ (b : Bool). is_outstanding q && b) (over_same q)) v.attempts ∙ retry.uncut later waits also a out x o s is going follows) refl
 
   wants_two : (i : ℕ) (q : Attempt) (g : Bool) → slice_get t.attempts i ≡ Some q → (q.row.call == n) ≡ g → wants_follower q t ≡ false
   wants_two i q true at mine =
       ap (λ (b : Bool). b && wants_follower q t) (sym mine)
-      ∙ numbered_not (waits_to_follow t dt) t.attempts (suc i) q (retry.calm_two waits also a out x o s is going follows) at
+      ∙ numbered_not (waits_to_follow t dt) t.attempts (suc i) q (retry.calm_two later waits also a out x o s is going follows) at
   wants_two i q false at off =
-      wants_none n (x1 waits also a out x o s is) s t (retry.apart_two waits also a out x o s is going follows) (books waits also a out x o s is).calls
-      (first.kept waits also a out x o s is) kept_two i q at off (first.was_still waits also a out x o s is line.Transparent refl refl)
+      wants_none n (x1 later waits also a out x o s is) s t (retry.apart_two later waits also a out x o s is going follows) (books later waits also a out x o s is).calls
+      (first.kept later waits also a out x o s is) kept_two i q at off (first.was_still later waits also a out x o s is line.Transparent refl refl)
 
   unfollowed_two : IsStill line.Transparent p t
   unfollowed_two = none_at (λ (q : Attempt). wants_follower q t) t.attempts (λ i q at. wants_two i q (q.row.call == n) at refl)
@@ -203,25 +203,25 @@ module _ (waits : Line → Bool) (also : List ℕ) (a : Attempt) (out : Outcome)
   abbrev also_noted : Call → Call
   also_noted g = record g { marks = g.marks ++ record { what = mark.Committed; moment = now t } ∷ [] }
 
-  abbrev pub r : Retry waits also a out x o s is going follows
+  abbrev pub r : Retry later waits also a out x o s is going follows
   r = record {
-    actions = retry.makes waits also a out x o s is going follows ∷ takes ∷ [];
+    actions = retry.makes later waits also a out x o s is going follows ∷ takes ∷ [];
     calls = changed also_noted n t.calls;
     marks = dt.marks ++ record { what = mark.Committed; moment = now t } ∷ [];
     stamp = Some (entry t);
   }
 
   abbrev pub taken : Attempt
-  taken = retry.fresh waits also a out x o s is going follows r
+  taken = retry.fresh later waits also a out x o s is going follows r
 
   abbrev added : Seen
-  added = retry.grown waits also a out x o s is going follows r
+  added = retry.grown later waits also a out x o s is going follows r
 
   abbrev pub w : Seen
-  w = retry.done waits also a out x o s is going follows r
+  w = retry.done later waits also a out x o s is going follows r
 
   abbrev pub dw : Call
-  dw = retry.its waits also a out x o s is going follows r
+  dw = retry.its later waits also a out x o s is going follows r
 
   attempts_are : changed (with_commitment (entry t)) place t.attempts ≡ v.attempts ++ taken ∷ []
   attempts_are = changed_last (with_commitment (entry t)) v.attempts new
@@ -242,7 +242,7 @@ module _ (waits : Line → Bool) (also : List ℕ) (a : Attempt) (out : Outcome)
   kept_three = kept_along (takes ∷ []) t w kept_two does_three
 
   dw_here : numbered w.calls n ≡ Some dw
-  dw_here = changed_here also_noted n t.calls dt (retry.dt_here waits also a out x o s is going follows)
+  dw_here = changed_here also_noted n t.calls dt (retry.dt_here later waits also a out x o s is going follows)
 
   -- the commitment
   own_commitment : (g : Call) → (n == g.number) ≡ true → commitment g added ≡ Some taken
@@ -291,7 +291,7 @@ module _ (waits : Line → Bool) (also : List ℕ) (a : Attempt) (out : Outcome)
   inherited_old : (i : ℕ) (q : Attempt) → slice_get v.attempts i ≡ Some q → is_inherited added q ≡ false
   inherited_old i q at =
       heir_of q.row.committed (holds (is_inherited_in q v) (numbered v.calls q.row.call)) (holds (is_inherited_in q added) (numbered v.calls q.row.call))
-      (numbered_not (is_inherited v) v.attempts (suc i) q (retry.uninherited waits also a out x o s is going follows) at) (heir_by (suc i) q (numbered v.calls q.row.call) at)
+      (numbered_not (is_inherited v) v.attempts (suc i) q (retry.uninherited later waits also a out x o s is going follows) at) (heir_by (suc i) q (numbered v.calls q.row.call) at)
 
   pub has_it : commitment dw w ≡ Some taken
   has_it = own_commitment k (eq-eqb n n refl)
@@ -309,8 +309,8 @@ module _ (waits : Line → Bool) (also : List ℕ) (a : Attempt) (out : Outcome)
   turned =
       subst (λ (q : Seen). StaysSteady q n) committed_is
       (committing_keeps t dt place new (subst IsBook (sym committed_is) kept_three.book)
-      (record { own = retry.dt_here waits also a out x o s is going follows; there = new_there; mine = eq-eqb n n refl })
-      (record { turn = retry.turn_two waits also a out x o s is going follows; calm = retry.calm_two waits also a out x o s is going follows }))
+      (record { own = retry.dt_here later waits also a out x o s is going follows; there = new_there; mine = eq-eqb n n refl })
+      (record { turn = retry.turn_two later waits also a out x o s is going follows; calm = retry.calm_two later waits also a out x o s is going follows }))
 
   same_turned : turned.call ≡ dw
   same_turned =
@@ -327,17 +327,17 @@ module _ (waits : Line → Bool) (also : List ℕ) (a : Attempt) (out : Outcome)
   )
 
   abbrev makes : Action
-  makes = retry.makes waits also a out x o s is going follows
+  makes = retry.makes later waits also a out x o s is going follows
 
   tokens_then : (i : ℕ) → is_some (numbered v.runs i) ≡ true → tokens_in_run w (Some i) ≡ tokens_in_run v (Some i)
   tokens_then i some =
       subst (λ (q : Seen). tokens_in_run q (Some i) ≡ tokens_in_run t (Some i)) after_three (tokens_stay t takes i kept_two.book tt some refl)
-      ∙ retry.tokens_two waits also a out x o s is going follows i some
+      ∙ retry.tokens_two later waits also a out x o s is going follows i some
 
-  pub leads : Leads waits also a out x o s is going follows r
+  pub leads : Leads later waits also a out x o s is going follows r
   leads = record {
-    does = (retry.next_two waits also a out x o s is going follows, subst (λ (q : Seen). Does (takes ∷ []) q w) (sym (retry.after_two waits also a out x o s is going follows)) does_three);
-    of_call = ((retry.of_call_two waits also a out x o s is going follows).0, subst (λ (q : Seen). AreOfCall n (takes ∷ []) q) (sym (retry.after_two waits also a out x o s is going follows)) of_call_three);
+    does = (retry.next_two later waits also a out x o s is going follows, subst (λ (q : Seen). Does (takes ∷ []) q w) (sym (retry.after_two later waits also a out x o s is going follows)) does_three);
+    of_call = ((retry.of_call_two later waits also a out x o s is going follows).0, subst (λ (q : Seen). AreOfCall n (takes ∷ []) q) (sym (retry.after_two later waits also a out x o s is going follows)) of_call_three);
     posts = refl;
     netless = refl;
     here = dw_here;

@@ -5,6 +5,7 @@
 -- After AttemptEnds 2, CallCommitted 2, AttemptEnds 1 and CallEnds the channel agrees, but that link 1 has RST_STREAM on stream 1 queued. StreamReset 1 is
 -- next, and after it all agrees.
 use Rattle.std.specs.Prelude.{Bool, List, None, Some, [], false, filter, is_some, length, map, unwrap_or, ℕ, ◌&&◌, ◌++◌, ◌==◌, ◌≡◌, drop}
+use Rattle.attempt_ledger.specs.declared.row.RowEnd.{RowEnd}
 use Rattle.channel_actions.specs.Calls.{SeesCalls}
 use Rattle.channel_actions.specs.Clock.{SeesClock}
 use Rattle.channel_actions.specs.Columns.{SeesColumns}
@@ -16,6 +17,7 @@ use Rattle.channel_actions.specs.Readers.{SeesReaders}
 use Rattle.channel_actions.specs.Sets.{AreExactly, is_in_bare, is_in_deadlines, is_in_dues, is_in_impatient, is_in_outstanding, is_in_patient, is_in_queue}
 use Rattle.channel_core.specs.States.{StateSeen}
 use Rattle.channel_core.specs.declared.state.links.LinkSlot.{LinkSlot}
+use Rattle.end_cases.specs.AttemptEnds.Left.{all_left}
 use Rattle.lb_policy.specs.Table.{is_one_of}
 use Rattle.link_actions.specs.ResetActions.Ahead.{SeesAhead}
 use Rattle.link_actions.specs.Sees.{by_stream}
@@ -82,8 +84,9 @@ pub record AgreesOffLinks (x : StateSeen) (s : Seen) : Type 0 where
   pub sets : SetsAgree x s
   pub kept : IsKept s
 
--- and no stream was reset of an attempt that goes on (every session keeps this: `IsEarlyKept`)
-pub record AgreesAhead (also : List ℕ) (x : StateSeen) (s : Seen) : Type 0 where
+-- The links are so once these attempts have ended too, whose ends the session owes; and no stream was reset of an attempt that goes on (every session keeps this:
+-- `IsEarlyKept`)
+pub record AgreesAhead (later : List (ℕ × RowEnd)) (also : List ℕ) (x : StateSeen) (s : Seen) : Type 0 where
   pub books : AgreesOffLinks x s
-  pub links : LinksAhead also x s
+  pub links : LinksAhead also x (all_left later s)
   pub unreset : AreUnreset s

@@ -10,6 +10,7 @@ use Rattle.attempt_ledger.specs.TransparentRows.{is_unsent}
 use Rattle.attempt_ledger.specs.declared.news.EndNews.{EndNews}
 use Rattle.attempt_ledger.specs.declared.news.News.TheVariants as news
 use Rattle.attempt_ledger.specs.declared.row.Placed.{Placed}
+use Rattle.attempt_ledger.specs.declared.row.RowEnd.{RowEnd}
 use Rattle.call_actions.specs.Laws.{IsEnding, news_of}
 use Rattle.call_cases.specs.EndsFollow.Cuts.{AreUnreset}
 use Rattle.call_cases.specs.EndsFollow.Laws.{is_late}
@@ -18,6 +19,7 @@ use Rattle.channel_actions.specs.OwnStreams.Own.{AreApart}
 use Rattle.channel_actions.specs.Points.{IsSameEntry}
 use Rattle.channel_actions.specs.Sets.{is_in_outstanding}
 use Rattle.end_cases.specs.AttemptEnds.Ahead.{AgreesAhead, AgreesOffLinks, LinksAhead}
+use Rattle.end_cases.specs.AttemptEnds.Left.{AreThere, all_left}
 use Rattle.end_cases.specs.AttemptEnds.Runs.{RunsRise}
 use Rattle.channel_core.specs.Books.{slot_at}
 use Rattle.channel_core.specs.States.{StateSeen}
@@ -72,9 +74,9 @@ pub record IsHeld (rows : ℕ) (b : Buffered) : Type 0 where
 abbrev pub AreHeld : StateSeen → Type 0
 AreHeld x = (number : ℕ) (slot : CallSlot) → slot_at x.book number ≡ Some slot → IsHeld (length x.book.ledger.rows) slot.call.buffer
 
--- the end of an attempt is next. The links of the channel are as they are once it has ended: the frame that ended it took it off its link, and queued the reset
--- of its stream. (A link that is over is stamped as gone in the session at once, and in the channel with the first attempt that ends.)
-pub record EndNext (waits : Line → Bool) (also : List ℕ) (a : Attempt) (out : Outcome) (x : StateSeen) (o : OpenEntry) (s : Seen) : Type 0 where
+-- the end of an attempt is next. The links of the channel are as they are once it has ended, and the others that the same frame ended: the frame took them off their
+-- link, and queued the resets of their streams. (A link that is over is stamped as gone in the session at once, and in the channel with the first attempt that ends.)
+pub record EndNext (later : List (ℕ × RowEnd)) (waits : Line → Bool) (also : List ℕ) (a : Attempt) (out : Outcome) (x : StateSeen) (o : OpenEntry) (s : Seen) : Type 0 where
   pub late : (l : Line) → waits l ≡ true → may_wait l ≡ true
   pub current : s.current ≡ Some o
   pub call : Call
@@ -83,7 +85,8 @@ pub record EndNext (waits : Line → Bool) (also : List ℕ) (a : Attempt) (out 
   pub next : following s ≡ Some (action.AttemptEnds a.place (end_of a out s))
   pub still : (l : Line) → is_of_ends l ≡ false → waits l ≡ false → IsStill l o s
   pub books : AgreesOffLinks (gone_with a.row.placed x) s
-  pub links : LinksAhead also x (attempt_ended a.place (end_of a out s) s)
+  pub links : LinksAhead also x (all_left later (attempt_ended a.place (end_of a out s) s))
+  pub among : AreThere later s
   pub unreset : AreUnreset s
   -- no two attempts of a link have one stream (every session keeps this: `own_streams`)
   pub apart : AreApart s.attempts
@@ -96,7 +99,7 @@ pub record EndNext (waits : Line → Bool) (also : List ℕ) (a : Attempt) (out 
   pub unsent : is_unsent out.cause ≡ true → (is_some a.row.placed ≡ true) × (a.row.stream ≡ None)
 
 -- the session after it: in the same entry, at the same stage, with nothing that follows at once but these lines, ends by the wire, and resets
-pub record HasEnded (waits : Line → Bool) (also : List ℕ) (a : Attempt) (out : Outcome) (x : StateSeen) (o : OpenEntry) (s : Seen) : Type 0 where
+pub record HasEnded (later : List (ℕ × RowEnd)) (waits : Line → Bool) (also : List ℕ) (a : Attempt) (out : Outcome) (x : StateSeen) (o : OpenEntry) (s : Seen) : Type 0 where
   pub actions : List Action
   pub seen : Seen
   pub entry : OpenEntry
@@ -113,4 +116,4 @@ pub record HasEnded (waits : Line → Bool) (also : List ℕ) (a : Attempt) (out
   pub wire : IsStill line.WireEnd o s → IsStill line.WireEnd entry seen
   -- no attempt is outstanding that was not
   pub fewer : (link row : ℕ) → is_in_outstanding seen link row ≡ true → is_in_outstanding s link row ≡ true
-  pub agrees : AgreesAhead also (ended_in a (news_of a out s) x) seen
+  pub agrees : AgreesAhead later also (ended_in a (news_of a out s) x) seen

@@ -10,6 +10,7 @@ use Rattle.std.specs.Option.{option_and_then}
 use Rattle.std.specs.List.{list_any}
 use Rattle.std.specs.Prelude.{Bool, List, None, Some, [], false, is_some, not, true, ℕ, ◌&&◌, ◌==◌, ◌≡◌, ◌∷◌, ◌||◌}
 use Rattle.attempt_ledger.specs.declared.news.EndNews.{EndNews}
+use Rattle.attempt_ledger.specs.declared.row.RowEnd.{RowEnd}
 use Rattle.call_actions.specs.Laws.{IsCounting}
 use Rattle.call_actions.specs.Sees.{is_live}
 use Rattle.channel_actions.specs.Agrees.{Agrees}
@@ -46,8 +47,8 @@ use Rattle.session_order.specs.declared.line.Line.TheVariants as line
 -- of these cases
 abbrev pub AttemptEndsOf : (Seen → Call → Attempt → Outcome → Type 0) → Type 0
 AttemptEndsOf Case =
-    (waits : Line → Bool) (also : List ℕ) (a : Attempt) (out : Outcome) (x : StateSeen) (o : OpenEntry) (s : Seen) (is : EndNext waits also a out x o s)
-    → Case s is.call a out → HasEnded waits also a out x o s
+    (later : List (ℕ × RowEnd)) (waits : Line → Bool) (also : List ℕ) (a : Attempt) (out : Outcome) (x : StateSeen) (o : OpenEntry) (s : Seen)
+    (is : EndNext later waits also a out x o s) → Case s is.call a out → HasEnded later waits also a out x o s
 
 abbrev pub OneAttemptEnds : Type 0
 OneAttemptEnds = AttemptEndsOf (λ s c a out. Unit {0})
@@ -134,7 +135,7 @@ pub record ResetsNext (waits : Line → Bool) (also : List ℕ) (x : StateSeen) 
   pub late : (l : Line) → waits l ≡ true → may_wait_for_resets o l ≡ true
   pub current : s.current ≡ Some o
   pub still : (l : Line) → is_line l line.Reset ≡ false → waits l ≡ false → IsStill l o s
-  pub agrees : AgreesAhead also x s
+  pub agrees : AgreesAhead [] also x s
 
 pub record HasReset (waits : Line → Bool) (also : List ℕ) (x : StateSeen) (o : OpenEntry) (s : Seen) : Type 0 where
   pub actions : List Action
@@ -154,7 +155,7 @@ ResetsCatchUp = (waits : Line → Bool) (also : List ℕ) (x : StateSeen) (o : O
 
 -- where none is owed there is nothing to do: all agrees at once
 abbrev pub NoneIsOwed : Type 0
-NoneIsOwed = (x : StateSeen) (s : Seen) → AgreesAhead [] x s → list_any (is_to_reset s) s.attempts ≡ false → x.resets ≡ [] → Agrees x s
+NoneIsOwed = (x : StateSeen) (s : Seen) → AgreesAhead [] [] x s → list_any (is_to_reset s) s.attempts ≡ false → x.resets ≡ [] → Agrees x s
 
 -- and what buffers hold for rows is for those that are there, as before (of the channel alone)
 abbrev pub EndsStayHeld : Type 0

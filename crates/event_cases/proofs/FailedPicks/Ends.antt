@@ -256,7 +256,7 @@ module _ (a : Attempt) (y : StateSeen) (o : OpenEntry) (s : Seen) (h : Agrees y 
   streams =
       streams_along reached.actions (new_session reached.setup) s (kept_begins reached.setup) (greeted_begins reached.setup) (streams_begin reached.setup) reached.does
 
-  pub end_next : EndNext none_waits [] a pick_end y o s
+  pub end_next : EndNext [] none_waits [] a pick_end y o s
   end_next = record {
     late = λ l w. absurd (let bad : false ≡ true = w in (cc));
     current = current;
@@ -267,6 +267,7 @@ module _ (a : Attempt) (y : StateSeen) (o : OpenEntry) (s : Seen) (h : Agrees y 
     still = λ l off waits. calm l (not_pick l off);
     books = books;
     links = links;
+    among = refl;
     unreset = unreset;
     apart = streams.apart;
     rising = runs_of_sessions reached.setup reached.actions s reached.does;

@@ -151,10 +151,10 @@ module _ (a : Attempt) (y : StateSeen) (o : OpenEntry) (s : Seen) (h : Agrees y 
     (queued : is_queued a s ≡ true) (next : following s ≡ Some (action.AttemptEnds a.place (end_of a pick_end s)))
     (calm : (l : Line) → is_line l line.Pick ≡ false → IsStill l o s) (reached : IsReached s) (early : IsEarlyKept s) (going : CallsGoOn y) where
   abbrev Ended : Type 0
-  Ended = HasEnded none_waits [] a pick_end y o s
+  Ended = HasEnded [] none_waits [] a pick_end y o s
 
   pub he : Ended
-  he = one_attempt_ends none_waits [] a pick_end y o s (end_next a y o s h current there queued next calm reached early.resets going) tt
+  he = one_attempt_ends [] none_waits [] a pick_end y o s (end_next a y o s h current there queued next calm reached early.resets going) tt
 
   abbrev y1 : StateSeen
   y1 = ended_in a (news_of a pick_end s) y

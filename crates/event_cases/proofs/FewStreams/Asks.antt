@@ -7,7 +7,7 @@ use Rattle.std.proofs.Common.{ap, arith, length, map, sym, ℕ, ◌+◌, ◌<◌
 use Rattle.std.proofs.lemmas.Bool.{lt-ltb}
 use Rattle.std.proofs.lemmas.List.{length-map}
 
-few_by : (a b c d k : ℕ) → a ≤ b → b ≤ c + 1 → c ≡ d → d + k ≤ 4294967294 → a < 18446744073709551615
+few_by : (a b c d k : ℕ) → a ≤ b → b ≤ c + 1 → c ≡ d → d + k < 8796093022208 → a < 18446744073709551615
 few_by a b c d k e f g h = omega (arith, e, f, g, h)
 
 pub nets_may_ask : AsksAreFew → NetsMayAsk

@@ -2,12 +2,13 @@
 use Rattle.channel_actions.proofs.Dialling.{unshut_by}
 use Rattle.channel_actions.proofs.Refusing.{room_same}
 use Rattle.channel_actions.specs.Agrees.{Agrees}
-use Rattle.channel_actions.specs.FewCalls.Laws.{StreamsAreOfAttempts}
 use Rattle.channel_actions.specs.Known.{IsKnown}
 use Rattle.channel_actions.specs.Links.{HasLink, IsGoing}
-use Rattle.channel_actions.specs.Posted.{FewAttempts}
+use Rattle.channel_actions.specs.TransparentRetries.Laws.{StreamsAreBounded}
 use Rattle.attempt_cases.proofs.DrainEvents.Rooms.{IsThere, one_some, there_by}
+use Rattle.event_cases.proofs.FewStreams.Known.{entries_within}
 use Rattle.event_cases.specs.FewStreams.Laws.{StreamsAreFew}
+use Rattle.event_cases.specs.HeldKinds.Laws.{HeldPlansAreShort}
 use Rattle.channel_core.proofs.BookLaws.{number_changed}
 use Rattle.channel_core.specs.Applying as channel
 use Rattle.channel_core.specs.Applying.{or_room}
@@ -85,8 +86,8 @@ odds_many (suc n) = last_on (length (odds n ++ (2 * n + 1) ∷ [])) (length (odd
     last_on : (a b c : ℕ) → a ≡ b + 1 → b ≡ c → a ≡ suc c
     last_on a b c e f = omega (arith, e, f)
 
-module _ (of_attempts : StreamsAreOfAttempts) (x y : StateSeen) (s : Seen) (r : Reply) (link room : ℕ) (slot : LinkSlot) (h : Agrees x s) (known : IsKnown x s)
-    (few : FewAttempts x.book.ledger) (kept : channel.refusal_of (event.Drain link room) x ≡ None) (leaves : DrainLeaves link (min room drained_limit) x r y)
+module _ (bounded : StreamsAreBounded) (plans : HeldPlansAreShort) (x y : StateSeen) (s : Seen) (r : Reply) (link room : ℕ) (slot : LinkSlot) (h : Agrees x s) (known : IsKnown x s)
+    (kept : channel.refusal_of (event.Drain link room) x ≡ None) (leaves : DrainLeaves link (min room drained_limit) x r y)
     (there_now : tables.numbered y.links link ≡ Some slot) where
   both : (x.shut ≡ false) × (or_room room (channel.link_refusal link x) ≡ None)
   both = unshut_by x.shut (or_room room (channel.link_refusal link x)) kept
@@ -103,19 +104,19 @@ module _ (of_attempts : StreamsAreOfAttempts) (x y : StateSeen) (s : Seen) (r : 
   abbrev w : Wire
   w = has.slot.link.link.wire
 
-  -- before it, opened or waiting, each is of an attempt
+  -- before it, opened or waiting
   taken_few : taken w < 1073741824
   taken_few =
       let sees = going.streams.sees in
       let many : length (opened_streams there.l) ≡ w.opened = ap length sees.sees.reads.opened ∙ odds_many w.opened in
       let waits : length w.waiting ≡ length (waiting_on there.l s) = ap length sees.waits ∙ length-map (waiting_on there.l s) (λ (a : Attempt). a.place) in
-      let all : length (opened_streams there.l) + length (waiting_on there.l s) ≤ length s.attempts
-      = of_attempts known.reached.setup known.reached.actions s known.reached.does link there.l there.here in
-      let rows : length s.attempts ≡ length x.book.ledger.rows = sym (length-map s.attempts (λ (b : Attempt). b.row)) ∙ ap length h.columns.rows in
-      all_on w.opened (length w.waiting) (length (opened_streams there.l)) (length (waiting_on there.l s)) (length s.attempts) (length x.book.ledger.rows) many waits all rows few
+      let reached = known.reached in
+      let all : length (opened_streams there.l) + length (waiting_on there.l s) < 1073741824
+      = bounded reached.setup reached.actions s reached.does (entries_within x s known) (plans reached.setup reached.actions s reached.does) link there.l there.here in
+      all_on w.opened (length w.waiting) (length (opened_streams there.l)) (length (waiting_on there.l s)) many waits all
     where
-      all_on : (a b c d e f : ℕ) → c ≡ a → b ≡ d → c + d ≤ e → e ≡ f → f + 5242880 < 1073741824 → a + b < 1073741824
-      all_on a b c d e f g h i j k = omega (arith, g, h, i, j, k)
+      all_on : (a b c d : ℕ) → c ≡ a → b ≡ d → c + d < 1073741824 → a + b < 1073741824
+      all_on a b c d e f g = omega (arith, e, f, g)
 
   below : (z : Wire) → taken z ≤ taken w → z.opened < 1073741824
   below z less = below_on z.opened (length z.waiting) (taken w) less taken_few
@@ -142,5 +143,5 @@ module _ (of_attempts : StreamsAreOfAttempts) (x y : StateSeen) (s : Seen) (r : 
   pub few_streams : slot.link.link.wire.opened < 1073741824
   few_streams = by_drained leaves.drained leaves.gives
 
-pub streams_are_few : StreamsAreOfAttempts → StreamsAreFew
-streams_are_few of_attempts x y s r link room slot h known few kept applies there_now = few_streams of_attempts x y s r link room slot h known few kept applies there_now
+pub streams_are_few : StreamsAreBounded → HeldPlansAreShort → StreamsAreFew
+streams_are_few bounded plans x y s r link room slot h known kept applies there_now = few_streams bounded plans x y s r link room slot h known kept applies there_now

@@ -36,7 +36,7 @@ use Rattle.session_order.proofs.Changed.{passes_not}
 use Rattle.session_order.specs.Calm.{is_to_cut}
 
 -- the call of an attempt, by what its limit hangs on
-limit_by : (s t : Seen) (o q : Option Call) → option_map served q ≡ option_map served o → t.configs ≡ s.configs
+pub limit_by : (s t : Seen) (o q : Option Call) → option_map served q ≡ option_map served o → t.configs ≡ s.configs
     → option_map_or (λ (c : Call). (chosen_of c t).response) q message_limit ≡ option_map_or (λ (c : Call). (chosen_of c s).response) o message_limit
 limit_by s t None None e f = refl
 limit_by s t (Some c) (Some d) e f =
@@ -94,7 +94,7 @@ outcome_in limit None (Some l) = if is_some l.over || is_retiring l then Some un
 outcome_in limit (Some stream) None = None
 outcome_in limit (Some stream) (Some l) = option_or (response_in limit stream l.traffic).end (if is_some l.over then Some lost_end else None)
 
-same_in : (limit : ℕ) (stream : Option ℕ) (o q : Option Link) → option_map unqueued q ≡ option_map unqueued o → outcome_in limit stream q ≡ outcome_in limit stream o
+pub same_in : (limit : ℕ) (stream : Option ℕ) (o q : Option Link) → option_map unqueued q ≡ option_map unqueued o → outcome_in limit stream q ≡ outcome_in limit stream o
 same_in limit stream None None e = refl
 same_in limit None (Some l) (Some m) e =
     let same : unqueued m ≡ unqueued l = (cc) in ap (λ (k : Link). if is_some k.over || is_retiring k then Some unsent_end else None) same

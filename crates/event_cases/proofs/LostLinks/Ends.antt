@@ -167,7 +167,7 @@ pub record OverGoesOn (waits : Line → Bool) (also : List ℕ) (l : Link) (x : 
   pub still : (m : Line) → is_line m line.WireEnd ≡ false → waits m ≡ false → IsStill m o s
   pub over : SeesOver l s
   pub quiet : AllByRecursion (IsQuiet l s) s.attempts
-  pub agrees : AgreesAhead also (stamped_gone l.number x) s
+  pub agrees : AgreesAhead [] also (stamped_gone l.number x) s
   pub greeted : AreGreeted s
   pub streams : AreOwnStreams s
   pub rising : RunsRise s
@@ -379,7 +379,7 @@ module _ (waits : Line → Bool) (also : List ℕ) (l : Link) (x : StateSeen) (o
         (ap (λ (rs : List ℕ). is_one_of (also ++ rs) n) x_resets ∙ off);
   }
 
-  pub end_next : EndNext waits also a out x o s
+  pub end_next : EndNext [] waits also a out x o s
   end_next = record {
     late = is.late;
     current = is.current;
@@ -390,6 +390,7 @@ module _ (waits : Line → Bool) (also : List ℕ) (l : Link) (x : StateSeen) (o
     still = λ m off waits. is.still m (not_end m off) waits;
     books = books;
     links = links;
+    among = refl;
     unreset = is.agrees.unreset;
     apart = is.streams.apart;
     rising = is.rising;

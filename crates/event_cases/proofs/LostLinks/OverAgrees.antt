@@ -43,7 +43,8 @@ use Rattle.session_actions.specs.declared.entry.OpenEntry.{OpenEntry}
 use Rattle.session_actions.specs.declared.link.Link.{Link}
 use Rattle.session_actions.specs.declared.policy.PolicyUse.{PolicyUse}
 use Rattle.session_actions.specs.declared.seen.Seen.{Seen}
-use Rattle.event_cases.proofs.LostLinks.Over.{GoesOver, IsDown, away_v, down, l, p, there_v, v}
+use Rattle.event_cases.proofs.LostLinks.Down.{IsDown}
+use Rattle.event_cases.proofs.LostLinks.Over.{GoesOver, away_v, down, l, p, there_v, v}
 use Rattle.channel_core.specs.declared.state.links.LinkSlot.{LinkSlot}
 use Rattle.link_actions.specs.LossActions.Laws.{with_over}
 use Rattle.session_actions.specs.Sessions.{Does, link_seen}

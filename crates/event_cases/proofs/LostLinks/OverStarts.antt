@@ -27,7 +27,8 @@ use Rattle.session_actions.specs.declared.seen.Seen.{Seen}
 use Rattle.session_order.proofs.Changed.{passes_not}
 use Rattle.session_order.specs.Calm.{is_to_cut, is_to_end}
 use Rattle.session_order.specs.declared.line.Line.TheVariants as line
-use Rattle.event_cases.proofs.LostLinks.Over.{GoesOver, IsDown, away_v, l, p, v}
+use Rattle.event_cases.proofs.LostLinks.Down.{IsDown}
+use Rattle.event_cases.proofs.LostLinks.Over.{GoesOver, away_v, l, p, v}
 use Rattle.event_cases.proofs.LostLinks.OverAgrees.{dn, kept_t, t, there_t}
 use Rattle.link_actions.specs.LossActions.Laws.{with_over}
 use Rattle.session_actions.specs.declared.link.LinkOver.{LinkOver}

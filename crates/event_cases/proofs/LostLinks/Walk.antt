@@ -136,8 +136,8 @@ module _ (ends : OneAttemptEnds) (stays : EndsStayHeld) (going : LossesGoOn) whe
     abbrev act : Action
     act = action.AttemptEnds a.place (e none_waits [] l x o s over_ a first)
 
-    pub he : HasEnded none_waits [] a (out none_waits [] l x o s over_ a first) x o s
-    he = ends none_waits [] a (out none_waits [] l x o s over_ a first) x o s (end_next none_waits [] l x o s over_ a first) tt
+    pub he : HasEnded [] none_waits [] a (out none_waits [] l x o s over_ a first) x o s
+    he = ends [] none_waits [] a (out none_waits [] l x o s over_ a first) x o s (end_next none_waits [] l x o s over_ a first) tt
 
     abbrev y : StateSeen
     y = ended_in a (news_of a (out none_waits [] l x o s over_ a first) s) x

@@ -2,6 +2,7 @@
 -- exactly where it has such settings. So it is in every session.
 -- Example: a channel was made with pick_first and round_robin. A result whose config names a policy that it does not know, and then round_robin, is of round_robin.
 use Rattle.std.specs.Prelude.{List, Some, true, ℕ, ◌≡◌}
+use Rattle.channel_actions.specs.TransparentRetries.Laws.{PlansAreShort}
 use Rattle.event_cases.specs.ConfigReads.Throttled.{AreThrottled}
 use Rattle.grpc_base.specs.Kinds.{has_kind}
 use Rattle.grpc_base.specs.declared.kind.Kind.TheVariants as kind
@@ -22,3 +23,7 @@ HeldKindsAreThere =
 
 abbrev pub ConfigsAreThrottled : Type 0
 ConfigsAreThrottled = (setup : Setup) (actions : List Action) (s : Seen) → Does actions (new_session setup) s → AreThrottled s
+
+-- a plan allows 5 attempts at most (gRFC A6, "Maximum Number of Retries")
+abbrev pub HeldPlansAreShort : Type 0
+HeldPlansAreShort = (setup : Setup) (actions : List Action) (s : Seen) → Does actions (new_session setup) s → PlansAreShort s

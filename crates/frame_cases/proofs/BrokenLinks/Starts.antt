@@ -17,7 +17,8 @@ use Rattle.channel_actions.specs.KeptSessions.Kept.{IsKept}
 use Rattle.channel_actions.specs.Links.{IsGoing, SeesLinkOf, lines_in}
 use Rattle.end_cases.proofs.AttemptEnds.Unowed.{agrees_ahead}
 use Rattle.attempt_cases.proofs.DrainEvents.Rooms.{one_some}
-use Rattle.event_cases.proofs.LostLinks.Over.{GoesOver, IsDown}
+use Rattle.event_cases.proofs.LostLinks.Down.{IsDown}
+use Rattle.event_cases.proofs.LostLinks.Over.{GoesOver}
 use Rattle.event_cases.proofs.LostLinks.OverAgrees as agreeing
 use Rattle.event_cases.proofs.LostLinks.OverAgrees.{IsSlots}
 use Rattle.event_cases.proofs.LostLinks.OverStarts as starts
@@ -259,7 +260,7 @@ module _ (link : ℕ) (piece : List ℕ) (x : StateSeen) (o : OpenEntry) (s : Se
         still = λ m off waits. down.still m off;
         over = starts.over_after over.Broken act link (coming link piece x) o s broken_over;
         quiet = starts.quiet_after over.Broken act link (coming link piece x) o s broken_over;
-        agrees = subst (λ (n : ℕ). AgreesAhead (link ∷ []) (stamped_gone n (buried link heard_x)) t) (sym number_is)
+        agrees = subst (λ (n : ℕ). AgreesAhead [] (link ∷ []) (stamped_gone n (buried link heard_x)) t) (sym number_is)
             (agrees_ahead (link ∷ []) (stamped_gone link (buried link heard_x)) t agrees_t (subst AreUnreset (sym down.boarded) is.known.early.resets) (down.still line.Reset refl));
         greeted = greeted_along those s t h0.kept is.known.greeted does_t;
         streams = streams_along those s t h0.kept is.known.greeted is.known.streams does_t;

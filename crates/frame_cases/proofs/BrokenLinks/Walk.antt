@@ -81,7 +81,7 @@ pub record HasFallen (most row link : ℕ) (also : List ℕ) (x : StateSeen) (o 
   pub current : seen.current ≡ Some entry
   pub passed : IsPassedStill s seen
   pub still : (m : Line) → is_line m line.Reset ≡ false → IsStill m entry seen
-  pub agrees : AgreesAhead also (stamped_gone link (rows_lost most link false row x)) seen
+  pub agrees : AgreesAhead [] also (stamped_gone link (rows_lost most link false row x)) seen
 
 -- and then the resets are made
 pub record HasBroken (also : List ℕ) (link : ℕ) (x : StateSeen) (o : OpenEntry) (s : Seen) : Type 0 where
@@ -116,8 +116,8 @@ module _ (piece : List ℕ) (also : List ℕ) (ends : OneAttemptEnds) (stays : E
     its_head : IsHead (is_outstanding_on l) s.attempts a
     its_head = head resets_wait also l x o s g a first
 
-    pub he : HasEnded resets_wait also a (out resets_wait also l x o s g a first) x o s
-    he = ends resets_wait also a (out resets_wait also l x o s g a first) x o s (end_next resets_wait also l x o s g a first) tt
+    pub he : HasEnded [] resets_wait also a (out resets_wait also l x o s g a first) x o s
+    he = ends [] resets_wait also a (out resets_wait also l x o s g a first) x o s (end_next resets_wait also l x o s g a first) tt
 
     abbrev y : StateSeen
     y = ended_in a (news_of a (out resets_wait also l x o s g a first) s) x
@@ -245,7 +245,7 @@ module _ (piece : List ℕ) (also : List ℕ) (ends : OneAttemptEnds) (stays : E
             still = still_then;
             over = over_still s t kept_s kept_t passed he.fewer l m g.over found.1.0 found.1.1 places_t;
             quiet = quiet_still s t kept_s kept_t passed he.fewer (g.still line.Cut refl refl) (he.still line.Cut refl) l m number_is g.quiet;
-            agrees = subst (λ (z : StateSeen). AgreesAhead also z t) (sym again) he.agrees;
+            agrees = subst (λ (z : StateSeen). AgreesAhead [] also z t) (sym again) he.agrees;
             greeted = greeted_along these s t kept_s g.greeted he.does;
             streams = streams_along these s t kept_s g.greeted g.streams he.does;
             rising = rises these s t kept_s g.rising he.does;
@@ -302,8 +302,8 @@ module _ (piece : List ℕ) (also : List ℕ) (ends : OneAttemptEnds) (stays : E
       current = k.current;
       passed = passed_then s t k.seen passed k.passed;
       still = k.still;
-      agrees = subst (λ (z : StateSeen). AgreesAhead also (stamped_gone l.number z) k.seen) (sym turns)
-          (subst (λ (n : ℕ). AgreesAhead also (stamped_gone n (rows_lost most n false a.place (lost_row l.number false a.place x))) k.seen) number_is k.agrees);
+      agrees = subst (λ (z : StateSeen). AgreesAhead [] also (stamped_gone l.number z) k.seen) (sym turns)
+          (subst (λ (n : ℕ). AgreesAhead [] also (stamped_gone n (rows_lost most n false a.place (lost_row l.number false a.place x))) k.seen) number_is k.agrees);
     }
 
   -- none is left
@@ -329,7 +329,7 @@ module _ (piece : List ℕ) (also : List ℕ) (ends : OneAttemptEnds) (stays : E
       current = is.goes.current;
       passed = passed_self s;
       still = λ k off. still_by k (is_line k line.WireEnd) refl off;
-      agrees = subst (λ (z : StateSeen). AgreesAhead also (stamped_gone l.number z) s) (sym same) is.goes.agrees;
+      agrees = subst (λ (z : StateSeen). AgreesAhead [] also (stamped_gone l.number z) s) (sym same) is.goes.agrees;
     }
 
   -- which row the channel ends next

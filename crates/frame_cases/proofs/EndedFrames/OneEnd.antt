@@ -56,7 +56,7 @@ use Rattle.session_order.specs.declared.line.Line.TheVariants as line
 
 -- the end of one attempt is next, and no other attempt is about to end; the link is not over
 pub record IsAboutToEnd (link : ℕ) (whole : List ℕ) (l : Link) (a : Attempt) (out : Outcome) (z : StateSeen) (o : OpenEntry) (t : Seen) : Type 0 where
-  pub next : EndNext none_waits (link ∷ []) a out z o t
+  pub next : EndNext [] none_waits (link ∷ []) a out z o t
   pub event_is : o.event ≡ event.Arrived link whole
   pub stage_is : o.stage ≡ stage.Replied
   pub here : numbered t.links link ≡ Some l
@@ -101,7 +101,7 @@ seal_one n ks slot =
     let is : IsSealed slot (seal_slot n ks slot) = slot_sealed n ks slot in
     ap (λ (b : Bool). record { dead = b; rest = (seal_slot n ks slot).link.link.rest }) is.dead ∙ ap (λ (r : List ℕ). record { dead = slot.dead; rest = r }) is.rest
 
-seal_keeps : (n : ℕ) (ks : List ℕ) (q : Option LinkSlot) → option_map left_in (option_map (seal_slot n ks) q) ≡ option_map left_in q
+pub seal_keeps : (n : ℕ) (ks : List ℕ) (q : Option LinkSlot) → option_map left_in (option_map (seal_slot n ks) q) ≡ option_map left_in q
 seal_keeps n ks None = refl
 seal_keeps n ks (Some slot) = ap (λ (k : IsLeft). Some k) (seal_one n ks slot)
 
@@ -126,8 +126,8 @@ module _ (ends : OneAttemptEnds) (link : ℕ) (whole : List ℕ) (l : Link) (a :
   abbrev y : StateSeen
   y = ended_in a news_ z
 
-  he : HasEnded none_waits (link ∷ []) a out z o t
-  he = ends none_waits (link ∷ []) a out z o t is.next tt
+  he : HasEnded [] none_waits (link ∷ []) a out z o t
+  he = ends [] none_waits (link ∷ []) a out z o t is.next tt
 
   abbrev u : Seen
   u = attempt_ended a.place end t

@@ -41,7 +41,7 @@ one_passes p (y ∷ ys) (suc i) x at off =
     ap (λ (b : Bool). if b then y ∷ filter p ys else filter p ys) (off 0 y refl (λ e. let no : ⊥ = omega (arith, e) in no))
     ∙ one_passes p ys i x at (λ j z here other. off (suc j) z here (λ e. other (let same : j ≡ i = omega (arith, e) in same)))
 
-only_passes : {X : Type 0} (p : X → Bool) (xs : List X) (n : ℕ) (x : X) → numbered xs n ≡ Some x → ((j : ℕ) (y : X) → numbered xs j ≡ Some y → (j ≡ n → ⊥) → p y ≡ false)
+pub only_passes : {X : Type 0} (p : X → Bool) (xs : List X) (n : ℕ) (x : X) → numbered xs n ≡ Some x → ((j : ℕ) (y : X) → numbered xs j ≡ Some y → (j ≡ n → ⊥) → p y ≡ false)
     → filter p xs ≡ (if p x then x ∷ [] else [])
 only_passes p xs zero x at off = absurd (cc)
 only_passes p xs (suc i) x at off =

@@ -1,31 +1,27 @@
 -- A frame ends the attempt of its stream: channel and session after it, the end of the attempt next, and of no other.
-use Rattle.std.proofs.Common.{◌≡◌, ◌++◌, ◌&&◌, ◌||◌, ◌==◌, ◌∷◌, append-nil, append_assoc, ap, arith, refl, subst, sym, ◌∙◌, not, Bool, true, false, List, [], Option, None, Some, ℕ, zero, suc, drop, if◌then◌else◌, inl, inr, is_none, is_some, length, map, option_and_then, option_map, slice_get, ◌≤◌}
+use Rattle.std.proofs.Common.{◌≡◌, ◌++◌, ◌&&◌, ◌||◌, ◌==◌, ◌∷◌, append-nil, ap, arith, refl, subst, sym, ◌∙◌, not, Bool, true, false, List, [], Option, None, Some, ℕ, zero, suc, drop, if◌then◌else◌, inl, inr, is_none, is_some, length, map, option_and_then, option_map, slice_get, ◌≤◌}
 use Rattle.std.proofs.Math.Nat.{min-eq_left}
-use Rattle.std.proofs.lemmas.Bool.{and_parts, eq-eqb, eqb-false, eqb-true}
-use Rattle.std.proofs.lemmas.List.{map-append}
+use Rattle.std.proofs.lemmas.Bool.{and_parts, eq-eqb, eqb-true}
 use Rattle.std.specs.List.{AllByRecursion, list_all, list_any}
-use Rattle.std.specs.Option.{option_map_or, option_or, option_to_list}
+use Rattle.std.specs.Option.{option_map_or, option_or}
 use Rattle.std.specs.Prelude.{unwrap_or}
 use Rattle.attempt_ledger.specs.declared.news.EndNews.{EndNews}
 use Rattle.attempt_ledger.specs.declared.row.Placed.{Placed}
-use Rattle.attempt_ledger.specs.declared.row.RowEnd.{RowEnd}
 use Rattle.call_actions.specs.Laws.{news_of}
-use Rattle.call_actions.specs.TakeActions.Serves.{IsLeft, came}
-use Rattle.call_core.specs.Laws as call_laws
+use Rattle.call_actions.specs.TakeActions.Serves.{came}
 use Rattle.call_core.specs.Steps.{is_committed_live}
 use Rattle.call_cases.proofs.EndsFollow.Steps.{placed_of}
 use Rattle.channel_actions.proofs.GoingCalls.Arms.{kept_same}
 use Rattle.channel_actions.proofs.GoingCalls.Slots.{all_numbered as go_numbered}
 use Rattle.channel_actions.proofs.Gone.{all_numbered, gone_by, sub_noted}
 use Rattle.channel_actions.proofs.KeptSessions.Along.{kept_stays}
-use Rattle.channel_actions.proofs.LinkFrames.Frame.{others_agree}
 use Rattle.channel_actions.proofs.LinkFrames.Readers.{readers_still}
 use Rattle.channel_actions.proofs.LinkFrames.Streams.{streams_still}
 use Rattle.channel_actions.proofs.LinkFrames.Untold.{actions_are_untold}
 use Rattle.channel_actions.proofs.Lines.{all_at_places}
 use Rattle.channel_actions.proofs.Stamps.{counted_at}
 use Rattle.channel_actions.specs.Agrees.{Agrees}
-use Rattle.channel_actions.specs.Calls.{HasSlot, SeesCall}
+use Rattle.channel_actions.specs.Calls.{HasSlot}
 use Rattle.channel_actions.specs.GoingCalls.Going.{CallsGoOn, GoesOn}
 use Rattle.channel_actions.specs.KeptSessions.Kept.{IsKept}
 use Rattle.channel_actions.specs.LinkFrames.Alike.{CannotTell}
@@ -34,19 +30,16 @@ use Rattle.channel_actions.specs.Links.{HasLink, IsGoing, SeesLinkOf, lines_in}
 use Rattle.end_cases.proofs.AttemptEnds.Gone.{going_gone}
 use Rattle.call_cases.proofs.CallPosts.Asked.{deadline_right, due_right}
 use Rattle.attempt_cases.proofs.DrainEvents.Links.{own_lines, read_so, read_then}
-use Rattle.attempt_cases.proofs.DrainEvents.Rooms.{length_changed}
 use Rattle.event_cases.proofs.LostLinks.Ends.{before_end, lives_by, none_waits}
 use Rattle.end_cases.specs.AttemptEnds.Ahead.{AgreesOffLinks, HasLinkAhead, IsAhead, LinksAhead, resets_owed}
 use Rattle.end_cases.specs.AttemptEnds.Ends.{AreHeld, EndNext, IsHeld, gone_with, is_of_ends}
 use Rattle.end_cases.specs.AttemptEnds.Runs.{RunsRise}
-use Rattle.channel_core.proofs.BookLaws.{number_changed, number_other}
-use Rattle.channel_core.proofs.Resting.{changed_length}
 use Rattle.channel_core.specs.Arrivals.{frame_heard, heard_all}
 use Rattle.channel_core.specs.Books.{row_at, slot_at}
 use Rattle.channel_core.specs.States.{StateSeen}
 use Rattle.channel_core.specs.Steps as channel
 use Rattle.channel_core.specs.Steps.{stamped_gone, with_ledger_links}
-use Rattle.channel_core.specs.Tables.{Heard, heard_in, heard_link, with_call, with_link}
+use Rattle.channel_core.specs.Tables.{Heard, heard_in, with_call}
 use Rattle.channel_core.specs.declared.state.links.LinkSlot.{LinkSlot}
 use Rattle.channel_core.specs.declared.state.slots.CallSlot.{CallSlot}
 use Rattle.frame_cases.proofs.EndedFrames.Comes.{HasLast, IsReadWithEnd, end_comes}
@@ -55,21 +48,19 @@ use Rattle.frame_cases.proofs.EndedFrames.OneEnd.{IsAboutToEnd}
 use Rattle.frame_cases.proofs.EndedFrames.Owed as owed
 use Rattle.frame_cases.proofs.EndedFrames.Told as told_
 use Rattle.frame_cases.proofs.EndedFrames.Told.{ended_coming, told_more}
-use Rattle.frame_cases.proofs.MessageFrames.Heard.{message_items}
 use Rattle.frame_cases.proofs.MessageFrames.Told.{IsTold, with_more}
 use Rattle.frame_cases.proofs.OwnFrames.Calls as calls
+use Rattle.frame_cases.proofs.OwnFrames.Came as own_came
+use Rattle.frame_cases.proofs.OwnFrames.Came.{items_more, message_items, some_placed}
 use Rattle.frame_cases.proofs.OwnFrames.Frame as frame
-use Rattle.frame_cases.proofs.PassedBytes.Agreeing.{HasCame, IsToldOff, nothing_came, recalled, told_books}
-use Rattle.frame_cases.proofs.PassedBytes.Same.{drained_through}
-use Rattle.frame_cases.proofs.PieceWalks.Slots.{others_coming}
+use Rattle.frame_cases.proofs.OwnFrames.Links as own_links
+use Rattle.frame_cases.proofs.PassedBytes.Agreeing.{recalled}
 use Rattle.frame_cases.proofs.QuietFrames.Heard as quiet
 use Rattle.frame_cases.proofs.QuietFrames.Lines as lines
 use Rattle.frame_cases.proofs.QuietFrames.ReadStill as read
 use Rattle.frame_cases.specs.FrameKinds.Laws.{Ends, kind_of}
 use Rattle.frame_cases.specs.PieceWalks.Points.{IsHearing, coming, with_rest}
 use Rattle.frame_cases.specs.QuietFrames.Laws.{HasNothingNew}
-use Rattle.grpc_base.specs.declared.event.Reply.{Reply}
-use Rattle.grpc_base.specs.declared.event.Reply.TheVariants as reply
 use Rattle.grpc_base.specs.declared.fields.Field.{Field}
 use Rattle.grpc_link.specs.Links.{Told as Reported}
 use Rattle.grpc_link.specs.Response.{message_news}
@@ -77,7 +68,7 @@ use Rattle.h2_frame.specs.Frames.{FrameSeen}
 use Rattle.h2_frame.specs.Numbers.{goaway_type}
 use Rattle.ledger_stamps.specs.Steps.{changed_at, gone_link}
 use Rattle.link_actions.proofs.Ended.{is_ended}
-use Rattle.link_actions.proofs.History.{bytes_more, used_same}
+use Rattle.link_actions.proofs.History.{bytes_more}
 use Rattle.link_actions.proofs.ResetActions.Cuts.{none_is_ahead}
 use Rattle.link_actions.proofs.ResponseActions.Ended.{ends_keep_readers}
 use Rattle.link_actions.specs.LossActions.Sees.{end_news}
@@ -117,30 +108,10 @@ use Rattle.session_order.specs.Stirs.{stirs}
 use Rattle.session_order.specs.declared.line.Line.{Line}
 use Rattle.session_order.specs.declared.line.Line.TheVariants as line
 
--- what came for an application is more by the messages
-items_last : (p q : Response) (more : List (List ℕ)) → HasLast more p q → response_items q ≡ response_items p ++ message_items more
-items_last p q more is =
-    let heads : Option (List Field) → List Reply = λ o. option_to_list (option_map (λ (meta : List Field). reply.Head meta) o) in
-    ap (λ (o : Option (List Field)). heads o ++ message_items q.messages) is.head
-    ∙ ap (λ (ms : List (List ℕ)). heads p.head ++ message_items ms) is.messages
-    ∙ ap (λ (rs : List Reply). heads p.head ++ rs) (map-append (λ (m : List ℕ). reply.Message m) p.messages more)
-    ∙ sym (append_assoc (heads p.head) (message_items p.messages) (message_items more))
-
+-- nothing came for an application
 items_same : (p q : Response) → HasNothingNew p q → response_items q ≡ response_items p
 items_same p q is =
     ap (λ (h : Option (List Field)). response_items (record q { head = h })) is.head ∙ ap (λ (ms : List (List ℕ)). response_items (record q { head = p.head; messages = ms })) is.messages
-
-left_more : (all now : List Reply) (taken : ℕ) (messages more : List (List ℕ)) (heads : List Reply) → now ≡ all ++ message_items more
-    → IsLeft all taken (heads ++ call_laws.message_items messages) → IsLeft now taken (heads ++ call_laws.message_items (messages ++ more))
-left_more all now taken messages more heads e is = record {
-  front = is.front;
-  count = is.count;
-  joined = e ∙ ap (λ (rs : List Reply). rs ++ message_items more) is.joined
-      ∙ append_assoc is.front (heads ++ message_items messages) (message_items more)
-      ∙ ap (λ (rs : List Reply). is.front ++ rs)
-      (append_assoc heads (message_items messages) (message_items more)
-      ∙ ap (λ (rs : List Reply). heads ++ rs) (sym (map-append (λ (m : List ℕ). reply.Message m) messages more)));
-}
 
 -- one alone gives an action
 none_first : {X Y : Type 0} (f : X → Option Y) (xs : List X) → ((j : ℕ) (x : X) → slice_get xs j ≡ Some x → f x ≡ None) → first_of f xs ≡ None
@@ -190,10 +161,6 @@ any_at p (y ∷ xs) (suc i) x at e = ap (λ (b : Bool). p y || b) (any_at p xs i
 any_there : {X : Type 0} (p : X → Bool) (xs : List X) (n : ℕ) (x : X) → numbered xs n ≡ Some x → p x ≡ true → list_any p xs ≡ true
 any_there p xs zero x at e = absurd (cc)
 any_there p xs (suc i) x at e = any_at p xs i x at e
-
-some_placed : (o : Option Placed) (n : ℕ) → holds (λ (at : Placed). at.link == n) o ≡ true → (at : Placed) × ((o ≡ Some at) × (at.link ≡ n))
-some_placed None n e = absurd (cc)
-some_placed (Some at) n e = (at, (refl, eqb-true at.link n e))
 
 -- calls go on, whatever stands in their inboxes
 more_goes : (more : List (List ℕ)) (slot : CallSlot) → GoesOn slot.call → GoesOn (with_more more slot.call)
@@ -441,7 +408,7 @@ module _ (link : ℕ) (piece : List ℕ) (x : StateSeen) (o : OpenEntry) (s : Se
     where
       by : (b : Bool) → (k.place == a.place) ≡ b → (ms : List (List ℕ)) → more ≡ ms → response_items (response k t) ≡ response_items (response k s) ++ message_items more
       by true f ms g =
-          subst (λ (b : Attempt). response_items (response b t) ≡ response_items (response b s) ++ message_items more) (itself k e f) (items_last (response a s) (response a t) more its)
+          subst (λ (b : Attempt). response_items (response b t) ≡ response_items (response b s) ++ message_items more) (itself k e f) (items_more (response a s) (response a t) more its.head its.messages)
       by false f [] g =
           let one : (i : ℕ) × (slice_get s.attempts i ≡ Some k) = last_in (is_commitment c) s.attempts k e in
           items_same (response k s) (response k t) (others_new (suc one.0) k one.1 f) ∙ sym (append-nil (response_items (response k s)))
@@ -462,76 +429,16 @@ module _ (link : ℕ) (piece : List ℕ) (x : StateSeen) (o : OpenEntry) (s : Se
   came_own =
       came_by c more (commitment c s) refl (λ k e. items_of k e) (λ none. none_more (commitment c s) refl none more refl)
 
-  own_came : HasCame tells.calls t number c has.slot
-  own_came = record {
-    inbox = record has.slot.call.inbox { messages = has.slot.call.inbox.messages ++ more };
-    there = tells.put.mine;
-    end_taken = refl;
-    left = λ e.
-        left_more (came c s) (came c t) c.taken has.slot.call.inbox.messages more (call_laws.head_items has.slot.call.inbox.head) came_own (has.sees.serves.left e);
-  }
-
-  each_came : (j : ℕ) (d : Call) (held : CallSlot) → numbered s.calls j ≡ Some d → slot_at x.book j ≡ Some held → SeesCall (coming link piece x) s d held → HasCame tells.calls t j d held
-  each_came j d held got there sees = by (j == number) refl
-    where
-      by : (e : Bool) → (j == number) ≡ e → HasCame tells.calls t j d held
-      by false e =
-          nothing_came tells.calls s t j d held (tells.put.others j e ∙ there) (frame.came_other link piece x o s is h r next hears a on last.others j d got e) sees.serves.left
-      by true e =
-          let same : number ≡ j = sym (eqb-true j number e) in
-          let both_calls : Some c ≡ Some d = sym at_c ∙ ap (numbered s.calls) same ∙ got in
-          let both_slots : Some has.slot ≡ Some held = sym has.there ∙ ap (slot_at x.book) same ∙ there in
-          let call_is : c ≡ d = (cc) in
-          let slot_is : has.slot ≡ held = (cc) in
-          subst (λ (i : ℕ). HasCame tells.calls t i d held) same
-          (subst (λ (q : Call). HasCame tells.calls t number q held) call_is (subst (λ (v : CallSlot). HasCame tells.calls t number c v) slot_is own_came))
-
   -- the books
-  told_off : IsToldOff link (coming link piece x) z o o s t
-  told_off = record {
-    state = ap (λ (rs : List ℕ). record z { resets = rs }) h0.sets.resets;
-    current = is.at.current;
-    seen = refl;
-    moment = refl;
-    word = refl;
-    drawn = refl;
-    kept = kept_t;
-    long = tells.put.long;
-    heard = each_came;
-    drained_same = drained_through s (read.f link piece x o s is h r next hears) link (Some o) (λ stream k. used_same stream k r frames);
-    noted = read.noted_as link piece x o s is h r next hears last.retiring;
-  }
-
   books_t : AgreesOffLinks z t
-  books_t = told_books link (coming link piece x) z o o s t h0 told_off
+  books_t = own_came.books_agree link piece x o s is h r next hears a on last.others more tells.calls tells.put came_own last.retiring
 
   -- the link of the channel
   abbrev z_slot : LinkSlot
-  z_slot = with_rest left (with_link (heard_link piece) slot)
-
-  slot_is : with_link (heard_link piece) slot ≡ record slot { link = out_.link }
-  slot_is = ap (λ (q : Reported). record slot { link = q.link }) (read.told_is link piece x o s is h r next hears)
-
-  links_are : h.links ≡ changed_at (with_link (heard_link piece)) x.links link
-  links_are = ap (λ (k : Heard). k.links) (read.h_is link piece x o s is h r next hears)
+  z_slot = own_links.slot_then link piece x o s is h r next hears
 
   z_there : numbered z.links link ≡ Some z_slot
-  z_there =
-      number_changed (with_rest left) h.links link
-      ∙ ap (option_map (with_rest left))
-      (ap (λ (ls : List LinkSlot). numbered ls link) links_are ∙ number_changed (with_link (heard_link piece)) x.links link
-      ∙ ap (option_map (with_link (heard_link piece))) (read.kept link piece x o s is h r next hears).there)
-
-  z_others : (k : ℕ) → (link == k) ≡ false → numbered z.links k ≡ numbered (coming link piece x).links k
-  z_others k e =
-      number_other (with_rest left) h.links link k (λ same. eqb-false link k e (sym same))
-      ∙ ap (λ (ls : List LinkSlot). numbered ls k) links_are
-      ∙ number_other (with_link (heard_link piece)) x.links link k (λ same. eqb-false link k e (sym same)) ∙ sym (others_coming link piece x k e)
-
-  z_count : length t.links ≡ length z.links
-  z_count =
-      length_changed (read.f link piece x o s is h r next hears) link s.links ∙ h0.links.count ∙ changed_length (with_rest piece) x.links link
-      ∙ sym (changed_length (with_rest left) h.links link ∙ ap (λ (ls : List LinkSlot). length ls) links_are ∙ changed_length (with_link (heard_link piece)) x.links link)
+  z_there = own_links.there link piece x o s is h r next hears tells.calls
 
   sees_l : SeesLinkOf l s (with_rest piece slot)
   sees_l = read.sees link piece x o s is h r next hears
@@ -673,12 +580,7 @@ module _ (link : ℕ) (piece : List ℕ) (x : StateSeen) (o : OpenEntry) (s : Se
   on_t = record { there = on.there; out = on.out; stream = on.stream }
 
   unreset_a : a.reset ≡ false
-  unreset_a = not_reset (is_some a.row.ended) a.reset (ap (λ (q : Option RowEnd). is_some q) goes_a) (all_numbered (λ (b : Attempt). is_some b.row.ended || not b.reset) s.attempts a.place a on.there is.known.early.resets)
-    where
-      not_reset : (p q : Bool) → p ≡ false → (p || not q) ≡ true → q ≡ false
-      not_reset true q e f = absurd (let bad : true ≡ false = e in let no : ⊥ = (cc) in no)
-      not_reset false true e f = absurd (let bad : false ≡ true = f in let no : ⊥ = (cc) in no)
-      not_reset false false e f = refl
+  unreset_a = own_came.unreset link piece x o s is h r next hears a on
 
   ended_m : IsEnded m t out_.link.link.wire (lines_in l s) out_.link.readers n a
   ended_m =
@@ -723,7 +625,7 @@ module _ (link : ℕ) (piece : List ℕ) (x : StateSeen) (o : OpenEntry) (s : Se
         same = both.0.same;
         queue = both.0.queue;
       } in
-      subst (IsAhead m u) (sym (ap (with_rest left) slot_is)) (record {
+      subst (IsAhead m u) (sym (ap (with_rest left) (own_links.slot_is link piece x o s is h r next hears))) (record {
         streams = subst (λ (rs : List (ℕ × ℕ)). SeesAhead rs m u out_.link.link.wire (lines_in m u)) (sym owed_m) ahead;
         readers = read_then m u out_.link.readers (ends_keep_readers m t a.place a (end_of a out t) out_.link.readers ended_m.readers_are on.there places_t);
         rest = read.left_is link piece x o s is h r next hears ∙ ap (λ (b : List ℕ). b ++ left) (sym (read.rest_now link piece x o s is h r next hears));
@@ -738,15 +640,10 @@ module _ (link : ℕ) (piece : List ℕ) (x : StateSeen) (o : OpenEntry) (s : Se
   }
 
   -- the others
-  read_apart : CannotTell (λ (k : ℕ). link == k) s t
-  read_apart =
-      subst (CannotTell (λ (k : ℕ). link == k) s) (read.after_is link piece x o s is h r next hears) (actions_are_untold (action.FrameRead link r) s h0.kept tt)
-
   ahead_other : (k : ℕ) (q : Link) → numbered u.links k ≡ Some q → (link == k) ≡ false → HasLinkAhead z u q k
   ahead_other k q got off =
       let got_t : numbered t.links k ≡ Some q = ap (λ (ls : List Link). numbered ls k) (sym links_u) ∙ got in
-      let had : HasLink z t q k
-      = others_agree (λ (j : ℕ). link == j) (coming link piece x) z s t k q h0.links h0.kept kept_t z_others read_apart off got_t in
+      let had : HasLink z t q k = own_links.others_then link piece x o s is h r next hears tells.calls k q got_t off in
       let number_q : q.number ≡ k = counted_at (λ (b : Link). b.number) t.links k q kept_t.links got_t in
       let here_q : numbered t.links q.number ≡ Some q = ap (numbered t.links) number_q ∙ got_t in
       let here_u : numbered u.links q.number ≡ Some q = ap (numbered u.links) number_q ∙ got in
@@ -787,7 +684,7 @@ module _ (link : ℕ) (piece : List ℕ) (x : StateSeen) (o : OpenEntry) (s : Se
 
   links : LinksAhead (link ∷ []) z u
   links = record {
-    count = ap (λ (ls : List Link). length ls) links_u ∙ z_count;
+    count = ap (λ (ls : List Link). length ls) links_u ∙ own_links.count link piece x o s is h r next hears tells.calls;
     each = each_ahead;
     closing = λ k q got off. owed_off k q got (first_off (link == k) _ off);
   }
@@ -818,7 +715,7 @@ module _ (link : ℕ) (piece : List ℕ) (x : StateSeen) (o : OpenEntry) (s : Se
     held_z j now got =
         each_slot (λ (q : CallSlot). IsHeld (length x.book.ledger.rows) q.call.buffer) (held number has.slot has.there) (λ k was there. held k was there) j now got
 
-    end_next : EndNext none_waits (link ∷ []) a out z o t
+    end_next : EndNext [] none_waits (link ∷ []) a out z o t
     end_next = record {
       late = λ k e. absurd (let bad : false ≡ true = e in let no : ⊥ = (cc) in no);
       current = refl;
@@ -834,6 +731,7 @@ module _ (link : ℕ) (piece : List ℕ) (x : StateSeen) (o : OpenEntry) (s : Se
       still = λ k off waits. still_t k (no_wire_end k off);
       books = books;
       links = links;
+      among = refl;
       unreset = is.known.early.resets;
       apart = is.known.streams.apart;
       rising = rising;

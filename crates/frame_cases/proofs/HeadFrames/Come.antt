@@ -12,8 +12,9 @@ use Rattle.channel_core.specs.States.{StateSeen}
 use Rattle.channel_core.specs.Tables.{Heard, heard_in}
 use Rattle.channel_core.specs.declared.state.links.LinkSlot.{LinkSlot}
 use Rattle.frame_cases.proofs.HeadFrames.Alone.{heads_come_alone}
-use Rattle.frame_cases.proofs.MessageFrames.Heard.{items_none, message_items}
+use Rattle.frame_cases.proofs.MessageFrames.Heard.{items_none}
 use Rattle.frame_cases.proofs.OwnFrames.Calls as calls
+use Rattle.frame_cases.proofs.OwnFrames.Came.{message_items}
 use Rattle.frame_cases.proofs.OwnFrames.Frame as frame
 use Rattle.frame_cases.proofs.QuietFrames.Heard as quiet
 use Rattle.frame_cases.proofs.QuietFrames.Lines as lines

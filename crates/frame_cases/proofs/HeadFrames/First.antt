@@ -1,5 +1,5 @@
 -- The head of a response comes for a call that is not committed: the call is committed to the attempt, and its other attempts are cut off.
-use Rattle.std.proofs.Common.{◌≡◌, ◌++◌, ◌&&◌, ◌==◌, ◌∷◌, ◌≤◌, ap, refl, subst, sym, ◌∙◌, Bool, true, false, List, [], Option, None, Some, ℕ, drop, is_none, is_some, length, map}
+use Rattle.std.proofs.Common.{◌≡◌, ◌++◌, ◌&&◌, ◌==◌, ◌∷◌, ◌≤◌, ap, refl, subst, sym, ◌∙◌, Bool, true, false, List, [], Option, None, Some, ℕ, drop, is_none, is_some, length}
 use Rattle.std.proofs.lemmas.Bool.{and_parts, eq-eqb, eqb-true}
 use Rattle.std.specs.List.{list_all}
 use Rattle.std.specs.Option.{option_map, option_map_or}
@@ -13,7 +13,6 @@ use Rattle.call_core.specs.Parts.{find_live}
 use Rattle.call_core.specs.Steps.{Stepped}
 use Rattle.call_core.specs.declared.inbox.Inbox.{Inbox}
 use Rattle.call_cases.proofs.EndsFollow.Apart.{last_passes}
-use Rattle.channel_actions.proofs.Stamps.{numbered_map}
 use Rattle.channel_actions.specs.Agrees.{Agrees}
 use Rattle.channel_actions.specs.Calls.{HasSlot}
 use Rattle.channel_actions.specs.Calm.{IsAt}
@@ -24,7 +23,7 @@ use Rattle.attempt_cases.proofs.CallCommits.Whole.{one_call_commits}
 use Rattle.call_cases.proofs.CommitsFollow.Begun.{IsToCommit}
 use Rattle.attempt_cases.proofs.DrainEvents.Rooms.{one_some}
 use Rattle.call_cases.proofs.FullSends.Chosen.{can_commit}
-use Rattle.attempt_cases.specs.CallCommits.Commits.{CommitsNext, HasCommitted, commits_with, committed_state, unowed}
+use Rattle.attempt_cases.specs.CallCommits.Commits.{CommitsNext, HasCommitted, commits_with, committed_state}
 use Rattle.channel_core.proofs.BookLaws.{number_changed}
 use Rattle.channel_core.specs.Arrivals.{frame_heard}
 use Rattle.channel_core.specs.States.{StateSeen}
@@ -37,6 +36,7 @@ use Rattle.frame_cases.proofs.HeadFrames.Told as head_told
 use Rattle.frame_cases.proofs.HeadFrames.Told.{with_meta}
 use Rattle.frame_cases.proofs.MessageFrames.Told as told_
 use Rattle.frame_cases.proofs.MessageFrames.Told.{heard_so}
+use Rattle.frame_cases.proofs.OwnFrames.Alike.{HasAlike, alike_at, sealed_same}
 use Rattle.frame_cases.proofs.OwnFrames.Frame as frame
 use Rattle.frame_cases.proofs.PassedBytes.Noted.{unchanged_at}
 use Rattle.frame_cases.proofs.PieceWalks.Coming.{coming_asked, coming_sealed, coming_sealed_one, sealed_after}
@@ -54,7 +54,7 @@ use Rattle.link_actions.specs.ResponseActions.Gained.{is_listed_fairly}
 use Rattle.link_actions.specs.ResponseActions.Laws.{seen_at}
 use Rattle.link_actions.specs.StreamActions.Laws.{IsOn}
 use Rattle.session_actions.specs.Actions.{following}
-use Rattle.session_actions.specs.Attempts.{commitment, is_commitment, is_of, is_outstanding}
+use Rattle.session_actions.specs.Attempts.{commitment, is_commitment, is_of}
 use Rattle.session_actions.specs.Commitments.{committing, is_free_call, is_headed, next_headed}
 use Rattle.session_actions.specs.Deliveries.{response_items}
 use Rattle.session_actions.specs.Links.{read_bytes}
@@ -70,7 +70,6 @@ use Rattle.session_actions.specs.declared.call.Call.{Call}
 use Rattle.session_actions.specs.declared.entry.OpenEntry.{OpenEntry}
 use Rattle.session_actions.specs.declared.entry.Stage.TheVariants as stage
 use Rattle.session_actions.specs.declared.link.Link.{Link}
-use Rattle.session_actions.specs.declared.link.LinkOver.{LinkOver}
 use Rattle.session_actions.specs.declared.link.ReadFrame.{ReadFrame}
 use Rattle.session_actions.specs.declared.seen.Seen.{Seen}
 use Rattle.session_order.proofs.Calms.{calm_is_exact, first_line_gives}
@@ -86,26 +85,6 @@ never k = false
 
 never_late : (k : Line) → never k ≡ true → is_late k ≡ true
 never_late k e = absurd (let bad : false ≡ true = e in let no : ⊥ = (cc) in no)
-
--- a link on which nothing is left to seal
-sealed_same : (q : LinkSlot) → q.link.link.wire.queue.fresh ≡ 0 → with_link sealed_link q ≡ q
-sealed_same q e =
-    ap (λ (n : ℕ). record q { link = record q.link { link = record q.link.link { wire = record q.link.link.wire { queue = record q.link.link.wire.queue { fresh = n } } } } }) (sym e)
-
--- a link of which nothing else changed than what is queued
-record HasAlike (ls : List Link) (n : ℕ) (l : Link) : Type 0 where
-  pub now : Link
-  pub there : numbered ls n ≡ Some now
-  pub alike : unowed now ≡ unowed l
-
-alike_by : (ls : List Link) (n : ℕ) (l : Link) (q : Option Link) → numbered ls n ≡ q → option_map unowed q ≡ Some (unowed l) → HasAlike ls n l
-alike_by ls n l None e same = absurd (let bad : None ≡ Some (unowed l) = same in (cc))
-alike_by ls n l (Some k) e same = record { now = k; there = e; alike = (let both : Some (unowed k) ≡ Some (unowed l) = same in let one : unowed k ≡ unowed l = (cc) in one) }
-
-alike_at : (ls ks : List Link) (n : ℕ) (l : Link) → map unowed ls ≡ map unowed ks → numbered ks n ≡ Some l → HasAlike ls n l
-alike_at ls ks n l same there =
-    alike_by ls n l (numbered ls n) refl
-    (sym (numbered_map unowed ls n) ∙ ap (λ (zs : List Link). numbered zs n) same ∙ numbered_map unowed ks n ∙ ap (option_map unowed) there)
 
 module _ (link : ℕ) (piece : List ℕ) (x : StateSeen) (o : OpenEntry) (s : Seen) (is : IsHearing link piece x o s) (h : Heard) (r : ReadFrame)
     (next : next_frame_read link s ≡ Some (action.FrameRead link r)) (hears : heard_in link piece x.links ≡ Some h) (no_goaway : (r.frame.kind == goaway_type) ≡ false)

@@ -1,10 +1,7 @@
 -- Messages are heard: they came for the application of the call that is committed to their attempt, and nothing follows at once.
-use Rattle.std.proofs.Common.{◌≡◌, ◌++◌, ◌==◌, ◌∷◌, append_assoc, ap, refl, subst, sym, ◌∙◌, Bool, true, false, List, [], Option, None, Some, ℕ, drop, is_some, map}
-use Rattle.std.proofs.lemmas.Bool.{eqb-true}
-use Rattle.std.proofs.lemmas.List.{map-append}
+use Rattle.std.proofs.Common.{◌≡◌, ◌++◌, ◌==◌, ◌∷◌, ap, refl, subst, sym, ◌∙◌, true, false, List, [], Option, None, Some, ℕ, drop, is_some, map}
 use Rattle.std.specs.Option.{option_map, option_map_or, option_to_list}
-use Rattle.call_actions.specs.TakeActions.Serves.{IsLeft, came}
-use Rattle.call_core.specs.Laws as call_laws
+use Rattle.call_actions.specs.TakeActions.Serves.{came}
 use Rattle.call_core.specs.Steps.{is_committed_live}
 use Rattle.channel_actions.specs.Agrees.{Agrees}
 use Rattle.channel_actions.specs.Calls.{HasSlot, SeesCall}
@@ -22,8 +19,10 @@ use Rattle.channel_core.specs.declared.state.slots.CallSlot.{CallSlot}
 use Rattle.frame_cases.proofs.MessageFrames.Alone.{messages_come_alone}
 use Rattle.frame_cases.proofs.MessageFrames.Told as told_
 use Rattle.frame_cases.proofs.MessageFrames.Told.{IsTold, all_told, no_ends, recalled_so, with_more}
+use Rattle.frame_cases.proofs.OwnFrames.Came as own_came
+use Rattle.frame_cases.proofs.OwnFrames.Came.{items_more, message_items}
 use Rattle.frame_cases.proofs.OwnFrames.Frame as frame
-use Rattle.frame_cases.proofs.PassedBytes.Agreeing.{HasCame, nothing_came, recalled}
+use Rattle.frame_cases.proofs.PassedBytes.Agreeing.{HasCame, recalled}
 use Rattle.frame_cases.proofs.QuietFrames.Heard as quiet
 use Rattle.frame_cases.proofs.QuietFrames.Lines as lines
 use Rattle.frame_cases.proofs.QuietFrames.ReadStill as read
@@ -61,18 +60,7 @@ use Rattle.session_order.specs.Stirs.{stirs}
 use Rattle.session_order.specs.declared.line.Line.{Line}
 use Rattle.session_order.specs.declared.line.Line.TheVariants as line
 
--- what came for an application is more by the messages
-abbrev pub message_items : List (List ℕ) → List Reply
-message_items ms = map (λ (m : List ℕ). reply.Message m) ms
-
-items_more : (p q : Response) (more : List (List ℕ)) → HasMessages more p q → response_items q ≡ response_items p ++ message_items more
-items_more p q more is =
-    let heads : Option (List Field) → List Reply = λ o. option_to_list (option_map (λ (meta : List Field). reply.Head meta) o) in
-    ap (λ (o : Option (List Field)). heads o ++ message_items q.messages) is.head
-    ∙ ap (λ (ms : List (List ℕ)). heads p.head ++ message_items ms) is.messages
-    ∙ ap (λ (rs : List Reply). heads p.head ++ rs) (map-append (λ (m : List ℕ). reply.Message m) p.messages more)
-    ∙ sym (append_assoc (heads p.head) (message_items p.messages) (message_items more))
-
+-- where nothing came
 pub items_none : (hs : List Reply) (ms : List (List ℕ)) → hs ++ message_items ms ≡ [] → ms ≡ []
 items_none [] [] e = refl
 items_none [] (m ∷ ms) e = absurd (let bad : reply.Message m ∷ message_items ms ≡ [] = e in (cc))
@@ -81,18 +69,6 @@ items_none (r ∷ hs) ms e = absurd (let bad : r ∷ (hs ++ message_items ms) �
 behind_none : (xs ys : List (List ℕ)) → xs ++ ys ≡ [] → ys ≡ []
 behind_none [] ys e = e
 behind_none (x ∷ xs) ys e = absurd (let bad : x ∷ (xs ++ ys) ≡ [] = e in (cc))
-
-left_more : (all now : List Reply) (taken : ℕ) (messages more : List (List ℕ)) (heads : List Reply) → now ≡ all ++ message_items more
-    → IsLeft all taken (heads ++ call_laws.message_items messages) → IsLeft now taken (heads ++ call_laws.message_items (messages ++ more))
-left_more all now taken messages more heads e is = record {
-  front = is.front;
-  count = is.count;
-  joined = e ∙ ap (λ (rs : List Reply). rs ++ message_items more) is.joined
-      ∙ append_assoc is.front (heads ++ message_items messages) (message_items more)
-      ∙ ap (λ (rs : List Reply). is.front ++ rs)
-      (append_assoc heads (message_items messages) (message_items more)
-      ∙ ap (λ (rs : List Reply). heads ++ rs) (sym (map-append (λ (m : List ℕ). reply.Message m) messages more)));
-}
 
 -- a response as it was, but for its messages
 record IsAsItWas (p q : Response) : Type 0 where
@@ -253,31 +229,11 @@ module _ (link : ℕ) (piece : List ℕ) (x : StateSeen) (o : OpenEntry) (s : Se
   came_own : came c t ≡ came c s ++ message_items more
   came_own =
       ap (λ (q : Option Attempt). option_map_or (λ (k : Attempt). response_items (response k t)) q []) committed
-      ∙ items_more (response a s) (response a t) more its
+      ∙ items_more (response a s) (response a t) more its.head its.messages
       ∙ sym (ap (λ (q : Option Attempt). option_map_or (λ (k : Attempt). response_items (response k s)) q [] ++ message_items more) committed)
 
-  own_came : HasCame tells.calls t number c has.slot
-  own_came = record {
-    inbox = record has.slot.call.inbox { messages = has.slot.call.inbox.messages ++ more };
-    there = tells.put.mine;
-    end_taken = refl;
-    left = λ e.
-        left_more (came c s) (came c t) c.taken has.slot.call.inbox.messages more (call_laws.head_items has.slot.call.inbox.head) came_own (has.sees.serves.left e);
-  }
-
   each_came : (j : ℕ) (d : Call) (held : CallSlot) → numbered s.calls j ≡ Some d → slot_at x.book j ≡ Some held → SeesCall (coming link piece x) s d held → HasCame tells.calls t j d held
-  each_came j d held got there k = by (j == number) refl
-    where
-      by : (e : Bool) → (j == number) ≡ e → HasCame tells.calls t j d held
-      by false e = nothing_came tells.calls s t j d held (tells.put.others j e ∙ there) (frame.came_other link piece x o s is h r next hears a on alone.others j d got e) k.serves.left
-      by true e =
-          let same : number ≡ j = sym (eqb-true j number e) in
-          let two : Some c ≡ Some d = sym at ∙ ap (numbered s.calls) same ∙ got in
-          let slots : Some has.slot ≡ Some held = sym has.there ∙ ap (slot_at x.book) same ∙ there in
-          let call_is : c ≡ d = (cc) in
-          let slot_is : has.slot ≡ held = (cc) in
-          subst (λ (i : ℕ). HasCame tells.calls t i d held) same
-          (subst (λ (z : Call). HasCame tells.calls t number z held) call_is (subst (λ (v : CallSlot). HasCame tells.calls t number c v) slot_is own_came))
+  each_came = own_came.each_came link piece x o s is h r next hears a on alone.others more tells.calls tells.put came_own
 
   agrees_t : Agrees (coming link left (frame_heard link h x)) t
   agrees_t =

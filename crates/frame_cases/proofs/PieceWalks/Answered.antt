@@ -1,4 +1,5 @@
 -- A piece that arrives is answered.
+use Rattle.event_cases.specs.FewStreams.Laws.{AttemptsAreFew}
 use Rattle.std.proofs.Common.{◌≡◌, ◌++◌, ◌∷◌, ap, arith, refl, subst, sym, ◌∙◌, List, [], Option, None, Some, ℕ, is_some, if◌then◌else◌, not}
 use Rattle.std.proofs.lemmas.List.{length-append}
 use Rattle.channel_actions.proofs.Dialling.{unshut_by}
@@ -48,7 +49,7 @@ up_by x s link None h kept here =
     = sym (ap (λ (q : Option LinkSlot). if not (is_some q) then Some refusal.NoSuchLink else if steps.is_gone link x then Some refusal.LinkGone else None) none) ∙ kept in (cc))
 up_by x s link (Some l) h kept here = record { l = l; here = here }
 
-module _ (frames : FramesAreHeard) (breaks : BreaksAreHeard) (knows : KnownAlongFrames) (x : StateSeen) (o : OpenEntry) (s : Seen) (h : Agrees x s) (at : IsAt stage.Event o s)
+module _ (frames : FramesAreHeard) (breaks : BreaksAreHeard) (knows : KnownAlongFrames) (few : AttemptsAreFew) (x : StateSeen) (o : OpenEntry) (s : Seen) (h : Agrees x s) (at : IsAt stage.Event o s)
     (fresh : o.turn ≡ None) (timely : next_deadline s ≡ None) (case : IsArrival o.event x s) where
   abbrev link : ℕ
   link = case.link
@@ -102,7 +103,7 @@ module _ (frames : FramesAreHeard) (breaks : BreaksAreHeard) (knows : KnownAlong
   }
 
   walked : Walked (piece_arrived link piece x) p t
-  walked = walk frames breaks knows link piece 0 x p t begins
+  walked = walk frames breaks knows few link piece 0 x p t begins
 
   pub piece_answered : IsAnswered (piece_arrived link piece x) reply.Done o s
   piece_answered = record {
@@ -127,9 +128,9 @@ module _ (frames : FramesAreHeard) (breaks : BreaksAreHeard) (knows : KnownAlong
     none = walked.none;
   }
 
-pub pieces_are_heard : PiecesAreHeard
-pieces_are_heard frames breaks knows x y r o s h at fresh timely case answers =
+pub pieces_are_heard : AttemptsAreFew → PiecesAreHeard
+pieces_are_heard few frames breaks knows x y r o s h at fresh timely case answers =
     let given : AnswersBy None (event.Arrived case.link case.piece) x y r
     = subst (λ (e : Event). AnswersBy None e x y r) case.event_is (subst (λ (z : Option Refusal). AnswersBy z o.event x y r) case.kept answers) in
     subst (λ (z : StateSeen). IsAnswered z r o s) (sym given.0)
-    (subst (λ (z : Reply). IsAnswered (piece_arrived case.link case.piece x) z o s) (sym given.1) (piece_answered frames breaks knows x o s h at fresh timely case))
+    (subst (λ (z : Reply). IsAnswered (piece_arrived case.link case.piece x) z o s) (sym given.1) (piece_answered frames breaks knows few x o s h at fresh timely case))

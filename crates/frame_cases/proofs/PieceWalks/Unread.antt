@@ -1,6 +1,6 @@
 -- What follows at once in an entry of a piece leaves what passed, where no further frame was read of the link by then: what is read is not unread, and a link that broke
 -- stays over.
-use Rattle.std.proofs.Common.{◌≡◌, ◌+◌, ◌-◌, ◌++◌, ◌∷◌, ◌≤◌, ap, arith, refl, subst, sym, ◌∙◌, Bool, true, false, List, [], Option, None, Some, ℕ, drop, if◌then◌else◌, inl, inr, is_none, is_some, length, suc, ◌⊎◌}
+use Rattle.std.proofs.Common.{◌≡◌, ◌+◌, ◌-◌, ◌∷◌, ◌≤◌, ap, arith, refl, subst, sym, ◌∙◌, Bool, true, false, List, [], Option, None, Some, ℕ, drop, if◌then◌else◌, inl, inr, is_none, is_some, length, suc, ◌⊎◌}
 use Rattle.std.proofs.lemmas.List.{length-drop}
 use Rattle.std.specs.Option.{option_map_or, option_or}
 use Rattle.std.specs.Prelude.{option_and_then}
@@ -9,7 +9,7 @@ use Rattle.attempt_cases.proofs.DrainEvents.Rooms.{one_some}
 use Rattle.event_cases.proofs.PassedAtOnce.Acts.{Staged, actions_leave_passed, staged}
 use Rattle.event_cases.proofs.PassedAtOnce.Along.{IsOpenAs, begins_as, first_none, follows, goes_on, not_both, once_open, only_begins, passed_along, settling_stays}
 use Rattle.event_cases.proofs.PassedAtOnce.Lines.{AllowsIf, at_once_replies, at_once_settles, calls_allowed, is_of_reply, links_allowed, policies_allowed}
-use Rattle.event_cases.specs.PassedAtOnce.Passed.{IsPassedStill, is_at_once, unqueued}
+use Rattle.event_cases.specs.PassedAtOnce.Passed.{IsPassedStill, is_at_once}
 use Rattle.frame_cases.proofs.BrokenLinks.Deaf.{still_there}
 use Rattle.frame_cases.proofs.QuietFrames.Read.{IsReading, reads_so, shows_frame}
 use Rattle.grpc_base.specs.declared.event.Event.{Event}
@@ -29,7 +29,6 @@ use Rattle.session_actions.specs.Writing.{frame_read_on, next_frame_read, owed_f
 use Rattle.session_actions.specs.declared.action.Action.{Action}
 use Rattle.session_actions.specs.declared.action.Action.TheVariants as action
 use Rattle.session_actions.specs.declared.entry.OpenEntry.{OpenEntry}
-use Rattle.session_actions.specs.declared.entry.Stage.{Stage}
 use Rattle.session_actions.specs.declared.entry.Stage.TheVariants as stage
 use Rattle.session_actions.specs.declared.link.Link.{Link}
 use Rattle.session_actions.specs.declared.link.LinkOver.{LinkOver}
@@ -260,13 +259,11 @@ module _ (link : ℕ) (whole : List ℕ) (n : ℕ) (bs : List ℕ) where
         read = ap read_bytes k.1.1 ∙ is.read;
       }
 
-  -- and as many are left at the end
-  pub unread_passed : (actions : List Action) (o p : OpenEntry) (s t : Seen) → Does actions s t → posted_in actions ≡ [] → s.current ≡ Some o → o.stage ≡ stage.Replied → t.current ≡ Some p
-      → p.stage ≡ stage.Replied → IsUnread o s → n ≤ length bs → (l : Link) → numbered t.links link ≡ Some l → drop (read_bytes l) l.received ≡ drop n bs → is_none l.over ≡ true
-      → IsPassedStill s t
-  unread_passed actions o p s t does posts current at last replied is within l there left going =
-      passed_along IsUnread p t last replied
-      (λ a others q v holds here stage_is next does_ none.
+  -- no further frame is read by the end, where as many are left then
+  pub only_replies : (p : OpenEntry) (t : Seen) → t.current ≡ Some p → p.stage ≡ stage.Replied → n ≤ length bs → (l : Link) → numbered t.links link ≡ Some l
+      → drop (read_bytes l) l.received ≡ drop n bs → is_none l.over ≡ true → (a : Action) (others : List Action) (q : OpenEntry) (v : Seen) → IsUnread q v → v.current ≡ Some q
+      → q.stage ≡ stage.Replied → following v ≡ Some a → Does others (after a v) t → posted_in others ≡ [] → is_of_reply a ≡ true
+  only_replies p t last replied within l there left going a others q v holds here stage_is next does_ none =
       elim (kinds_by q v a (is_at_once a) here stage_is next refl) [
         | inl replies ↦ replies
         | inr frame ↦
@@ -283,4 +280,10 @@ module _ (link : ℕ) (whole : List ℕ) (n : ℕ) (bs : List ℕ) where
               | inl less ↦ never_further n (read_bytes past.m) (length bs) less past.within as_many
               | inr over ↦ going_by l.over going (ap (λ (z : Link). is_some z.over) (sym same) ∙ over)
             ]))
-      ]) unread_stays actions o s does posts current at is
+      ]
+
+  pub unread_passed : (actions : List Action) (o p : OpenEntry) (s t : Seen) → Does actions s t → posted_in actions ≡ [] → s.current ≡ Some o → o.stage ≡ stage.Replied → t.current ≡ Some p
+      → p.stage ≡ stage.Replied → IsUnread o s → n ≤ length bs → (l : Link) → numbered t.links link ≡ Some l → drop (read_bytes l) l.received ≡ drop n bs → is_none l.over ≡ true
+      → IsPassedStill s t
+  unread_passed actions o p s t does posts current at last replied is within l there left going =
+      passed_along IsUnread p t last replied (only_replies p t last replied within l there left going) unread_stays actions o s does posts current at is

@@ -1,4 +1,5 @@
 -- A piece, frame by frame.
+use Rattle.event_cases.specs.FewStreams.Laws.{AttemptsAreFew}
 use Rattle.std.proofs.Common.{◌≡◌, ◌+◌, ◌-◌, ◌++◌, ◌∷◌, ◌≤◌, ◌<◌, ap, arith, refl, subst, sym, ◌∙◌, true, List, [], Option, None, Some, ℕ, suc, zero, drop, is_none, is_some, length, if◌then◌else◌, ◌&&◌, not}
 use Rattle.std.proofs.lemmas.List.{append-nil, length-append}
 use Rattle.std.specs.Option.{option_and_then}
@@ -173,7 +174,10 @@ after_heard link piece start x y o s is has known = record {
   known = known;
 }
 
-module _ (frames : FramesAreHeard) (breaks : BreaksAreHeard) (knows : KnownAlongFrames) (link : ℕ) where
+few_by : (n : ℕ) → n < 7696581394432 → n < 18446744073709551615
+few_by n e = omega (arith, e)
+
+module _ (frames : FramesAreHeard) (breaks : BreaksAreHeard) (knows : KnownAlongFrames) (few : AttemptsAreFew) (link : ℕ) where
   -- the piece is at its end
   ends_by : (x : StateSeen) (o : OpenEntry) (s : Seen) → (is : IsHearing link [] x o s) → (over : Option LinkOver) → is.l.over ≡ over → Walked x o s
   ends_by x o s is None e =
@@ -210,6 +214,9 @@ module _ (frames : FramesAreHeard) (breaks : BreaksAreHeard) (knows : KnownAlong
 
     abbrev goal : StateSeen
     goal = frames_from (frames_after link piece) link (heard_in link bytes x.links) x
+
+    few_here : length s.attempts < 18446744073709551615
+    few_here = few_by (length s.attempts) (few x s is.known)
 
     read_now : frame_action o s ≡ (if is_none l.over then read_action link (next_read l s) else None)
     read_now = same_event o s link is.whole is.at is.reply is.event_is ∙ read_at s link l is.here
@@ -279,7 +286,7 @@ module _ (frames : FramesAreHeard) (breaks : BreaksAreHeard) (knows : KnownAlong
           (frame_there l s w r front same)
       by_next (nextread.Broken code) e same =
           goes_on (action.LinkBreaks link code) (next_now (nextread.Broken code) e)
-          (breaks link bytes x o s (action.LinkBreaks link code) h is (next_now (nextread.Broken code) e) hears (code, refl)) (fault_there l s w code front same)
+          (breaks link bytes x o s (action.LinkBreaks link code) h is (next_now (nextread.Broken code) e) hears (record { code = code; is = refl; few = few_here })) (fault_there l s w code front same)
 
       hearing : Walked goal o s
       hearing = by_next (next_read l s) refl same_read

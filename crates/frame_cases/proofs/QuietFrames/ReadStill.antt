@@ -260,7 +260,7 @@ module _ (link : ℕ) (piece : List ℕ) (x : StateSeen) (o : OpenEntry) (s : Se
       let few : r.end ≤ 18446744073709551615 = (let a = end_within in let c = is.few in omega (arith, a, c)) in
       shown_so.1.read ∙ ap (λ (n : ℕ). min n 18446744073709551615) (bytes_more l r frames) ∙ min-eq_left few
 
-  read_h : h.read ≡ r.end
+  pub read_h : h.read ≡ r.end
   read_h = ap (λ (k : Heard). k.read) h_is ∙ read_is ∙ wire_read
 
   pub left_is : drop (read_bytes m) m.received ≡ left

@@ -4,19 +4,8 @@
 -- Example: PUSH_PROMISE comes on link 1, with attempt 1 of call 1, which has stream 1, and attempt 3 of call 2, which waits for a stream. Call 1 is hedged; its attempt 2
 -- is on stream 1 of link 2. LinkBreaks 1; LinkDown of its subchannel; AttemptEnds 1, with UNAVAILABLE, which hedgingPolicy does not name: CallCommitted 1, AttemptEnds 2,
 -- cut, CallEnds 1. Then AttemptEnds 3, which was never sent, and its transparent retry is made; and then StreamReset 2.
-use Rattle.std.specs.Prelude.{length, ◌<◌, ◌≡◌, ℕ}
 use Rattle.end_cases.specs.AttemptEnds.Laws.{OneAttemptEnds}
-use Rattle.channel_core.specs.Tables.{Heard}
-use Rattle.frame_cases.specs.PieceWalks.Laws.{HeardOf}
-use Rattle.session_actions.specs.declared.action.Action.{Action}
-use Rattle.session_actions.specs.declared.action.Action.TheVariants as action
-use Rattle.session_actions.specs.declared.seen.Seen.{Seen}
-
--- (fewer than 2^64 - 1 attempts were made)
-pub record IsBreak (link : ℕ) (s : Seen) (a : Action) (h : Heard) : Type 0 where
-  pub code : ℕ
-  pub is : a ≡ action.LinkBreaks link code
-  pub few : length s.attempts < 18446744073709551615
+use Rattle.frame_cases.specs.PieceWalks.Laws.{BreaksAreHeard}
 
 abbrev pub BrokenLinksAreHeard : Type 0
-BrokenLinksAreHeard = OneAttemptEnds → HeardOf IsBreak
+BrokenLinksAreHeard = OneAttemptEnds → BreaksAreHeard

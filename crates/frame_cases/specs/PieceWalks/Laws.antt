@@ -3,7 +3,7 @@
 -- Example: a piece has a frame of DATA, then PUSH_PROMISE, and a PING. BytesArrive; FrameRead of DATA, with all that follows from it; LinkBreaks, with the end of each
 -- attempt on the link. The PING is read in neither.
 -- The laws, in the order of this file: what is asked of one frame, and of bytes that break the link; a piece.
-use Rattle.std.specs.Prelude.{List, None, Some, [], drop, length, ◌+◌, ◌≡◌, ◌≤◌, ℕ}
+use Rattle.std.specs.Prelude.{List, None, Some, [], drop, length, ◌+◌, ◌<◌, ◌≡◌, ◌≤◌, ℕ}
 use Rattle.channel_actions.specs.Known.{IsKnown}
 use Rattle.channel_actions.specs.Stages.{EventsAnswered}
 use Rattle.channel_core.specs.Applying as channel
@@ -34,9 +34,14 @@ HeardOf Case =
 abbrev pub FramesAreHeard : Type 0
 FramesAreHeard = HeardOf (λ link s a h. (r : ReadFrame) × (a ≡ action.FrameRead link r))
 
--- bytes that break the link (RFC 9113, section 5.4.1)
+-- bytes that break the link (RFC 9113, section 5.4.1), where fewer than 2^64 - 1 attempts were made
+pub record IsBreak (link : ℕ) (s : Seen) (a : Action) (h : Heard) : Type 0 where
+  pub code : ℕ
+  pub is : a ≡ action.LinkBreaks link code
+  pub few : length s.attempts < 18446744073709551615
+
 abbrev pub BreaksAreHeard : Type 0
-BreaksAreHeard = HeardOf (λ link s a h. (code : ℕ) × (a ≡ action.LinkBreaks link code))
+BreaksAreHeard = HeardOf IsBreak
 
 -- what is known stays known along a frame: of the channel, whatever it hears; of the session, along its actions
 abbrev pub KnownAlongFrames : Type 0

@@ -1,5 +1,5 @@
 -- After GOAWAY, once the attempts have ended that it ends, and their streams are reset: the readers that are left have what came of their responses.
-use Rattle.std.proofs.Common.{◌≡◌, ◌∷◌, ◌++◌, ◌||◌, ◌&&◌, ◌==◌, not, ap, arith, refl, subst, sym, ◌∙◌, Bool, true, false, List, [], Option, None, Some, ℕ, zero, suc, filter, is_none, length, map, nat_lt, option_and_then, slice_get, unwrap_or}
+use Rattle.std.proofs.Common.{◌≡◌, ◌∷◌, ◌++◌, ◌||◌, ◌&&◌, ◌==◌, not, ap, arith, refl, subst, sym, ◌∙◌, Bool, true, false, List, [], Option, None, Some, ℕ, ◌+◌, zero, suc, filter, is_none, length, nat_lt, slice_get, unwrap_or}
 use Rattle.std.specs.List.{AllByRecursion}
 use Rattle.std.proofs.lemmas.Bool.{eqb-true}
 use Rattle.std.proofs.lemmas.Bool.Decides.{nat_tests}
@@ -8,7 +8,7 @@ use Rattle.grpc_link.specs.Links.{reader_in}
 use Rattle.grpc_link.specs.Links.{Told as Reported}
 use Rattle.grpc_link.specs.Readers.{ReaderSeen}
 use Rattle.grpc_link.specs.declared.readers.TagReader.{TagReader}
-use Rattle.h2_frame.specs.Frames.{FrameSeen, has_flag, is_allowed, is_overpadded, is_zero_update, keeps_sizes, kind_allows_stream}
+use Rattle.h2_frame.specs.Frames.{FrameSeen, is_allowed, is_overpadded, is_zero_update, keeps_sizes, kind_allows_stream}
 use Rattle.h2_frame.specs.Numbers.{goaway_type, settings_type}
 use Rattle.h2_frame.specs.Payloads.{last_stream}
 use Rattle.h2_link.specs.Feeds.{Line}
@@ -22,17 +22,19 @@ use Rattle.link_actions.specs.Laws.{with_owed}
 use Rattle.link_actions.proofs.LossActions.Over.{all_go}
 use Rattle.link_actions.specs.LossActions.Sees.{IsGoing}
 use Rattle.link_actions.proofs.ReaderActions.Alike.{gone_on, limit_reset, reader_alike, response_alike, still_on}
-use Rattle.link_actions.proofs.ReaderActions.Ended.{AreEnded, AreReset, IsSameRow, IsSameTraffic, all_are_ended, all_are_reset, ends_of, traffic_itself}
-use Rattle.link_actions.specs.ReaderActions.Laws.{GoawaysKeepReaders}
+use Rattle.link_actions.proofs.ReaderActions.Ended.{AreEnded, AreReset, IsOver, IsSameRow, IsSameTraffic, all_are_ended, all_are_reset, ends_of, traffic_itself}
+use Rattle.link_actions.specs.ReaderActions.Laws.{GoawaysKeepReaders, GoawaysLeaveReaders}
+use Rattle.link_actions.specs.ResetActions.Laws.{AreEndedAt, IsEndedIf}
 use Rattle.link_actions.proofs.ResponseActions.Goaways.{goaways_are_reported}
+use Rattle.link_actions.proofs.ResetActions.Goaways.{rows_placed}
 use Rattle.link_actions.proofs.ResponseActions.Kept.{IsThere, is_there, link_here}
 use Rattle.link_actions.specs.ResponseActions.Laws.{IsRetired, places_of, reported, seen_at}
-use Rattle.link_actions.specs.ResponseActions.Readers.{IsReader, IsReaderOf, SeesReaders, attempt_on}
-use Rattle.session_actions.specs.Links.{is_settings, stream_number}
+use Rattle.link_actions.specs.ResponseActions.Readers.{IsReaderOf, SeesReaders, attempt_on}
+use Rattle.session_actions.specs.Links.{is_settings}
 use Rattle.session_actions.specs.Reading.{is_outstanding_on, outstanding_on}
 use Rattle.session_actions.specs.Responses.{initial_after, limit_of_attempt, response, response_in, with_read, with_stream_frame}
 use Rattle.session_actions.specs.Words.{numbered}
-use Rattle.session_actions.specs.Writing.{frame_read_on, owed_for, streaming_on, waiting_on, with_frame_read}
+use Rattle.session_actions.specs.Writing.{frame_read_on, owed_for, streaming_on, waiting_on}
 use Rattle.session_actions.specs.declared.attempt.Attempt.{Attempt}
 use Rattle.session_actions.specs.declared.link.Link.{Link}
 use Rattle.session_actions.specs.declared.link.ReadFrame.{ReadFrame}
@@ -46,7 +48,7 @@ use Rattle.link_actions.proofs.StreamActions.StreamRead.{read_is}
 use Rattle.link_actions.proofs.StreamActions.StreamGoes.{Stands, stands}
 use Rattle.link_actions.specs.StreamActions.Laws.{AreAllOf, Comes, IsOn, IsSomewhere, ended_all, is_left_out, left_out, left_resets, read_link, reset_all}
 use Rattle.link_actions.specs.StreamActions.Sees.{SeesStreams, response_of}
-use Rattle.link_actions.specs.Sees.{by_stream}
+use Rattle.link_actions.specs.Sees.{ArePlaced, by_stream}
 
 both_ways : (b : Bool) → b ≡ true → b ≡ false → ⊥
 both_ways true e h = (cc)
@@ -144,22 +146,27 @@ on_of l s w g k j b is there stream =
     let place : b.place ≡ k = place_is k s.attempts b is.sees.places there.there in
     record { there = ap (numbered s.attempts) place ∙ there.there; out = there.out; stream = stream }
 
+pub goaway_leaves : (l : Link) (s : Seen) (w : Wire) (g : ℕ → Line) (r : ReadFrame) (n : ℕ) (a : Attempt) → SeesStreams l s w g → Comes l w r → r.frame.kind ≡ goaway_type → IsOn l s n a
+    → nat_lt (last_stream r.frame.payload) n ≡ false → response_of (read_link r l s) (frame_read_on r s l) n a ≡ response_of l s n a
+goaway_leaves l s w g r n a is comes kind on low =
+    let f : FrameSeen = r.frame in
+    let limit : ℕ = limit_of_attempt a s in
+    let st : Stands l s w n a = stands l s w g n a is on in
+    let going : IsGoing (response_of l s n a) = all_go l s w g n a is on in
+    let p : Response = response_in limit n l.traffic in
+    let some : (n == 0) ≡ false = ap (λ (k : ℕ). k == 0) (sym st.number) ∙ st.live.some in
+    let apart : (f.stream == n) ≡ false = ap (λ (k : ℕ). k == n) (on_no_stream f comes.allowed kind) ∙ zero_apart n some in
+    let no_settings_ : is_settings f ≡ false = of_settings f.kind f.flags (not_kind f.kind goaway_type settings_type false kind refl) in
+    response_read limit n l r (owed_for f l s) ∙ goes_on limit n p (traffic.Read r) going.goes going.small ∙ goaway_passes limit n p r no_settings_ low apart
+
 passed : (l : Link) (s : Seen) (w : Wire) (g : ℕ → Line) (r : ReadFrame) (k j : ℕ) (b : Attempt) → SeesStreams l s w g → Comes l w r → r.frame.kind ≡ goaway_type → IsThere l s k b
     → b.row.stream ≡ Some j → nat_lt (last_stream r.frame.payload) j ≡ false → response b (frame_read_on r s l) ≡ response b s
 passed l s w g r k j b is comes kind there stream low =
-    let f : FrameSeen = r.frame in
     let v : Seen = frame_read_on r s l in
     let m : Link = read_link r l s in
-    let limit : ℕ = limit_of_attempt b s in
     let on : IsOn l s j b = on_of l s w g k j b is there stream in
-    let st : Stands l s w j b = stands l s w g j b is on in
-    let going : IsGoing (response_of l s j b) = all_go l s w g j b is on in
-    let p : Response = response_in limit j l.traffic in
-    let some : (j == 0) ≡ false = ap (λ (n : ℕ). n == 0) (sym st.number) ∙ st.live.some in
-    let apart : (f.stream == j) ≡ false = ap (λ (n : ℕ). n == j) (on_no_stream f comes.allowed kind) ∙ zero_apart j some in
-    let no_settings_ : is_settings f ≡ false = of_settings f.kind f.flags (not_kind f.kind goaway_type settings_type false kind refl) in
     response_is m v j b (link_here l s r is.sees.at) there.out stream
-    ∙ response_read limit j l r (owed_for f l s) ∙ goes_on limit j p (traffic.Read r) going.goes going.small ∙ goaway_passes limit j p r no_settings_ low apart
+    ∙ goaway_leaves l s w g r j b is comes kind on low
     ∙ sym (response_is l s j b is.sees.at there.out stream)
 
 same_traffic : (s u : Seen) (j : ℕ) → u.links ≡ s.links → IsSameTraffic (numbered s.links j) (numbered u.links j)
@@ -314,5 +321,72 @@ goaways_keep_readers l s w g readers r ends is sees comes kind_ all =
     subst (λ (y : Seen). SeesReaders m (reset_all xs (ended_all ends y)) t.link.readers) (sym (read_is l s r is.sees.at))
     (record {
       each = λ k. row_by l m s v u z w (told w f).wire g t readers r (seen_at r) k ends (is_one_of (ends_of ends) k) refl refl is comes kind sees all retired refl ended_ reset_;
+      distinct = retired.distinct;
+    })
+
+-- before the streams are reset: the attempts that ended, by their places
+same_by : (c : Bool) (a b : Attempt) → c ≡ false → IsEndedIf c a b → b ≡ a
+same_by true a b off ended = absurd (let no : ⊥ = (cc) in no)
+same_by false a b off same = same
+
+over_by : (c : Bool) (a b : Attempt) → c ≡ true → IsEndedIf c a b → is_none b.row.ended ≡ false
+over_by true a b on ended = ap (λ (x : Attempt). is_none x.row.ended) ended.1
+over_by false a b on same = absurd (let no : ⊥ = (cc) in no)
+
+others_from : (ts : List ℕ) (n i k : ℕ) (as_ bs : List Attempt) → ArePlaced n as_ → AreEndedAt ts as_ bs → k ≡ n + i → is_one_of ts k ≡ false → slice_get bs i ≡ slice_get as_ i
+others_from ts n i k [] [] places are at off = refl
+others_from ts n zero k (a ∷ as_) (b ∷ bs) places are at off =
+    let place : a.place ≡ n = places.0 in
+    let same : k ≡ a.place = omega (arith, place, at) in
+    ap (λ (x : Attempt). Some x) (same_by (is_one_of ts a.place) a b (sym (ap (is_one_of ts) same) ∙ off) are.0)
+others_from ts n (suc i) k (a ∷ as_) (b ∷ bs) places are at off =
+    let next : k ≡ n + 1 + i = omega (arith, at) in
+    others_from ts (n + 1) i k as_ bs places.1 are.1 next off
+others_from ts n i k [] (b ∷ bs) places are at off = absurd are
+others_from ts n i k (a ∷ as_) [] places are at off = absurd are
+
+over_from : (ts : List ℕ) (n i k : ℕ) (as_ bs : List Attempt) → ArePlaced n as_ → AreEndedAt ts as_ bs → k ≡ n + i → is_one_of ts k ≡ true → IsOver (slice_get bs i)
+over_from ts n i k [] [] places are at on = tt
+over_from ts n zero k (a ∷ as_) (b ∷ bs) places are at on =
+    let place : a.place ≡ n = places.0 in
+    let same : k ≡ a.place = omega (arith, place, at) in
+    over_by (is_one_of ts a.place) a b (sym (ap (is_one_of ts) same) ∙ on) are.0
+over_from ts n (suc i) k (a ∷ as_) (b ∷ bs) places are at on =
+    let next : k ≡ n + 1 + i = omega (arith, at) in
+    over_from ts (n + 1) i k as_ bs places.1 are.1 next on
+over_from ts n i k [] (b ∷ bs) places are at on = absurd are
+over_from ts n i k (a ∷ as_) [] places are at on = absurd are
+
+others_at : (ts : List ℕ) (k : ℕ) (as_ bs : List Attempt) → ArePlaced 1 as_ → AreEndedAt ts as_ bs → is_one_of ts k ≡ false → numbered bs k ≡ numbered as_ k
+others_at ts zero as_ bs places are off = refl
+others_at ts (suc i) as_ bs places are off = (let at : suc i ≡ 1 + i = omega arith in others_from ts 1 i (suc i) as_ bs places are at off)
+
+over_at : (ts : List ℕ) (k : ℕ) (as_ bs : List Attempt) → ArePlaced 1 as_ → AreEndedAt ts as_ bs → is_one_of ts k ≡ true → IsOver (numbered bs k)
+over_at ts zero as_ bs places are on = tt
+over_at ts (suc i) as_ bs places are on = (let at : suc i ≡ 1 + i = omega arith in over_from ts 1 i (suc i) as_ bs places are at on)
+
+pub goaways_leave_readers : GoawaysLeaveReaders
+goaways_leave_readers l s w g readers r ends rows is sees comes kind_ all are =
+    let f : FrameSeen = r.frame in
+    let kind : f.kind ≡ goaway_type = eqb-true f.kind goaway_type kind_ in
+    let last : ℕ = last_stream f.payload in
+    let m : Link = read_link r l s in
+    let ts : List ℕ = ends_of ends in
+    let t : Reported = reported w readers f in
+    let retired : IsRetired l s w (told w f).wire t readers last (seen_at r) = goaways_are_reported l s w g readers r is sees comes kind_ in
+    let v : Seen = frame_read_on r s l in
+    let u : Seen = record v { attempts = rows } in
+    let none : List Attempt = [] in
+    let ended_ : AreEnded ts v u = record {
+      links = refl;
+      limits = λ b. refl;
+      places = rows_placed ts 1 s.attempts rows is.sees.places are;
+      others = λ k off. others_at ts k s.attempts rows is.sees.places are off;
+      over = λ k on. over_at ts k s.attempts rows is.sees.places are on;
+    } in
+    let reset_ : AreReset u u = all_are_reset none u in
+    subst (λ (y : Seen). SeesReaders m (record y { attempts = rows }) t.link.readers) (sym (read_is l s r is.sees.at))
+    (record {
+      each = λ k. row_by l m s v u u w (told w f).wire g t readers r (seen_at r) k ends (is_one_of ts k) refl refl is comes kind sees all retired refl ended_ reset_;
       distinct = retired.distinct;
     })

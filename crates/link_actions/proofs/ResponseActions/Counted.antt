@@ -48,7 +48,7 @@ all_read seen (t ∷ ts) all =
     if_true (is_read_by seen t) (t ∷ traffic_by seen ts) none two.0 ∙ ap (λ (us : List Traffic). t ∷ us) (all_read seen ts two.1)
 
 -- the response that its end saw
-response_saw : (l : Link) (s u : Seen) (n : ℕ) (a : Attempt) (e : RowEnd) → u.links ≡ s.links → limit_of_attempt (with_end e a) u ≡ limit_of_attempt a s → numbered s.links l.number ≡ Some l
+pub response_saw : (l : Link) (s u : Seen) (n : ℕ) (a : Attempt) (e : RowEnd) → u.links ≡ s.links → limit_of_attempt (with_end e a) u ≡ limit_of_attempt a s → numbered s.links l.number ≡ Some l
     → IsOn l s n a → e.seen ≡ read_bytes l → list_all (is_read_by (read_bytes l)) l.traffic ≡ true → response (with_end e a) u ≡ response a s
 response_saw l s u n a e links limit here on seen all =
     let b : Attempt = with_end e a in

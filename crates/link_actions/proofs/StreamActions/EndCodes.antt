@@ -254,20 +254,28 @@ blocks_end_alike l s w g r a b is comes on over block =
     (block_ends_by l s w g r a b (is_some p.head) im b.ends none is on over st refl refl refl refl (same ∙ by))
 
 -- GOAWAY
-pub goaways_end_alike : GoawaysEndAlike
-goaways_end_alike l s w g r a n is comes on over goes low =
+pub goaway_ended : (l : Link) (s : Seen) (w : Wire) (g : ℕ → Line) (r : ReadFrame) (a : Attempt) (n : ℕ) → SeesStreams l s w g → IsOn l s n a → (r.frame.kind == goaway_type) ≡ true
+    → nat_lt (last_stream r.frame.payload) n ≡ true → response_of (read_link r l s) (frame_read_on r s l) n a ≡ ended (plain_end code.Unavailable cause.Goaway true (Some cancel)) (response_of l s n a)
+goaway_ended l s w g r a n is on goes low =
     let f : FrameSeen = r.frame in
     let kind : f.kind ≡ goaway_type = eqb-true f.kind goaway_type goes in
     let st : Stands l s w n a = stands l s w g n a is on in
     let p : Response = response_of l s n a in
     let limit : ℕ = limit_of_attempt a s in
     let o : Outcome = plain_end code.Unavailable cause.Goaway true (Some cancel) in
+    let no_settings_ : is_settings f ≡ false = of_settings f.kind f.flags (not_kind f.kind goaway_type settings_type false kind refl) in
+    response_read limit n l r (owed_for f l s) ∙ goes_on limit n p (traffic.Read r) (goes_of l s w a n st) (small_of l s w a n st)
+    ∙ if_false (is_settings f) (record p { initial = initial_after p.initial f }) _ no_settings_
+    ∙ if_true ((f.kind == goaway_type) && nat_lt (last_stream f.payload) n) (ended o p) _ (ap (λ (b : Bool). b && nat_lt (last_stream f.payload) n) goes ∙ low)
+
+pub goaways_end_alike : GoawaysEndAlike
+goaways_end_alike l s w g r a n is comes on over goes low =
+    let st : Stands l s w n a = stands l s w g n a is on in
+    let p : Response = response_of l s n a in
+    let limit : ℕ = limit_of_attempt a s in
+    let o : Outcome = plain_end code.Unavailable cause.Goaway true (Some cancel) in
     let number : Option ℕ = Some cancel in
     let open_ : p.closes ≡ false = goes_open limit n l.traffic (goes_of l s w a n st) (small_of l s w a n st) in
-    let no_settings_ : is_settings f ≡ false = of_settings f.kind f.flags (not_kind f.kind goaway_type settings_type false kind refl) in
-    let after : response_of (read_link r l s) (frame_read_on r s l) n a ≡ ended o p
-    = response_read limit n l r (owed_for f l s) ∙ goes_on limit n p (traffic.Read r) (goes_of l s w a n st) (small_of l s w a n st)
-    ∙ if_false (is_settings f) (record p { initial = initial_after p.initial f }) _ no_settings_
-    ∙ if_true ((f.kind == goaway_type) && nat_lt (last_stream f.payload) n) (ended o p) _ (ap (λ (b : Bool). b && nat_lt (last_stream f.payload) n) goes ∙ low) in
+    let after : response_of (read_link r l s) (frame_read_on r s l) n a ≡ ended o p = goaway_ended l s w g r a n is on goes low in
     subst (λ (z : Seen). EndsAs (read_link r l s) z a n number) (sym (read_is l s r is.sees.at))
     (ends_as l s w g r a n (ended o p) o number is on over after refl (ap (λ (b : Bool). code_by cause.Goaway b number) (never_both (has_written_end n l) p.closes open_)))

@@ -103,7 +103,7 @@ two_by p q x ys zs true false is was e = e
 two_by p q x ys zs false true is was e = if_false (p x) (x ∷ filter p ys) (filter p ys) is ∙ e
 two_by p q x ys zs false false is was e = e
 
-filter_two : {X : Type 0} (p q : X → Bool) (xs : List X) → filter p (filter q xs) ≡ filter (λ x. p x && q x) xs
+pub filter_two : {X : Type 0} (p q : X → Bool) (xs : List X) → filter p (filter q xs) ≡ filter (λ x. p x && q x) xs
 filter_two p q [] = refl
 filter_two p q (x ∷ xs) = two_by p q x (filter q xs) (filter (λ y. p y && q y) xs) (p x) (q x) refl refl (filter_two p q xs)
 

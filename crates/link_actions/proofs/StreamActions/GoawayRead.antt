@@ -49,7 +49,7 @@ use Rattle.link_actions.proofs.StreamActions.Responses.{IsLike, goes_on, heard_l
 use Rattle.link_actions.proofs.StreamActions.StreamEnds.{not_so, on_link, reset_heard}
 use Rattle.link_actions.proofs.StreamActions.StreamGoes.{fair_opened}
 use Rattle.link_actions.proofs.StreamActions.StreamRead.{live_read, read_is, read_keeps}
-use Rattle.link_actions.specs.StreamActions.Laws.{Comes, GoawaysAreRead, IsSomewhere, ended_all, is_left_out, left_out, left_resets, read_link, reset_all}
+use Rattle.link_actions.specs.StreamActions.Laws.{AreAllOf, Comes, GoawaysAreRead, IsSomewhere, ended_all, is_left_out, left_out, left_resets, read_link, reset_all}
 use Rattle.link_actions.specs.StreamActions.Sees.{AreHeard, SeesStreams, response_of}
 
 -- of a stream that it does not leave out it says nothing
@@ -264,7 +264,7 @@ gone_zip l z s ts last [] (a ∷ others) are all there out ends = absurd are
 gone_zip l z s ts last (x ∷ xs) [] are all there out ends = absurd are
 
 -- what the link is told
-goaway_is_told : (w : Wire) (f : FrameSeen) → link.link_error w f ≡ None → f.kind ≡ goaway_type
+pub goaway_is_told : (w : Wire) (f : FrameSeen) → link.link_error w f ≡ None → f.kind ≡ goaway_type
     → told w f ≡ outcome w (read_after w.read (9 + length f.payload)) (Ok (goaway_told (record w { queue = sealed w.queue }) (last_stream f.payload) (read_after w.read (9 + length f.payload))))
 goaway_is_told w f fair kind =
     let seen : ℕ = read_after w.read (9 + length f.payload) in
@@ -283,7 +283,7 @@ goaway_is_told w f fair kind =
     ap (judged w f) fair ∙ ap (outcome w seen) applied_is ∙ ap (λ (t : Told). outcome w seen (Ok t)) plain_is
 
 -- before any end
-goaway_base : (l : Link) (s : Seen) (w : Wire) (g : ℕ → Line) (r : ReadFrame) → SeesStreams l s w g → Comes l w r → r.frame.kind ≡ goaway_type
+pub goaway_base : (l : Link) (s : Seen) (w : Wire) (g : ℕ → Line) (r : ReadFrame) → SeesStreams l s w g → Comes l w r → r.frame.kind ≡ goaway_type
     → SeesTo (last_stream r.frame.payload) (read_link r l s) (frame_read_on r s l) (record w { retiring = true; queue = sealed w.queue; read = read_after w.read (9 + length r.frame.payload) }) g
 goaway_base l s w g r is comes kind =
     let f : FrameSeen = r.frame in
@@ -323,35 +323,53 @@ all_there_still s u [] same all = tt
 all_there_still s u (x ∷ ends) same all =
     (record { attempt = all.0.attempt; there = ap (λ (xs : List Attempt). numbered xs x.0) same ∙ all.0.there }, all_there_still s u ends same all.1)
 
+-- the link then: once the frame is read, and without the streams that it leaves out and those that wait for one
+abbrev pub wire_read : Wire → FrameSeen → Wire
+wire_read w f = record w { retiring = true; queue = sealed w.queue; read = read_after w.read (9 + length f.payload) }
+
+abbrev pub wire_left : Wire → FrameSeen → Wire
+wire_left w f = record (wire_read w f) { live = filter (is_within (last_stream f.payload)) w.live; waiting = [] }
+
+-- once all have ended that it ends, whatever else came of that, they agree but for the resets
+pub once_ended : (l : Link) (s : Seen) (w : Wire) (g : ℕ → Line) (r : ReadFrame) (ends : List (ℕ × RowEnd)) (z : Seen) → SeesStreams l s w g → (r.frame.kind == goaway_type) ≡ true
+    → AreAllOf l s (last_stream r.frame.payload) ends → SeesTo (last_stream r.frame.payload) (read_link r l s) z (without_all (places_of ends) (wire_read w r.frame)) g
+    → SeesStreams (read_link r l s) z (wire_left w r.frame) g
+once_ended l s w g r ends z is goes all after =
+    let f : FrameSeen = r.frame in
+    let last : ℕ = last_stream f.payload in
+    let m : Link = read_link r l s in
+    let ts : List ℕ = places_of ends in
+    let v : Wire = wire_read w f in
+    let live_is : filter (λ x. is_none_of ts x.tag) w.live ≡ filter (is_within last) w.live = live_agree l ts last w.live (by_stream (streaming_on l s)) is.sees.sees.live all.streams in
+    let wait_is : filter (is_none_of ts) w.waiting ≡ [] = ap (filter (is_none_of ts)) is.sees.waits ∙ none_wait ts (waiting_on l s) all.waits in
+    let to : SeesTo last m z (wire_left w f) g
+    = subst (λ (xs : List LiveStream). SeesTo last m z (record v { live = xs; waiting = [] }) g) live_is
+    (subst (λ (ns : List ℕ). SeesTo last m z (record v { live = filter (λ x. is_none_of ts x.tag) w.live; waiting = ns }) g) wait_is after) in
+    record {
+      sees = to.sees;
+      heard = within_heard last m z (filter (is_within last) w.live) (by_stream (streaming_on m z)) (kept_pass (is_within last) w.live) to.heard;
+      unheard = λ limit j above going. absurd (both_ways (is_retiring m) (retiring_more l r (owed_for f l s) ∙ ap (λ (b : Bool). is_retiring l || b) goes ∙ or_last (is_retiring l)) going);
+      begun = is.begun;
+    }
+
 pub goaways_are_read : GoawaysAreRead
 goaways_are_read l s w g r ends is comes goes all =
     let f : FrameSeen = r.frame in
     let last : ℕ = last_stream f.payload in
     let kind : f.kind ≡ goaway_type = eqb-true f.kind goaway_type goes in
-    let seen : ℕ = read_after w.read (9 + length f.payload) in
     let m : Link = read_link r l s in
     let u : Seen = frame_read_on r s l in
     let ts : List ℕ = places_of ends in
     let bs : List Attempt = by_stream (streaming_on l s) in
     let gone : List Attempt = left_out l s last in
     let out_ : List LiveStream = filter (is_above last) w.live in
-    let v : Wire = record w { retiring = true; queue = sealed w.queue; read = seen } in
+    let v : Wire = wire_read w f in
     let base : SeesTo last m u v g = goaway_base l s w g r is comes kind in
     let z : Seen = ended_all ends u in
     let somewhere : AllByRecursion (λ (x : ℕ × RowEnd). IsSomewhere u x.0) ends = all_there_still s u ends refl all.somewhere in
     let after : SeesTo last m z (without_all ts v) g = all_end last m u v g ends base somewhere in
-    let live_is : filter (λ x. is_none_of ts x.tag) w.live ≡ filter (is_within last) w.live = live_agree l ts last w.live bs is.sees.sees.live all.streams in
-    let wait_is : filter (is_none_of ts) w.waiting ≡ [] = ap (filter (is_none_of ts)) is.sees.waits ∙ none_wait ts (waiting_on l s) all.waits in
-    let k : Wire = record v { live = filter (is_within last) w.live; waiting = [] } in
-    let to : SeesTo last m z k g
-    = subst (λ (xs : List LiveStream). SeesTo last m z (record v { live = xs; waiting = [] }) g) live_is
-    (subst (λ (ns : List ℕ). SeesTo last m z (record v { live = filter (λ x. is_none_of ts x.tag) w.live; waiting = ns }) g) wait_is after) in
-    let ended_ : SeesStreams m z k g = record {
-      sees = to.sees;
-      heard = within_heard last m z (filter (is_within last) w.live) (by_stream (streaming_on m z)) (kept_pass (is_within last) w.live) to.heard;
-      unheard = λ limit j above going. absurd (both_ways (is_retiring m) (retiring_more l r (owed_for f l s) ∙ ap (λ (b : Bool). is_retiring l || b) goes ∙ or_last (is_retiring l)) going);
-      begun = is.begun;
-    } in
+    let k : Wire = wire_left w f in
+    let ended_ : SeesStreams m z k g = once_ended l s w g r ends z is goes all after in
     let there : AllByRecursion (λ a. numbered s.attempts a.place ≡ Some a) bs
     = sorted_all _ (streaming_on l s) (all_filter _ (λ a. is_some a.row.stream) (outstanding_on l s) (all_filter _ (is_outstanding_on l) s.attempts (all_there s.attempts is.sees.places))) in
     let out : AllByRecursion (λ a. is_outstanding_on l a ≡ true) bs

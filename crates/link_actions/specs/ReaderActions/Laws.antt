@@ -1,8 +1,8 @@
 -- The readers of a link (`response_actions`) when an attempt is placed on it, and when HEADERS open its stream.
 -- Example: attempt 2 is placed on link 1, and gets a reader without a head. HEADERS on stream 3 are written for it: its reader has a stream from then on, and
 -- GOAWAY that leaves stream 3 out is reported as an end of a request that was sent.
--- The laws, in the order of this file: an attempt that is placed; what is written, and a drain of it; GOAWAY and the ends that it brings.
-use Rattle.std.specs.Prelude.{List, Some, true, ℕ, ◌==◌, ◌≡◌}
+-- The laws, in the order of this file: an attempt that is placed; what is written, and a drain of it; GOAWAY and the ends that it brings, before the streams are reset and after.
+use Rattle.std.specs.Prelude.{List, Some, map, true, ℕ, ◌==◌, ◌≡◌}
 use Rattle.attempt_ledger.specs.declared.row.Placed.{Placed}
 use Rattle.attempt_ledger.specs.declared.row.RowEnd.{RowEnd}
 use Rattle.grpc_link.specs.Links.{opened_all, placed_reader}
@@ -24,6 +24,7 @@ use Rattle.session_actions.specs.declared.attempt.Attempt.{Attempt}
 use Rattle.session_actions.specs.declared.link.Link.{Link}
 use Rattle.session_actions.specs.declared.link.ReadFrame.{ReadFrame}
 use Rattle.session_actions.specs.declared.seen.Seen.{Seen}
+use Rattle.link_actions.specs.ResetActions.Laws.{AreEndedAt}
 use Rattle.link_actions.specs.SteadyLinks.Laws.{CanPlace}
 use Rattle.link_actions.specs.StreamActions.Laws.{AreAllOf, Comes, IsWrittenOn, ended_all, left_out, left_resets, read_link, reset_all}
 use Rattle.link_actions.specs.StreamActions.Sees.{SeesStreams}
@@ -54,3 +55,11 @@ GoawaysKeepReaders =
     → (r.frame.kind == goaway_type) ≡ true → AreAllOf l s (last_stream r.frame.payload) ends
     → SeesReaders (with_owed (left_resets (left_out l s (last_stream r.frame.payload))) (read_link r l s))
     (reset_all (left_out l s (last_stream r.frame.payload)) (ended_all ends (frame_read l.number r s))) (reported w readers r.frame).link.readers
+
+-- and so before any stream is reset, in a session in which all these have ended
+abbrev pub GoawaysLeaveReaders : Type 0
+GoawaysLeaveReaders =
+    (l : Link) (s : Seen) (w : Wire) (g : ℕ → Line) (readers : List TagReader) (r : ReadFrame) (ends : List (ℕ × RowEnd)) (rows : List Attempt) → SeesStreams l s w g
+    → SeesReaders l s readers → Comes l w r → (r.frame.kind == goaway_type) ≡ true → AreAllOf l s (last_stream r.frame.payload) ends
+    → AreEndedAt (map (λ (x : ℕ × RowEnd). x.0) ends) s.attempts rows
+    → SeesReaders (read_link r l s) (record (frame_read l.number r s) { attempts = rows }) (reported w readers r.frame).link.readers

@@ -16,11 +16,17 @@ pub one_more : (b : Bool) → (if b then 1 else 0) ≤ 1
 one_more true = omega arith
 one_more false = omega arith
 
-pub few_calls : (x : StateSeen) (s : Seen) → IsKnown x s → length s.calls ≤ 4294967295
-few_calls x s known =
+pub calls_known : (x : StateSeen) (s : Seen) → IsKnown x s → length s.calls ≤ 1048576
+calls_known x s known =
     let a : length s.calls ≤ entry s = calls_are_few known.reached.setup known.reached.actions s known.reached.does in
     let b : length s.entries < 1048576 = below (length s.entries) 1048576 known.few in
     let c : (if is_some s.current then 1 else 0) ≤ 1 = one_more (is_some s.current) in omega (arith, a, b, c)
+
+pub few_calls : (x : StateSeen) (s : Seen) → IsKnown x s → length s.calls ≤ 4294967295
+few_calls x s known = by (length s.calls) (calls_known x s known)
+  where
+    by : (n : ℕ) → n ≤ 1048576 → n ≤ 4294967295
+    by n e = omega (arith, e)
 
 pub deadlines_are_done : DeadlinesAreMet → Deadlines
 deadlines_are_done met x o s h at known = met x o s h at (record { unreset = known.early.resets; few = few_calls x s known })

@@ -1,4 +1,7 @@
 -- What is few in a run: links, dials, calls, and attempts; and that pick_first is among the policies.
+use Rattle.std.proofs.lemmas.List.{length-map}
+use Rattle.session_actions.specs.declared.attempt.Attempt.{Attempt}
+use Rattle.event_cases.specs.FewStreams.Laws.{AttemptsAreFew}
 use Rattle.std.proofs.Common.{Bool, List, ap, arith, if◌then◌else◌, is_some, length, nat_le, refl, suc, sym, true, ℕ, ◌*◌, ◌+◌, ◌-◌, ◌<◌, ◌∙◌, ◌∷◌, [], ◌≡◌, ◌≤◌}
 use Rattle.std.proofs.lemmas.Bool.{and_parts, leb-true}
 use Rattle.std.specs.List.{list_all}
@@ -7,7 +10,6 @@ use Rattle.channel_actions.proofs.Posted.{kinds_same}
 use Rattle.channel_actions.specs.Agrees.{Agrees}
 use Rattle.channel_actions.specs.FewCalls.Laws.{DialsAreFew, LinksAreFew}
 use Rattle.channel_actions.specs.Known.{IsKnown}
-use Rattle.channel_actions.specs.Posted.{FewAttempts}
 use Rattle.channel_actions.specs.SoundCalls.Sound.{all_attempts, to_come}
 use Rattle.run_cases.proofs.KnownNets.Results.{setup_along}
 use Rattle.run_cases.proofs.KnownStages.Deadlines.{below, one_more}
@@ -57,16 +59,18 @@ five_each (slot ∷ slots) = more_on slot.call.attempts.sent (to_come slots) (le
     more_on : (n k m : ℕ) → k ≤ 5 * m → (5 - n) + k ≤ 5 * suc m
     more_on n k m e = omega (arith, e)
 
-pub attempts_known : (x : StateSeen) (s : Seen) → Agrees x s → IsKnown x s → FewAttempts x.book.ledger → all_attempts x ≤ 4294967294
-attempts_known x s h known few =
+pub attempts_known : AttemptsAreFew → (x : StateSeen) (s : Seen) → Agrees x s → IsKnown x s → all_attempts x < 8796093022208
+attempts_known attempts x s h known =
+    let few : length s.attempts < 7696581394432 = attempts x s known in
+    let rows : length s.attempts ≡ length x.book.ledger.rows = sym (length-map s.attempts (λ (b : Attempt). b.row)) ∙ ap length h.columns.rows in
     let a : length s.calls ≤ entry s = calls_are_few known.reached.setup known.reached.actions s known.reached.does in
     let b : entry s ≤ 1048576 = entries_known x s known in
     let c : length s.calls ≡ length x.book.calls = h.calls.count in
     let d : to_come x.book.calls ≤ 5 * length x.book.calls = five_each x.book.calls in
-    all_on (length x.book.ledger.rows) (to_come x.book.calls) (length x.book.calls) (length s.calls) (entry s) few d c a b
+    all_on (length s.attempts) (length x.book.ledger.rows) (to_come x.book.calls) (length x.book.calls) (length s.calls) (entry s) few rows d c a b
   where
-    all_on : (n k m i j : ℕ) → n + 5242880 < 1073741824 → k ≤ 5 * m → i ≡ m → i ≤ j → j ≤ 1048576 → n + k ≤ 4294967294
-    all_on n k m i j e f g p q = omega (arith, e, f, g, p, q)
+    all_on : (n o k m i j : ℕ) → n < 7696581394432 → n ≡ o → k ≤ 5 * m → i ≡ m → i ≤ j → j ≤ 1048576 → o + k < 8796093022208
+    all_on n o k m i j e f g p q r = omega (arith, e, f, g, p, q, r)
 
 -- policies
 pub first_known : (x : StateSeen) (s : Seen) → Agrees x s → IsKnown x s → has_kind (kinds_of x.net.asker.rack.policies) kind.PickFirst ≡ true

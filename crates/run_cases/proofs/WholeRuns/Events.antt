@@ -5,7 +5,7 @@ use Rattle.channel_actions.specs.Cases.{DoesSomething, does_something}
 use Rattle.channel_actions.specs.Known.{IsKnown}
 use Rattle.channel_actions.specs.FewCalls.Laws.{DialsAreFew, LinksAreFew}
 use Rattle.channel_actions.specs.Laws.{PingsAreQueued}
-use Rattle.channel_actions.specs.Posted.{FewAttempts, IsPosted}
+use Rattle.channel_actions.specs.Posted.{IsPosted}
 use Rattle.channel_actions.specs.SoundBuffers.Laws.{EachHoldsSoundly}
 use Rattle.channel_actions.specs.Stages.{EventsAnswered, IsAnswered}
 use Rattle.call_cases.proofs.CallPosts.Answered.{posted}
@@ -18,7 +18,7 @@ use Rattle.attempt_cases.specs.CallCommits.Laws.{SendsAreAnswered}
 use Rattle.call_cases.specs.CallEnds.Laws.{IsCancelled, LateCancels, OpenCancels}
 use Rattle.call_cases.specs.CallPosts.Laws.{FinishesAreAnswered, TakesAreAnswered}
 use Rattle.attempt_cases.specs.DialEvents.Laws.{FailedDialsAreAnswered, LinksUpAreAnswered, TakenDialsAreAnswered}
-use Rattle.event_cases.specs.FewStreams.Laws.{StreamsAreFew}
+use Rattle.event_cases.specs.FewStreams.Laws.{AttemptsAreFew, StreamsAreFew}
 use Rattle.event_cases.specs.HeldCalls.Laws.{KnownDrainsAreAnswered}
 use Rattle.run_cases.specs.KnownNets.Laws.{KnownResultsAreAnswered}
 use Rattle.run_cases.specs.KnownStages.Laws.{KnownShutdownsAreAnswered}
@@ -75,6 +75,7 @@ pub record EventLaws : Type 0 where
   pub up : LinksAreFew
   pub dialled : DialsAreFew
   pub streams : StreamsAreFew
+  pub few : AttemptsAreFew
 
 some_there : {X : Type 0} (o : Option X) → is_some o ≡ true → (x : X) × (o ≡ Some x)
 some_there None e = absurd (let bad : false ≡ true = e in (cc))
@@ -89,7 +90,7 @@ unshut true q e = absurd (let bad : Some refusal.Shut ≡ None = e in (cc))
 unshut false q e = e
 
 module _ (laws : EventLaws) (arrivals : EventsAnswered IsArrival) (x y : StateSeen) (r : Reply) (o : OpenEntry) (s : Seen) (h : Agrees x s) (at : IsAt stage.Event o s) (fresh : o.turn ≡ None)
-    (timely : next_deadline s ≡ None) (case : DoesSomething o.event x s) (allowed : IsPosted o.event) (few : FewAttempts x.book.ledger) (known : IsKnown x s) (answers : AnswersBy (channel.refusal_of o.event x) o.event x y r) where
+    (timely : next_deadline s ≡ None) (case : DoesSomething o.event x s) (allowed : IsPosted o.event) (known : IsKnown x s) (answers : AnswersBy (channel.refusal_of o.event x) o.event x y r) where
   does : (e : Event) → o.event ≡ e → does_something e x ≡ true
   does e is = ap (λ (v : Event). does_something v x) (sym is) ∙ case.does
 
@@ -145,7 +146,7 @@ module _ (laws : EventLaws) (arrivals : EventsAnswered IsArrival) (x y : StateSe
           event_is = is;
           kept = case.kept;
           near = laws.near x s known;
-          few = λ z q slot applies there. laws.streams x z s q link room slot h known few (kept (event.Drain link room) is) (subst (λ (e : Event). Applies e x z q) is applies) there;
+          few = λ z q slot applies there. laws.streams x z s q link room slot h known (kept (event.Drain link room) is) (subst (λ (e : Event). Applies e x z q) is applies) there;
         };
         known = known;
       })
@@ -184,7 +185,7 @@ module _ (laws : EventLaws) (arrivals : EventsAnswered IsArrival) (x y : StateSe
   by_kind (event.Arrived link piece) is =
       arrivals x y r o s h at fresh timely (record { link = link; piece = piece; event_is = is; kept = case.kept; known = known }) answers
   by_kind (event.LinkLost link) is =
-      losses_known laws.each laws.lost laws.rise laws.ends x y r o s h at fresh timely (record { link = link; event_is = is; kept = case.kept; few = few; known = known }) answers
+      losses_known laws.few laws.each laws.lost laws.rise laws.ends x y r o s h at fresh timely (record { link = link; event_is = is; kept = case.kept; known = known }) answers
   by_kind (event.Drain link room) is = drain_few link room is
   by_kind (event.Ping link word) is =
       laws.pings x y r o s h at fresh timely (record { link = link; word = word; event_is = is; kept = case.kept }) answers

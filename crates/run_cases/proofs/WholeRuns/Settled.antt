@@ -3,9 +3,9 @@ use Rattle.channel_actions.specs.Agrees.{Agrees}
 use Rattle.channel_actions.specs.Calm.{IsAt}
 use Rattle.channel_actions.specs.HeldTexts.Fits.{TextsFit}
 use Rattle.channel_actions.specs.Known.{IsKnown}
-use Rattle.channel_actions.specs.Posted.{FewAttempts}
 use Rattle.channel_actions.specs.Stages.{IsSettled}
-use Rattle.run_cases.proofs.KnownStages.Deadlines.{few_calls}
+use Rattle.event_cases.specs.FewStreams.Laws.{AttemptsAreFew}
+use Rattle.run_cases.proofs.KnownStages.Deadlines.{calls_known}
 use Rattle.run_cases.proofs.WholeRuns.Counts.{attempts_known}
 use Rattle.attempt_cases.specs.MakingSteps.Laws.{LastIsWithheld}
 use Rattle.attempt_cases.specs.ServeSteps.Follows.{FailsFollow, NetsMayAsk, PlacesFollow}
@@ -18,13 +18,13 @@ use Rattle.session_actions.specs.declared.entry.Stage.TheVariants as stage
 use Rattle.session_actions.specs.declared.seen.Seen.{Seen}
 use Rattle.std.proofs.Common.{None, ◌≡◌}
 
-pub settlings_done : ClockSteps → NetSteps → PlacesFollow → SettlingsStand → NetsMayAsk → LastIsWithheld → FailsFollow → (x : StateSeen) (o : OpenEntry) (s : Seen) → Agrees x s → IsAt stage.Settling o s
-    → o.turn ≡ None → FewAttempts x.book.ledger → TextsFit x s → IsKnown x s → IsSettled x o s
-settlings_done clocks nets places settlings asks withheld fails x o s h at fresh few texts known =
+pub settlings_done : AttemptsAreFew → ClockSteps → NetSteps → PlacesFollow → SettlingsStand → NetsMayAsk → LastIsWithheld → FailsFollow → (x : StateSeen) (o : OpenEntry) (s : Seen) → Agrees x s → IsAt stage.Settling o s
+    → o.turn ≡ None → TextsFit x s → IsKnown x s → IsSettled x o s
+settlings_done few clocks nets places settlings asks withheld fails x o s h at fresh texts known =
     settlings clocks nets withheld asks places fails x o s h at fresh
     (record {
-      few = few_calls x s known;
-      room = attempts_known x s h known few;
+      few = calls_known x s known;
+      room = attempts_known few x s h known;
       reached = known.reached;
       early = known.early;
       calls = known.calls;

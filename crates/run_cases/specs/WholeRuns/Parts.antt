@@ -1,13 +1,10 @@
--- What is left of the theorem that every run of a channel is a session, as one list: each part by its name. All else is proved.
--- Example: a run in which SETTINGS, a head, messages and trailers arrive asks nothing of this list; one in which a GOAWAY comes does.
+-- Events on links, with what is known of a run where they begin.
+-- Example: link 1 is up, and no entry said that it is gone; bytes come on it that are no whole frame yet.
 use Rattle.channel_actions.specs.Known.{IsKnown}
-use Rattle.channel_actions.specs.Posted.{FewAttempts}
 use Rattle.channel_actions.specs.Stages.{EventsAnswered}
 use Rattle.end_cases.specs.AttemptEnds.Laws.{OneAttemptEnds}
 use Rattle.channel_core.specs.Applying as channel
 use Rattle.channel_core.specs.States.{StateSeen}
-use Rattle.frame_cases.specs.FrameKinds.Laws.{GoawaysAreHeard, LargeMessagesAreHeard}
-use Rattle.frame_cases.specs.PieceWalks.Laws.{BreaksAreHeard}
 use Rattle.grpc_base.specs.declared.event.Event.TheVariants as event
 use Rattle.grpc_base.specs.declared.event.Event.{Event}
 use Rattle.session_actions.specs.declared.seen.Seen.{Seen}
@@ -21,19 +18,12 @@ pub record IsArrival (e : Event) (x : StateSeen) (s : Seen) : Type 0 where
   pub kept : channel.refusal_of e x ≡ None
   pub known : IsKnown x s
 
--- a link that is not gone is lost (proved)
+-- a link that is not gone is lost
 pub record IsLoss (e : Event) (x : StateSeen) (s : Seen) : Type 0 where
   pub link : ℕ
   pub event_is : e ≡ event.LinkLost link
   pub kept : channel.refusal_of e x ≡ None
-  pub few : FewAttempts x.book.ledger
   pub known : IsKnown x s
 
 abbrev pub KnownLossesAreAnswered : Type 0
 KnownLossesAreAnswered = OneAttemptEnds → EventsAnswered IsLoss
-
--- What is open is of bytes that arrive: a message that is too long, GOAWAY, and bytes that break the link (proved where fewer than 2^64 - 1 attempts were made)
-pub record OpenFrames : Type 0 where
-  pub large : LargeMessagesAreHeard
-  pub goaways : GoawaysAreHeard
-  pub breaks : BreaksAreHeard

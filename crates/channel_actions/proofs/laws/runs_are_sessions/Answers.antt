@@ -30,10 +30,6 @@ returns c =
           };
       early = c.calls_are_kept.ensures.along;
       own = c.links_are_own.ensures.along;
-      rows_answered = sound.answers_rows;
-      rows_settled = sound.settlings_rows;
-      rows_stepped = sound.steps_rows;
-      calls_stepped = sound.steps;
     })
     (λ alloc authority policies. record {
       going = going.begins alloc authority policies;

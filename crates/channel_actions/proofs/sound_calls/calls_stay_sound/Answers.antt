@@ -1,5 +1,5 @@
 use Rattle.channel_actions.proofs.GoingCalls.Arms.{CallLaws, kept_same}
-use Rattle.channel_actions.proofs.SoundCalls.Keeping.{answers_keep, answers_rows, deadlines_keep, new_calls, settlings_keep, settlings_rows, steps_keep, steps_rows}
+use Rattle.channel_actions.proofs.SoundCalls.Keeping.{answers_keep, deadlines_keep, new_calls, settlings_keep, steps_keep}
 use Rattle.channel_actions.proofs.sound_calls.calls_stay_sound.Goals as goal
 
 pub returns : goal.returns
@@ -28,7 +28,4 @@ returns c =
       deadlines = deadlines_keep laws;
       answers = answers_keep laws;
       settlings = settlings_keep laws;
-      steps_rows = steps_rows laws;
-      answers_rows = answers_rows laws;
-      settlings_rows = settlings_rows laws;
     }

@@ -1,0 +1,9 @@
+pub mod Along
+pub mod Counts
+pub mod Fits
+pub mod Lines
+pub mod Makes
+pub mod Picks
+pub mod Responses
+pub mod Rows
+pub mod Steps
