@@ -2,6 +2,7 @@
 import os
 import signal
 import sys
+import time
 import traceback
 
 TOP = os.path.dirname(os.path.dirname(os.path.dirname(os.path.abspath(__file__))))
@@ -42,6 +43,30 @@ def difference(came, want):
         key = next(it for it in want if came[it] != want[it])
         return f"{key}: {difference(came[key], want[key])}"
     return f"expected {shown(want)}, got {shown(came)}"
+
+
+# seconds that `slowness` takes for its piece of work on a machine of two years ago that does nothing else
+IDLE = 0.1
+
+
+def slowness():
+    """How many times longer than on an idle machine a fixed piece of work takes now, at least once as long."""
+    begun, left = time.monotonic(), 0
+    for n in range(1_000_000):
+        left = (left + n * n) % 7
+    return max(1.0, (time.monotonic() - begun) / IDLE)
+
+
+def timed(took, longest):
+    """Whether something ended within its bound. A bound is for a machine that does nothing else: where one is passed, twice as much is
+    allowed, and more the slower this machine is just now, and a line tells it."""
+    if took <= longest:
+        return "in time"
+    allowed = 2 * longest * max(slowness() for _ in range(3))
+    if took > allowed:
+        return f"after {took:.1f} s"
+    print(f"late: after {took:.1f} s, where {longest} s are asked of an idle machine, and {allowed:.1f} s of this one now", flush=True)
+    return "in time"
 
 
 CASES = []
