@@ -1,10 +1,13 @@
 pub mod Calm
 pub mod Keys
 pub mod Lists
+pub mod MadeKinds
 pub mod Made
 pub mod Making
+pub mod DueNow
 pub mod Rounds
 pub mod Step
 pub mod Strips
 pub mod Withheld
+pub mod WithheldNow
 pub mod Withholding

@@ -10,7 +10,7 @@ use Rattle.attempt_ledger.specs.Throttling.{codes_of}
 use Rattle.attempt_ledger.specs.declared.ledger.CallEnd.{CallEnd}
 use Rattle.attempt_ledger.specs.declared.row.Row.{Row}
 use Rattle.attempt_ledger.specs.declared.row.RowEnd.{RowEnd}
-use Rattle.call_actions.proofs.EndRows.{seen_with}
+use Rattle.call_actions.proofs.Ends.Rows.{seen_with}
 use Rattle.call_actions.proofs.Frames as frames
 use Rattle.call_actions.proofs.Frames.{bucket_by}
 use Rattle.call_actions.proofs.Lists.{changed_here, filter_none, numbered_not}

@@ -6,7 +6,7 @@ use Rattle.std.specs.List.{list_any}
 use Rattle.std.specs.Prelude.{fold}
 use Rattle.attempt_ledger.specs.Ends.{delay_of}
 use Rattle.attempt_ledger.specs.declared.row.RowEnd.{RowEnd}
-use Rattle.call_actions.proofs.EndFrames.{Ends, counts_same, ended_by, ended_seen, none_was, was_there, with_end_at}
+use Rattle.call_actions.proofs.Ends.Frames.{Ends, counts_same, ended_by, ended_seen, none_was, was_there, with_end_at}
 use Rattle.call_actions.proofs.Frames.{holds_same}
 use Rattle.call_actions.proofs.Lists.{any_none}
 use Rattle.call_actions.proofs.Places.{only_here}

@@ -9,11 +9,11 @@ use Rattle.attempt_ledger.specs.Ends.{is_cut}
 use Rattle.attempt_ledger.specs.Throttling.{codes_of}
 use Rattle.attempt_ledger.specs.declared.ledger.CallEnd.{CallEnd}
 use Rattle.attempt_ledger.specs.declared.row.RowEnd.{RowEnd}
-use Rattle.call_actions.proofs.EndFrames as ending
-use Rattle.call_actions.proofs.EndFrames.{AreLike, Ends, ended_by, ended_seen, with_end_at}
-use Rattle.call_actions.proofs.EndRows as endrows
-use Rattle.call_actions.proofs.EndRows.{unended_by}
-use Rattle.call_actions.proofs.EndTokens.{bucket_now, run_now, run_number, runs_after, runs_now, throttle_now}
+use Rattle.call_actions.proofs.Ends.Frames as ending
+use Rattle.call_actions.proofs.Ends.Frames.{AreLike, Ends, ended_by, ended_seen, with_end_at}
+use Rattle.call_actions.proofs.Ends.Rows as endrows
+use Rattle.call_actions.proofs.Ends.Rows.{unended_by}
+use Rattle.call_actions.proofs.Ends.Tokens.{bucket_now, run_now, run_number, runs_after, runs_now, throttle_now}
 use Rattle.call_actions.proofs.Frames as frames
 use Rattle.call_actions.proofs.Frames.{bucket_by}
 use Rattle.call_actions.proofs.Judging.{count_is, follow_is, settled_is}

@@ -9,13 +9,13 @@ use Rattle.attempt_ledger.specs.declared.ledger.CallEnd.{CallEnd}
 use Rattle.attempt_ledger.specs.declared.row.RowEnd.{RowEnd}
 use Rattle.call_actions.proofs.Closing.{quiet_calls_end}
 use Rattle.call_actions.proofs.Columns as columns
-use Rattle.call_actions.proofs.CommittedEnd.{moment_by}
+use Rattle.call_actions.proofs.Ends.Committed.{moment_by}
 use Rattle.call_actions.proofs.Committing as committing
 use Rattle.call_actions.proofs.Committing.{IsSameAttempt, plan_same, same_if}
-use Rattle.call_actions.proofs.EndFrames as ending
-use Rattle.call_actions.proofs.EndFrames.{ended_by, with_end_at}
-use Rattle.call_actions.proofs.EndRows as endrows
-use Rattle.call_actions.proofs.EndTokens.{bucket_now, run_now}
+use Rattle.call_actions.proofs.Ends.Frames as ending
+use Rattle.call_actions.proofs.Ends.Frames.{ended_by, with_end_at}
+use Rattle.call_actions.proofs.Ends.Rows as endrows
+use Rattle.call_actions.proofs.Ends.Tokens.{bucket_now, run_now}
 use Rattle.call_actions.proofs.Ending.{after, base, channel_is, d, due_then, e, ends, is_ended, its_call, its_end, its_place, judges, last_then, lent_then, like_then, marks_then, order_then, runs, t, tokens_same, told}
 use Rattle.call_actions.proofs.Frames as frames
 use Rattle.call_actions.proofs.Lists.{changed_here, filter_none}

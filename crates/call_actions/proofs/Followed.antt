@@ -11,10 +11,10 @@ use Rattle.attempt_ledger.specs.declared.row.RowCause.TheVariants as cause
 use Rattle.attempt_ledger.specs.declared.row.RowEnd.{RowEnd}
 use Rattle.attempt_ledger.specs.declared.row.RowKind.TheVariants as kind
 use Rattle.call_actions.proofs.Columns as columns
-use Rattle.call_actions.proofs.EndFrames as ending
-use Rattle.call_actions.proofs.EndFrames.{ended_by, with_end_at}
-use Rattle.call_actions.proofs.EndRows as endrows
-use Rattle.call_actions.proofs.EndRows.{unended_by}
+use Rattle.call_actions.proofs.Ends.Frames as ending
+use Rattle.call_actions.proofs.Ends.Frames.{ended_by, with_end_at}
+use Rattle.call_actions.proofs.Ends.Rows as endrows
+use Rattle.call_actions.proofs.Ends.Rows.{unended_by}
 use Rattle.call_actions.proofs.Frames as frames
 use Rattle.call_actions.proofs.Frames.{holds_same}
 use Rattle.call_actions.proofs.Judging.{follow_is}

@@ -8,8 +8,8 @@ use Rattle.attempt_ledger.specs.Ends as reads
 use Rattle.attempt_ledger.specs.Ends.{delay_of, is_stop, millis_after}
 use Rattle.attempt_ledger.specs.Throttling.{codes_of}
 use Rattle.attempt_ledger.specs.declared.row.RowEnd.{RowEnd}
-use Rattle.call_actions.proofs.EndFrames as ending
-use Rattle.call_actions.proofs.EndFrames.{AreLike, with_end_at}
+use Rattle.call_actions.proofs.Ends.Frames as ending
+use Rattle.call_actions.proofs.Ends.Frames.{AreLike, with_end_at}
 use Rattle.call_actions.proofs.Ending.{KeepsRest, after, base, channel_is, count_then, d, due_then, e, ends, is_ended, its_call, its_end, judges, lent_then, like_then, marks_then, order_then, rest_is, runs, sees_then, t, tokens_end, told}
 use Rattle.call_actions.proofs.Judging.{above_is}
 use Rattle.call_actions.proofs.Dues.{plan_is}

@@ -6,9 +6,9 @@ use Rattle.std.specs.List.{list_any}
 use Rattle.std.specs.Option.{option_map_or, option_or}
 use Rattle.std.specs.Prelude.{option_and_then}
 use Rattle.attempt_ledger.specs.declared.row.RowEnd.{RowEnd}
-use Rattle.call_actions.proofs.EndFrames as ending
-use Rattle.call_actions.proofs.EndFrames.{ended_by, with_end_at}
-use Rattle.call_actions.proofs.EndRows as endrows
+use Rattle.call_actions.proofs.Ends.Frames as ending
+use Rattle.call_actions.proofs.Ends.Frames.{ended_by, with_end_at}
+use Rattle.call_actions.proofs.Ends.Rows as endrows
 use Rattle.call_actions.proofs.Ending.{after, d, e, ends, is_ended, its_end, rest_is, runs, t, told}
 use Rattle.call_actions.proofs.Hedged as hedged
 use Rattle.call_actions.proofs.Lists.{changed_here, filter_none, numbered_not}

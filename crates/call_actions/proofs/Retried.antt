@@ -11,8 +11,8 @@ use Rattle.attempt_ledger.specs.declared.next.Next.{Next}
 use Rattle.attempt_ledger.specs.declared.next.Next.TheVariants as next
 use Rattle.attempt_ledger.specs.declared.row.RowEnd.{RowEnd}
 use Rattle.call_actions.proofs.Delays.{delayed_now, not_delayed}
-use Rattle.call_actions.proofs.EndFrames as ending
-use Rattle.call_actions.proofs.EndFrames.{AreLike, ended_by, with_end_at}
+use Rattle.call_actions.proofs.Ends.Frames as ending
+use Rattle.call_actions.proofs.Ends.Frames.{AreLike, ended_by, with_end_at}
 use Rattle.call_actions.proofs.Ending.{KeepsRest, after, base, channel_is, count_then, counts_now, d, due_then, e, ends, free_then, is_ended, its_call, its_end, judges, lent_then, like_then, marks_then, order_then, runs, sees_then, t, tokens_end, told, unended, will}
 use Rattle.call_actions.proofs.Judging.{above_is}
 use Rattle.call_actions.proofs.Lists.{numbered_not}

@@ -10,11 +10,11 @@ use Rattle.attempt_ledger.specs.Ends.{delay_of, is_cut}
 use Rattle.attempt_ledger.specs.Throttling.{codes_of}
 use Rattle.attempt_ledger.specs.declared.row.RowEnd.{RowEnd}
 use Rattle.call_actions.proofs.Delays.{not_counted}
-use Rattle.call_actions.proofs.EndFrames as ending
-use Rattle.call_actions.proofs.EndFrames.{AreLike, Ends, with_end_at}
-use Rattle.call_actions.proofs.EndRows as endrows
-use Rattle.call_actions.proofs.EndRows.{and_yes}
-use Rattle.call_actions.proofs.EndTokens.{bucket_stays, run_number}
+use Rattle.call_actions.proofs.Ends.Frames as ending
+use Rattle.call_actions.proofs.Ends.Frames.{AreLike, Ends, with_end_at}
+use Rattle.call_actions.proofs.Ends.Rows as endrows
+use Rattle.call_actions.proofs.Ends.Rows.{and_yes}
+use Rattle.call_actions.proofs.Ends.Tokens.{bucket_stays, run_number}
 use Rattle.call_actions.proofs.Frames as frames
 use Rattle.call_actions.proofs.Judging.{count_is}
 use Rattle.call_actions.proofs.Lists.{changed_here, numbered_not}

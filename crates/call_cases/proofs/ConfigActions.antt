@@ -5,6 +5,7 @@ pub mod Ending
 pub mod Every
 pub mod Longs
 pub mod NetLines
+pub mod Tended
 pub mod Served
 pub mod Timers
 pub mod Unserved

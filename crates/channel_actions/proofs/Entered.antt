@@ -7,10 +7,10 @@ use Rattle.channel_actions.proofs.Does.{does_on, none_on}
 use Rattle.channel_actions.proofs.Settles.{Settles, begins}
 use Rattle.channel_actions.proofs.States.{states_agree}
 use Rattle.channel_actions.specs.Agrees.{Agrees}
-use Rattle.channel_actions.proofs.FewCalls.Reached.{reached_on}
-use Rattle.channel_actions.proofs.GreetedLinks.Along.{greeted_along}
-use Rattle.channel_actions.proofs.OwnStreams.Along.{streams_along}
-use Rattle.channel_actions.proofs.TheirLinks.Kept.{theirs_along}
+use Rattle.channel_actions.proofs.Calls.Few.Reached.{reached_on}
+use Rattle.channel_actions.proofs.Links.Greeted.Along.{greeted_along}
+use Rattle.channel_actions.proofs.Streams.Own.Along.{streams_along}
+use Rattle.channel_actions.proofs.Links.Theirs.Kept.{theirs_along}
 use Rattle.channel_actions.specs.FewCalls.Reached.{IsReached}
 use Rattle.channel_actions.specs.GoingCalls.Going.{CallsGoOn}
 use Rattle.channel_actions.specs.GreetedLinks.Greeted.{AreGreeted}

@@ -14,12 +14,12 @@ use Rattle.channel_actions.proofs.Does.{does_on, posted_on}
 use Rattle.channel_actions.proofs.HeldTexts.Fits.{new_texts_fit}
 use Rattle.channel_actions.specs.HeldTexts.Fits.{TextsFit}
 use Rattle.channel_actions.proofs.Entered.{Carrying, Enters, IsCarried, KeepsOn, entered, entry_as}
-use Rattle.channel_actions.proofs.GreetedLinks.Along.{greeted_begins}
-use Rattle.channel_actions.proofs.OwnStreams.Along.{streams_begin}
+use Rattle.channel_actions.proofs.Links.Greeted.Along.{greeted_begins}
+use Rattle.channel_actions.proofs.Streams.Own.Along.{streams_begin}
 use Rattle.channel_actions.proofs.Opening.{noted_is}
 use Rattle.channel_actions.proofs.Posted.{first_there}
 use Rattle.channel_actions.proofs.Splitting.{deadlines_split, events_split, settlings_split}
-use Rattle.channel_actions.proofs.TheirLinks.Kept.{theirs_begin}
+use Rattle.channel_actions.proofs.Links.Theirs.Kept.{theirs_begin}
 use Rattle.channel_actions.specs.KeptCalls.Laws.{EarlyBegins}
 use Rattle.channel_actions.specs.OwnLinks.Laws.{OwnBegins}
 use Rattle.channel_actions.specs.Laws.{HadRoom, NewChannelsAgree, RunsAreSessions, is_room}

@@ -1,7 +1,7 @@
 -- What is left of each stage, once the cases that are proved are taken out.
 use Rattle.std.proofs.Common.{◌≡◌, ◌||◌, inl, inr, ap, refl, ◌∙◌, Bool, true, false, Option, None, Some, ℕ, is_none, is_some}
 use Rattle.channel_actions.proofs.Dialling.{no_dials, refused_dials, unresolved_events}
-use Rattle.channel_actions.proofs.Idle.{idle_settlings}
+use Rattle.channel_actions.proofs.Idleness.Settlings.{idle_settlings}
 use Rattle.channel_actions.proofs.Refusing.{refused_events, ticks}
 use Rattle.channel_actions.proofs.Timely.{in_time}
 use Rattle.channel_actions.specs.Agrees.{Agrees}

@@ -2,7 +2,7 @@
 use Rattle.std.proofs.Common.{◌≡◌, ◌&&◌, ◌∷◌, ap, refl, subst, sym, ◌∙◌, Bool, true, false, List, [], Option, None, Some, ℕ, if◌then◌else◌, filter}
 use Rattle.std.specs.Option.{option_map}
 use Rattle.std.specs.Prelude.{nat_le}
-use Rattle.channel_actions.proofs.IdleCalls.{equal_moment, filter_none_at}
+use Rattle.channel_actions.proofs.Idleness.Calls.{equal_moment, filter_none_at}
 use Rattle.channel_actions.proofs.Outstanding.{any_of, same_self}
 use Rattle.channel_actions.specs.Agrees.{Agrees}
 use Rattle.channel_actions.specs.Calls.{deadline_of}

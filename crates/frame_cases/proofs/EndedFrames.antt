@@ -4,5 +4,6 @@ pub mod Heard
 pub mod KeptSlots
 pub mod OneEnd
 pub mod Owed
+pub mod Endings
 pub mod Starts
 pub mod Told

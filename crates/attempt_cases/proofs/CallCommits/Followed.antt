@@ -7,7 +7,7 @@ use Rattle.call_core.specs.Steps.{Stepped}
 use Rattle.call_core.specs.declared.act.CallAct.{CallAct}
 use Rattle.call_core.specs.declared.live.LiveRow.{LiveRow}
 use Rattle.channel_actions.proofs.ActsFollowed.Acts.{IsDone, LinkIn, acts_form, all_done, given, link_list, links_of, parts_of}
-use Rattle.channel_actions.proofs.SetFrames.Slots.{asked_is, changed_slot_is, set_twice}
+use Rattle.channel_actions.proofs.Links.Settings.Slots.{asked_is, changed_slot_is, set_twice}
 use Rattle.channel_actions.specs.ActsFollowed.Followed.{all_closed, all_given_up, all_out_gone, all_queue_gone, call_lent, closed_in}
 use Rattle.channel_core.specs.Books.{BookActs, book_asked, deadline_of, due_at, slot_at}
 use Rattle.channel_core.specs.States.{StateSeen}

@@ -9,8 +9,8 @@ use Rattle.channel_actions.proofs.Does.{none_on}
 use Rattle.call_cases.proofs.EndsFollow.Steps.{call_number}
 use Rattle.channel_actions.proofs.KeptSessions.Along.{kept_along, kept_stays}
 use Rattle.call_cases.proofs.LinkEnds.Ends.{cuts_are_reset}
-use Rattle.channel_actions.proofs.LinkFrames.Frame.{links_stay}
-use Rattle.channel_actions.proofs.LinkFrames.Untold.{actions_are_untold}
+use Rattle.channel_actions.proofs.Links.Frames.Frame.{links_stay}
+use Rattle.channel_actions.proofs.Links.Frames.Untold.{actions_are_untold}
 use Rattle.channel_actions.specs.Calls.{HasSlot, lent_to}
 use Rattle.call_cases.specs.EndsFollow.Cuts.{AreReset, AreUnreset, is_unreset}
 use Rattle.call_cases.specs.EndsFollow.Laws.{IsSameRest, is_late}

@@ -14,7 +14,7 @@ use Rattle.call_actions.specs.Sees.{Sees}
 use Rattle.call_actions.specs.TakeActions.Serves.{Serves}
 use Rattle.call_core.specs.Steps.{Stepped, commit_stamped, cut_all, cut_row, lent}
 use Rattle.call_cases.proofs.OtherCalls.Rows.{columns_stay}
-use Rattle.channel_actions.proofs.SetFrames.Slots.{put_away}
+use Rattle.channel_actions.proofs.Links.Settings.Slots.{put_away}
 use Rattle.channel_actions.proofs.Stamps.{stamp_keeps}
 use Rattle.channel_actions.specs.ActsFollowed.Followed.{call_lent}
 use Rattle.channel_actions.specs.Calls.{HasSlot, SeesCall, deadline_of, due_of, lent_to}

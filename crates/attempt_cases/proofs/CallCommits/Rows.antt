@@ -12,7 +12,7 @@ use Rattle.call_core.specs.declared.inbox.Inbox.{Inbox}
 use Rattle.call_core.specs.declared.live.LiveRow.{LiveRow}
 use Rattle.call_cases.proofs.EndsFollow.Cuts.{place_suc}
 use Rattle.call_cases.proofs.OtherCalls.Sets.{sets_stay}
-use Rattle.channel_actions.proofs.SetFrames.Pairs.{exactly_by}
+use Rattle.channel_actions.proofs.Links.Settings.Pairs.{exactly_by}
 use Rattle.call_cases.specs.OtherCalls.Laws.{SetsApart}
 use Rattle.call_cases.specs.OtherCalls.Others.{is_of_number}
 use Rattle.channel_actions.specs.Sets.{AreExactly, is_in_outstanding, is_in_patient, is_in_queue, is_patient, is_waiting}

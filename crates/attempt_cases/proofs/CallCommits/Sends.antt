@@ -7,7 +7,7 @@ use Rattle.call_actions.specs.TakeActions.Serves.{IsLeft, came}
 use Rattle.call_core.specs.Laws as call_laws
 use Rattle.call_core.specs.declared.inbox.Inbox.{Inbox}
 use Rattle.call_cases.proofs.EndsFollow.Steps.{call_number}
-use Rattle.channel_actions.proofs.SetFrames.Slots.{asked_is}
+use Rattle.channel_actions.proofs.Links.Settings.Slots.{asked_is}
 use Rattle.channel_actions.specs.Agrees.{Agrees}
 use Rattle.channel_actions.specs.Calls.{HasSlot}
 use Rattle.call_cases.specs.EndsFollow.Cuts.{AreUnreset, is_unreset}

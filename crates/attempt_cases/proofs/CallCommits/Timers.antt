@@ -4,8 +4,8 @@ use Rattle.std.specs.Option.{option_and_then, option_map_or, option_or}
 use Rattle.std.specs.Prelude.{unwrap_or}
 use Rattle.call_core.specs.declared.inbox.Inbox.{Inbox}
 use Rattle.call_cases.proofs.OtherCalls.Sets.{sets_stay}
-use Rattle.channel_actions.proofs.SetFrames.Pairs.{exactly_by}
-use Rattle.channel_actions.proofs.SetFrames.Timers.{by_number, timers_exactly}
+use Rattle.channel_actions.proofs.Links.Settings.Pairs.{exactly_by}
+use Rattle.channel_actions.proofs.Links.Settings.Timers.{by_number, timers_exactly}
 use Rattle.channel_actions.specs.Calls.{HasSlot, deadline_of, due_of}
 use Rattle.call_cases.specs.OtherCalls.Laws.{SetsApart}
 use Rattle.channel_actions.specs.Sets.{AreExactly, is_in_bare, is_in_deadlines, is_in_dues, is_in_impatient, is_patient}

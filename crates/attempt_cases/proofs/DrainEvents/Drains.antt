@@ -29,15 +29,15 @@ use Rattle.channel_core.specs.States.{StateSeen}
 use Rattle.channel_core.specs.Tables.{BucketsSeen, DrainGives, DrainsOn, LinkDrains, drains_at}
 use Rattle.channel_core.specs.declared.state.book.Book.{Book}
 use Rattle.channel_core.specs.declared.state.links.LinkSlot.{LinkSlot}
-use Rattle.channel_actions.proofs.DrainBooks.Columns.{link_columns_stay}
-use Rattle.channel_actions.proofs.DrainBooks.Sets.{buckets_stay, call_columns_stay, sets_stay}
+use Rattle.channel_actions.proofs.Drains.Books.Columns.{link_columns_stay}
+use Rattle.channel_actions.proofs.Drains.Books.Sets.{buckets_stay, call_columns_stay, sets_stay}
 use Rattle.channel_actions.specs.DrainBooks.Laws.{AreSameSets}
 use Rattle.channel_actions.specs.DrainCalls.Laws.{IsOnlyStreamed}
 use Rattle.attempt_cases.proofs.DrainEvents.Links.{all_kept, all_orderly, drained_slot, none_borne, read_so, sends_fresh}
 use Rattle.attempt_cases.specs.DrainEvents.Laws.{DrainsAreAnswered, HasRun}
-use Rattle.channel_actions.proofs.DrainLends.Lends.{lines_are_lent}
+use Rattle.channel_actions.proofs.Drains.Lends.Lends.{lines_are_lent}
 use Rattle.channel_actions.specs.DrainLends.Laws.{AreNear}
-use Rattle.channel_actions.proofs.DrainWrites.Runs.{drains_are_actions}
+use Rattle.channel_actions.proofs.Drains.Writes.Runs.{drains_are_actions}
 use Rattle.channel_actions.specs.DrainWrites.Laws.{IsDrainRun, IsDraining, with_all_sent, writing}
 use Rattle.grpc_base.specs.declared.event.Event.{Event}
 use Rattle.grpc_base.specs.declared.event.Event.TheVariants as event
@@ -51,9 +51,9 @@ use Rattle.h2_link.specs.declared.news.Drained.{Drained}
 use Rattle.channel_actions.proofs.KeptSessions.Along.{kept_along}
 use Rattle.channel_actions.specs.Calls.{SeesCalls}
 use Rattle.channel_actions.specs.KeptSessions.Kept.{IsKept}
-use Rattle.channel_actions.proofs.LinkFrames.Frame.{links_stay}
-use Rattle.channel_actions.proofs.LinkFrames.Tellings.{fewer_tell}
-use Rattle.channel_actions.proofs.LinkFrames.Untold.{lists_are_untold}
+use Rattle.channel_actions.proofs.Links.Frames.Frame.{links_stay}
+use Rattle.channel_actions.proofs.Links.Frames.Tellings.{fewer_tell}
+use Rattle.channel_actions.proofs.Links.Frames.Untold.{lists_are_untold}
 use Rattle.channel_actions.specs.LinkFrames.Alike.{CannotTell, Numbers}
 use Rattle.channel_actions.specs.LinkFrames.Bears.{bear_on}
 use Rattle.net_actions.specs.Runs.{IsOfCalls}

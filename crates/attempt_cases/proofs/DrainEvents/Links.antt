@@ -19,8 +19,8 @@ use Rattle.h2_link.specs.declared.control.Control.{Control}
 use Rattle.channel_actions.proofs.KeptSessions.Along.{kept_stays}
 use Rattle.channel_actions.specs.KeptSessions.Kept.{IsKept}
 use Rattle.link_actions.proofs.DataSent.{IsShare, share_found}
-use Rattle.channel_actions.proofs.LinkFrames.Streams.{streams_still}
-use Rattle.channel_actions.proofs.LinkFrames.Tellings.{untold}
+use Rattle.channel_actions.proofs.Links.Frames.Streams.{streams_still}
+use Rattle.channel_actions.proofs.Links.Frames.Tellings.{untold}
 use Rattle.channel_actions.specs.LinkFrames.Alike.{Numbers}
 use Rattle.channel_actions.specs.LinkFrames.Bears.{AreOrderly, bear_on}
 use Rattle.channel_actions.specs.LinkFrames.Laws.{AreKept}
@@ -37,7 +37,7 @@ use Rattle.session_actions.specs.declared.link.ReadFrame.{ReadFrame}
 use Rattle.session_actions.specs.declared.link.Sent.{Sent}
 use Rattle.session_actions.specs.declared.seen.Seen.{Seen}
 use Rattle.link_actions.specs.StreamActions.Sees.{SeesStreams}
-use Rattle.channel_actions.proofs.StreamsOpened.Responses.{read_same, retiring_same, with_sent}
+use Rattle.channel_actions.proofs.Streams.Opened.Responses.{read_same, retiring_same, with_sent}
 
 -- no reset is left open by what is written
 data_fresh : (w : Wire) (g : ℕ → Line) (x : Sending) → next_data w g (sender w.window w.initial g 0 w.live) ≡ Some x → w.queue.fresh ≡ 0 → x.wire.queue.fresh ≡ 0

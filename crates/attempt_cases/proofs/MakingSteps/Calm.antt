@@ -24,7 +24,7 @@ use Rattle.channel_actions.proofs.Settles.{with_open}
 use Rattle.channel_actions.specs.Agrees.{Agrees}
 use Rattle.channel_actions.specs.Calls.{HasSlot, lent_to}
 use Rattle.channel_actions.specs.KeptSessions.Kept.{IsKept, is_sound_ask}
-use Rattle.channel_actions.proofs.SetFrames.Slots.{put_away}
+use Rattle.channel_actions.proofs.Links.Settings.Slots.{put_away}
 use Rattle.attempt_cases.proofs.MakingSteps.Lists.{holds_alike, holds_changed}
 use Rattle.attempt_cases.specs.MakingSteps.Made.{with_attempt}
 use Rattle.call_cases.specs.ConfiguredCalls.Steps.{timed}

@@ -4,7 +4,7 @@ use Rattle.std.proofs.lemmas.Bool.{and_parts}
 use Rattle.std.proofs.lemmas.Bool.Decides.{nat_tests}
 use Rattle.std.specs.BTreeSet.{insert_key}
 use Rattle.std.specs.List.{list_all, list_any}
-use Rattle.channel_actions.proofs.SetFrames.Pairs.{has_insert, rising_insert, same_is, self_same}
+use Rattle.channel_actions.proofs.Links.Settings.Pairs.{has_insert, rising_insert, same_is, self_same}
 use Rattle.channel_actions.specs.Sets.{AreRising}
 use Rattle.channel_core.specs.Timing.{due_keys, later, sorted_into}
 use Rattle.picker_gate.specs.Pairs.{has, is_behind, is_same, pair_cmp}

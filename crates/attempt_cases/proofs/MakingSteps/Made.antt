@@ -1,21 +1,17 @@
 -- One attempt that is due is made: channel and session agree after it.
-use Rattle.std.proofs.Common.{◌≡◌, ◌≤◌, ◌∙◌, ◌==◌, ◌&&◌, ◌||◌, ◌+◌, ◌-◌, ◌++◌, ◌∷◌, Bool, true, false, not, List, [], Option, None, Some, ℕ, ap, arith, refl, sym, subst, cond, if◌then◌else◌, is_none, is_some, length, map, nat_le, filter, find}
-use Rattle.std.proofs.lemmas.Bool.{and_parts}
-use Rattle.std.proofs.lemmas.Bool.Decides.{nat_tests}
+use Rattle.std.proofs.Common.{◌≡◌, ◌≤◌, ◌∙◌, ◌==◌, ◌&&◌, ◌||◌, ◌+◌, ◌-◌, ◌++◌, ◌∷◌, Bool, true, false, not, List, [], Option, None, Some, ℕ, ap, arith, refl, sym, subst, cond, if◌then◌else◌, is_none, is_some, length, map, filter, find}
 use Rattle.std.proofs.lemmas.List.{length-map}
 use Rattle.std.proofs.lemmas.List.Elements.{filter-append}
 use Rattle.std.proofs.lemmas.List.Folds.{list_any-append}
 use Rattle.std.specs.BTreeSet.{insert_key}
 use Rattle.std.specs.List.{list_all, list_any}
-use Rattle.std.specs.Option.{option_map, option_map_or, option_or}
-use Rattle.std.specs.Prelude.{unwrap_or}
+use Rattle.std.specs.Option.{option_map, option_map_or}
 use Rattle.a6_numbers.specs.Throttling.{Bucket}
 use Rattle.attempt_buffer.specs.Buffers.{Cursor, taken_by, taken_from, taken_uncommitted, text_of}
-use Rattle.attempt_ledger.specs.Numbering.{is_transparent, later_kind, most_attempts}
+use Rattle.attempt_ledger.specs.Numbering.{most_attempts}
 use Rattle.attempt_ledger.specs.declared.ledger.CallEnd.{CallEnd}
 use Rattle.attempt_ledger.specs.declared.ledger.CallSeen.{CallSeen}
 use Rattle.attempt_ledger.specs.declared.row.RowKind.{RowKind}
-use Rattle.attempt_ledger.specs.declared.row.RowKind.TheVariants as kind
 use Rattle.call_actions.proofs.Lists.{changed_here, numbered_last}
 use Rattle.call_actions.proofs.Made.{made_here}
 use Rattle.call_actions.proofs.Ranks.{find_last_more, numbered_more}
@@ -26,18 +22,17 @@ use Rattle.call_actions.specs.CallsApart.Laws.{LinesAreFair, TokensStay, tokens_
 use Rattle.call_actions.specs.CallsInTurn.Laws.{MakingKeeps}
 use Rattle.call_actions.specs.CallsInTurn.Turns.{IsSteady, StaysSteady}
 use Rattle.call_actions.specs.Laws.{AttemptsAreDue}
-use Rattle.call_actions.specs.Order.{AreNumbered, IsInOrder, IsInTurn, Keeps}
+use Rattle.call_actions.specs.Order.{IsInOrder, IsInTurn, Keeps}
 use Rattle.call_actions.specs.Sees.{Sees, bucket_of}
-use Rattle.call_actions.specs.TakeActions.Serves.{AreFed, ArePlaced, Holds, IsAt, IsFed, IsLeft, Serves, came, drained_so_far, is_ended_at, passed}
+use Rattle.call_actions.specs.TakeActions.Serves.{AreFed, Holds, IsAt, IsFed, IsLeft, Serves, came, drained_so_far, is_ended_at, passed}
 use Rattle.call_core.specs.Laws.{came as channel_came}
-use Rattle.call_core.specs.Parts as parts
 use Rattle.call_core.specs.Steps as steps
 use Rattle.call_core.specs.Steps.{Stepped, deadline_at, next_due, waits}
 use Rattle.channel_actions.proofs.KeptSessions.Lists.{all_wide}
 use Rattle.channel_actions.proofs.Settles.{with_open}
-use Rattle.channel_actions.proofs.SetFrames.Pairs.{exactly_by, exactly_insert}
-use Rattle.channel_actions.proofs.SetFrames.Slots.{put_away, set_length}
-use Rattle.channel_actions.proofs.SetFrames.Timers.{timers_exactly}
+use Rattle.channel_actions.proofs.Links.Settings.Pairs.{exactly_by, exactly_insert}
+use Rattle.channel_actions.proofs.Links.Settings.Slots.{put_away, set_length}
+use Rattle.channel_actions.proofs.Links.Settings.Timers.{timers_exactly}
 use Rattle.channel_actions.proofs.Stamps.{map_same, numbered_map}
 use Rattle.channel_actions.specs.Agrees.{Agrees}
 use Rattle.channel_actions.specs.Calls.{HasSlot, SeesCall, deadline_of, due_of, lent_to}
@@ -63,19 +58,15 @@ use Rattle.channel_core.specs.States.{StateSeen}
 use Rattle.channel_core.specs.declared.state.slots.CallSlot.{CallSlot}
 use Rattle.grpc_base.specs.Limits.{message_limit}
 use Rattle.grpc_base.specs.declared.event.Reply.{Reply}
-use Rattle.grpc_base.specs.declared.plan.CallPlan.{CallPlan}
-use Rattle.grpc_base.specs.declared.plan.CallPlan.TheVariants as plan
-use Rattle.grpc_base.specs.declared.plan.Chosen.{Chosen}
 use Rattle.grpc_frame.specs.Messages.{framed_all}
 use Rattle.ledger_stamps.specs.Steps.{noted_call}
 use Rattle.net_actions.specs.Sees.{Sees as Sees_net}
 use Rattle.picker_gate.specs.Pairs.{is_same, pair_cmp}
-use Rattle.service_config.specs.Choice.{chosen_for}
 use Rattle.session_actions.specs.Actions.{following}
 use Rattle.session_actions.specs.Attempts.{commitment, is_commitment, is_of, is_outstanding, is_over, is_over_in, is_queued, wants_follower}
 use Rattle.session_actions.specs.Calls.{is_open_call, marked}
 use Rattle.session_actions.specs.Closing.{noted_gone}
-use Rattle.session_actions.specs.Configs.{chosen_of, config_of_call, deadline, no_choice, plan_of, waits_for_ready}
+use Rattle.session_actions.specs.Configs.{chosen_of, deadline, plan_of, waits_for_ready}
 use Rattle.session_actions.specs.Deliveries.{response_items}
 use Rattle.session_actions.specs.DueAttempts as session
 use Rattle.session_actions.specs.DueAttempts.{attempts_made, due_state, kind_of_next}
@@ -94,99 +85,12 @@ use Rattle.session_actions.specs.declared.action.Action.TheVariants as action
 use Rattle.session_actions.specs.declared.attempt.Attempt.{Attempt}
 use Rattle.session_actions.specs.declared.call.Call.{Call}
 use Rattle.session_actions.specs.declared.call.MarkKind.TheVariants as mark
-use Rattle.session_actions.specs.declared.config.HeldConfig.{HeldConfig}
 use Rattle.session_actions.specs.declared.config.ThrottleRun.{ThrottleRun}
-use Rattle.session_actions.specs.declared.due.DueState.{DueState}
 use Rattle.session_actions.specs.declared.entry.OpenEntry.{OpenEntry}
 use Rattle.session_actions.specs.declared.link.Link.{Link}
 use Rattle.session_actions.specs.declared.seen.Seen.{Seen}
 use Rattle.session_order.proofs.Limits.{response_same}
-
--- an attempt that is due is no transparent retry
-pub due_kind : (p : CallPlan) (b : Bool) → is_transparent (unwrap_or (if b then Some kind.First else later_kind p) kind.First) ≡ false
-due_kind plan.None true = refl
-due_kind plan.None false = refl
-due_kind (plan.Retry p) true = refl
-due_kind (plan.Retry p) false = refl
-due_kind (plan.Hedge p) true = refl
-due_kind (plan.Hedge p) false = refl
-
--- an attempt is due only of a call that is not committed
-due_open : (p : CallPlan) (made : ℕ) (d : DueState) (due : ℕ) → session.due_by p made d ≡ Some due → d.stopped ≡ false
-due_open p made d due e = by_stop d.stopped refl e
-  where
-    by_stop : (b : Bool) → d.stopped ≡ b → (if b || nat_le (most_attempts p) made then None else option_or d.forced (session.hedge_due p d)) ≡ Some due → d.stopped ≡ false
-    by_stop true is f = absurd (let bad : None ≡ Some due = f in (cc))
-    by_stop false is f = is
-
-free_by : (k : Option Attempt) (b : Bool) → ((b || is_some k) ≡ true → true ≡ false) → k ≡ None
-free_by None b stops = refl
-free_by (Some a) true stops = absurd (let bad : true ≡ false = stops refl in (cc))
-free_by (Some a) false stops = absurd (let bad : true ≡ false = stops refl in (cc))
-
--- no cursor is of a row to come
-far : (n row : ℕ) → nat_le row n ≡ true → (row == n + 1) ≡ false
-far n row e = grind (arith, nat_tests)
-
--- whether a call waits for ready, in both
-wait_by : (d : Chosen) (w q : Option Bool) → unwrap_or (option_or w q) false ≡ parts.or_else w (parts.or_else q false)
-wait_by d None None = refl
-wait_by d None (Some b) = refl
-wait_by d (Some b) q = refl
-
-config_wait : (c : Call) (q : Option HeldConfig)
-    → parts.or_else (option_map_or (λ (g : HeldConfig). chosen_for g.config c.request.path) q no_choice).wait false
-    ≡ parts.config_wait (option_map (λ (g : HeldConfig). chosen_for g.config c.request.path) q)
-config_wait c None = refl
-config_wait c (Some g) = refl
-
-pub patient_of : (s : Seen) (c : Call) (x : Stepped) → Sees s c x → is_patient s c.number ≡ waits x.call
-patient_of s c x sees =
-    ap (holds (λ (d : Call). waits_for_ready d s)) sees.own ∙ wait_by (chosen_of c s) c.request.wait (chosen_of c s).wait
-    ∙ ap (parts.or_else c.request.wait) (config_wait c (config_of_call c s))
-    ∙ ap (λ (q : Option Chosen). parts.waits_for c.request q) sees.chosen
-    ∙ ap (λ (r : _). parts.waits_for r x.call.chosen) sees.request
-
-pub none_held : (n : ℕ) (cs : List Cursor) → list_all (λ (c : Cursor). nat_le c.row n) cs ≡ true → find (λ (c : Cursor). c.row == n + 1) cs ≡ None
-none_held n [] e = refl
-none_held n (c ∷ cs) e =
-    let both = and_parts (nat_le c.row n) (list_all (λ (k : Cursor). nat_le k.row n) cs) e in
-    ap (λ (b : Bool). cond b (Some c) (find (λ (k : Cursor). k.row == n + 1) cs)) (far n c.row both.0) ∙ none_held n cs both.1
-
-none_of : {X : Type 0} (o : Option X) → is_some o ≡ false → o ≡ None
-none_of None e = refl
-none_of (Some x) e = absurd (let bad : true ≡ false = e in (cc))
-
-and_second : (a b : Bool) → b ≡ false → (a && b) ≡ false
-and_second true b e = e
-and_second false b e = refl
-
-any_by : (p : Attempt → Bool) (a : Attempt) (xs : List Attempt) (b : Bool) → p a ≡ b → (find p xs ≡ None → list_any p xs ≡ false) → cond b (Some a) (find p xs) ≡ None
-    → (p a || list_any p xs) ≡ false
-any_by p a xs true is rest e = absurd (let bad : Some a ≡ None = e in (cc))
-any_by p a xs false is rest e = ap (λ (b : Bool). b || list_any p xs) is ∙ rest e
-
-any_none : (p : Attempt → Bool) (xs : List Attempt) → find p xs ≡ None → list_any p xs ≡ false
-any_none p [] e = refl
-any_none p (a ∷ xs) e = any_by p a xs (p a) refl (any_none p xs) e
-
-unmapped : {X Y : Type 0} (g : X → Y) (o : Option X) → option_map g o ≡ None → o ≡ None
-unmapped g None e = refl
-unmapped g (Some x) e = absurd (let bad : Some (g x) ≡ None = e in (cc))
-
-less_by : (p q : Attempt → Bool) (a : Attempt) (xs : List Attempt) (b : Bool) → q a ≡ b → (list_any q xs ≡ false → list_any (λ (k : Attempt). p k && q k) xs ≡ false)
-    → (b || list_any q xs) ≡ false → ((p a && q a) || list_any (λ (k : Attempt). p k && q k) xs) ≡ false
-less_by p q a xs true is rest e = absurd (let bad : true ≡ false = e in (cc))
-less_by p q a xs false is rest e =
-    ap (λ (b : Bool). b || list_any (λ (k : Attempt). p k && q k) xs) (and_second (p a) (q a) is) ∙ rest e
-
-pub any_less : (p q : Attempt → Bool) (xs : List Attempt) → list_any q xs ≡ false → list_any (λ (a : Attempt). p a && q a) xs ≡ false
-any_less p q [] e = refl
-any_less p q (a ∷ xs) e = less_by p q a xs (q a) refl (any_less p q xs) e
-
-placed_so : (n : ℕ) (xs : List Attempt) → AreNumbered n xs → ArePlaced n xs
-placed_so n [] p = tt
-placed_so n (x ∷ xs) p = (p.0, placed_so _ xs p.1)
+use Rattle.attempt_cases.proofs.MakingSteps.MadeKinds.{due_kind, due_open, free_by, patient_of, none_held, none_of, and_second, any_none, unmapped, any_less, placed_so}
 
 module _ (frames : Frames) (tokens_stay : TokensStay) (fair : LinesAreFair) (turns : MakingKeeps) (dues : AttemptsAreDue) (x : StateSeen) (o : OpenEntry) (s0 : Seen) where
   abbrev s : Seen

@@ -12,7 +12,7 @@ use Rattle.call_core.specs.Steps as steps
 use Rattle.call_core.specs.Steps.{Stepped, call_plan, lent, made, made_due, made_if, next_place, refused_due, waits}
 use Rattle.call_core.specs.declared.act.CallAct.TheVariants as act
 use Rattle.channel_actions.proofs.Settles.{is_with_open, with_open}
-use Rattle.channel_actions.proofs.SetFrames.Slots.{asked_is, changed_slot_is, set_twice}
+use Rattle.channel_actions.proofs.Links.Settings.Slots.{asked_is, changed_slot_is, set_twice}
 use Rattle.channel_actions.proofs.Stamps.{counted_at}
 use Rattle.channel_actions.specs.Agrees.{Agrees}
 use Rattle.channel_actions.specs.Calls.{HasSlot, SeesCall}

@@ -12,14 +12,14 @@ use Rattle.call_core.specs.Steps as steps
 use Rattle.call_core.specs.declared.attempts.Attempts.{Attempts}
 use Rattle.channel_actions.proofs.Quiet.{or_parts_none}
 use Rattle.channel_actions.proofs.Settles.{follows_by, is_with_open, with_open}
-use Rattle.channel_actions.proofs.SetFrames.Firsts.{none_numbered}
+use Rattle.channel_actions.proofs.Links.Settings.Firsts.{none_numbered}
 use Rattle.channel_actions.proofs.Stamps.{counted_at}
 use Rattle.channel_actions.specs.Agrees.{Agrees}
 use Rattle.channel_actions.specs.Calls.{HasSlot, lent_to}
 use Rattle.channel_actions.specs.Calm.{IsAt}
 use Rattle.call_cases.proofs.ConfigActions.NetLines.{clock_stays, over_stays, wish_stays}
 use Rattle.attempt_cases.proofs.MakingSteps.Calm.{final_still, fits, inherited_still}
-use Rattle.attempt_cases.proofs.MakingSteps.Made.{due_kind}
+use Rattle.attempt_cases.proofs.MakingSteps.MadeKinds.{due_kind}
 use Rattle.attempt_cases.proofs.MakingSteps.Making.{IsDueNow, due_now, made_is as channel_made}
 use Rattle.call_cases.specs.ConfiguredCalls.Laws.{Frames}
 use Rattle.call_cases.specs.ConfiguredCalls.Steps.{timed}

@@ -7,7 +7,7 @@ use Rattle.call_core.specs.Steps as call
 use Rattle.call_core.specs.Steps.{Stepped, lent}
 use Rattle.call_core.specs.declared.act.CallAct.{CallAct}
 use Rattle.call_core.specs.declared.act.CallAct.TheVariants as act
-use Rattle.channel_actions.proofs.SetFrames.Slots.{asked_is, changed_slot_is, set_twice}
+use Rattle.channel_actions.proofs.Links.Settings.Slots.{asked_is, changed_slot_is, set_twice}
 use Rattle.channel_core.proofs.Places.{put_there}
 use Rattle.channel_core.specs.Books.{BookActs, deadline_of, due_at, link_of, row_at, slot_at, waits_at}
 use Rattle.channel_core.specs.States.{StateSeen}

@@ -20,9 +20,9 @@ use Rattle.call_core.specs.Parts as parts
 use Rattle.call_core.specs.Steps as steps
 use Rattle.call_core.specs.Steps.{Stepped, deadline_at, next_due, waits}
 use Rattle.channel_actions.proofs.Settles.{with_open}
-use Rattle.channel_actions.proofs.SetFrames.Pairs.{exactly_by}
-use Rattle.channel_actions.proofs.SetFrames.Slots.{put_away, set_length}
-use Rattle.channel_actions.proofs.SetFrames.Timers.{timers_exactly}
+use Rattle.channel_actions.proofs.Links.Settings.Pairs.{exactly_by}
+use Rattle.channel_actions.proofs.Links.Settings.Slots.{put_away, set_length}
+use Rattle.channel_actions.proofs.Links.Settings.Timers.{timers_exactly}
 use Rattle.channel_actions.proofs.Stamps.{map_same, numbered_map}
 use Rattle.channel_actions.specs.Agrees.{Agrees}
 use Rattle.channel_actions.specs.Calls.{HasSlot, SeesCall, deadline_of, due_of, lent_to}

@@ -6,7 +6,7 @@ use Rattle.std.proofs.lemmas.Bool.Decides.{nat_tests}
 use Rattle.std.specs.Option.{option_map}
 use Rattle.std.specs.Prelude.{option_and_then}
 use Rattle.channel_actions.proofs.KeptSessions.Lists.{counted_places, own_number}
-use Rattle.channel_actions.proofs.SetFrames.Pairs.{same_is, self_same}
+use Rattle.channel_actions.proofs.Links.Settings.Pairs.{same_is, self_same}
 use Rattle.channel_actions.specs.Agrees.{Agrees}
 use Rattle.channel_actions.specs.Sets.{is_in_patient, is_in_queue, is_patient, is_waiting}
 use Rattle.channel_net.specs.Steps.{net_state}

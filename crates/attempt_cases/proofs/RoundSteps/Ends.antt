@@ -2,7 +2,7 @@
 use Rattle.std.proofs.Common.{◌≡◌, ◌<◌, ◌≤◌, ◌+◌, ◌-◌, ◌||◌, ◌∷◌, ℕ, zero, suc, Bool, true, false, List, [], Option, None, Some, inl, refl, arith, length, if◌then◌else◌}
 use Rattle.attempt_ledger.specs.declared.row.Row.{Row}
 use Rattle.call_actions.specs.Laws.{AttemptsAreDue}
-use Rattle.channel_actions.proofs.GoingCalls.Arms.{CallLaws}
+use Rattle.channel_actions.proofs.Calls.Going.Arms.{CallLaws}
 use Rattle.channel_actions.specs.Agrees.{Agrees}
 use Rattle.channel_actions.specs.Calm.{IsAt}
 use Rattle.attempt_cases.proofs.PassActions.Queue.{next_waits}
@@ -10,9 +10,9 @@ use Rattle.attempt_cases.proofs.RoundSteps.Falls.{Falling, Falls, falling, load,
 use Rattle.attempt_cases.proofs.RoundSteps.Loads.{may}
 use Rattle.attempt_cases.proofs.RoundSteps.Strict.{made_low, served_low, waits_so}
 use Rattle.call_cases.proofs.SettlingActions.Composed.{rounds_are_steps}
-use Rattle.channel_actions.proofs.SoundCalls.Carried.{AreSound}
-use Rattle.channel_actions.proofs.SoundCalls.Keeping.{sound_of}
-use Rattle.channel_actions.proofs.SoundCalls.Steps.{one_if, waiting, waits_in}
+use Rattle.channel_actions.proofs.Calls.Sound.Carried.{AreSound}
+use Rattle.channel_actions.proofs.Calls.Sound.Keeping.{sound_of}
+use Rattle.channel_actions.proofs.Calls.Sound.Steps.{one_if, waiting, waits_in}
 use Rattle.attempt_cases.specs.PassActions.Serves.{IsPassing, IsServed, ServeSteps}
 use Rattle.attempt_cases.specs.RoundSteps.Laws.{RoundsAreShort}
 use Rattle.call_cases.specs.SettlingActions.Laws.{SettlingKeeps}

@@ -8,13 +8,13 @@ use Rattle.call_core.specs.Steps as call
 use Rattle.call_core.specs.Steps.{Stepped, lent}
 use Rattle.call_core.specs.declared.attempts.Attempts.{Attempts}
 use Rattle.call_core.specs.declared.state.CallState.{CallState}
-use Rattle.channel_actions.proofs.GoingCalls.Arms.{CallLaws}
-use Rattle.channel_actions.proofs.SetFrames.Slots.{acted_is}
+use Rattle.channel_actions.proofs.Calls.Going.Arms.{CallLaws}
+use Rattle.channel_actions.proofs.Links.Settings.Slots.{acted_is}
 use Rattle.attempt_cases.proofs.RoundSteps.Loads.{Lowers, lowers_by, lowers_made, may}
-use Rattle.channel_actions.proofs.SoundCalls.Carried.{AreSound, Settled, Settles, rests}
-use Rattle.channel_actions.proofs.SoundCalls.Spends.{taken_same}
-use Rattle.channel_actions.proofs.SoundCalls.Steps.{leaves_closed, leaves_failed, leaves_placed, leaves_timed, less_on, waiting}
-use Rattle.channel_actions.proofs.SoundCalls.Tables.{AllSound, SoundCall, sound_get}
+use Rattle.channel_actions.proofs.Calls.Sound.Carried.{AreSound, Settled, Settles, rests}
+use Rattle.channel_actions.proofs.Calls.Sound.Spends.{taken_same}
+use Rattle.channel_actions.proofs.Calls.Sound.Steps.{leaves_closed, leaves_failed, leaves_placed, leaves_timed, less_on, waiting}
+use Rattle.channel_actions.proofs.Calls.Sound.Tables.{AllSound, SoundCall, sound_get}
 use Rattle.channel_core.proofs.Resting.{Rests}
 use Rattle.channel_core.specs.States.{StateSeen}
 use Rattle.channel_core.specs.Steps.{next_word}

@@ -15,8 +15,8 @@ use Rattle.call_core.specs.Steps.{Stepped, call_plan}
 use Rattle.call_core.specs.declared.attempts.Attempts.{Attempts}
 use Rattle.call_core.specs.declared.live.LiveRow.{LiveRow}
 use Rattle.call_core.specs.declared.state.CallState.{CallState}
-use Rattle.channel_actions.proofs.SoundCalls.Spends.{next_less}
-use Rattle.channel_actions.proofs.SoundCalls.Steps.{Leaves, Sized, by_last, closed_if, ended_not, judged_sent, judged_stopped, leaves_ended, leaves_on, leaves_refused, leaves_same, one_if, placed_not, waiting, waits_in, with_attempts}
+use Rattle.channel_actions.proofs.Calls.Sound.Spends.{next_less}
+use Rattle.channel_actions.proofs.Calls.Sound.Steps.{Leaves, Sized, by_last, closed_if, ended_not, judged_sent, judged_stopped, leaves_ended, leaves_on, leaves_refused, leaves_same, one_if, placed_not, waiting, waits_in, with_attempts}
 use Rattle.grpc_base.specs.declared.event.EndCause.TheVariants as ends
 use Rattle.grpc_base.specs.declared.plan.CallPlan.{CallPlan}
 use Rattle.grpc_base.specs.declared.plan.CallPlan.TheVariants as plans

@@ -18,8 +18,8 @@ use Rattle.call_core.specs.Steps.{Stepped, lent}
 use Rattle.call_core.specs.declared.live.LiveRow.{LiveRow}
 use Rattle.call_core.specs.declared.state.CallState.{CallState}
 use Rattle.channel_actions.proofs.Gone.{all_numbered}
-use Rattle.channel_actions.proofs.GoingCalls.Arms.{CallLaws}
-use Rattle.channel_actions.proofs.SetFrames.Pairs.{has_insert, same_is, self_same}
+use Rattle.channel_actions.proofs.Calls.Going.Arms.{CallLaws}
+use Rattle.channel_actions.proofs.Links.Settings.Pairs.{has_insert, same_is, self_same}
 use Rattle.channel_actions.proofs.Stamps.{counted_at}
 use Rattle.channel_actions.specs.Agrees.{Agrees}
 use Rattle.channel_actions.specs.Calls.{HasSlot, due_of, lent_to}
@@ -28,10 +28,10 @@ use Rattle.call_cases.proofs.ConfiguredCalls.Lists.{same_words}
 use Rattle.attempt_cases.proofs.PassActions.Queue.{Waits}
 use Rattle.attempt_cases.proofs.RoundSteps.Falls.{Falling, Falls, acted_strict, falling, load, load_of}
 use Rattle.attempt_cases.proofs.RoundSteps.Loads.{lowers_due, lowers_failed, lowers_placed}
-use Rattle.channel_actions.proofs.SoundCalls.Carried.{AreSound, Settled, rests}
-use Rattle.channel_actions.proofs.SoundCalls.Keeping.{sound_of}
-use Rattle.channel_actions.proofs.SoundCalls.Steps.{less_on, waits_in}
-use Rattle.channel_actions.proofs.SoundCalls.Tables.{AllSound, sound_numbered}
+use Rattle.channel_actions.proofs.Calls.Sound.Carried.{AreSound, Settled, rests}
+use Rattle.channel_actions.proofs.Calls.Sound.Keeping.{sound_of}
+use Rattle.channel_actions.proofs.Calls.Sound.Steps.{less_on, waits_in}
+use Rattle.channel_actions.proofs.Calls.Sound.Tables.{AllSound, sound_numbered}
 use Rattle.channel_actions.specs.SoundCalls.Sound.{AllowsPlans}
 use Rattle.call_cases.specs.SettlingActions.Sound.{IsSound}
 use Rattle.channel_core.proofs.Resting.{follow, seal}

@@ -3,7 +3,7 @@ use Rattle.std.proofs.Common.{◌≡◌, ◌&&◌, ◌||◌, ◌==◌, ◌∙◌
 use Rattle.std.proofs.lemmas.Bool.{and_parts}
 use Rattle.std.proofs.lemmas.Bool.Decides.{nat_tests}
 use Rattle.std.specs.List.{list_all}
-use Rattle.channel_actions.proofs.SetFrames.Pairs.{same_is}
+use Rattle.channel_actions.proofs.Links.Settings.Pairs.{same_is}
 use Rattle.channel_actions.specs.Sets.{AreRising}
 use Rattle.channel_core.specs.Timing.{first_pair}
 use Rattle.picker_gate.specs.Pairs.{has, is_behind, is_same, next_behind}

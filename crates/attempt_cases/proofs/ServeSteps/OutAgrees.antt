@@ -12,7 +12,7 @@ use Rattle.call_core.specs.Parts.{linked}
 use Rattle.call_core.specs.Steps.{next_due}
 use Rattle.call_core.specs.declared.live.LiveRow.{LiveRow}
 use Rattle.call_core.specs.declared.state.CallState.{CallState}
-use Rattle.channel_actions.proofs.SetFrames.Slots.{put_away}
+use Rattle.channel_actions.proofs.Links.Settings.Slots.{put_away}
 use Rattle.channel_actions.specs.Agrees.{Agrees}
 use Rattle.channel_actions.specs.Calls.{HasSlot, lent_to}
 use Rattle.call_cases.proofs.ConfiguredCalls.Lists.{draws_same, equal_numbers}

@@ -23,7 +23,7 @@ use Rattle.call_core.specs.Steps as steps
 use Rattle.call_core.specs.Steps.{Stepped, lent, placed_if_live, placed_row_live}
 use Rattle.call_core.specs.declared.live.LiveRow.{LiveRow}
 use Rattle.call_core.specs.declared.state.CallState.{CallState}
-use Rattle.channel_actions.proofs.SetFrames.Slots.{acted_is, changed_slot_is, set_twice}
+use Rattle.channel_actions.proofs.Links.Settings.Slots.{acted_is, changed_slot_is, set_twice}
 use Rattle.channel_actions.specs.Agrees.{Agrees}
 use Rattle.channel_actions.specs.Calls.{SeesCall}
 use Rattle.attempt_cases.proofs.ServeSteps.OutThis as this

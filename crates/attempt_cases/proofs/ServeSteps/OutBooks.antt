@@ -11,7 +11,7 @@ use Rattle.call_actions.proofs.Places.{only_here}
 use Rattle.call_actions.proofs.Ranks.{any_map, numbered_map}
 use Rattle.call_actions.specs.CallsApart.Laws.{tokens_in_run}
 use Rattle.call_actions.specs.Sees.{bucket_of}
-use Rattle.channel_actions.proofs.SetFrames.Slots.{put_away, set_length}
+use Rattle.channel_actions.proofs.Links.Settings.Slots.{put_away, set_length}
 use Rattle.channel_actions.proofs.Stamps.{counted_at, map_same}
 use Rattle.channel_actions.specs.Columns.{SeesColumns, links_noted}
 use Rattle.channel_actions.specs.Configs.{SeesBuckets, bucket_in, runs_in_turn}

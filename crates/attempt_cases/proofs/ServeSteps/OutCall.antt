@@ -12,7 +12,7 @@ use Rattle.call_core.specs.Steps as steps
 use Rattle.call_core.specs.Steps.{Stepped}
 use Rattle.channel_actions.specs.Calls.{ledger_lent, lent_to}
 use Rattle.channel_actions.specs.KeptSessions.Kept.{IsKept}
-use Rattle.attempt_cases.proofs.MakingSteps.Made.{any_less}
+use Rattle.attempt_cases.proofs.MakingSteps.MadeKinds.{any_less}
 use Rattle.attempt_cases.proofs.ServeSteps.Lasts.{same_some}
 use Rattle.attempt_cases.proofs.ServeSteps.OutBase as base
 use Rattle.attempt_cases.proofs.ServeSteps.OutBase.{OutLaws, OutNext}

@@ -6,8 +6,8 @@ use Rattle.std.specs.Set.{remove_key}
 use Rattle.attempt_ledger.specs.declared.row.RowEnd.{RowEnd}
 use Rattle.call_actions.proofs.Places.{place_is}
 use Rattle.call_actions.proofs.Ranks.{numbered_map}
-use Rattle.channel_actions.proofs.SetFrames.Pairs.{exactly_by, exactly_insert, exactly_remove}
-use Rattle.channel_actions.proofs.SetFrames.Timers.{timers_exactly}
+use Rattle.channel_actions.proofs.Links.Settings.Pairs.{exactly_by, exactly_insert, exactly_remove}
+use Rattle.channel_actions.proofs.Links.Settings.Timers.{timers_exactly}
 use Rattle.channel_actions.specs.Calls.{deadline_of, due_of}
 use Rattle.call_cases.specs.OtherCalls.Laws.{SetsApart}
 use Rattle.channel_actions.specs.Sets.{SeesSets, is_in_bare, is_in_deadlines, is_in_dues, is_in_impatient, is_in_outstanding, is_in_patient, is_in_queue, is_patient, is_waiting}

@@ -10,12 +10,12 @@ use Rattle.attempt_ledger.specs.declared.row.Placed.{Placed}
 use Rattle.call_actions.specs.TakeActions.Serves.{drained_so_far}
 use Rattle.channel_actions.proofs.ActionsFit.Held.{linked_open}
 use Rattle.channel_actions.proofs.Gone.{all_numbered}
-use Rattle.channel_actions.proofs.GreetedLinks.Along.{greeted_begins}
+use Rattle.channel_actions.proofs.Links.Greeted.Along.{greeted_begins}
 use Rattle.channel_actions.proofs.HeldTexts.Fits.{unwritten_texts_are_whole}
-use Rattle.channel_actions.proofs.KeptCalls.Along.{early_along, early_begins}
+use Rattle.channel_actions.proofs.Calls.Kept.Along.{early_along, early_begins}
 use Rattle.channel_actions.proofs.KeptSessions.Along.{kept_along, kept_begins}
-use Rattle.channel_actions.proofs.OwnLinks.Owned.{own_along, own_begins}
-use Rattle.channel_actions.proofs.OwnStreams.Along.{streams_along, streams_begin}
+use Rattle.channel_actions.proofs.Links.Own.Owned.{own_along, own_begins}
+use Rattle.channel_actions.proofs.Streams.Own.Along.{streams_along, streams_begin}
 use Rattle.channel_actions.proofs.SoundBuffers.Carried.{each_holds_soundly}
 use Rattle.channel_actions.proofs.Stamps.{counted_at}
 use Rattle.channel_actions.specs.Agrees.{Agrees}

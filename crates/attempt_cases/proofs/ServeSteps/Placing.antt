@@ -5,10 +5,10 @@ use Rattle.std.proofs.lemmas.Bool.Decides.{nat_tests}
 use Rattle.std.specs.Option.{option_map_or}
 use Rattle.attempt_ledger.specs.declared.row.Placed.{Placed}
 use Rattle.call_actions.proofs.Lists.{changed_away, changed_here}
-use Rattle.channel_actions.proofs.FewCalls.Reached.{reached_on}
+use Rattle.channel_actions.proofs.Calls.Few.Reached.{reached_on}
 use Rattle.channel_actions.proofs.Gone.{all_numbered}
 use Rattle.channel_actions.specs.FewCalls.Reached.{IsReached}
-use Rattle.channel_actions.proofs.SetFrames.Firsts.{none_numbered}
+use Rattle.channel_actions.proofs.Links.Settings.Firsts.{none_numbered}
 use Rattle.channel_actions.proofs.Settles.{is_with_open, with_open}
 use Rattle.channel_actions.specs.Agrees.{Agrees}
 use Rattle.channel_actions.specs.Calm.{IsAt}

@@ -5,10 +5,10 @@ use Rattle.channel_actions.proofs.Settles.{is_with_open, with_open}
 use Rattle.channel_actions.specs.Agrees.{Agrees}
 use Rattle.channel_actions.specs.Calm.{IsAt}
 use Rattle.channel_actions.specs.KeptCalls.Laws.{EarlyAlong}
-use Rattle.channel_actions.proofs.GoingCalls.Arms.{CallLaws}
+use Rattle.channel_actions.proofs.Calls.Going.Arms.{CallLaws}
 use Rattle.channel_actions.proofs.HeldTexts.Carried.{Trims, rests_trim}
 use Rattle.channel_actions.proofs.SoundBuffers.Carried.{Stay, stay_rests}
-use Rattle.channel_actions.proofs.SoundCalls.Carried.{Settles, rests}
+use Rattle.channel_actions.proofs.Calls.Sound.Carried.{Settles, rests}
 use Rattle.attempt_cases.proofs.SettlingKeeps.Keeping.{stays_by}
 use Rattle.attempt_cases.specs.PassActions.Serves.{IsPassing, IsServed, turn_of}
 use Rattle.attempt_cases.specs.ServeSteps.Follows.{AsksStand, FailsFollow, IsAsked, IsFollowed, NetsMayAsk, PlacesFollow, ServesByAnswers, passed_by, request_made}

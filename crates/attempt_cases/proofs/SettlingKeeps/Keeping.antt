@@ -1,12 +1,12 @@
 -- Each part of a settling keeps what the others ask of channel and session.
 use Rattle.std.proofs.Common.{◌≡◌, ◌<◌, ◌≤◌, ℕ, List, arith, length}
-use Rattle.channel_actions.proofs.FewCalls.Reached.{reached_on}
-use Rattle.channel_actions.proofs.GoingCalls.Arms.{CallLaws}
+use Rattle.channel_actions.proofs.Calls.Few.Reached.{reached_on}
+use Rattle.channel_actions.proofs.Calls.Going.Arms.{CallLaws}
 use Rattle.channel_actions.proofs.HeldTexts.Carried.{Trims, chosen_trims, rests_trim}
 use Rattle.channel_actions.proofs.HeldTexts.Fits.{texts_on}
 use Rattle.channel_actions.proofs.SoundBuffers.Carried.{Stay, go_chosen, stay_in, stay_rests}
-use Rattle.channel_actions.proofs.SoundCalls.Carried.{Settled, Settles, configures, rests}
-use Rattle.channel_actions.proofs.SoundCalls.Keeping.{goes_on, sound_of, sound_to}
+use Rattle.channel_actions.proofs.Calls.Sound.Carried.{Settled, Settles, configures, rests}
+use Rattle.channel_actions.proofs.Calls.Sound.Keeping.{goes_on, sound_of, sound_to}
 use Rattle.channel_actions.specs.KeptCalls.Laws.{EarlyAlong}
 use Rattle.channel_actions.specs.SoundCalls.Sound.{all_attempts}
 use Rattle.call_cases.specs.SettlingActions.Laws.{SettlingKeeps, queue_served_state}

@@ -3,7 +3,7 @@ use Rattle.attempt_ledger.specs.Ends.{is_cut}
 use Rattle.attempt_ledger.specs.Numbering.{is_transparent}
 use Rattle.attempt_ledger.specs.declared.row.RowEnd.{RowEnd}
 use Rattle.attempt_ledger.specs.declared.row.RowKind.{RowKind}
-use Rattle.call_actions.proofs.EndTokens.{more_ends}
+use Rattle.call_actions.proofs.Ends.Tokens.{more_ends}
 use Rattle.call_actions.proofs.Places.{place_is}
 use Rattle.call_actions.proofs.Ranks.{numbered_more}
 use Rattle.call_actions.specs.Order.{AreNumbered}

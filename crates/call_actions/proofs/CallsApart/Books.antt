@@ -3,7 +3,7 @@ use Rattle.attempt_ledger.specs.Ends.{is_cut}
 use Rattle.attempt_ledger.specs.Numbering.{is_transparent}
 use Rattle.attempt_ledger.specs.declared.row.RowEnd.{RowEnd}
 use Rattle.attempt_ledger.specs.declared.row.RowKind.{RowKind}
-use Rattle.call_actions.proofs.EndTokens.{more_ends}
+use Rattle.call_actions.proofs.Ends.Tokens.{more_ends}
 use Rattle.call_actions.proofs.Frames.{bucket_by}
 use Rattle.call_actions.proofs.Lists.{changed_map, numbered_last}
 use Rattle.call_actions.proofs.Places.{place_is}

@@ -1,7 +1,7 @@
 -- What a session keeps in order of all its calls, kind of field by kind of field: calls, attempts, configs and runs that change or join. And which tokens
 -- are as before: an end that was counted is told as before while its attempt and its call's config are the same.
 use Rattle.attempt_ledger.specs.declared.row.RowEnd.{RowEnd}
-use Rattle.call_actions.proofs.EndTokens.{more_ends}
+use Rattle.call_actions.proofs.Ends.Tokens.{more_ends}
 use Rattle.call_actions.proofs.Lists.{changed_away, changed_map}
 use Rattle.call_actions.proofs.Places.{numbered_snoc}
 use Rattle.call_actions.proofs.Ranks.{all_so, numbered_more}

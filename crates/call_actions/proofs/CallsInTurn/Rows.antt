@@ -3,7 +3,7 @@ use Rattle.attempt_ledger.specs.Ends.{is_cut}
 use Rattle.attempt_ledger.specs.TransparentRows.{is_refused}
 use Rattle.attempt_ledger.specs.declared.row.Placed.{Placed}
 use Rattle.attempt_ledger.specs.declared.row.RowEnd.{RowEnd}
-use Rattle.call_actions.proofs.EndTokens.{more_ends}
+use Rattle.call_actions.proofs.Ends.Tokens.{more_ends}
 use Rattle.call_actions.proofs.Lists.{changed_here, changed_map, numbered_not}
 use Rattle.call_actions.proofs.Places.{place_is}
 use Rattle.call_actions.specs.Order.{IsInTurn, goes_on_followed}

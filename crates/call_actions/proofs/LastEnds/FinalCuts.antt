@@ -10,13 +10,13 @@ use Rattle.attempt_ledger.specs.Throttling.{codes_of}
 use Rattle.attempt_ledger.specs.declared.row.RowEnd.{RowEnd}
 use Rattle.call_actions.proofs.Bare.{some_still}
 use Rattle.call_actions.proofs.Columns as columns
-use Rattle.call_actions.proofs.CommittedEnd.{moment_by}
+use Rattle.call_actions.proofs.Ends.Committed.{moment_by}
 use Rattle.call_actions.proofs.Committing.{IsSameAttempt, plan_same, same_if}
-use Rattle.call_actions.proofs.EndFrames as ending
-use Rattle.call_actions.proofs.EndFrames.{ended_by, with_end_at}
-use Rattle.call_actions.proofs.EndRows as endrows
-use Rattle.call_actions.proofs.EndRows.{unended_by}
-use Rattle.call_actions.proofs.EndTokens.{bucket_now, more_ends, run_now}
+use Rattle.call_actions.proofs.Ends.Frames as ending
+use Rattle.call_actions.proofs.Ends.Frames.{ended_by, with_end_at}
+use Rattle.call_actions.proofs.Ends.Rows as endrows
+use Rattle.call_actions.proofs.Ends.Rows.{unended_by}
+use Rattle.call_actions.proofs.Ends.Tokens.{bucket_now, more_ends, run_now}
 use Rattle.call_actions.proofs.Ending.{after, base, channel_is, d, due_then, e, ends, is_ended, its_call, its_end, its_place, judges, last_then, lent_then, like_then, marks_then, order_then, runs, t, tokens_same, told}
 use Rattle.call_actions.proofs.Final.{ClosesNow}
 use Rattle.call_actions.proofs.Frames as frames

@@ -14,7 +14,7 @@ use Rattle.attempt_ledger.specs.declared.row.RowEnd.{RowEnd}
 use Rattle.attempt_ledger.specs.declared.row.RowKind.TheVariants as kind
 use Rattle.call_actions.proofs.Added.{Leaves, bucket_more, commitment_more, due_same, live_more, more_seen, own_same}
 use Rattle.call_actions.proofs.Again as again
-use Rattle.call_actions.proofs.EndRows.{seen_with}
+use Rattle.call_actions.proofs.Ends.Rows.{seen_with}
 use Rattle.call_actions.proofs.Frames as frames
 use Rattle.call_actions.proofs.Lists.{changed_here, numbered_last, numbered_not, stamped_here}
 use Rattle.call_actions.proofs.Places.{numbered_snoc}

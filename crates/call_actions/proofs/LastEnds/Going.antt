@@ -1,8 +1,8 @@
 -- An attempt of a hedged call ends, with a code of its policy, and a further one is due: the call goes on, whether another attempt does or not.
 use Rattle.attempt_ledger.specs.Ends.{delay_of}
 use Rattle.attempt_ledger.specs.declared.row.RowEnd.{RowEnd}
-use Rattle.call_actions.proofs.EndFrames as ending
-use Rattle.call_actions.proofs.EndRows as endrows
+use Rattle.call_actions.proofs.Ends.Frames as ending
+use Rattle.call_actions.proofs.Ends.Rows as endrows
 use Rattle.call_actions.proofs.Ending.{KeepsRest, after, channel_is, d, e, ends, is_ended, its_call, its_end, like_then, order_then, runs, sees_then, t, told}
 use Rattle.call_actions.proofs.Hedged as hedged
 use Rattle.call_actions.proofs.Lists.{changed_here, numbered_not}

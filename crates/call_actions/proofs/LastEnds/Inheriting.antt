@@ -7,7 +7,7 @@ use Rattle.std.specs.Option.{option_map_or}
 use Rattle.std.specs.Prelude.{fold}
 use Rattle.attempt_ledger.specs.Numbering.{is_transparent}
 use Rattle.attempt_ledger.specs.declared.row.Row.{Row}
-use Rattle.call_actions.proofs.EndRows.{seen_with}
+use Rattle.call_actions.proofs.Ends.Rows.{seen_with}
 use Rattle.call_actions.proofs.Frames as frames
 use Rattle.call_actions.proofs.Frames.{bucket_by}
 use Rattle.call_actions.proofs.Lists.{changed_here}

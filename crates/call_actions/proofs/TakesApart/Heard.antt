@@ -3,7 +3,7 @@ use Rattle.attempt_ledger.specs.Ends.{is_cut}
 use Rattle.attempt_ledger.specs.Numbering.{is_transparent}
 use Rattle.attempt_ledger.specs.declared.row.Placed.{Placed}
 use Rattle.attempt_ledger.specs.declared.row.RowEnd.{RowEnd}
-use Rattle.call_actions.proofs.EndTokens.{more_ends}
+use Rattle.call_actions.proofs.Ends.Tokens.{more_ends}
 use Rattle.call_actions.proofs.Lists.{changed_away, changed_map, numbered_not}
 use Rattle.call_actions.proofs.Ranks.{numbered_map}
 use Rattle.call_actions.proofs.CallsApart.Acts.{others_stay}

@@ -17,7 +17,7 @@ use Rattle.session_actions.specs.declared.attempt.Attempt.{Attempt}
 use Rattle.session_actions.specs.declared.call.Call.{Call}
 use Rattle.session_actions.specs.declared.entry.OpenEntry.{OpenEntry}
 use Rattle.session_actions.specs.declared.seen.Seen.{Seen}
-use Rattle.channel_actions.proofs.SetFrames.Pairs.{same_is, self_same}
+use Rattle.channel_actions.proofs.Links.Settings.Pairs.{same_is, self_same}
 use Rattle.channel_actions.specs.SetFrames.Laws.{PairsComeIn, TestsAreSame}
 use Rattle.std.proofs.Common.{Bool, List, None, Option, Some, [], ap, eq-eqb, eqb-true, false, if◌then◌else◌, is_none, is_some, not, refl, subst, sym, true, unwrap_or, ℕ, ◌&&◌, ◌++◌, ◌==◌, ◌||◌, ◌∙◌, ◌∷◌, ◌≡◌}
 use Rattle.std.proofs.lemmas.Bool.{and_from, and_left, and_parts, and_right, eqb-false, ne_eqb}

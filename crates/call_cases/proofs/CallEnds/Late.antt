@@ -34,7 +34,7 @@ use Rattle.session_actions.specs.Words.{numbered}
 use Rattle.session_actions.specs.declared.action.Action.TheVariants as action
 use Rattle.session_actions.specs.declared.call.Call.{Call}
 use Rattle.session_actions.specs.declared.seen.Seen.{Seen}
-use Rattle.channel_actions.proofs.SetFrames.Slots.{asked_is, changed_slot_is}
+use Rattle.channel_actions.proofs.Links.Settings.Slots.{asked_is, changed_slot_is}
 
 -- a slot that is put where it was; timers that stay
 set_same : {X : Type 0} (xs : List X) (i : ℕ) (x : X) → slice_get xs i ≡ Some x → slice_set xs i x ≡ xs

@@ -26,8 +26,8 @@ use Rattle.session_actions.specs.declared.call.Call.{Call}
 use Rattle.session_actions.specs.declared.entry.OpenEntry.{OpenEntry}
 use Rattle.session_actions.specs.declared.seen.Seen.{Seen}
 use Rattle.session_order.specs.declared.line.Line.{Line}
-use Rattle.channel_actions.proofs.SetFrames.Pairs.{exactly_by, exactly_remove}
-use Rattle.channel_actions.proofs.SetFrames.Timers.{by_number, other_key, own_key, timers_exactly}
+use Rattle.channel_actions.proofs.Links.Settings.Pairs.{exactly_by, exactly_remove}
+use Rattle.channel_actions.proofs.Links.Settings.Timers.{by_number, other_key, own_key, timers_exactly}
 
 and_true : (b : Bool) → (b && true) ≡ b
 and_true true = refl

@@ -16,10 +16,10 @@ use Rattle.channel_core.specs.Steps.{closed, clothed, followed, links_sealed, re
 use Rattle.channel_core.specs.Tables.{changed_slot, numbered, tokens_in, with_call, with_timers}
 use Rattle.channel_core.specs.declared.state.book.Book.{Book}
 use Rattle.channel_core.specs.declared.state.slots.CallSlot.{CallSlot}
-use Rattle.channel_actions.proofs.SetFrames.Slots.{asked_is, changed_slot_is, put_away}
+use Rattle.channel_actions.proofs.Links.Settings.Slots.{asked_is, changed_slot_is, put_away}
 use Rattle.grpc_base.specs.declared.event.EndCause.{EndCause}
 use Rattle.picker_gate.specs.Pairs.{is_same}
-use Rattle.channel_actions.proofs.SetFrames.Keys.{head_out}
+use Rattle.channel_actions.proofs.Links.Settings.Keys.{head_out}
 
 closed_acts : (why : EndCause) (c : CallState) (l : Ledger) (tokens : Option Bucket) (m : ℕ) → c.live ≡ [] → c.ended ≡ None
     → (call.closed_by why m (lent c l tokens [])).acts ≡ act.End why ∷ []

@@ -17,8 +17,8 @@ use Rattle.grpc_base.specs.declared.plan.Chosen.{Chosen}
 use Rattle.picker_gate.specs.Pairs.{is_same}
 use Rattle.service_config.specs.Choice.{chosen_for}
 use Rattle.service_config.specs.declared.config.Config.{Config}
-use Rattle.channel_actions.proofs.SetFrames.Keys.{head_out}
-use Rattle.channel_actions.proofs.SetFrames.Slots.{acted_is, changed_slot_is, put_away, set_twice}
+use Rattle.channel_actions.proofs.Links.Settings.Keys.{head_out}
+use Rattle.channel_actions.proofs.Links.Settings.Slots.{acted_is, changed_slot_is, put_away, set_twice}
 
 module _ (n : ℕ) (config : Config) (slot : CallSlot) (open_now : slot.call.ended ≡ None) (unchosen : slot.call.chosen ≡ None)
     (short : is_too_long (Some (chosen_for config slot.call.request.path)) slot.call.longest ≡ false) where

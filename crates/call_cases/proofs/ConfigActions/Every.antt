@@ -23,12 +23,13 @@ use Rattle.session_actions.specs.declared.entry.OpenEntry.{OpenEntry}
 use Rattle.session_actions.specs.declared.entry.Stage.TheVariants as stage
 use Rattle.session_actions.specs.declared.seen.Seen.{Seen}
 use Rattle.session_order.specs.Laws.{CalmIsExact}
-use Rattle.channel_actions.proofs.SetFrames.Keys.{are_plain, keys_next, none_later, plain_by}
-use Rattle.channel_actions.proofs.SetFrames.Pairs.{self_same}
+use Rattle.channel_actions.proofs.Links.Settings.Keys.{are_plain, keys_next, none_later, plain_by}
+use Rattle.channel_actions.proofs.Links.Settings.Pairs.{self_same}
 use Rattle.call_cases.proofs.SettlingActions.Composed.{leads_on, stays_at}
 use Rattle.call_cases.specs.SettlingActions.Sound.{IsSound}
 use Rattle.call_cases.specs.SettlingActions.Steps.{IsJoined, IsTended, Leads}
-use Rattle.call_cases.proofs.ConfigActions.Served.{Gets, OneServed, bare_first, bare_there, empty_by, long_served, own, served_tended, short_served}
+use Rattle.call_cases.proofs.ConfigActions.Tended.{Gets, OneServed, bare_first, bare_there, empty_by}
+use Rattle.call_cases.proofs.ConfigActions.Served.{long_served, own, served_tended, short_served}
 
 module _ (exact : CalmIsExact) (stir : ConfigsStir) (clocks : ClockChanges) (rests : ClockRests) (overs : TakeOversAreSame) (wishes : WishesConnect) (nones : NoneConnects)
     (gets : CallsGetConfigs) (frames : Frames) (along : EarlyAlong) (bares : CallsAreBare) (config : Config) where

@@ -27,9 +27,9 @@ use Rattle.picker_gate.specs.Pairs.{has, is_same}
 use Rattle.service_config.specs.Choice.{chosen_for}
 use Rattle.service_config.specs.declared.config.Config.{Config}
 use Rattle.session_actions.specs.Words.{is_number}
-use Rattle.channel_actions.proofs.SetFrames.Keys.{head_out}
-use Rattle.channel_actions.proofs.SetFrames.Pairs.{has_remove, none_behind, self_same}
-use Rattle.channel_actions.proofs.SetFrames.Slots.{acted_is, asked_is, changed_slot_is, set_twice}
+use Rattle.channel_actions.proofs.Links.Settings.Keys.{head_out}
+use Rattle.channel_actions.proofs.Links.Settings.Pairs.{has_remove, none_behind, self_same}
+use Rattle.channel_actions.proofs.Links.Settings.Slots.{acted_is, asked_is, changed_slot_is, set_twice}
 
 module _ (n : ℕ) (config : Config) (slot : CallSlot) (open_now : slot.call.ended ≡ None) (unchosen : slot.call.chosen ≡ None) (live : slot.call.live ≡ [])
     (long : is_too_long (Some (chosen_for config slot.call.request.path)) slot.call.longest ≡ true) (z : StateSeen) (there : slot_at z.book n ≡ Some slot) where

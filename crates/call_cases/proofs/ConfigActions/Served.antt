@@ -1,10 +1,9 @@
 -- Where a config is held, and no message that was accepted is too long for it, each call without a config gets it.
-use Rattle.std.proofs.Common.{◌≡◌, ◌≤◌, ◌<◌, ◌&&◌, ◌||◌, ◌==◌, ◌++◌, ◌∷◌, ap, arith, refl, subst, sym, ◌∙◌, Bool, true, false, List, [], Option, None, Some, ℕ, if◌then◌else◌, is_none, is_some, length, max, not}
-use Rattle.std.proofs.lemmas.Bool.{and_parts, both_ways, eqb-false}
-use Rattle.std.proofs.lemmas.Bool.Decides.{nat_tests}
+use Rattle.std.proofs.Common.{◌≡◌, ◌<◌, ◌&&◌, ◌||◌, ◌==◌, ◌++◌, ◌∷◌, ap, refl, subst, sym, ◌∙◌, Bool, true, false, List, [], Option, None, Some, ℕ, is_none, length}
+use Rattle.std.proofs.lemmas.Bool.{eqb-false}
 use Rattle.std.specs.List.{list_any}
 use Rattle.std.specs.Option.{option_map, option_map_or}
-use Rattle.std.specs.Prelude.{fold, nat_lt, option_and_then}
+use Rattle.std.specs.Prelude.{nat_lt, option_and_then}
 use Rattle.std.specs.Set.{remove_key}
 use Rattle.attempt_ledger.specs.declared.ledger.CallEnd.{CallEnd}
 use Rattle.call_actions.proofs.Bare.{none_live}
@@ -15,7 +14,7 @@ use Rattle.channel_actions.proofs.Stamps.{counted_at}
 use Rattle.channel_actions.specs.Agrees.{Agrees}
 use Rattle.channel_actions.specs.Calls.{HasSlot, deadline_of, due_of}
 use Rattle.channel_actions.specs.Calm.{IsAt}
-use Rattle.channel_actions.specs.Sets.{AreExactly, is_in_bare}
+use Rattle.channel_actions.specs.Sets.{is_in_bare}
 use Rattle.channel_core.specs.Books.{slot_at}
 use Rattle.channel_core.specs.States.{StateSeen}
 use Rattle.call_cases.specs.CallEnds.Ends.{HasEnded}
@@ -24,24 +23,23 @@ use Rattle.call_cases.proofs.ConfigActions.Configuring.{configured_first, config
 use Rattle.call_cases.proofs.ConfigActions.Ending.{long_ended}
 use Rattle.call_cases.proofs.ConfigActions.Longs.{configured_ends, configured_is as long_configured, ended_shape}
 use Rattle.call_cases.proofs.ConfigActions.NetLines.{clock_stays, over_stays, wish_stays}
-use Rattle.call_cases.proofs.ConfigActions.Unserved.{equal_numbers, first_three, no_pass, none_of, or_true}
+use Rattle.call_cases.proofs.ConfigActions.Unserved.{equal_numbers, first_three, no_pass, or_true}
 use Rattle.session_order.specs.ConfigStirs.Laws.{ConfigsStir}
 use Rattle.call_cases.specs.ConfiguredCalls.Laws.{CallsGetConfigs, ConfigNext, Frames}
 use Rattle.call_cases.specs.ConfiguredCalls.Steps.{with_config}
 use Rattle.grpc_base.specs.declared.event.EndCause.TheVariants as ending
 use Rattle.grpc_base.specs.Requests.{RequestSeen}
 use Rattle.grpc_base.specs.declared.plan.Chosen.{Chosen}
-use Rattle.channel_actions.specs.KeptCalls.Early.{IsEarlyKept}
 use Rattle.channel_actions.specs.KeptCalls.Laws.{CallsAreBare, EarlyAlong}
 use Rattle.net_actions.specs.Laws.{ClockChanges, ClockRests, NoneConnects, TakeOversAreSame, WishesConnect}
 use Rattle.picker_gate.specs.Pairs.{has, is_same}
 use Rattle.service_config.specs.Choice.{chosen_for}
 use Rattle.service_config.specs.declared.config.Config.{Config}
 use Rattle.session_actions.specs.Actions.{after_if, config_action, following, following_in, of_calls, of_links, of_policies, of_stage}
-use Rattle.session_actions.specs.CallEnds.{has_long_request, is_after_event, lacks_config, sends_too_long}
+use Rattle.session_actions.specs.CallEnds.{has_long_request, is_after_event, sends_too_long}
 use Rattle.session_actions.specs.Calls.{is_open_call}
 use Rattle.session_actions.specs.Configs as session
-use Rattle.session_actions.specs.Configs.{call_configured, chosen_of, held_config, is_to_configure, is_unconfigured, no_choice, waits_for_ready}
+use Rattle.session_actions.specs.Configs.{call_configured, no_choice}
 use Rattle.session_actions.specs.Entries.{entry, now}
 use Rattle.session_actions.specs.Making.{next_due_attempt}
 use Rattle.session_actions.specs.Policies.{next_of_pass, next_of_queue, next_take_over}
@@ -66,124 +64,10 @@ use Rattle.session_order.specs.Laws.{CalmIsExact, Leaves}
 use Rattle.session_order.specs.Lines.{is_line}
 use Rattle.session_order.specs.declared.line.Line.{Line}
 use Rattle.session_order.specs.declared.line.Line.TheVariants as line
-use Rattle.channel_actions.proofs.SetFrames.Firsts.{first_numbered, none_numbered}
-use Rattle.channel_actions.proofs.SetFrames.Keys.{below_fails, head_passes}
-use Rattle.call_cases.specs.SettlingActions.Steps.{IsJoined, IsTended, Leads}
-
--- no message is longer than the longest
-below_left : (r a b : ℕ) → nat_lt r (max a b) ≡ false → nat_lt r a ≡ false
-below_left r a b e = grind (arith, nat_tests)
-
-below_right : (r a b : ℕ) → nat_lt r (max a b) ≡ false → nat_lt r b ≡ false
-below_right r a b e = grind (arith, nat_tests)
-
-pub short_from : (r : ℕ) (ms : List (List ℕ)) (k : ℕ) → nat_lt r (fold (λ (n : ℕ) (m : List ℕ). max n (length m)) k ms) ≡ false
-    → (nat_lt r k ≡ false) × (list_any (λ (m : List ℕ). nat_lt r (length m)) ms ≡ false)
-short_from r [] k e = (e, refl)
-short_from r (m ∷ ms) k e =
-    let rest = short_from r ms (max k (length m)) e in
-    (below_left r k (length m) rest.0, ap (λ (b : Bool). b || list_any (λ (m : List ℕ). nat_lt r (length m)) ms) (below_right r k (length m) rest.0) ∙ rest.1)
-
-not_more : (r a b : ℕ) → nat_lt r a ≡ false → nat_lt r b ≡ false → nat_lt r (max a b) ≡ false
-not_more r a b e f = grind (arith, nat_tests)
-
-long_by : (r : ℕ) (ms : List (List ℕ)) (b : Bool) → (b ≡ false → list_any (λ (m : List ℕ). nat_lt r (length m)) ms ≡ true) → (b || list_any (λ (m : List ℕ). nat_lt r (length m)) ms) ≡ true
-long_by r ms true more = refl
-long_by r ms false more = more refl
-
-long_from : (r : ℕ) (ms : List (List ℕ)) (k : ℕ) → nat_lt r (fold (λ (n : ℕ) (m : List ℕ). max n (length m)) k ms) ≡ true → nat_lt r k ≡ false
-    → list_any (λ (m : List ℕ). nat_lt r (length m)) ms ≡ true
-long_from r [] k e f = absurd (both_ways (nat_lt r k) f e)
-long_from r (m ∷ ms) k e f = long_by r ms (nat_lt r (length m)) (λ g. long_from r ms (max k (length m)) e (not_more r k (length m) f g))
-
-none_below : (r : ℕ) → nat_lt r 0 ≡ false
-none_below r = grind (arith, nat_tests)
-
-configures_by : (a b c : Bool) → (a && b) ≡ true → c ≡ true → (a && b && c) ≡ true
-configures_by true true true e f = refl
-configures_by true true false e f = absurd (cc)
-configures_by true false c e f = absurd (cc)
-configures_by false b c e f = absurd (cc)
-
-configures_not : (a b c : Bool) → (a && b) ≡ false → (a && b && c) ≡ false
-configures_not true true c e = absurd (cc)
-configures_not true false c e = refl
-configures_not false b c e = refl
-
-lacks_none : (a b c d : Bool) → b ≡ false → (a && (c && b) && d) ≡ false
-lacks_none true b true d e = ap (λ (x : Bool). x && d) e
-lacks_none true b false d e = refl
-lacks_none false b c d e = refl
-
-pub quiet_request : (a b c : Bool) → b ≡ false → c ≡ false → (a && (b || c)) ≡ false
-quiet_request true b c e f = ap (λ (x : Bool). x || c) e ∙ f
-quiet_request false b c e f = refl
-
-pub empty_by : (pairs : List (ℕ × ℕ)) (test : ℕ → ℕ → Bool) → AreExactly pairs test → ((a b : ℕ) → test a b ≡ true → ⊥) → pairs ≡ []
-empty_by [] test exact never = refl
-empty_by (p ∷ pairs) test exact never = absurd (never p.0 p.1 (head_passes p pairs test exact))
-
--- where the loop stands: these are left
-pub record Gets (config : Config) (pairs others : List (ℕ × ℕ)) (z : StateSeen) (o : OpenEntry) (s : Seen) : Type 0 where
-  pub agrees : Agrees (record z { bare = pairs; impatient = others }) s
-  pub no_bare : z.bare ≡ []
-  pub no_others : z.impatient ≡ []
-  pub at : IsAt stage.Settling o s
-  pub joined : IsJoined o s
-  pub held : z.held ≡ Some config
-  pub early : IsEarlyKept s
-  pub few : (n : ℕ) → has pairs (0, n) ≡ true → n ≤ 4294967295
-
--- the first of them was served, and these are left
-pub record OneServed (config : Config) (n : ℕ) (rest others : List (ℕ × ℕ)) (z : StateSeen) (o : OpenEntry) (s : Seen) : Type 0 where
-  pub leads : Leads (record (configured_call n z) { bare = rest; impatient = remove_key (is_same (0, n)) others }) o s (λ p u. Unit {0})
-  pub gets : Gets config rest (remove_key (is_same (0, n)) others) (configured_call n z) leads.reaches.entry leads.reaches.seen
-
--- a session that agrees with a channel that holds a config holds it too
-pub record HasConfig (config : Config) (s : Seen) : Type 0 where
-  pub held : HeldConfig
-  pub is : held_config s ≡ Some held
-  pub same : held.config ≡ config
-
-module _ (y : StateSeen) (s : Seen) (h : Agrees y s) (config : Config) (held : y.held ≡ Some config) where
-  config_by : (o : Option HeldConfig) → held_config s ≡ o → HasConfig config s
-  config_by None e = absurd (let bad : None ≡ Some config = sym (ap (option_map (λ (z : HeldConfig). z.config)) e) ∙ h.configs.held ∙ held in (cc))
-  config_by (Some k) e =
-      let both : Some k.config ≡ Some config = sym (ap (option_map (λ (z : HeldConfig). z.config)) e) ∙ h.configs.held ∙ held in
-      record { held = k; is = e; same = (let one : k.config ≡ config = (cc) in one) }
-
-  pub has_config : HasConfig config s
-  has_config = config_by (held_config s) refl
-
-  module _ (m : ℕ) (d : Call) (there : numbered s.calls m ≡ Some d) where
-    bare_is : is_in_bare s 0 m ≡ (is_open_call d && is_none d.config)
-    bare_is = ap (λ (q : Option Call). (0 == 0) && holds (λ (k : Call). is_open_call k && is_none k.config) q) there
-
-    pub gives_config : is_in_bare s 0 m ≡ true → config_action s d ≡ Some (action.CallConfigured m (length s.configs))
-    gives_config in_set =
-        ap (λ (b : Bool). if b then Some (action.CallConfigured d.number (length s.configs)) else if lacks_config s d then Some (action.CallEnds d.number ending.NoConfig) else None)
-        (configures_by (is_none d.end) (is_none d.config) (is_some (held_config s)) (sym bare_is ∙ in_set) (ap (λ (q : Option HeldConfig). is_some q) has_config.is))
-        ∙ ap (λ (n : ℕ). Some (action.CallConfigured n (length s.configs))) (counted_at (λ (c : Call). c.number) s.calls m d h.kept.calls there)
-
-    pub gives_nothing : is_in_bare s 0 m ≡ false → config_action s d ≡ None
-    gives_nothing out =
-        ap (λ (b : Bool). if b then Some (action.CallConfigured d.number (length s.configs)) else if lacks_config s d then Some (action.CallEnds d.number ending.NoConfig) else None)
-        (configures_not (is_none d.end) (is_none d.config) (is_some (held_config s)) (sym bare_is ∙ out))
-        ∙ ap (λ (b : Bool). if b then Some (action.CallEnds d.number ending.NoConfig) else None)
-        (lacks_none (is_open_call d) (is_none (held_config s)) s.answered (not (waits_for_ready d s)) (ap (λ (q : Option HeldConfig). is_none q) has_config.is))
-
-    pub is_bare_call : CallsAreBare → IsEarlyKept s → is_in_bare s 0 m ≡ true → IsBare s d
-    is_bare_call bares early in_set =
-        let both = and_parts (is_open_call d) (is_none d.config) (sym bare_is ∙ in_set) in
-        bares s m d h.kept early there (none_of d.end both.0) (none_of d.config both.1)
-
-pub bare_there : (s : Seen) (m : ℕ) (q : Option Call) → numbered s.calls m ≡ q → is_in_bare s 0 m ≡ true → (d : Call) × (numbered s.calls m ≡ Some d)
-bare_there s m None e in_set =
-    absurd (let bad : false ≡ true = sym (ap (λ (q : Option Call). (0 == 0) && holds (λ (k : Call). is_open_call k && is_none k.config) q) e) ∙ in_set in (cc))
-bare_there s m (Some d) e in_set = (d, e)
-
-pub bare_first : (s : Seen) (a b : ℕ) → is_in_bare s a b ≡ true → (a == 0) ≡ true
-bare_first s a b e = (and_parts (a == 0) _ e).0
+use Rattle.channel_actions.proofs.Links.Settings.Firsts.{first_numbered, none_numbered}
+use Rattle.channel_actions.proofs.Links.Settings.Keys.{below_fails, head_passes}
+use Rattle.call_cases.specs.SettlingActions.Steps.{IsTended, Leads}
+use Rattle.call_cases.proofs.ConfigActions.Tended.{gives_config, gives_nothing, is_bare_call, short_from, long_from, none_below, quiet_request, Gets, OneServed, HasConfig, bare_there, has_config}
 
 -- none is left
 pub served_tended : (config : Config) (others : List (ℕ × ℕ)) (z : StateSeen) (o : OpenEntry) (s : Seen) → Gets config [] others z o s → IsTended o s

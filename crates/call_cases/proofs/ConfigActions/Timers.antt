@@ -7,8 +7,8 @@ use Rattle.std.specs.Ordering.{is_eq, match_ordering}
 use Rattle.std.specs.Set.{remove_key}
 use Rattle.std.specs.declared.cmp.Ordering.{Ordering}
 use Rattle.std.specs.declared.cmp.Ordering.TheVariants.{Equal, Greater, Less}
-use Rattle.channel_actions.proofs.SetFrames.Keys.{head_out}
-use Rattle.channel_actions.proofs.SetFrames.Pairs.{has_remove}
+use Rattle.channel_actions.proofs.Links.Settings.Keys.{head_out}
+use Rattle.channel_actions.proofs.Links.Settings.Pairs.{has_remove}
 use Rattle.channel_actions.specs.Sets.{AreRising}
 use Rattle.channel_core.specs.Timing.{is_same_moment, timer_moved, timer_off, timer_on}
 use Rattle.picker_gate.specs.Pairs.{has, is_same, pair_cmp}

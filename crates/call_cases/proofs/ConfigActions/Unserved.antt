@@ -49,9 +49,9 @@ use Rattle.session_actions.specs.declared.entry.Turn.{Turn}
 use Rattle.session_actions.specs.declared.seen.Seen.{Seen}
 use Rattle.session_order.specs.Calm as order
 use Rattle.session_order.specs.Laws.{CalmIsExact}
-use Rattle.channel_actions.proofs.SetFrames.Firsts.{first_numbered, none_numbered}
-use Rattle.channel_actions.proofs.SetFrames.Keys.{are_plain, below_fails, head_passes, keys_next, none_later, plain_by}
-use Rattle.channel_actions.proofs.SetFrames.Pairs.{none_behind, self_same}
+use Rattle.channel_actions.proofs.Links.Settings.Firsts.{first_numbered, none_numbered}
+use Rattle.channel_actions.proofs.Links.Settings.Keys.{are_plain, below_fails, head_passes, keys_next, none_later, plain_by}
+use Rattle.channel_actions.proofs.Links.Settings.Pairs.{none_behind, self_same}
 use Rattle.call_cases.proofs.SettlingActions.Composed.{leads_on, stays_at}
 use Rattle.call_cases.specs.SettlingActions.Sound.{IsSound}
 use Rattle.call_cases.specs.SettlingActions.Steps.{IsJoined, IsTended, Leads}

@@ -7,7 +7,7 @@ use Rattle.call_actions.proofs.Bare.{due_of_marks}
 use Rattle.call_actions.proofs.Lists.{numbered_not}
 use Rattle.call_actions.specs.Laws.{IsBare}
 use Rattle.channel_actions.proofs.Gone.{all_numbered}
-use Rattle.channel_actions.proofs.IdleCalls.{rounds_idle}
+use Rattle.channel_actions.proofs.Idleness.Calls.{rounds_idle}
 use Rattle.channel_actions.proofs.Stamps.{counted_at}
 use Rattle.channel_actions.specs.Agrees.{Agrees}
 use Rattle.channel_actions.specs.Calm.{IsAt}
@@ -42,7 +42,7 @@ use Rattle.session_actions.specs.declared.entry.Stage.TheVariants as stage
 use Rattle.session_actions.specs.declared.policy.PolicyUse.{PolicyUse}
 use Rattle.session_actions.specs.declared.seen.Seen.{Seen}
 use Rattle.session_order.specs.Laws.{CalmIsExact}
-use Rattle.channel_actions.proofs.SetFrames.Firsts.{none_numbered}
+use Rattle.channel_actions.proofs.Links.Settings.Firsts.{none_numbered}
 use Rattle.call_cases.proofs.SettlingActions.Composed.{closes_by, leads_on}
 use Rattle.call_cases.specs.SettlingActions.Sound.{IsSound, SoundStays}
 use Rattle.call_cases.specs.SettlingActions.Steps.{ClockSteps, IsClocked, IsDone, IsJoined, IsTended, Leads, NetSteps}

@@ -33,7 +33,7 @@ use Rattle.channel_core.specs.Books.{slot_at}
 use Rattle.channel_core.specs.States.{StateSeen}
 use Rattle.channel_core.specs.Tables.{last_run, tokens_in}
 use Rattle.channel_core.specs.declared.state.slots.CallSlot.{CallSlot}
-use Rattle.channel_actions.proofs.SetFrames.Slots.{put_away}
+use Rattle.channel_actions.proofs.Links.Settings.Slots.{put_away}
 use Rattle.call_cases.proofs.ConfiguredCalls.Lists.{all_also, changed_length, draws_same, equal_numbers, last_bucket, map_length, other_numbers, same_number, same_numbered, same_words, set_length, take_all}
 use Rattle.call_cases.specs.ConfiguredCalls.Laws.{CallsGetConfigs, Frames}
 use Rattle.call_cases.specs.ConfiguredCalls.Steps.{chosen_slot, timed, with_config}
@@ -70,8 +70,8 @@ use Rattle.session_actions.specs.declared.config.HeldConfig.{HeldConfig}
 use Rattle.session_actions.specs.declared.config.ThrottleRun.{ThrottleRun}
 use Rattle.session_actions.specs.declared.entry.OpenEntry.{OpenEntry}
 use Rattle.session_actions.specs.declared.seen.Seen.{Seen}
-use Rattle.channel_actions.proofs.SetFrames.Pairs.{exactly_by, exactly_remove}
-use Rattle.channel_actions.proofs.SetFrames.Timers.{other_key, own_key, timers_exactly}
+use Rattle.channel_actions.proofs.Links.Settings.Pairs.{exactly_by, exactly_remove}
+use Rattle.channel_actions.proofs.Links.Settings.Timers.{other_key, own_key, timers_exactly}
 use Rattle.call_actions.proofs.TakeActions.Deadlines.{deadline_is}
 use Rattle.call_actions.specs.TakeActions.Serves.{AreFed, Holds, IsAt, IsLeft, Serves, came, drained_so_far, is_ended_at, passed}
 use Rattle.attempt_buffer.specs.Buffers.{text_of}

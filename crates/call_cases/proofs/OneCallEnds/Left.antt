@@ -5,7 +5,7 @@ use Rattle.std.specs.Option.{option_map}
 use Rattle.attempt_ledger.specs.declared.row.Placed.{Placed}
 use Rattle.call_actions.specs.Sees.{live_row}
 use Rattle.call_core.specs.declared.live.LiveRow.{LiveRow}
-use Rattle.channel_actions.proofs.SetFrames.Pairs.{exactly_remove, self_same}
+use Rattle.channel_actions.proofs.Links.Settings.Pairs.{exactly_remove, self_same}
 use Rattle.channel_actions.specs.ActsFollowed.Followed.{all_out_gone, all_queue_gone, out_gone, queue_gone}
 use Rattle.channel_actions.specs.Sets.{AreExactly}
 use Rattle.picker_gate.specs.Pairs.{is_same}

@@ -5,7 +5,7 @@ use Rattle.call_core.specs.Steps.{Stepped, closed_by, ended_as}
 use Rattle.call_core.specs.declared.act.CallAct.{CallAct}
 use Rattle.call_core.specs.declared.act.CallAct.TheVariants as act
 use Rattle.channel_actions.proofs.ActsFollowed.Acts.{done_append, given, told_is}
-use Rattle.channel_actions.proofs.SetFrames.Slots.{asked_is}
+use Rattle.channel_actions.proofs.Links.Settings.Slots.{asked_is}
 use Rattle.channel_actions.specs.ActsFollowed.Followed.{call_closed, call_lent}
 use Rattle.call_cases.proofs.OneCallEnds.Stamps.{stamped_if}
 use Rattle.channel_core.specs.Books.{BookActs, book_asked, slot_at}

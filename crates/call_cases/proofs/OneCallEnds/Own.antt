@@ -13,7 +13,7 @@ use Rattle.call_actions.specs.Sees.{Sees}
 use Rattle.call_actions.specs.TakeActions.Serves.{Serves}
 use Rattle.call_core.specs.Steps.{Stepped, closed_by, cut_all, lent}
 use Rattle.call_cases.proofs.OtherCalls.Rows.{columns_stay}
-use Rattle.channel_actions.proofs.SetFrames.Slots.{put_away}
+use Rattle.channel_actions.proofs.Links.Settings.Slots.{put_away}
 use Rattle.channel_actions.proofs.Stamps.{stamp_keeps}
 use Rattle.channel_actions.specs.ActsFollowed.Followed.{call_closed, call_lent, slot_closed}
 use Rattle.channel_actions.specs.Calls.{HasSlot, SeesCall, lent_to}

@@ -8,7 +8,7 @@ use Rattle.call_actions.specs.Order.{IsInOrder, IsInTurn}
 use Rattle.call_actions.specs.TakeActions.Serves.{Serves}
 use Rattle.call_core.specs.Steps.{Stepped}
 use Rattle.channel_actions.proofs.Relinked.{order_relinked, serves_relinked, turn_relinked}
-use Rattle.channel_actions.proofs.ResetCalls.Leaves.{resets_leave_calls}
+use Rattle.channel_actions.proofs.Calls.Reset.Leaves.{resets_leave_calls}
 use Rattle.channel_actions.specs.ResetCalls.Laws.{LeavesCall, reset_noted}
 use Rattle.call_cases.proofs.CallPosts.Told.{map_changed}
 use Rattle.h2_frame.specs.Frames.{FrameSeen}

@@ -8,7 +8,7 @@ use Rattle.call_actions.specs.Sees.{is_live, live_row}
 use Rattle.call_core.specs.declared.live.LiveRow.{LiveRow}
 use Rattle.call_cases.proofs.EndsFollow.Cuts.{is_gone, place_suc}
 use Rattle.call_cases.proofs.EndsFollow.Follow.{base, mid}
-use Rattle.channel_actions.proofs.SetFrames.Pairs.{exactly_by}
+use Rattle.channel_actions.proofs.Links.Settings.Pairs.{exactly_by}
 use Rattle.call_cases.specs.EndsFollow.Laws.{is_late}
 use Rattle.call_cases.specs.OtherCalls.Laws.{SetsApart}
 use Rattle.call_cases.specs.OtherCalls.Others.{is_of_number}

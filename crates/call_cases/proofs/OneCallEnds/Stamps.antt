@@ -10,7 +10,7 @@ use Rattle.call_core.specs.Steps.{given_up_act}
 use Rattle.call_core.specs.declared.live.LiveRow.{LiveRow}
 use Rattle.channel_actions.proofs.ActsFollowed.Acts.{LinkIn, given}
 use Rattle.channel_actions.proofs.Outstanding.{is_of_link, on_is}
-use Rattle.channel_actions.proofs.SetFrames.Pairs.{rising_remove, same_is}
+use Rattle.channel_actions.proofs.Links.Settings.Pairs.{rising_remove, same_is}
 use Rattle.channel_actions.specs.Sets.{AreRising}
 use Rattle.channel_core.proofs.BookLaws.{number_changed, number_other}
 use Rattle.channel_core.specs.Books.{link_of}

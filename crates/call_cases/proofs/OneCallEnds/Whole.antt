@@ -3,7 +3,7 @@ use Rattle.std.proofs.Common.{◌≡◌, ap, subst, sym, ◌∙◌, Bool, true, 
 use Rattle.std.proofs.lemmas.List.{length-map}
 use Rattle.attempt_ledger.specs.declared.ledger.CallSeen.{CallSeen}
 use Rattle.call_cases.proofs.OtherCalls.Slots.{all_calls_stay}
-use Rattle.channel_actions.proofs.SetFrames.Slots.{set_length}
+use Rattle.channel_actions.proofs.Links.Settings.Slots.{set_length}
 use Rattle.channel_actions.specs.ActsFollowed.Followed.{slot_closed}
 use Rattle.call_cases.proofs.EndsFollow.Cuts.{IsDone}
 use Rattle.channel_actions.specs.Agrees.{Agrees}

@@ -6,7 +6,7 @@ use Rattle.call_core.specs.Steps.{Stepped, ended_as, lent}
 use Rattle.call_core.specs.declared.act.CallAct.{CallAct}
 use Rattle.call_core.specs.declared.act.CallAct.TheVariants as act
 use Rattle.channel_actions.proofs.ActsFollowed.Acts.{acts_form}
-use Rattle.channel_actions.proofs.SetFrames.Slots.{asked_is}
+use Rattle.channel_actions.proofs.Links.Settings.Slots.{asked_is}
 use Rattle.channel_actions.specs.ActsFollowed.Followed.{call_closed, call_lent}
 use Rattle.channel_core.proofs.Places.{put_there}
 use Rattle.channel_core.specs.Books.{BookActs, book_asked, deadline_of, deadline_set, link_of, placed_in_book, slot_at}

@@ -9,8 +9,8 @@ use Rattle.call_actions.proofs.Places.{places_below}
 use Rattle.call_actions.proofs.TakeActions.Deadlines.{deadline_is, none_by}
 use Rattle.call_core.specs.Steps as call
 use Rattle.channel_actions.proofs.Does.{does_on, none_on}
-use Rattle.channel_actions.proofs.SetFrames.Keys.{head_out}
-use Rattle.channel_actions.proofs.SetFrames.Pairs.{none_behind, self_same}
+use Rattle.channel_actions.proofs.Links.Settings.Keys.{head_out}
+use Rattle.channel_actions.proofs.Links.Settings.Pairs.{none_behind, self_same}
 use Rattle.channel_actions.proofs.Stamps.{counted_at}
 use Rattle.channel_actions.specs.Agrees.{Agrees}
 use Rattle.channel_actions.specs.Calls.{HasSlot, lent_to}

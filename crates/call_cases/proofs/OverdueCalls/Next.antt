@@ -5,8 +5,8 @@ use Rattle.std.proofs.lemmas.Bool.Decides.{nat_tests}
 use Rattle.std.specs.List.{list_all}
 use Rattle.std.specs.Option.{option_map}
 use Rattle.std.specs.Prelude.{unwrap_or}
-use Rattle.channel_actions.proofs.SetFrames.Keys.{head_passes}
-use Rattle.channel_actions.proofs.SetFrames.Pairs.{same_is}
+use Rattle.channel_actions.proofs.Links.Settings.Keys.{head_passes}
+use Rattle.channel_actions.proofs.Links.Settings.Pairs.{same_is}
 use Rattle.channel_actions.proofs.Stamps.{counted_at}
 use Rattle.channel_actions.specs.Agrees.{Agrees}
 use Rattle.channel_actions.specs.Calls.{deadline_of}

@@ -14,7 +14,7 @@ use Rattle.grpc_base.specs.declared.event.Reply.TheVariants as reply
 use Rattle.grpc_base.specs.declared.event.Reply.{Reply}
 use Rattle.grpc_base.specs.declared.kind.Pick.TheVariants as pick
 use Rattle.grpc_base.specs.declared.kind.Pick.{Pick}
-use Rattle.channel_actions.proofs.KeptCalls.Fresh.{frames_are_fresh}
+use Rattle.channel_actions.proofs.Calls.Kept.Fresh.{frames_are_fresh}
 use Rattle.channel_actions.specs.KeptCalls.Early.{IsEarlyKept, is_linked_up}
 use Rattle.channel_actions.proofs.KeptSessions.Lists.{all_at, own_number}
 use Rattle.channel_actions.specs.KeptSessions.Kept.{IsKept}

@@ -19,7 +19,7 @@ use Rattle.channel_core.specs.declared.state.links.LinkSlot.{LinkSlot}
 use Rattle.channel_core.specs.declared.state.slots.CallSlot.{CallSlot}
 use Rattle.grpc_base.specs.declared.event.EndCause.{EndCause}
 use Rattle.picker_gate.specs.Pairs.{is_same}
-use Rattle.channel_actions.proofs.SetFrames.Slots.{asked_is, changed_slot_is, set_twice}
+use Rattle.channel_actions.proofs.Links.Settings.Slots.{asked_is, changed_slot_is, set_twice}
 
 -- what is sealed
 abbrev seal_all : List ℕ → List LinkSlot → List LinkSlot

@@ -18,7 +18,7 @@ use Rattle.channel_actions.proofs.HeldTexts.Fits.{both_ways, call_there, fits_by
 use Rattle.channel_actions.proofs.HeldTexts.Messages.{HasMore, keeps_along, longer, then_more}
 use Rattle.channel_actions.proofs.HeldTexts.Steps.{IsGrown, sent_any, sent_quiet}
 use Rattle.channel_actions.proofs.HeldTexts.Trims.{trimmed_same, IsTrimmed, TrimmedOf, trim_on}
-use Rattle.channel_actions.proofs.SetFrames.Slots.{asked_is, put_away}
+use Rattle.channel_actions.proofs.Links.Settings.Slots.{asked_is, put_away}
 use Rattle.channel_actions.proofs.SoundBuffers.Buffers.{more_long}
 use Rattle.channel_actions.proofs.Stamps.{counted_at}
 use Rattle.channel_actions.specs.Agrees.{Agrees}

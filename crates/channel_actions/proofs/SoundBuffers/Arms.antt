@@ -24,7 +24,7 @@ use Rattle.call_core.specs.declared.state.CallState.{CallState}
 use Rattle.channel_actions.proofs.SoundBuffers.Buffers.{IsSoundFor, at_row, begun_so, closed_so, committed_so, fed_so, free, fresh, more, more_long, more_within, taken as taken_row, uncommitted}
 use Rattle.channel_actions.specs.SoundBuffers.Held.{HoldsSoundly}
 use Rattle.grpc_base.specs.Requests.{RequestSeen}
-use Rattle.channel_actions.proofs.DrainCalls.Feeds.{IsWithin}
+use Rattle.channel_actions.proofs.Drains.Calls.Feeds.{IsWithin}
 use Rattle.grpc_base.specs.declared.event.EndCause.{EndCause}
 use Rattle.grpc_base.specs.declared.event.EndCause.TheVariants as ends
 use Rattle.grpc_base.specs.declared.event.Refusal.{Refusal}

@@ -8,7 +8,7 @@ use Rattle.attempt_buffer.proofs.LeftLaws.{IsAlone}
 use Rattle.attempt_buffer.specs.Buffers.{Buffered, Committed, Cursor, after_taking, appended, can_open, closed, committed_at, committed_to, is_committed_row, is_open, moved, opened, shut, taken_by, taken_from, taken_to, taken_uncommitted, text_of, unpassed}
 use Rattle.call_core.specs.Parts.{begun_row, can_feed, committed_buffer, fed_buffer, names, opened_row}
 use Rattle.call_core.specs.Steps.{fresh_buffer}
-use Rattle.channel_actions.proofs.DrainCalls.Feeds.{IsFedFrom, IsKeptGoing, IsWithin, fed_one}
+use Rattle.channel_actions.proofs.Drains.Calls.Feeds.{IsFedFrom, IsKeptGoing, IsWithin, fed_one}
 
 -- held from the first byte on, and no more than is kept for attempts to come
 pub record IsFree (b : Buffered) : Type 0 where

@@ -14,7 +14,7 @@ use Rattle.channel_core.specs.States.{StateSeen}
 use Rattle.channel_core.specs.Steps.{chosen_in, next_word, overdue_ended}
 use Rattle.channel_core.specs.Tables.{fed_call, last_run, with_bucket, with_timers, without_due}
 use Rattle.channel_core.specs.declared.state.slots.CallSlot.{CallSlot}
-use Rattle.channel_actions.proofs.GoingCalls.Arms.{CallLaws}
+use Rattle.channel_actions.proofs.Calls.Going.Arms.{CallLaws}
 use Rattle.channel_actions.proofs.SoundBuffers.Arms as arm
 use Rattle.channel_actions.proofs.SoundBuffers.Arms.{Sound, from_held, to_held}
 use Rattle.channel_actions.proofs.SoundBuffers.Slots.{AllAre, all_acted, all_beside, all_changed, all_more, all_numbered}

@@ -4,7 +4,7 @@ use Rattle.std.proofs.lemmas.Bool.{and_parts}
 use Rattle.std.specs.List.{AllByRecursion}
 use Rattle.std.specs.Option.{option_map, option_map_or, option_or}
 use Rattle.attempt_buffer.specs.Buffers.{Buffered, Committed, left_of, taken_by, taken_from, text_of}
-use Rattle.channel_actions.proofs.DrainCalls.Feeds.{IsFedFrom, IsKeptGoing, IsWithin}
+use Rattle.channel_actions.proofs.Drains.Calls.Feeds.{IsFedFrom, IsKeptGoing, IsWithin}
 use Rattle.channel_actions.specs.DrainCalls.Laws.{IsLeftAt}
 use Rattle.channel_actions.specs.SoundBuffers.Held.{IsSoundIn}
 use Rattle.grpc_frame.specs.Messages.{framed_all}
@@ -16,7 +16,7 @@ use Rattle.session_actions.specs.declared.call.Call.{Call}
 use Rattle.session_actions.specs.declared.entry.OpenEntry.{OpenEntry}
 use Rattle.session_actions.specs.declared.link.Link.{Link}
 use Rattle.session_actions.specs.declared.seen.Seen.{Seen}
-use Rattle.channel_actions.proofs.StreamsOpened.Rows.{commitment_is, h, some_same, t}
+use Rattle.channel_actions.proofs.Streams.Opened.Rows.{commitment_is, h, some_same, t}
 use Rattle.call_actions.specs.TakeActions.Serves.{AreFed, Holds, IsAt, IsFed, drained_so_far, passed}
 
 -- lists

@@ -5,8 +5,8 @@ use Rattle.std.specs.Option.{option_map}
 use Rattle.attempt_buffer.proofs.LeftLaws.{IsAlone}
 use Rattle.attempt_buffer.specs.Buffers.{Buffered, Committed}
 use Rattle.call_actions.specs.Order.{AreNumbered}
-use Rattle.channel_actions.proofs.DrainCalls.Feeds.{fed_all_so}
-use Rattle.channel_actions.proofs.DrainCalls.Streamed.{streamed_is}
+use Rattle.channel_actions.proofs.Drains.Calls.Feeds.{fed_all_so}
+use Rattle.channel_actions.proofs.Drains.Calls.Streamed.{streamed_is}
 use Rattle.channel_actions.proofs.SoundBuffers.Holds.{holds_now}
 use Rattle.channel_actions.specs.DrainCalls.Laws.{IsLeftAt, fed_some}
 use Rattle.channel_actions.specs.SoundBuffers.Held.{IsSoundIn}
@@ -18,8 +18,8 @@ use Rattle.session_actions.specs.declared.call.Call.{Call}
 use Rattle.session_actions.specs.declared.entry.OpenEntry.{OpenEntry}
 use Rattle.session_actions.specs.declared.link.Link.{Link}
 use Rattle.session_actions.specs.declared.seen.Seen.{Seen}
-use Rattle.channel_actions.proofs.StreamsOpened.Rows.{restream, restreamed}
-use Rattle.channel_actions.proofs.StreamsOpened.Streams.{streams_of}
+use Rattle.channel_actions.proofs.Streams.Opened.Rows.{restream, restreamed}
+use Rattle.channel_actions.proofs.Streams.Opened.Streams.{streams_of}
 use Rattle.call_actions.specs.TakeActions.Serves.{Holds}
 
 alone_for : (b : Buffered) → ((m : Committed) → b.committed ≡ Some m → b.cursors ≡ []) → (o : Option Committed) → b.committed ≡ o → IsAlone b.cursors o

@@ -1,7 +1,7 @@
 -- It is so in every session; and what follows for readers.
 use Rattle.call_actions.proofs.CallsApart.Fair.{lines_are_fair}
 use Rattle.call_actions.specs.CallsApart.Apart.{IsBook, IsFair}
-use Rattle.channel_actions.proofs.FewCalls.Reached.{reached_on}
+use Rattle.channel_actions.proofs.Calls.Few.Reached.{reached_on}
 use Rattle.channel_actions.proofs.KeptSessions.Along.{kept_begins, kept_stays}
 use Rattle.channel_actions.proofs.KeptSessions.Lists.{counted_places}
 use Rattle.channel_actions.proofs.TransparentRetries.Fits.{AreTaking, FitsRetried}

@@ -4,9 +4,9 @@ use Rattle.attempt_ledger.specs.TransparentRows.{is_refused, is_unsent}
 use Rattle.attempt_ledger.specs.declared.row.Placed.{Placed}
 use Rattle.attempt_ledger.specs.declared.row.RowEnd.{RowEnd}
 use Rattle.call_actions.proofs.Places.{places_below}
-use Rattle.channel_actions.proofs.FewCalls.Streams.{streams_are_of_attempts}
-use Rattle.channel_actions.proofs.FewCalls.Tallies.{links_are_few}
-use Rattle.channel_actions.proofs.FewCalls.Walk.{calls_are_few}
+use Rattle.channel_actions.proofs.Calls.Few.Streams.{streams_are_of_attempts}
+use Rattle.channel_actions.proofs.Calls.Few.Tallies.{links_are_few}
+use Rattle.channel_actions.proofs.Calls.Few.Walk.{calls_are_few}
 use Rattle.channel_actions.proofs.KeptSessions.Lists.{all_get, counted_places}
 use Rattle.channel_actions.proofs.TransparentRetries.Along.{are_retried, later_of}
 use Rattle.channel_actions.proofs.TransparentRetries.Fits.{is_closed}

@@ -7,7 +7,7 @@ use Rattle.attempt_ledger.specs.declared.row.Placed.{Placed}
 use Rattle.attempt_ledger.specs.declared.row.RowEnd.{RowEnd}
 use Rattle.attempt_ledger.specs.declared.row.RowKind.{RowKind}
 use Rattle.channel_actions.proofs.Changes.{Small, noted_now, placed_in, read_in, small_in, sub_now, taken_in, written_in}
-use Rattle.channel_actions.proofs.FewCalls.Begins.{IsOfStage, is_stage_next}
+use Rattle.channel_actions.proofs.Calls.Few.Begins.{IsOfStage, is_stage_next}
 use Rattle.channel_actions.proofs.KeptSessions.Lines.{next_sound}
 use Rattle.channel_actions.proofs.KeptSessions.Lists.{all_at, get_more, last_more}
 use Rattle.channel_actions.proofs.KeptSessions.Sound.{IsSound, is_place, is_placing, is_placing_ask}

@@ -1,5 +1,5 @@
 -- What a session keeps of attempts that were retried transparently, said of the lists of attempts and links alone.
-use Rattle.channel_actions.proofs.OwnStreams.Parts.{from_changed}
+use Rattle.channel_actions.proofs.Streams.Own.Parts.{from_changed}
 use Rattle.attempt_ledger.specs.TransparentRows.{is_refused, is_unsent}
 use Rattle.attempt_ledger.specs.declared.row.Placed.{Placed}
 use Rattle.attempt_ledger.specs.declared.row.RowEnd.{RowEnd}

@@ -6,7 +6,7 @@ use Rattle.attempt_ledger.specs.declared.row.Placed.{Placed}
 use Rattle.attempt_ledger.specs.declared.row.RowEnd.{RowEnd}
 use Rattle.call_actions.specs.CallsApart.Apart.{IsFair}
 use Rattle.channel_actions.proofs.KeptSessions.Lists.{counted_places, own_number}
-use Rattle.channel_actions.proofs.OwnStreams.Steps.{each_filter, each_from, first_has}
+use Rattle.channel_actions.proofs.Streams.Own.Steps.{each_filter, each_from, first_has}
 use Rattle.channel_actions.proofs.TransparentRetries.Fits.{FitsRetried, IsUnsentOn, is_taking}
 use Rattle.channel_actions.proofs.TransparentRetries.Makes.{made_fits}
 use Rattle.channel_actions.proofs.TransparentRetries.Rows.{Moves, Retried, attempt_now, changes_row, link_now, links_mapped, links_more, plain, row_more}

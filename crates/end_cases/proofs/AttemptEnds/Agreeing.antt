@@ -15,7 +15,7 @@ use Rattle.call_actions.proofs.CallsApart.Books.{tokens_stay}
 use Rattle.call_actions.proofs.CallsApart.Fair.{lines_are_fair}
 use Rattle.call_actions.proofs.CallsInTurn.Rows.{ending_keeps}
 use Rattle.call_actions.proofs.Dues.{attempts_are_due}
-use Rattle.call_actions.proofs.EndTokens.{runs_after, runs_now}
+use Rattle.call_actions.proofs.Ends.Tokens.{runs_after, runs_now}
 use Rattle.call_actions.proofs.Ending as ending
 use Rattle.call_actions.proofs.Lists.{changed_away}
 use Rattle.call_actions.specs.CallsApart.Apart.{IsBook, counts_in, has_config, run_counting, run_number}
@@ -30,7 +30,7 @@ use Rattle.call_cases.proofs.OtherCalls.Buckets.{buckets_are_of_runs}
 use Rattle.call_cases.proofs.OtherCalls.Rows.{columns_stay}
 use Rattle.call_cases.proofs.OtherCalls.Sets.{sets_stay}
 use Rattle.call_cases.proofs.OtherCalls.Slots.{all_calls_stay}
-use Rattle.channel_actions.proofs.SetFrames.Slots.{put_away}
+use Rattle.channel_actions.proofs.Links.Settings.Slots.{put_away}
 use Rattle.channel_actions.proofs.Stamps.{numbered_map}
 use Rattle.channel_actions.specs.Calls.{HasSlot, SeesCall, SeesCalls}
 use Rattle.channel_actions.specs.Clock.{DrawsAlike, SeesClock}

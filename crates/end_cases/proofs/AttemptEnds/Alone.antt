@@ -6,7 +6,7 @@ use Rattle.call_actions.specs.Laws.{IsCounting}
 use Rattle.call_actions.specs.Sees.{is_live}
 use Rattle.call_core.specs.Steps.{Stepped}
 use Rattle.call_core.specs.declared.act.CallAct.TheVariants as act_of
-use Rattle.channel_actions.proofs.SetFrames.Pairs.{exactly_by}
+use Rattle.channel_actions.proofs.Links.Settings.Pairs.{exactly_by}
 use Rattle.channel_actions.specs.Columns.{links_noted}
 use Rattle.channel_actions.specs.Sets.{AreExactly, is_in_outstanding}
 use Rattle.end_cases.proofs.AttemptEnds.After.{in_out}

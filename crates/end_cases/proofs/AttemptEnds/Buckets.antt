@@ -6,7 +6,7 @@ use Rattle.std.specs.Option.{option_map_or}
 use Rattle.std.specs.Prelude.{nat_lt, option_and_then}
 use Rattle.a6_numbers.specs.Throttling.{Bucket}
 use Rattle.call_actions.specs.CallsApart.Apart.{has_config, run_number}
-use Rattle.channel_actions.proofs.SetFrames.Slots.{set_twice}
+use Rattle.channel_actions.proofs.Links.Settings.Slots.{set_twice}
 use Rattle.channel_actions.specs.Configs.{SeesBuckets, bucket_in, bucket_place, is_same_run, runs_after, runs_in_turn}
 use Rattle.end_cases.specs.AttemptEnds.Runs.{RunsRise, rise}
 use Rattle.channel_core.specs.Tables.{BucketsSeen, with_tokens}

@@ -4,7 +4,7 @@ use Rattle.std.specs.List.{list_any}
 use Rattle.std.specs.Option.{option_map_or}
 use Rattle.attempt_ledger.specs.declared.ledger.CallEnd.{CallEnd}
 use Rattle.attempt_ledger.specs.declared.row.RowEnd.{RowEnd}
-use Rattle.call_actions.proofs.CommittedEnd as committed_end
+use Rattle.call_actions.proofs.Ends.Committed as committed_end
 use Rattle.call_actions.proofs.Ending as ending
 use Rattle.call_actions.proofs.Lists.{filter_none}
 use Rattle.call_actions.specs.Order.{IsInOrder, IsInTurn, Keeps}

@@ -23,7 +23,7 @@ use Rattle.call_cases.proofs.OtherCalls.Buckets.{buckets_are_of_runs}
 use Rattle.call_cases.proofs.OtherCalls.Rows.{columns_stay}
 use Rattle.call_cases.proofs.OtherCalls.Sets.{sets_stay}
 use Rattle.call_cases.proofs.OtherCalls.Slots.{all_calls_stay}
-use Rattle.channel_actions.proofs.SetFrames.Slots.{put_away}
+use Rattle.channel_actions.proofs.Links.Settings.Slots.{put_away}
 use Rattle.channel_actions.proofs.Stamps.{numbered_map}
 use Rattle.channel_actions.specs.Calls.{HasSlot, SeesCall, SeesCalls, lent_to}
 use Rattle.channel_actions.specs.Clock.{DrawsAlike, SeesClock}

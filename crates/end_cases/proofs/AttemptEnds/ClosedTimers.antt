@@ -5,8 +5,8 @@ use Rattle.std.proofs.lemmas.Bool.Decides.{nat_tests}
 use Rattle.std.specs.Set.{remove_key}
 use Rattle.attempt_ledger.specs.declared.row.RowEnd.{RowEnd}
 use Rattle.call_actions.specs.Laws.{IsCounting}
-use Rattle.channel_actions.proofs.SetFrames.Pairs.{exactly_by, exactly_remove}
-use Rattle.channel_actions.proofs.SetFrames.Timers.{other_key, own_key, timers_exactly}
+use Rattle.channel_actions.proofs.Links.Settings.Pairs.{exactly_by, exactly_remove}
+use Rattle.channel_actions.proofs.Links.Settings.Timers.{other_key, own_key, timers_exactly}
 use Rattle.channel_actions.specs.Calls.{deadline_of, due_of}
 use Rattle.call_cases.specs.OtherCalls.Laws.{SetsApart}
 use Rattle.channel_actions.specs.Sets.{AreExactly, is_in_bare, is_in_deadlines, is_in_dues, is_in_impatient, is_patient}

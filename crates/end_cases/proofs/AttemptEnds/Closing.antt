@@ -9,7 +9,7 @@ use Rattle.attempt_ledger.specs.declared.news.News.TheVariants as news_of_link
 use Rattle.attempt_ledger.specs.declared.row.Row.{Row}
 use Rattle.attempt_ledger.specs.declared.row.RowEnd.{RowEnd}
 use Rattle.call_actions.proofs.CallsInTurn.Rows.{ending_keeps}
-use Rattle.call_actions.proofs.EndTokens.{runs_now}
+use Rattle.call_actions.proofs.Ends.Tokens.{runs_now}
 use Rattle.call_actions.proofs.Ending as ending
 use Rattle.call_actions.proofs.Lists.{changed_here}
 use Rattle.call_actions.proofs.TakeActions.EndSees.{traffic_all}

@@ -7,7 +7,7 @@ use Rattle.std.specs.Option.{option_or}
 use Rattle.attempt_ledger.specs.declared.ledger.CallEnd.{CallEnd}
 use Rattle.attempt_ledger.specs.declared.row.RowEnd.{RowEnd}
 use Rattle.call_actions.proofs.CallsInTurn.Changes.{some_last}
-use Rattle.call_actions.proofs.EndRows as rows
+use Rattle.call_actions.proofs.Ends.Rows as rows
 use Rattle.call_actions.proofs.Ending as ending
 use Rattle.call_actions.proofs.Frames as frames
 use Rattle.call_actions.proofs.Lists.{numbered_not}

@@ -5,10 +5,10 @@ use Rattle.std.proofs.lemmas.Bool.Decides.{nat_tests}
 use Rattle.std.specs.List.{list_any}
 use Rattle.attempt_ledger.specs.Ends.{is_above}
 use Rattle.attempt_ledger.specs.declared.row.RowEnd.{RowEnd}
-use Rattle.call_actions.proofs.EndFrames as ending_frames
-use Rattle.call_actions.proofs.EndFrames.{with_end_at}
-use Rattle.call_actions.proofs.EndRows as rows
-use Rattle.call_actions.proofs.EndTokens.{throttle_now}
+use Rattle.call_actions.proofs.Ends.Frames as ending_frames
+use Rattle.call_actions.proofs.Ends.Frames.{with_end_at}
+use Rattle.call_actions.proofs.Ends.Rows as rows
+use Rattle.call_actions.proofs.Ends.Tokens.{throttle_now}
 use Rattle.call_actions.proofs.Ending as ending
 use Rattle.call_actions.proofs.Frames as frames
 use Rattle.call_actions.proofs.Lists.{numbered_not}

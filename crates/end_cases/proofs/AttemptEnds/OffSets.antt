@@ -6,7 +6,7 @@ use Rattle.std.specs.Option.{option_map_or}
 use Rattle.std.specs.Set.{remove_key}
 use Rattle.attempt_ledger.specs.declared.row.Placed.{Placed}
 use Rattle.attempt_ledger.specs.declared.row.RowEnd.{RowEnd}
-use Rattle.channel_actions.proofs.SetFrames.Pairs.{exactly_by, exactly_remove}
+use Rattle.channel_actions.proofs.Links.Settings.Pairs.{exactly_by, exactly_remove}
 use Rattle.channel_actions.specs.Sets.{AreExactly, is_in_outstanding}
 use Rattle.end_cases.proofs.AttemptEnds.Base.{books, c, call_is, out_off, queue_off}
 use Rattle.end_cases.specs.AttemptEnds.Ends.{EndNext}

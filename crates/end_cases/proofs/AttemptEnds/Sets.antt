@@ -3,8 +3,8 @@ use Rattle.std.proofs.Common.{◌≡◌, ◌&&◌, ◌==◌, not, ap, refl, subs
 use Rattle.std.proofs.lemmas.Bool.{and_parts, and_right, eq-eqb, eqb-true}
 use Rattle.attempt_ledger.specs.declared.row.Placed.{Placed}
 use Rattle.attempt_ledger.specs.declared.row.RowEnd.{RowEnd}
-use Rattle.channel_actions.proofs.SetFrames.Pairs.{exactly_by}
-use Rattle.channel_actions.proofs.SetFrames.Timers.{timers_exactly}
+use Rattle.channel_actions.proofs.Links.Settings.Pairs.{exactly_by}
+use Rattle.channel_actions.proofs.Links.Settings.Timers.{timers_exactly}
 use Rattle.channel_actions.specs.Calls.{deadline_of, due_of}
 use Rattle.call_cases.specs.OtherCalls.Laws.{SetsApart}
 use Rattle.channel_actions.specs.Sets.{AreExactly, is_in_bare, is_in_deadlines, is_in_dues, is_in_impatient, is_in_patient, is_in_queue, is_patient, is_waiting}

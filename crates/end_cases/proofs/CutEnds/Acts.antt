@@ -11,7 +11,7 @@ use Rattle.call_core.specs.declared.act.CallAct.TheVariants as act
 use Rattle.call_core.specs.declared.act.CallAct.{CallAct}
 use Rattle.call_core.specs.declared.live.LiveRow.{LiveRow}
 use Rattle.channel_actions.proofs.ActsFollowed.Acts.{IsDone, LinkIn, acts_form, all_done, done_append, given, parts_of}
-use Rattle.channel_actions.proofs.SetFrames.Slots.{changed_slot_is, set_twice}
+use Rattle.channel_actions.proofs.Links.Settings.Slots.{changed_slot_is, set_twice}
 use Rattle.end_cases.proofs.AttemptEnds.Base.{c, call_is, news, row_is, slot_there, z}
 use Rattle.end_cases.proofs.AttemptEnds.Closing as closing
 use Rattle.end_cases.proofs.AttemptEnds.Closing.{Parts}

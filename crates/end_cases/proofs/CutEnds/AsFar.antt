@@ -4,8 +4,8 @@ use Rattle.std.specs.List.{list_all}
 use Rattle.std.specs.Option.{option_map_or}
 use Rattle.attempt_ledger.specs.declared.row.Placed.{Placed}
 use Rattle.channel_actions.proofs.Lines.{all_at_places}
-use Rattle.channel_actions.proofs.LinkFrames.Readers.{readers_still}
-use Rattle.channel_actions.proofs.LinkFrames.Streams.{streams_still}
+use Rattle.channel_actions.proofs.Links.Frames.Readers.{readers_still}
+use Rattle.channel_actions.proofs.Links.Frames.Streams.{streams_still}
 use Rattle.channel_actions.proofs.Stamps.{counted_at}
 use Rattle.channel_actions.specs.KeptSessions.Kept.{AreCounted}
 use Rattle.channel_actions.specs.LinkFrames.Alike.{AreAlike, IsAlike, is_on}

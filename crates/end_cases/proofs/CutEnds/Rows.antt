@@ -8,7 +8,7 @@ use Rattle.call_actions.specs.TakeActions.Cuts.{next_cut_of}
 use Rattle.call_core.specs.declared.live.LiveRow.{LiveRow}
 use Rattle.channel_actions.proofs.ActsFollowed.Acts.{IsDone}
 use Rattle.call_cases.proofs.OtherCalls.Sets.{sets_stay}
-use Rattle.channel_actions.proofs.SetFrames.Pairs.{exactly_by}
+use Rattle.channel_actions.proofs.Links.Settings.Pairs.{exactly_by}
 use Rattle.channel_actions.specs.ActsFollowed.Followed.{all_out_gone, all_queue_gone}
 use Rattle.call_cases.specs.OtherCalls.Laws.{SetsApart}
 use Rattle.call_cases.specs.OtherCalls.Others.{is_of_number}

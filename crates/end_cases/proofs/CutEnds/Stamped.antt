@@ -8,7 +8,7 @@ use Rattle.call_core.specs.Steps.{given_up_act}
 use Rattle.call_core.specs.declared.live.LiveRow.{LiveRow}
 use Rattle.channel_actions.proofs.ActsFollowed.Acts.{given}
 use Rattle.channel_actions.proofs.Outstanding.{is_of_link, on_is}
-use Rattle.channel_actions.proofs.SetFrames.Pairs.{rising_remove}
+use Rattle.channel_actions.proofs.Links.Settings.Pairs.{rising_remove}
 use Rattle.channel_actions.specs.Sets.{AreRising}
 use Rattle.call_cases.proofs.ConfiguredCalls.Lists.{same_numbered, same_words}
 use Rattle.call_cases.proofs.OneCallEnds.Stamps.{again_in, dead_by, fewer, others, retiring_by}

@@ -20,7 +20,7 @@ use Rattle.call_core.specs.declared.state.CallState.{CallState}
 use Rattle.channel_actions.proofs.ActsFollowed.Acts.{acts_form}
 use Rattle.channel_actions.proofs.KeptSessions.Lists.{all_filter, all_wide}
 use Rattle.end_cases.proofs.AttemptEnds.Told.{gone_form, off_book}
-use Rattle.channel_actions.proofs.SoundCalls.Steps.{counts}
+use Rattle.channel_actions.proofs.Calls.Sound.Steps.{counts}
 use Rattle.channel_actions.proofs.SoundBuffers.Slots.{AllAre, all_acted, all_beside, all_numbered}
 use Rattle.end_cases.specs.AttemptEnds.Ends.{AreHeld, IsHeld, ended_in, gone_with, taken_off}
 use Rattle.end_cases.specs.AttemptEnds.Laws.{EndsStayHeld}

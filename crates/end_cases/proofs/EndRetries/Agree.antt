@@ -25,8 +25,8 @@ use Rattle.call_cases.proofs.OtherCalls.Buckets.{buckets_are_of_runs}
 use Rattle.call_cases.proofs.OtherCalls.Rows.{columns_stay}
 use Rattle.call_cases.proofs.OtherCalls.Sets.{sets_stay}
 use Rattle.call_cases.proofs.OtherCalls.Slots.{all_calls_stay}
-use Rattle.channel_actions.proofs.SetFrames.Pairs.{exactly_by}
-use Rattle.channel_actions.proofs.SetFrames.Slots.{put_away}
+use Rattle.channel_actions.proofs.Links.Settings.Pairs.{exactly_by}
+use Rattle.channel_actions.proofs.Links.Settings.Slots.{put_away}
 use Rattle.channel_actions.proofs.Stamps.{map_same, numbered_map}
 use Rattle.channel_actions.specs.Calls.{HasSlot, SeesCall, SeesCalls, deadline_of, due_of, lent_to}
 use Rattle.channel_actions.specs.Clock.{DrawsAlike, SeesClock}

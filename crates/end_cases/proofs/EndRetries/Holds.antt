@@ -20,7 +20,7 @@ use Rattle.end_cases.proofs.EndRetries.Free as free_retry
 use Rattle.end_cases.proofs.EndRetries.Next as retry
 use Rattle.end_cases.proofs.EndRetries.Step.{rows_before}
 use Rattle.end_cases.proofs.EndRetries.Taken as taken_retry
-use Rattle.attempt_cases.proofs.MakingSteps.Made.{none_held}
+use Rattle.attempt_cases.proofs.MakingSteps.MadeKinds.{none_held}
 use Rattle.attempt_ledger.specs.declared.row.RowEnd.{RowEnd}
 use Rattle.end_cases.specs.AttemptEnds.Ends.{EndNext, IsHeld}
 use Rattle.channel_core.specs.States.{StateSeen}

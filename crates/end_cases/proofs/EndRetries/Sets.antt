@@ -9,8 +9,8 @@ use Rattle.call_actions.proofs.Lists.{numbered_last}
 use Rattle.call_actions.proofs.Places.{place_is}
 use Rattle.call_actions.specs.Sees.{Sees}
 use Rattle.call_core.specs.Steps.{Stepped, waits as waits_for}
-use Rattle.channel_actions.proofs.SetFrames.Pairs.{exactly_by, exactly_insert}
-use Rattle.channel_actions.proofs.SetFrames.Timers.{timers_exactly}
+use Rattle.channel_actions.proofs.Links.Settings.Pairs.{exactly_by, exactly_insert}
+use Rattle.channel_actions.proofs.Links.Settings.Timers.{timers_exactly}
 use Rattle.channel_actions.specs.Calls.{deadline_of, due_of}
 use Rattle.call_cases.specs.OtherCalls.Laws.{SetsApart}
 use Rattle.channel_actions.specs.Sets.{AreExactly, is_in_bare, is_in_deadlines, is_in_dues, is_in_impatient, is_in_outstanding, is_in_patient, is_in_queue, is_patient, is_waiting}
@@ -21,7 +21,7 @@ use Rattle.end_cases.proofs.AttemptEnds.OffSets.{and_on, away_pair, out_left, ow
 use Rattle.end_cases.proofs.AttemptEnds.OneEnded as first
 use Rattle.end_cases.proofs.EndRetries.Next as retry
 use Rattle.end_cases.proofs.EndRetries.Next.{Leads, Retry}
-use Rattle.attempt_cases.proofs.MakingSteps.Made.{patient_of}
+use Rattle.attempt_cases.proofs.MakingSteps.MadeKinds.{patient_of}
 use Rattle.end_cases.specs.AttemptEnds.Ends.{EndNext}
 use Rattle.channel_core.specs.States.{StateSeen}
 use Rattle.channel_core.specs.Timing.{timer_moved}

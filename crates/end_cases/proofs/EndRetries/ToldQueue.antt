@@ -7,7 +7,7 @@ use Rattle.attempt_ledger.specs.declared.row.Row.{Row}
 use Rattle.call_core.specs.Steps.{Stepped, heard_news, waits}
 use Rattle.call_core.specs.declared.act.CallAct.{CallAct}
 use Rattle.call_core.specs.declared.act.CallAct.TheVariants as act
-use Rattle.channel_actions.proofs.SetFrames.Slots.{acted_is, changed_slot_is, set_twice}
+use Rattle.channel_actions.proofs.Links.Settings.Slots.{acted_is, changed_slot_is, set_twice}
 use Rattle.end_cases.proofs.AttemptEnds.Told.{book_with, slot_after, step_of, told_form}
 use Rattle.channel_core.proofs.Places.{put_there}
 use Rattle.channel_core.specs.Books.{BookActs, acted_in, book_acted, book_after, bucket_at, call_of, deadline_of, due_at, has_drawn, row_at, slot_at, waits_at}

@@ -2,7 +2,7 @@
 use Rattle.attempt_ledger.specs.declared.ledger.CallEnd.{CallEnd}
 use Rattle.attempt_ledger.specs.declared.row.RowEnd.{RowEnd}
 use Rattle.call_actions.proofs.CallsInTurn.Changes.{some_last}
-use Rattle.channel_actions.proofs.KeptCalls.Along.{early_begins, early_stays}
+use Rattle.channel_actions.proofs.Calls.Kept.Along.{early_begins, early_stays}
 use Rattle.channel_actions.proofs.KeptSessions.Along.{kept_begins, kept_stays}
 use Rattle.channel_actions.proofs.KeptSessions.Lists.{all_at}
 use Rattle.channel_actions.specs.FewCalls.Reached.{IsReached}

@@ -5,7 +5,7 @@ use Rattle.call_actions.proofs.CallsApart.Fair.{lines_are_fair}
 use Rattle.call_actions.proofs.CallsInTurn.Changes.{some_last}
 use Rattle.call_actions.proofs.Lists.{numbered_not}
 use Rattle.channel_actions.proofs.ActionsFit.Lines.{next_actions_fit}
-use Rattle.channel_actions.proofs.KeptCalls.Lines.{next_fits}
+use Rattle.channel_actions.proofs.Calls.Kept.Lines.{next_fits}
 use Rattle.channel_actions.proofs.KeptSessions.Lists.{all_at}
 use Rattle.channel_actions.proofs.Quiet.{or_parts_none}
 use Rattle.channel_actions.proofs.Stamps.{counted_at}

@@ -11,14 +11,14 @@ use Rattle.call_core.specs.Laws as channel_laws
 use Rattle.call_core.specs.Steps.{Stepped}
 use Rattle.channel_actions.proofs.Does.{does_on}
 use Rattle.channel_actions.proofs.KeptSessions.Along.{kept_along}
-use Rattle.channel_actions.proofs.LinkFrames.Frame.{links_stay}
-use Rattle.channel_actions.proofs.LinkFrames.Untold.{lists_are_untold}
+use Rattle.channel_actions.proofs.Links.Frames.Frame.{links_stay}
+use Rattle.channel_actions.proofs.Links.Frames.Untold.{lists_are_untold}
 use Rattle.call_cases.proofs.OtherCalls.Rows.{columns_stay}
 use Rattle.call_cases.proofs.OtherCalls.Sets.{sets_stay}
 use Rattle.call_cases.proofs.OtherCalls.Slots.{all_calls_stay}
-use Rattle.channel_actions.proofs.SetFrames.Pairs.{exactly_by, exactly_remove}
-use Rattle.channel_actions.proofs.SetFrames.Slots.{put_away}
-use Rattle.channel_actions.proofs.SetFrames.Timers.{other_key, own_key, timers_exactly}
+use Rattle.channel_actions.proofs.Links.Settings.Pairs.{exactly_by, exactly_remove}
+use Rattle.channel_actions.proofs.Links.Settings.Slots.{put_away}
+use Rattle.channel_actions.proofs.Links.Settings.Timers.{other_key, own_key, timers_exactly}
 use Rattle.channel_actions.proofs.Settles.{with_open}
 use Rattle.channel_actions.proofs.Stamps.{map_same, numbered_map}
 use Rattle.channel_actions.specs.Agrees.{Agrees}

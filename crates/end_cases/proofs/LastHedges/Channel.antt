@@ -4,7 +4,7 @@ use Rattle.call_core.specs.Parts.{is_above, is_tested, stopped_attempts}
 use Rattle.call_core.specs.Steps as steps
 use Rattle.call_core.specs.Steps.{Stepped, call_plan, ended_by_last, ended_by_row, lent, with_attempts}
 use Rattle.call_core.specs.declared.live.LiveRow.{LiveRow}
-use Rattle.channel_actions.proofs.SetFrames.Slots.{asked_is, changed_slot_is, set_twice}
+use Rattle.channel_actions.proofs.Links.Settings.Slots.{asked_is, changed_slot_is, set_twice}
 use Rattle.call_cases.specs.ConfiguredCalls.Steps.{timed}
 use Rattle.channel_core.proofs.Places.{put_there}
 use Rattle.channel_core.specs.Books.{BookActs, deadline_of, due_at, placed_in_book, slot_at}

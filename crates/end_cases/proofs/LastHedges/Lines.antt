@@ -27,7 +27,7 @@ use Rattle.end_cases.proofs.LastHedges.Agree as agree
 use Rattle.end_cases.proofs.LastHedges.Step as step
 use Rattle.end_cases.proofs.LastHedges.Step.{LastHedge}
 use Rattle.attempt_cases.proofs.MakingSteps.Lists.{holds_alike, holds_changed}
-use Rattle.attempt_cases.proofs.MakingSteps.Withholding.{any_live, some_row}
+use Rattle.attempt_cases.proofs.MakingSteps.WithheldNow.{any_live, some_row}
 use Rattle.channel_core.specs.States.{StateSeen}
 use Rattle.grpc_base.specs.Codes.{has_code}
 use Rattle.grpc_base.specs.declared.event.EndCause.TheVariants as ending_cause

@@ -21,7 +21,7 @@ use Rattle.call_core.specs.Steps as steps
 use Rattle.call_core.specs.Steps.{Stepped, lent}
 use Rattle.call_cases.proofs.EndsFollow.Codes.{response_by_limit}
 use Rattle.channel_actions.proofs.Settles.{with_open}
-use Rattle.channel_actions.proofs.SoundCalls.Keeping.{goes_on}
+use Rattle.channel_actions.proofs.Calls.Sound.Keeping.{goes_on}
 use Rattle.channel_actions.proofs.Stamps.{counted_at}
 use Rattle.channel_actions.specs.Agrees.{Agrees}
 use Rattle.channel_actions.specs.Calls.{HasSlot, ledger_lent, lent_to}
@@ -31,7 +31,7 @@ use Rattle.call_cases.proofs.CommitsFollow.Newest.{new_last}
 use Rattle.end_cases.proofs.EndedHeads.Along.{ended_headless}
 use Rattle.call_cases.proofs.FullSends.Bare.{no_items}
 use Rattle.end_cases.proofs.LastHedges.Channel.{IsRefused, ended_last, made_last}
-use Rattle.attempt_cases.proofs.MakingSteps.Withholding.{IsWithheldNow, MakesSome, either}
+use Rattle.attempt_cases.proofs.MakingSteps.WithheldNow.{IsWithheldNow, MakesSome, either}
 use Rattle.call_cases.specs.SettlingActions.Sound.{IsSound}
 use Rattle.channel_core.specs.States.{StateSeen}
 use Rattle.channel_core.specs.Tables.{tokens_in}

@@ -1,6 +1,6 @@
 -- A hedge is withheld where no attempt of its call goes on: the session leads to a point of the same settling, where none of its call is due any more.
 use Rattle.call_cases.proofs.OtherCalls.Rows.{others_are_same}
-use Rattle.channel_actions.proofs.SetFrames.Firsts.{none_numbered}
+use Rattle.channel_actions.proofs.Links.Settings.Firsts.{none_numbered}
 use Rattle.channel_actions.proofs.Settles.{follows_by, is_with_open, with_open}
 use Rattle.channel_actions.proofs.Stamps.{counted_at}
 use Rattle.channel_actions.specs.Agrees.{Agrees}

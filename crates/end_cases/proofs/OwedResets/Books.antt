@@ -9,9 +9,9 @@ use Rattle.attempt_ledger.specs.declared.row.RowEnd.{RowEnd}
 use Rattle.call_actions.specs.Sees.{bucket_of}
 use Rattle.call_actions.specs.TakeActions.Serves.{Serves}
 use Rattle.call_core.specs.Steps.{lent}
-use Rattle.channel_actions.proofs.ResetCalls.Alike.{alike_changed, alike_filter, alike_map, fold_same}
-use Rattle.channel_actions.proofs.ResetCalls.Counts.{next_same, over_same}
-use Rattle.channel_actions.proofs.SetFrames.Pairs.{exactly_by}
+use Rattle.channel_actions.proofs.Calls.Reset.Alike.{alike_changed, alike_filter, alike_map, fold_same}
+use Rattle.channel_actions.proofs.Calls.Reset.Counts.{next_same, over_same}
+use Rattle.channel_actions.proofs.Links.Settings.Pairs.{exactly_by}
 use Rattle.channel_actions.proofs.Stamps.{map_same, map_same_some}
 use Rattle.channel_actions.specs.Calls.{HasSlot, SeesCall, lent_to}
 use Rattle.channel_actions.specs.Columns.{links_noted}

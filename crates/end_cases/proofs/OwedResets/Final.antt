@@ -5,7 +5,7 @@ use Rattle.attempt_ledger.specs.Ends.{is_cut}
 use Rattle.attempt_ledger.specs.TransparentRows.{is_by_peer, is_unsent}
 use Rattle.attempt_ledger.specs.declared.row.RowCause.{RowCause}
 use Rattle.attempt_ledger.specs.declared.row.RowEnd.{RowEnd}
-use Rattle.channel_actions.proofs.ResetCalls.Counts.{followed_same, last_same, next_same, none_same, over_same, put, retried_same, t}
+use Rattle.channel_actions.proofs.Calls.Reset.Counts.{followed_same, last_same, next_same, none_same, over_same, put, retried_same, t}
 use Rattle.grpc_base.specs.Codes.{has_code}
 use Rattle.grpc_base.specs.declared.plan.CallPlan.{CallPlan}
 use Rattle.grpc_base.specs.declared.plan.CallPlan.TheVariants as plan

@@ -6,9 +6,9 @@ use Rattle.std.specs.Option.{option_map, option_map_or}
 use Rattle.call_cases.proofs.EndsFollow.Codes.{queued_code, reset_code}
 use Rattle.call_cases.proofs.LinkEnds.Cutting.{filter_same}
 use Rattle.call_cases.proofs.LinkEnds.Resets.{IsOwed, is_owed, relined}
-use Rattle.channel_actions.proofs.LinkFrames.Changes.{attempt_changed}
-use Rattle.channel_actions.proofs.LinkFrames.Readers.{readers_still}
-use Rattle.channel_actions.proofs.LinkFrames.Streams.{streams_still}
+use Rattle.channel_actions.proofs.Links.Frames.Changes.{attempt_changed}
+use Rattle.channel_actions.proofs.Links.Frames.Readers.{readers_still}
+use Rattle.channel_actions.proofs.Links.Frames.Streams.{streams_still}
 use Rattle.channel_actions.proofs.Lines.{all_at_places}
 use Rattle.channel_actions.proofs.Stamps.{counted_at, map_same}
 use Rattle.channel_actions.specs.KeptSessions.Kept.{IsKept}

@@ -1,7 +1,7 @@
 -- A tag that is not of a link stays so while the link sends, and nothing is taken of its line.
 use Rattle.channel_actions.proofs.KeptSessions.Lists.{own_number}
 use Rattle.channel_actions.specs.KeptSessions.Kept.{IsKept}
-use Rattle.channel_actions.proofs.OwnStreams.Steps.{Each, each_filter, each_from}
+use Rattle.channel_actions.proofs.Streams.Own.Steps.{Each, each_filter, each_from}
 use Rattle.event_cases.specs.DrainedLines.Laws.{DrainsLeaveLines}
 use Rattle.channel_actions.specs.OwnStreams.Laws.{goes_on_at}
 use Rattle.h2_link.specs.Drains.{Outgoing, Sends, Sent, may_open, next, next_control, next_data, next_head, opens, sender, share_of, share_or, stream_opened}

@@ -6,13 +6,13 @@ use Rattle.call_actions.specs.Laws.{IsEnding}
 use Rattle.call_cases.proofs.EndsFollow.Codes.{ended_code}
 use Rattle.call_cases.proofs.EndsFollow.Steps.{placed_of}
 use Rattle.channel_actions.proofs.Gone.{all_numbered}
-use Rattle.channel_actions.proofs.GreetedLinks.Along.{greeted_begins}
+use Rattle.channel_actions.proofs.Links.Greeted.Along.{greeted_begins}
 use Rattle.channel_actions.proofs.KeptSessions.Along.{kept_begins, kept_stays}
 use Rattle.channel_actions.proofs.Lines.{all_at_places}
-use Rattle.channel_actions.proofs.LinkFrames.Readers.{readers_still}
-use Rattle.channel_actions.proofs.LinkFrames.Streams.{streams_still}
-use Rattle.channel_actions.proofs.LinkFrames.Untold.{actions_are_untold}
-use Rattle.channel_actions.proofs.OwnStreams.Along.{streams_along, streams_begin}
+use Rattle.channel_actions.proofs.Links.Frames.Readers.{readers_still}
+use Rattle.channel_actions.proofs.Links.Frames.Streams.{streams_still}
+use Rattle.channel_actions.proofs.Links.Frames.Untold.{actions_are_untold}
+use Rattle.channel_actions.proofs.Streams.Own.Along.{streams_along, streams_begin}
 use Rattle.channel_actions.proofs.Stamps.{counted_at}
 use Rattle.channel_actions.specs.Agrees.{Agrees}
 use Rattle.call_cases.specs.EndsFollow.Cuts.{AreUnreset}

@@ -14,12 +14,12 @@ use Rattle.call_core.specs.declared.act.CallAct.{CallAct}
 use Rattle.channel_actions.proofs.ActsFollowed.Acts.{acts_form, parts_of}
 use Rattle.channel_actions.proofs.BoardActions.Calm.{of_order}
 use Rattle.channel_actions.proofs.Does.{does_on, none_on}
-use Rattle.channel_actions.proofs.FewCalls.Reached.{reached_on}
+use Rattle.channel_actions.proofs.Calls.Few.Reached.{reached_on}
 use Rattle.channel_actions.proofs.Gone.{all_numbered}
-use Rattle.channel_actions.proofs.SetFrames.Firsts.{none_numbered}
-use Rattle.channel_actions.proofs.SetFrames.Pairs.{self_same}
+use Rattle.channel_actions.proofs.Links.Settings.Firsts.{none_numbered}
+use Rattle.channel_actions.proofs.Links.Settings.Pairs.{self_same}
 use Rattle.channel_actions.proofs.Settles.{is_with_open, with_open}
-use Rattle.channel_actions.proofs.SoundCalls.Keeping.{goes_on}
+use Rattle.channel_actions.proofs.Calls.Sound.Keeping.{goes_on}
 use Rattle.channel_actions.specs.Agrees.{Agrees}
 use Rattle.channel_actions.specs.Calm.{IsAt}
 use Rattle.channel_actions.specs.FewCalls.Reached.{IsReached}

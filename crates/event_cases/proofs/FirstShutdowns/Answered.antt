@@ -10,7 +10,7 @@ use Rattle.channel_actions.proofs.Answering.{IsPlain, plain_frame, plain_quiet}
 use Rattle.channel_actions.proofs.BoardActions.Boards.{boards_leave_rest}
 use Rattle.channel_actions.proofs.Does.{does_on, none_on}
 use Rattle.channel_actions.proofs.KeptSessions.Along.{kept_along}
-use Rattle.channel_actions.proofs.LinkFrames.Frame.{links_stay}
+use Rattle.channel_actions.proofs.Links.Frames.Frame.{links_stay}
 use Rattle.call_cases.proofs.OtherCalls.Sets.{sets_stay}
 use Rattle.call_cases.proofs.OtherCalls.Slots.{all_calls_stay}
 use Rattle.channel_actions.proofs.Settles.{IsQuiet}

@@ -2,8 +2,8 @@
 use Rattle.std.proofs.Common.{◌≡◌, ◌==◌, ◌∷◌, arith, refl, sym, ◌∙◌, true, false, [], None, Some, ℕ, zero, suc}
 use Rattle.std.proofs.lemmas.Bool.Decides.{nat_tests}
 use Rattle.channel_actions.proofs.KeptSessions.Along.{kept_along}
-use Rattle.channel_actions.proofs.LinkFrames.Frame.{links_stay}
-use Rattle.channel_actions.proofs.LinkFrames.Untold.{actions_are_untold}
+use Rattle.channel_actions.proofs.Links.Frames.Frame.{links_stay}
+use Rattle.channel_actions.proofs.Links.Frames.Untold.{actions_are_untold}
 use Rattle.call_cases.proofs.OtherCalls.Along.{booked}
 use Rattle.call_cases.proofs.OtherCalls.Sets.{sets_stay}
 use Rattle.call_cases.proofs.OtherCalls.Slots.{all_calls_stay}

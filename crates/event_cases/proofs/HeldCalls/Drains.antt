@@ -1,9 +1,9 @@
 -- A drain is answered where channel and session keep what they do keep: that its event is answered changes nothing of it.
 use Rattle.attempt_cases.proofs.DrainEvents.Drains.{answered_by}
 use Rattle.event_cases.proofs.DrainedCalls.Calls.{calls_agree_by}
-use Rattle.channel_actions.proofs.GreetedLinks.Along.{greeted_stays}
+use Rattle.channel_actions.proofs.Links.Greeted.Along.{greeted_stays}
 use Rattle.event_cases.proofs.HeldCalls.Held.{known_calls_are_held}
-use Rattle.channel_actions.proofs.OwnStreams.Along.{streams_stay}
+use Rattle.channel_actions.proofs.Streams.Own.Along.{streams_stay}
 use Rattle.event_cases.specs.HeldCalls.Laws.{KnownDrainsAreAnswered}
 use Rattle.channel_core.specs.Applying.{AnswersBy}
 use Rattle.channel_core.specs.Draining.{DrainLeaves, drained_limit}

@@ -14,7 +14,7 @@ use Rattle.channel_actions.specs.Links.{HasLink, IsGoing}
 use Rattle.event_cases.proofs.DrainedLines.Off.{drains_leave_lines}
 use Rattle.event_cases.proofs.HeldCalls.Fed.{buffer_after, is_row_of}
 use Rattle.event_cases.proofs.HeldCalls.Lines.{drained_is, row_fed, unfilter}
-use Rattle.channel_actions.proofs.OwnStreams.Others.{writes_leave_others}
+use Rattle.channel_actions.proofs.Streams.Own.Others.{writes_leave_others}
 use Rattle.channel_actions.proofs.SoundBuffers.Sound.{buffers_are_sound_in}
 use Rattle.channel_actions.proofs.SoundBuffers.Streamed.{sound_feeds_hold}
 use Rattle.event_cases.proofs.WrittenResponses.Along.{writes_leave_items}

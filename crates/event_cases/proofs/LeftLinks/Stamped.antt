@@ -2,7 +2,7 @@
 use Rattle.attempt_ledger.specs.declared.ledger.Generation.{Generation}
 use Rattle.attempt_ledger.specs.declared.ledger.LinkSeen.{LinkSeen}
 use Rattle.channel_actions.proofs.Gone.{all_numbered, gone_by, gone_same, sub_noted}
-use Rattle.channel_actions.proofs.SetFrames.Pairs.{exactly_by}
+use Rattle.channel_actions.proofs.Links.Settings.Pairs.{exactly_by}
 use Rattle.channel_actions.proofs.Stamps.{counted_at, numbered_map}
 use Rattle.channel_actions.specs.Agrees.{Agrees}
 use Rattle.channel_actions.specs.Columns.{links_noted}

@@ -4,8 +4,8 @@ use Rattle.channel_actions.proofs.Answering.{event_next, replied_entry}
 use Rattle.channel_actions.proofs.BoardActions.Calm.{to_order}
 use Rattle.channel_actions.proofs.Dialling.{applied_next, open_in, unshut_by}
 use Rattle.channel_actions.proofs.KeptSessions.Along.{kept_stays}
-use Rattle.channel_actions.proofs.GreetedLinks.Along.{greeted_along}
-use Rattle.channel_actions.proofs.OwnStreams.Along.{streams_along}
+use Rattle.channel_actions.proofs.Links.Greeted.Along.{greeted_along}
+use Rattle.channel_actions.proofs.Streams.Own.Along.{streams_along}
 use Rattle.channel_actions.proofs.Refusing.{link_same}
 use Rattle.channel_actions.proofs.Stamps.{counted_at}
 use Rattle.channel_actions.specs.Agrees.{Agrees}

@@ -12,9 +12,9 @@ use Rattle.call_cases.proofs.EndsFollow.Codes.{ended_code}
 use Rattle.call_cases.proofs.EndsFollow.Steps.{placed_of}
 use Rattle.channel_actions.proofs.Gone.{all_numbered}
 use Rattle.channel_actions.proofs.KeptSessions.Along.{kept_stays}
-use Rattle.channel_actions.proofs.LinkFrames.Readers.{readers_still}
-use Rattle.channel_actions.proofs.LinkFrames.Streams.{streams_still}
-use Rattle.channel_actions.proofs.LinkFrames.Untold.{actions_are_untold}
+use Rattle.channel_actions.proofs.Links.Frames.Readers.{readers_still}
+use Rattle.channel_actions.proofs.Links.Frames.Streams.{streams_still}
+use Rattle.channel_actions.proofs.Links.Frames.Untold.{actions_are_untold}
 use Rattle.channel_actions.proofs.Lines.{all_at_places}
 use Rattle.channel_actions.proofs.Stamps.{counted_at, map_same}
 use Rattle.channel_actions.specs.GoingCalls.Going.{CallsGoOn}

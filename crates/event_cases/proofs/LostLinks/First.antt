@@ -6,7 +6,7 @@ use Rattle.std.specs.Option.{option_map_or}
 use Rattle.attempt_ledger.specs.declared.row.Placed.{Placed}
 use Rattle.attempt_ledger.specs.declared.row.RowEnd.{RowEnd}
 use Rattle.channel_actions.proofs.Outstanding.{same_self}
-use Rattle.channel_actions.proofs.SetFrames.Pairs.{same_is}
+use Rattle.channel_actions.proofs.Links.Settings.Pairs.{same_is}
 use Rattle.channel_actions.specs.Sets.{AreExactly, is_in_outstanding}
 use Rattle.attempt_cases.proofs.ServeSteps.Order.{least_found}
 use Rattle.channel_core.specs.Steps.{row_on}

@@ -7,9 +7,9 @@ use Rattle.call_actions.proofs.Ranks.{numbered_map}
 use Rattle.call_actions.specs.Laws.{news_of}
 use Rattle.channel_actions.proofs.Does.{does_on, none_on}
 use Rattle.call_cases.proofs.EndsFollow.Steps.{placed_of}
-use Rattle.channel_actions.proofs.GreetedLinks.Along.{greeted_along}
+use Rattle.channel_actions.proofs.Links.Greeted.Along.{greeted_along}
 use Rattle.channel_actions.proofs.KeptSessions.Along.{kept_stays}
-use Rattle.channel_actions.proofs.OwnStreams.Along.{streams_along}
+use Rattle.channel_actions.proofs.Streams.Own.Along.{streams_along}
 use Rattle.channel_actions.specs.Agrees.{Agrees}
 use Rattle.channel_actions.specs.GoingCalls.Going.{CallsGoOn}
 use Rattle.channel_actions.specs.GoingCalls.Laws.{LossesGoOn}

@@ -14,7 +14,7 @@ use Rattle.call_actions.specs.Order.{AreNumbered, IsInOrder, IsInTurn, goes_on_f
 use Rattle.call_actions.specs.Sees.{AreDue, Sees, bucket_of, is_live, live_row, live_rows}
 use Rattle.call_core.specs.Laws as channel
 use Rattle.call_core.specs.Steps.{Stepped}
-use Rattle.channel_actions.proofs.DrainCalls.Streamed.{streamed_is}
+use Rattle.channel_actions.proofs.Drains.Calls.Streamed.{streamed_is}
 use Rattle.grpc_base.specs.declared.event.Reply.{Reply}
 use Rattle.session_actions.specs.Attempts.{commitment, is_followed, is_of, is_outstanding, was_refused, was_retried_so}
 use Rattle.session_actions.specs.Configs.{plan_of}
@@ -33,9 +33,9 @@ use Rattle.session_actions.specs.declared.entry.OpenEntry.{OpenEntry}
 use Rattle.session_actions.specs.declared.link.Link.{Link}
 use Rattle.session_actions.specs.declared.seen.Seen.{Seen}
 use Rattle.event_cases.specs.StreamedCalls.Laws.{CallsAreServed, DuesStay, IsLedgerOf, OrdersStay, TurnsStay, with_left}
-use Rattle.channel_actions.proofs.StreamsOpened.Dues.{last_same, made_count, next_same, state_same}
-use Rattle.channel_actions.proofs.StreamsOpened.Rows.{commitment_is, counted_same, followed_same, h, queued_same, some_same, t}
-use Rattle.channel_actions.proofs.StreamsOpened.Streams.{streams_of}
+use Rattle.channel_actions.proofs.Streams.Opened.Dues.{last_same, made_count, next_same, state_same}
+use Rattle.channel_actions.proofs.Streams.Opened.Rows.{commitment_is, counted_same, followed_same, h, queued_same, some_same, t}
+use Rattle.channel_actions.proofs.Streams.Opened.Streams.{streams_of}
 use Rattle.call_actions.specs.TakeActions.Serves.{ArePlaced, Holds, IsLeft, Serves, came, is_ended_at}
 
 -- lists

@@ -7,7 +7,7 @@ use Rattle.attempt_ledger.specs.declared.ledger.LinkSeen.{LinkSeen}
 use Rattle.channel_actions.proofs.BoardActions.Boards.{boards_leave_rest}
 use Rattle.channel_actions.proofs.BoardActions.Calm.{of_order}
 use Rattle.channel_actions.proofs.Does.{does_on, none_on}
-use Rattle.channel_actions.proofs.OwnLinks.Owned.{own_along}
+use Rattle.channel_actions.proofs.Links.Own.Owned.{own_along}
 use Rattle.channel_actions.specs.Agrees.{Agrees}
 use Rattle.channel_actions.specs.BoardActions.Boards.{IsBoarded}
 use Rattle.channel_actions.specs.Calm.{IsAt}

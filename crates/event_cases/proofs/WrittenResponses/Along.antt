@@ -5,12 +5,12 @@ use Rattle.h2_frame.specs.Numbers.{headers_type}
 use Rattle.call_actions.specs.TakeActions.Serves.{came}
 use Rattle.channel_actions.proofs.KeptSessions.Along.{kept_stays}
 use Rattle.channel_actions.proofs.KeptSessions.Lists.{all_at, counted_places, own_number}
-use Rattle.channel_actions.proofs.StreamsOpened.Responses.{retiring_same}
+use Rattle.channel_actions.proofs.Streams.Opened.Responses.{retiring_same}
 use Rattle.channel_actions.specs.KeptSessions.Kept.{IsKept}
-use Rattle.channel_actions.proofs.GreetedLinks.Along.{greeted_stays}
-use Rattle.channel_actions.proofs.OwnStreams.Along.{frames_are_sendable}
-use Rattle.channel_actions.proofs.OwnStreams.Frames.{passed_opens, sent_next}
-use Rattle.channel_actions.proofs.OwnStreams.Steps.{each_filter, each_from, first_has}
+use Rattle.channel_actions.proofs.Links.Greeted.Along.{greeted_stays}
+use Rattle.channel_actions.proofs.Streams.Own.Along.{frames_are_sendable}
+use Rattle.channel_actions.proofs.Streams.Own.Frames.{passed_opens, sent_next}
+use Rattle.channel_actions.proofs.Streams.Own.Steps.{each_filter, each_from, first_has}
 use Rattle.event_cases.proofs.WrittenResponses.Items.{more_same}
 use Rattle.event_cases.proofs.WrittenResponses.One.{both_changed, both_same, headers_go, items_left, items_opened, value_same}
 use Rattle.event_cases.specs.WrittenResponses.Laws.{IsSilent, WritesLeaveItems}

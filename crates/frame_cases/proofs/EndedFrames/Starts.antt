@@ -1,8 +1,8 @@
 -- A frame ends the attempt of its stream: channel and session after it, the end of the attempt next, and of no other.
-use Rattle.std.proofs.Common.{◌≡◌, ◌++◌, ◌&&◌, ◌||◌, ◌==◌, ◌∷◌, append-nil, ap, arith, refl, subst, sym, ◌∙◌, not, Bool, true, false, List, [], Option, None, Some, ℕ, zero, suc, drop, if◌then◌else◌, inl, inr, is_none, is_some, length, map, option_and_then, option_map, slice_get, ◌≤◌}
+use Rattle.std.proofs.Common.{◌≡◌, ◌++◌, ◌&&◌, ◌==◌, ◌∷◌, append-nil, ap, arith, refl, subst, sym, ◌∙◌, not, Bool, true, false, List, [], Option, None, Some, ℕ, suc, drop, if◌then◌else◌, is_none, is_some, length, map, option_and_then, option_map, slice_get, ◌≤◌}
 use Rattle.std.proofs.Math.Nat.{min-eq_left}
 use Rattle.std.proofs.lemmas.Bool.{and_parts, eq-eqb, eqb-true}
-use Rattle.std.specs.List.{AllByRecursion, list_all, list_any}
+use Rattle.std.specs.List.{list_all, list_any}
 use Rattle.std.specs.Option.{option_map_or, option_or}
 use Rattle.std.specs.Prelude.{unwrap_or}
 use Rattle.attempt_ledger.specs.declared.news.EndNews.{EndNews}
@@ -11,13 +11,12 @@ use Rattle.call_actions.specs.Laws.{news_of}
 use Rattle.call_actions.specs.TakeActions.Serves.{came}
 use Rattle.call_core.specs.Steps.{is_committed_live}
 use Rattle.call_cases.proofs.EndsFollow.Steps.{placed_of}
-use Rattle.channel_actions.proofs.GoingCalls.Arms.{kept_same}
-use Rattle.channel_actions.proofs.GoingCalls.Slots.{all_numbered as go_numbered}
+use Rattle.channel_actions.proofs.Calls.Going.Slots.{all_numbered as go_numbered}
 use Rattle.channel_actions.proofs.Gone.{all_numbered, gone_by, sub_noted}
 use Rattle.channel_actions.proofs.KeptSessions.Along.{kept_stays}
-use Rattle.channel_actions.proofs.LinkFrames.Readers.{readers_still}
-use Rattle.channel_actions.proofs.LinkFrames.Streams.{streams_still}
-use Rattle.channel_actions.proofs.LinkFrames.Untold.{actions_are_untold}
+use Rattle.channel_actions.proofs.Links.Frames.Readers.{readers_still}
+use Rattle.channel_actions.proofs.Links.Frames.Streams.{streams_still}
+use Rattle.channel_actions.proofs.Links.Frames.Untold.{actions_are_untold}
 use Rattle.channel_actions.proofs.Lines.{all_at_places}
 use Rattle.channel_actions.proofs.Stamps.{counted_at}
 use Rattle.channel_actions.specs.Agrees.{Agrees}
@@ -32,7 +31,7 @@ use Rattle.call_cases.proofs.CallPosts.Asked.{deadline_right, due_right}
 use Rattle.attempt_cases.proofs.DrainEvents.Links.{own_lines, read_so, read_then}
 use Rattle.event_cases.proofs.LostLinks.Ends.{before_end, lives_by, none_waits}
 use Rattle.end_cases.specs.AttemptEnds.Ahead.{AgreesOffLinks, HasLinkAhead, IsAhead, LinksAhead, resets_owed}
-use Rattle.end_cases.specs.AttemptEnds.Ends.{AreHeld, EndNext, IsHeld, gone_with, is_of_ends}
+use Rattle.end_cases.specs.AttemptEnds.Ends.{AreHeld, EndNext, IsHeld, gone_with}
 use Rattle.end_cases.specs.AttemptEnds.Runs.{RunsRise}
 use Rattle.channel_core.specs.Arrivals.{frame_heard, heard_all}
 use Rattle.channel_core.specs.Books.{row_at, slot_at}
@@ -85,7 +84,7 @@ use Rattle.session_actions.specs.Events.{is_loss}
 use Rattle.session_actions.specs.Links.{link_number, link_of, read_bytes, stream_number}
 use Rattle.session_actions.specs.Reading.{is_outstanding_on}
 use Rattle.session_actions.specs.Responses.{is_read_by, response}
-use Rattle.session_actions.specs.Words.{first_of, holds, numbered}
+use Rattle.session_actions.specs.Words.{holds, numbered}
 use Rattle.session_actions.specs.Writing.{frame_read, next_frame_read, owed_for}
 use Rattle.session_actions.specs.declared.action.Action.{Action}
 use Rattle.session_actions.specs.declared.action.Action.TheVariants as action
@@ -107,106 +106,7 @@ use Rattle.session_order.specs.Lines.{is_line}
 use Rattle.session_order.specs.Stirs.{stirs}
 use Rattle.session_order.specs.declared.line.Line.{Line}
 use Rattle.session_order.specs.declared.line.Line.TheVariants as line
-
--- nothing came for an application
-items_same : (p q : Response) → HasNothingNew p q → response_items q ≡ response_items p
-items_same p q is =
-    ap (λ (h : Option (List Field)). response_items (record q { head = h })) is.head ∙ ap (λ (ms : List (List ℕ)). response_items (record q { head = p.head; messages = ms })) is.messages
-
--- one alone gives an action
-none_first : {X Y : Type 0} (f : X → Option Y) (xs : List X) → ((j : ℕ) (x : X) → slice_get xs j ≡ Some x → f x ≡ None) → first_of f xs ≡ None
-none_first f [] none = refl
-none_first f (x ∷ xs) none = ap (λ (o : Option _). option_or o (first_of f xs)) (none 0 x refl) ∙ none_first f xs (λ j y at. none (suc j) y at)
-
-one_first : {X Y : Type 0} (f : X → Option Y) (xs : List X) (i : ℕ) (x : X) (y : Y) → slice_get xs i ≡ Some x → f x ≡ Some y
-    → ((j : ℕ) (z : X) → slice_get xs j ≡ Some z → (j ≡ i → ⊥) → f z ≡ None) → first_of f xs ≡ Some y
-one_first f [] i x y at is none = absurd (cc)
-one_first f (z ∷ xs) zero x y at is none =
-    let same : z ≡ x = (cc) in ap (λ (o : Option _). option_or o (first_of f xs)) (ap f same ∙ is)
-one_first f (z ∷ xs) (suc i) x y at is none =
-    ap (λ (o : Option _). option_or o (first_of f xs)) (none 0 z refl (λ e. let no : ⊥ = omega (arith, e) in no))
-    ∙ one_first f xs i x y at is (λ j q here other. none (suc j) q here (λ e. other (let same : j ≡ i = omega (arith, e) in same)))
-
-only_first : {X Y : Type 0} (f : X → Option Y) (xs : List X) (n : ℕ) (x : X) (y : Y) → numbered xs n ≡ Some x → f x ≡ Some y
-    → ((j : ℕ) (z : X) → numbered xs j ≡ Some z → (j ≡ n → ⊥) → f z ≡ None) → first_of f xs ≡ Some y
-only_first f xs zero x y at is none = absurd (cc)
-only_first f xs (suc i) x y at is none =
-    one_first f xs i x y at is (λ j z here other. none (suc j) z here (λ e. other (let same : j ≡ i = omega (arith, e) in same)))
-
-second : (a b : Bool) → a ≡ true → (a && b) ≡ false → b ≡ false
-second true b e f = f
-second false b e f = absurd (cc)
-
-first_off : (a b : Bool) → (a || b) ≡ false → a ≡ false
-first_off true b e = absurd (cc)
-first_off false b e = refl
-
-none_by : {X : Type 0} (o : Option X) → is_some o ≡ false → o ≡ None
-none_by None e = refl
-none_by (Some x) e = absurd (cc)
-
-no_action : (q : Option Action) → q ≡ None → (b : Bool) → (if b then q else None) ≡ None
-no_action q none true = none
-no_action q none false = refl
-
-any_at : {X : Type 0} (p : X → Bool) (xs : List X) (i : ℕ) (x : X) → slice_get xs i ≡ Some x → p x ≡ true → list_any p xs ≡ true
-any_at p [] i x at e = absurd (cc)
-any_at p (y ∷ xs) zero x at e = let same : y ≡ x = (cc) in ap (λ (b : Bool). b || list_any p xs) (ap p same ∙ e)
-any_at p (y ∷ xs) (suc i) x at e = ap (λ (b : Bool). p y || b) (any_at p xs i x at e) ∙ or_true (p y)
-  where
-    or_true : (b : Bool) → (b || true) ≡ true
-    or_true true = refl
-    or_true false = refl
-
-any_there : {X : Type 0} (p : X → Bool) (xs : List X) (n : ℕ) (x : X) → numbered xs n ≡ Some x → p x ≡ true → list_any p xs ≡ true
-any_there p xs zero x at e = absurd (cc)
-any_there p xs (suc i) x at e = any_at p xs i x at e
-
--- calls go on, whatever stands in their inboxes
-more_goes : (more : List (List ℕ)) (slot : CallSlot) → GoesOn slot.call → GoesOn (with_more more slot.call)
-more_goes more slot k = record {
-  kept = kept_same slot.call (with_more more slot.call) (record { number = refl; begun = refl; chosen = refl; live = refl; attempts = refl; ended = refl }) k.kept;
-  going = record {
-    next = λ r. k.going.next (record { ended = r.ended; configured = r.configured });
-    alone = λ e.
-        elim (k.going.alone e) [
-          | inl none ↦ inl none
-          | inr one ↦ inr (one.0, record { live = one.1.live; number = one.1.number; forced = one.1.forced })
-        ];
-    most = k.going.most;
-    fresh = k.going.fresh;
-    goes = λ e r. k.going.goes e (record { ended = r.ended; configured = r.configured });
-    last = λ r. k.going.last (record { ended = r.ended; configured = r.configured });
-    none = k.going.none;
-  };
-}
-
-all_go : (xs : List CallSlot) → ((i : ℕ) (slot : CallSlot) → slice_get xs i ≡ Some slot → GoesOn slot.call) → AllByRecursion (λ (slot : CallSlot). GoesOn slot.call) xs
-all_go [] each = tt
-all_go (x ∷ xs) each = (each 0 x refl, all_go xs (λ i slot at. each (suc i) slot at))
-
--- the lines of ends are two
-no_wire_end : (k : Line) → is_of_ends k ≡ false → is_line k line.WireEnd ≡ false
-no_wire_end line.Cut e = refl
-no_wire_end line.Transparent e = refl
-no_wire_end line.Inherited e = refl
-no_wire_end line.Row e = refl
-no_wire_end line.Final e = refl
-no_wire_end line.Cancelled e = refl
-no_wire_end line.Request e = refl
-no_wire_end line.Overflow e = refl
-no_wire_end line.Head e = refl
-no_wire_end line.Response e = refl
-no_wire_end line.Pick e = absurd (cc)
-no_wire_end line.Link e = refl
-no_wire_end line.WireEnd e = absurd (cc)
-no_wire_end line.Reset e = refl
-no_wire_end line.Shut e = refl
-no_wire_end line.Retire e = refl
-no_wire_end line.Begin e = refl
-no_wire_end line.Give e = refl
-no_wire_end line.Drop e = refl
-no_wire_end line.Add e = refl
+use Rattle.frame_cases.proofs.EndedFrames.Endings.{items_same, only_first, second, first_off, none_by, no_action, any_there, more_goes, all_go, no_wire_end}
 
 module _ (link : ℕ) (piece : List ℕ) (x : StateSeen) (o : OpenEntry) (s : Seen) (is : IsHearing link piece x o s) (h : Heard) (r : ReadFrame)
     (next : next_frame_read link s ≡ Some (action.FrameRead link r)) (hears : heard_in link piece x.links ≡ Some h) (no_goaway : (r.frame.kind == goaway_type) ≡ false)

@@ -8,7 +8,7 @@ use Rattle.attempt_ledger.specs.declared.news.News.TheVariants as news
 use Rattle.channel_actions.proofs.BoardActions.Boards.{one_boarded}
 use Rattle.channel_actions.proofs.Gone.{all_numbered}
 use Rattle.channel_actions.proofs.KeptSessions.Along.{kept_along}
-use Rattle.channel_actions.proofs.LinkFrames.Frame.{links_stay}
+use Rattle.channel_actions.proofs.Links.Frames.Frame.{links_stay}
 use Rattle.call_cases.proofs.OtherCalls.Sets.{sets_stay}
 use Rattle.call_cases.proofs.OtherCalls.Slots.{all_calls_stay}
 use Rattle.channel_actions.proofs.Stamps.{numbered_map}

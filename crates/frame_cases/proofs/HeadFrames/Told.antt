@@ -12,7 +12,7 @@ use Rattle.call_core.specs.Steps.{Stepped, commit_by_head, commit_stamped, commi
 use Rattle.call_core.specs.declared.inbox.Inbox.{Inbox}
 use Rattle.call_core.specs.declared.live.LiveRow.{LiveRow}
 use Rattle.call_core.specs.declared.state.CallState.{CallState}
-use Rattle.channel_actions.proofs.SetFrames.Slots.{acted_is, asked_is}
+use Rattle.channel_actions.proofs.Links.Settings.Slots.{acted_is, asked_is}
 use Rattle.attempt_cases.specs.CallCommits.Commits.{commits_with}
 use Rattle.channel_core.proofs.BookLaws.{number_changed, number_other}
 use Rattle.channel_core.specs.Books.{BookActs, acted_in, book_acted, book_after, book_asked, bucket_at, call_of, drew_by, has_drawn, row_at, slot_at}

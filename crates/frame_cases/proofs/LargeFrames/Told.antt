@@ -11,7 +11,7 @@ use Rattle.attempt_ledger.specs.declared.row.RowEnd.{RowEnd}
 use Rattle.call_core.specs.Parts.{count_of, cut_end, read_of}
 use Rattle.call_core.specs.Steps.{Stepped, closed_by, cut_all, cut_row, ended_as, heard_news, is_committed_live, lent}
 use Rattle.call_core.specs.declared.live.LiveRow.{LiveRow}
-use Rattle.channel_actions.proofs.SetFrames.Slots.{acted_is}
+use Rattle.channel_actions.proofs.Links.Settings.Slots.{acted_is}
 use Rattle.channel_core.proofs.BookLaws.{number_changed, number_other}
 use Rattle.channel_core.specs.Arrivals.{heard_all}
 use Rattle.channel_core.specs.Books.{BookActs, acted_in, book_acted, book_after, book_asked, bucket_at, call_of, drew_by, has_drawn, placed_in_book, row_at, slot_at}

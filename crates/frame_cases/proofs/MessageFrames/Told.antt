@@ -9,7 +9,7 @@ use Rattle.attempt_ledger.specs.declared.news.News.TheVariants as news
 use Rattle.attempt_ledger.specs.declared.row.Row.{Row}
 use Rattle.call_core.specs.Steps.{Stepped, heard_news, is_committed_live, lent}
 use Rattle.call_core.specs.declared.state.CallState.{CallState}
-use Rattle.channel_actions.proofs.SetFrames.Slots.{acted_is, changed_slot_is, put_away, set_length, set_twice}
+use Rattle.channel_actions.proofs.Links.Settings.Slots.{acted_is, changed_slot_is, put_away, set_length, set_twice}
 use Rattle.call_cases.proofs.CallPosts.Agreeing.{IsPut}
 use Rattle.channel_core.proofs.Places.{put_there}
 use Rattle.channel_core.specs.Arrivals.{all_ended_on, frame_heard, heard, heard_all, read_to}

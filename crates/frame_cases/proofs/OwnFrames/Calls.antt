@@ -11,7 +11,7 @@ use Rattle.call_core.specs.Parts.{find_live, is_row, names}
 use Rattle.call_core.specs.Steps.{is_committed_live}
 use Rattle.call_core.specs.declared.live.LiveRow.{LiveRow}
 use Rattle.channel_actions.proofs.Gone as gone
-use Rattle.channel_actions.proofs.GoingCalls.Slots.{all_numbered}
+use Rattle.channel_actions.proofs.Calls.Going.Slots.{all_numbered}
 use Rattle.channel_actions.proofs.Stamps.{counted_at}
 use Rattle.channel_actions.specs.Agrees.{Agrees}
 use Rattle.channel_actions.specs.Calls.{HasSlot, lent_to}

@@ -2,8 +2,8 @@
 use Rattle.std.proofs.Common.{◌≡◌, ◌==◌, ap, subst, sym, ◌∙◌, false, List, Some, ℕ, drop, length, option_map}
 use Rattle.std.proofs.lemmas.Bool.{eqb-false}
 use Rattle.attempt_cases.proofs.DrainEvents.Rooms.{length_changed}
-use Rattle.channel_actions.proofs.LinkFrames.Frame.{others_agree}
-use Rattle.channel_actions.proofs.LinkFrames.Untold.{actions_are_untold}
+use Rattle.channel_actions.proofs.Links.Frames.Frame.{others_agree}
+use Rattle.channel_actions.proofs.Links.Frames.Untold.{actions_are_untold}
 use Rattle.channel_actions.specs.LinkFrames.Alike.{CannotTell}
 use Rattle.channel_actions.specs.Links.{HasLink}
 use Rattle.channel_core.proofs.BookLaws.{number_changed, number_other}

@@ -11,14 +11,14 @@ use Rattle.call_actions.specs.TakeActions.Serves as serves
 use Rattle.call_actions.specs.TakeActions.Serves.{Holds, IsAt, IsLeft, Serves, came, drained_so_far, passed}
 use Rattle.call_core.specs.Laws as channel
 use Rattle.call_core.specs.declared.inbox.Inbox.{Inbox}
-use Rattle.channel_actions.proofs.DrainBooks.Sets.{buckets_stay, sets_stay}
-use Rattle.channel_actions.proofs.DrainCalls.Streamed.{streamed_is}
-use Rattle.channel_actions.proofs.LinkFrames.Frame.{links_stay}
-use Rattle.channel_actions.proofs.ResetCalls.Alike.{fold_same}
+use Rattle.channel_actions.proofs.Drains.Books.Sets.{buckets_stay, sets_stay}
+use Rattle.channel_actions.proofs.Drains.Calls.Streamed.{streamed_is}
+use Rattle.channel_actions.proofs.Links.Frames.Frame.{links_stay}
+use Rattle.channel_actions.proofs.Calls.Reset.Alike.{fold_same}
 use Rattle.channel_actions.proofs.Settles.{is_with_open, with_open}
-use Rattle.channel_actions.proofs.StreamsOpened.Dues.{last_same, state_same}
-use Rattle.channel_actions.proofs.StreamsOpened.Rows.{t as streamed}
-use Rattle.channel_actions.proofs.StreamsOpened.Streams.{rows_self, streams_of}
+use Rattle.channel_actions.proofs.Streams.Opened.Dues.{last_same, state_same}
+use Rattle.channel_actions.proofs.Streams.Opened.Rows.{t as streamed}
+use Rattle.channel_actions.proofs.Streams.Opened.Streams.{rows_self, streams_of}
 use Rattle.channel_actions.specs.Agrees.{Agrees}
 use Rattle.channel_actions.specs.Calls.{HasSlot, SeesCall, SeesCalls, lent_to}
 use Rattle.channel_actions.specs.DrainBooks.Laws.{AreSameSets}

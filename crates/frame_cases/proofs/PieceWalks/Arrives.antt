@@ -8,10 +8,10 @@ use Rattle.call_actions.proofs.Lists.{changed_here}
 use Rattle.channel_actions.proofs.Answering.{event_next, replied_entry, replied_is}
 use Rattle.channel_actions.proofs.Dialling.{applied_next, open_in, unshut_by}
 use Rattle.channel_actions.proofs.KeptSessions.Along.{kept_stays}
-use Rattle.channel_actions.proofs.LinkFrames.Readers.{readers_still}
-use Rattle.channel_actions.proofs.LinkFrames.Streams.{streams_still}
-use Rattle.channel_actions.proofs.LinkFrames.Tellings.{all_go, selves_alike}
-use Rattle.channel_actions.proofs.LinkFrames.Untold.{actions_are_untold}
+use Rattle.channel_actions.proofs.Links.Frames.Readers.{readers_still}
+use Rattle.channel_actions.proofs.Links.Frames.Streams.{streams_still}
+use Rattle.channel_actions.proofs.Links.Frames.Tellings.{all_go, selves_alike}
+use Rattle.channel_actions.proofs.Links.Frames.Untold.{actions_are_untold}
 use Rattle.channel_actions.proofs.Lines.{all_at_places}
 use Rattle.channel_actions.proofs.Refusing.{link_same}
 use Rattle.channel_actions.proofs.Settles.{is_with_open}

@@ -1,13 +1,13 @@
 -- What is known stays known along a frame, and after BytesArrive.
 use Rattle.std.proofs.Common.{◌≡◌, ◌++◌, [], ap, refl, sym, ◌∙◌, Bool, true, false, List, Option, None, Some, ℕ, if◌then◌else◌, is_none, is_some, length, nat_lt, take}
-use Rattle.channel_actions.proofs.FewCalls.Reached.{reached_on}
-use Rattle.channel_actions.proofs.GreetedLinks.Along.{greeted_along}
-use Rattle.channel_actions.proofs.KeptCalls.Along.{early_along}
+use Rattle.channel_actions.proofs.Calls.Few.Reached.{reached_on}
+use Rattle.channel_actions.proofs.Links.Greeted.Along.{greeted_along}
+use Rattle.channel_actions.proofs.Calls.Kept.Along.{early_along}
 use Rattle.channel_actions.proofs.KeptSessions.Along.{kept_along}
-use Rattle.channel_actions.proofs.OwnLinks.Owned.{own_along}
-use Rattle.channel_actions.proofs.OwnStreams.Along.{streams_along}
+use Rattle.channel_actions.proofs.Links.Own.Owned.{own_along}
+use Rattle.channel_actions.proofs.Streams.Own.Along.{streams_along}
 use Rattle.channel_actions.proofs.Posted.{none_posted, posted_after}
-use Rattle.channel_actions.proofs.TheirLinks.Kept.{theirs_along}
+use Rattle.channel_actions.proofs.Links.Theirs.Kept.{theirs_along}
 use Rattle.channel_actions.specs.GoingCalls.Going.{CallsGoOn}
 use Rattle.channel_actions.specs.GoingCalls.Laws.{AnswersGoOn}
 use Rattle.channel_actions.specs.KeptSessions.Kept.{IsKept}

@@ -4,7 +4,7 @@ use Rattle.std.proofs.Common.{◌≡◌, ◌+◌, ◌-◌, ◌∷◌, ◌≤◌,
 use Rattle.std.proofs.lemmas.List.{length-drop}
 use Rattle.std.specs.Option.{option_map_or, option_or}
 use Rattle.std.specs.Prelude.{option_and_then}
-use Rattle.channel_actions.proofs.KeptCalls.Fresh.{ends_later}
+use Rattle.channel_actions.proofs.Calls.Kept.Fresh.{ends_later}
 use Rattle.attempt_cases.proofs.DrainEvents.Rooms.{one_some}
 use Rattle.event_cases.proofs.PassedAtOnce.Acts.{Staged, actions_leave_passed, staged}
 use Rattle.event_cases.proofs.PassedAtOnce.Along.{IsOpenAs, begins_as, first_none, follows, goes_on, not_both, once_open, only_begins, passed_along, settling_stays}

@@ -1,7 +1,7 @@
 -- A frame of which the link reports nothing is heard.
 use Rattle.std.proofs.Common.{◌≡◌, ◌==◌, ◌∷◌, ap, refl, subst, sym, ◌∙◌, Bool, true, false, List, [], Option, Some, ℕ, drop}
 use Rattle.std.specs.Option.{option_map_or}
-use Rattle.channel_actions.proofs.KeptCalls.Fresh.{frames_are_fresh}
+use Rattle.channel_actions.proofs.Calls.Kept.Fresh.{frames_are_fresh}
 use Rattle.channel_actions.specs.Agrees.{Agrees}
 use Rattle.channel_actions.specs.Calm.{IsAt}
 use Rattle.channel_actions.specs.Links.{lines_in}

@@ -8,9 +8,9 @@ use Rattle.std.specs.Option.{option_and_then, option_map, option_map_or, option_
 use Rattle.attempt_buffer.proofs.SpotLaws.{drop_on}
 use Rattle.attempt_ledger.specs.declared.ledger.LinkSeen.{LinkSeen}
 use Rattle.call_actions.proofs.Lists.{changed_here}
-use Rattle.channel_actions.proofs.KeptCalls.Fresh.{frames_are_fresh}
+use Rattle.channel_actions.proofs.Calls.Kept.Fresh.{frames_are_fresh}
 use Rattle.channel_actions.proofs.KeptSessions.Along.{kept_stays}
-use Rattle.channel_actions.proofs.LinkFrames.Untold.{actions_are_untold}
+use Rattle.channel_actions.proofs.Links.Frames.Untold.{actions_are_untold}
 use Rattle.channel_actions.proofs.Settles.{follows_by, is_with_open}
 use Rattle.channel_actions.proofs.Stamps.{counted_at}
 use Rattle.channel_actions.specs.Agrees.{Agrees}

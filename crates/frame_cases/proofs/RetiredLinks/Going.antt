@@ -8,7 +8,7 @@ use Rattle.attempt_ledger.specs.declared.row.Placed.{Placed}
 use Rattle.call_core.specs.Steps.{Stepped, heard_news}
 use Rattle.call_core.specs.declared.act.CallAct.{CallAct}
 use Rattle.call_core.specs.declared.act.CallAct.TheVariants as act
-use Rattle.channel_actions.proofs.GoingCalls.Slots.{AllGo, all_acted, all_beside}
+use Rattle.channel_actions.proofs.Calls.Going.Slots.{AllGo, all_acted, all_beside}
 use Rattle.channel_actions.specs.GoingCalls.Going.{AllowsAttempts, CallsGoOn, GoesOn}
 use Rattle.channel_core.specs.Books.{BookActs, book_acted, call_of, deadline_of, due_at, has_drawn, link_of, row_at, slot_at}
 use Rattle.channel_core.specs.States.{StateSeen}

@@ -8,8 +8,8 @@ use Rattle.attempt_ledger.specs.declared.row.RowEnd.{RowEnd}
 use Rattle.call_cases.specs.EndsFollow.Cuts.{AreUnreset}
 use Rattle.channel_actions.proofs.BoardActions.Calm.{of_order}
 use Rattle.channel_actions.proofs.Does.{does_on, none_on}
-use Rattle.channel_actions.proofs.GreetedLinks.Along.{greeted_along}
-use Rattle.channel_actions.proofs.OwnStreams.Along.{streams_along}
+use Rattle.channel_actions.proofs.Links.Greeted.Along.{greeted_along}
+use Rattle.channel_actions.proofs.Streams.Own.Along.{streams_along}
 use Rattle.channel_actions.proofs.Refusing.{none_numbered}
 use Rattle.channel_actions.specs.Agrees.{Agrees}
 use Rattle.channel_actions.specs.BoardActions.Boards.{IsBoarded}

@@ -10,8 +10,8 @@ use Rattle.attempt_ledger.specs.declared.row.Placed.{Placed}
 use Rattle.attempt_ledger.specs.declared.row.RowEnd.{RowEnd}
 use Rattle.call_actions.specs.Laws.{IsEnding, news_of}
 use Rattle.channel_actions.proofs.Gone.{all_numbered, gone_by, sub_noted}
-use Rattle.channel_actions.proofs.GreetedLinks.Along.{greeted_along}
-use Rattle.channel_actions.proofs.OwnStreams.Along.{streams_along}
+use Rattle.channel_actions.proofs.Links.Greeted.Along.{greeted_along}
+use Rattle.channel_actions.proofs.Streams.Own.Along.{streams_along}
 use Rattle.channel_actions.proofs.Refusing.{none_numbered}
 use Rattle.channel_actions.proofs.Stamps.{counted_at}
 use Rattle.channel_actions.specs.KeptSessions.Kept.{IsKept}

@@ -1,6 +1,6 @@
 -- Take-overs and wishes, of a session that began new: its links are joined to subchannels and attempts, and are their subchannels' own.
-use Rattle.channel_actions.proofs.GreetedLinks.Along.{greeted_along, greeted_begins, links_are_joined}
-use Rattle.channel_actions.proofs.KeptCalls.Along.{early_begins}
+use Rattle.channel_actions.proofs.Links.Greeted.Along.{greeted_along, greeted_begins, links_are_joined}
+use Rattle.channel_actions.proofs.Calls.Kept.Along.{early_begins}
 use Rattle.channel_actions.proofs.KeptSessions.Along.{kept_begins}
 use Rattle.channel_actions.specs.FewCalls.Reached.{IsReached}
 use Rattle.channel_actions.specs.GreetedLinks.Joined.{AreJoined}

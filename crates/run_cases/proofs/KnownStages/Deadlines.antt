@@ -1,6 +1,6 @@
 -- The stage of deadlines, with what runs keep.
 use Rattle.channel_actions.specs.Known.{IsKnown}
-use Rattle.channel_actions.proofs.FewCalls.Walk.{calls_are_few}
+use Rattle.channel_actions.proofs.Calls.Few.Walk.{calls_are_few}
 use Rattle.call_cases.specs.EndedCalls.Laws.{DeadlinesAreMet}
 use Rattle.channel_actions.specs.Stages.{Deadlines}
 use Rattle.channel_core.specs.States.{StateSeen}

@@ -4,7 +4,7 @@ use Rattle.channel_actions.proofs.KeptSessions.Along.{kept_begins, kept_stays}
 use Rattle.channel_actions.proofs.KeptSessions.Lines.{next_sound}
 use Rattle.channel_actions.proofs.KeptSessions.Lists.{last_more}
 use Rattle.channel_actions.specs.KeptSessions.Kept.{IsKept, has_link_for}
-use Rattle.channel_actions.proofs.FewCalls.Walk.{Passes, none_left, passes_in}
+use Rattle.channel_actions.proofs.Calls.Few.Walk.{Passes, none_left, passes_in}
 use Rattle.attempt_cases.specs.NetChains.Chains.{IsPickThere}
 use Rattle.grpc_base.specs.declared.event.Event.TheVariants as event
 use Rattle.grpc_base.specs.declared.event.Event.{Event}

@@ -1,5 +1,5 @@
 -- Clock and wishes, of a session that began new: its links are joined to subchannels and attempts.
-use Rattle.channel_actions.proofs.GreetedLinks.Along.{greeted_along, greeted_begins, links_are_joined}
+use Rattle.channel_actions.proofs.Links.Greeted.Along.{greeted_along, greeted_begins, links_are_joined}
 use Rattle.channel_actions.proofs.KeptSessions.Along.{kept_begins}
 use Rattle.channel_actions.specs.FewCalls.Reached.{IsReached}
 use Rattle.channel_actions.specs.GreetedLinks.Joined.{AreJoined}

@@ -1,6 +1,6 @@
 -- What was not read of a link shows no whole frame, but while the entry reads it.
 use Rattle.channel_actions.proofs.Changes.{Small, asked_in, noted_now, placed_in, small_in, sub_now, written_in}
-use Rattle.channel_actions.proofs.FewCalls.Begins.{begins_at_event, is_at_event}
+use Rattle.channel_actions.proofs.Calls.Few.Begins.{begins_at_event, is_at_event}
 use Rattle.channel_actions.proofs.KeptSessions.Along.{kept_begins, kept_stays}
 use Rattle.channel_actions.proofs.KeptSessions.Lists.{all_more}
 use Rattle.channel_actions.proofs.Stamps.{counted_at}

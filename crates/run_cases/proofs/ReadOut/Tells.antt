@@ -1,7 +1,7 @@
 -- Line by line, what the action of a stage tells of its entry: bytes come, and frames are read, of the link of the event; frames are written where no bytes come; an entry
 -- settles once nothing is left to be read; and one that closes has settled.
 use Rattle.attempt_ledger.specs.Hedging.{is_hedge}
-use Rattle.channel_actions.proofs.FewCalls.Begins.{is_of_stage, is_stage_next}
+use Rattle.channel_actions.proofs.Calls.Few.Begins.{is_of_stage, is_stage_next}
 use Rattle.grpc_base.specs.declared.event.EndCause.TheVariants as ending
 use Rattle.grpc_base.specs.declared.event.Event.TheVariants as event
 use Rattle.grpc_base.specs.declared.event.Event.{Event}

@@ -5,7 +5,7 @@ use Rattle.event_cases.specs.FewStreams.Laws.{AttemptsAreFew}
 use Rattle.std.proofs.Common.{Bool, List, ap, arith, if◌then◌else◌, is_some, length, nat_le, refl, suc, sym, true, ℕ, ◌*◌, ◌+◌, ◌-◌, ◌<◌, ◌∙◌, ◌∷◌, [], ◌≡◌, ◌≤◌}
 use Rattle.std.proofs.lemmas.Bool.{and_parts, leb-true}
 use Rattle.std.specs.List.{list_all}
-use Rattle.channel_actions.proofs.FewCalls.Walk.{calls_are_few}
+use Rattle.channel_actions.proofs.Calls.Few.Walk.{calls_are_few}
 use Rattle.channel_actions.proofs.Posted.{kinds_same}
 use Rattle.channel_actions.specs.Agrees.{Agrees}
 use Rattle.channel_actions.specs.FewCalls.Laws.{DialsAreFew, LinksAreFew}

@@ -1,4 +1,4 @@
-use Rattle.channel_actions.proofs.GoingCalls.Arms.{CallLaws, kept_same}
+use Rattle.channel_actions.proofs.Calls.Going.Arms.{CallLaws, kept_same}
 use Rattle.attempt_cases.proofs.MakingSteps.Rounds.{rounds_make}
 use Rattle.attempt_cases.proofs.making_steps.rounds_make.Goals as goal
 

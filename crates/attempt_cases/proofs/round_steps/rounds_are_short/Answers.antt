@@ -1,4 +1,4 @@
-use Rattle.channel_actions.proofs.GoingCalls.Arms.{CallLaws, kept_same}
+use Rattle.channel_actions.proofs.Calls.Going.Arms.{CallLaws, kept_same}
 use Rattle.attempt_cases.proofs.RoundSteps.Ends.{rounds_are_short}
 use Rattle.attempt_cases.proofs.round_steps.rounds_are_short.Goals as goal
 

@@ -1,4 +1,4 @@
-use Rattle.channel_actions.proofs.GoingCalls.Arms.{CallLaws, kept_same}
+use Rattle.channel_actions.proofs.Calls.Going.Arms.{CallLaws, kept_same}
 use Rattle.attempt_cases.proofs.ServeSteps.Serving.{serves_by_answers}
 use Rattle.attempt_cases.proofs.serve_steps.serves_by_answers.Goals as goal
 

@@ -1,4 +1,4 @@
-use Rattle.channel_actions.proofs.GoingCalls.Arms.{CallLaws, kept_same}
+use Rattle.channel_actions.proofs.Calls.Going.Arms.{CallLaws, kept_same}
 use Rattle.attempt_cases.proofs.SettlingKeeps.Keeping.{settling_keeps}
 use Rattle.attempt_cases.proofs.settling_keeps.settlings_keep.Goals as goal
 

@@ -1,4 +1,4 @@
-use Rattle.call_actions.proofs.CommittedEnd.{committed_ends_close}
+use Rattle.call_actions.proofs.Ends.Committed.{committed_ends_close}
 use Rattle.call_actions.proofs.laws.committed_ends_close_calls.Goals as goal
 
 pub returns : goal.returns

@@ -3,7 +3,7 @@ use Rattle.call_core.specs.Parts.{pick_end}
 use Rattle.call_core.specs.RowChains.{AreChained}
 use Rattle.call_core.specs.Rows.{IsApart}
 use Rattle.call_core.proofs.Moves.{moves_closed_by, moves_configured, moves_due, moves_ended_at, moves_news, moves_placed, moves_sent, moves_timed_out}
-use Rattle.call_core.proofs.RowChains.{chained_elsewhere, chained_moves, chained_new, counted_once}
+use Rattle.call_core.proofs.RowLaws.Chains.{chained_elsewhere, chained_moves, chained_new, counted_once}
 use Rattle.call_core.proofs.row_laws.rows_are_chained.Goals as goal
 
 pub returns-clause-counted : goal.returns-clause-counted

@@ -6,7 +6,7 @@ use Rattle.call_core.specs.Parts.{is_followed, pick_end}
 use Rattle.call_core.specs.RowLaws.{AreHedged, HasNoRows}
 use Rattle.call_core.specs.Rows.{IsApart}
 use Rattle.call_core.proofs.Moves.{moves_closed_by, moves_configured, moves_due, moves_ended_at, moves_news, moves_placed, moves_sent, moves_timed_out}
-use Rattle.call_core.proofs.RowHedges.{hedged_elsewhere, hedged_moves, hedged_new, never_unhedged}
+use Rattle.call_core.proofs.RowLaws.Hedges.{hedged_elsewhere, hedged_moves, hedged_new, never_unhedged}
 use Rattle.call_core.proofs.row_laws.rows_keep_hedging.Goals as goal
 
 pub returns-clause-law : goal.returns-clause-law

@@ -1,4 +1,4 @@
-use Rattle.call_core.proofs.RowNumbers.{never_misnumbered}
+use Rattle.call_core.proofs.RowLaws.Numbers.{never_misnumbered}
 use Rattle.call_core.proofs.row_laws.rows_keep_numbering.Goals as goal
 
 pub returns : goal.returns

@@ -3,8 +3,8 @@ use Rattle.attempt_ledger.specs.Ends.{is_cut}
 use Rattle.call_core.specs.Parts.{pick_end}
 use Rattle.call_core.specs.RowLicenses.{AreLicensed, IsSound}
 use Rattle.call_core.proofs.Moves.{moves_closed_by, moves_configured, moves_due, moves_ended_at, moves_news, moves_placed, moves_sent, moves_timed_out}
-use Rattle.call_core.proofs.RowRetried.{licensed_elsewhere, licensed_moves, licensed_new}
-use Rattle.call_core.proofs.RowWords.{never_unlicensed}
+use Rattle.call_core.proofs.RowLaws.Retried.{licensed_elsewhere, licensed_moves, licensed_new}
+use Rattle.call_core.proofs.RowLaws.Words.{never_unlicensed}
 use Rattle.call_core.proofs.row_laws.rows_keep_retries.Goals as goal
 
 pub returns-clause-law : goal.returns-clause-law

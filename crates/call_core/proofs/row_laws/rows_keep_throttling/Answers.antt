@@ -3,7 +3,7 @@ use Rattle.call_core.specs.Parts.{pick_end}
 use Rattle.call_core.specs.RowLaws.{AreOwnTokens, AreThrottled}
 use Rattle.call_core.specs.Rows.{IsApart}
 use Rattle.call_core.proofs.Moves.{moves_closed_by, moves_configured, moves_due, moves_ended_at, moves_news, moves_placed, moves_sent, moves_timed_out}
-use Rattle.call_core.proofs.RowTokens.{never_miscounted, throttled_elsewhere, throttled_moves, throttled_new}
+use Rattle.call_core.proofs.RowLaws.Tokens.{never_miscounted, throttled_elsewhere, throttled_moves, throttled_new}
 use Rattle.call_core.proofs.row_laws.rows_keep_throttling.Goals as goal
 
 pub returns-clause-law : goal.returns-clause-law

@@ -6,9 +6,9 @@ use Rattle.call_core.specs.RowChains.{AreChained}
 use Rattle.call_core.specs.RowFollowers.{AreFollowing, IsTold}
 use Rattle.call_core.specs.Rows.{IsApart}
 use Rattle.call_core.proofs.Moves.{moves_closed_by, moves_configured, moves_due, moves_ended_at, moves_news, moves_placed, moves_sent, moves_timed_out}
-use Rattle.call_core.proofs.RowWrites.{following_elsewhere}
-use Rattle.call_core.proofs.RowRetries.{never_unfollowed}
-use Rattle.call_core.proofs.RowFollowing.{following_moves, following_new}
+use Rattle.call_core.proofs.RowLaws.Writes.{following_elsewhere}
+use Rattle.call_core.proofs.RowLaws.Retries.{never_unfollowed}
+use Rattle.call_core.proofs.RowLaws.Following.{following_moves, following_new}
 use Rattle.call_core.proofs.row_laws.rows_keep_transparent_retries.Goals as goal
 
 pub returns-clause-law : goal.returns-clause-law

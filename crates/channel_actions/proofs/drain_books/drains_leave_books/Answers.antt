@@ -1,5 +1,5 @@
-use Rattle.channel_actions.proofs.DrainBooks.Columns as columns
-use Rattle.channel_actions.proofs.DrainBooks.Sets as sets
+use Rattle.channel_actions.proofs.Drains.Books.Columns as columns
+use Rattle.channel_actions.proofs.Drains.Books.Sets as sets
 use Rattle.channel_actions.proofs.drain_books.drains_leave_books.Goals as goal
 
 pub returns-clause-sets : goal.returns-clause-sets

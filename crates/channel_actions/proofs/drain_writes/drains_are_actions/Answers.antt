@@ -1,4 +1,4 @@
-use Rattle.channel_actions.proofs.DrainWrites.Runs as runs
+use Rattle.channel_actions.proofs.Drains.Writes.Runs as runs
 use Rattle.channel_actions.proofs.drain_writes.drains_are_actions.Goals as goal
 
 pub returns : goal.returns

@@ -1,4 +1,4 @@
-use Rattle.channel_actions.proofs.FewCalls.Asks.{asks_are_few}
+use Rattle.channel_actions.proofs.Calls.Few.Asks.{asks_are_few}
 use Rattle.channel_actions.proofs.few_calls.asks_are_few.Goals as goal
 
 pub returns : goal.returns

@@ -1,4 +1,4 @@
-use Rattle.channel_actions.proofs.FewCalls.Walk.{calls_are_few}
+use Rattle.channel_actions.proofs.Calls.Few.Walk.{calls_are_few}
 use Rattle.channel_actions.proofs.few_calls.calls_are_few.Goals as goal
 
 pub returns : goal.returns

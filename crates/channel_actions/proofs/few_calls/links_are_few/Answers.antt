@@ -1,4 +1,4 @@
-use Rattle.channel_actions.proofs.FewCalls.Tallies.{bytes_are_few, dials_are_few, links_are_few}
+use Rattle.channel_actions.proofs.Calls.Few.Tallies.{bytes_are_few, dials_are_few, links_are_few}
 use Rattle.channel_actions.proofs.few_calls.links_are_few.Goals as goal
 
 pub returns-clause-links : goal.returns-clause-links

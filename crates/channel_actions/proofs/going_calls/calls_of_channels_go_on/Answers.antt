@@ -1,5 +1,5 @@
-use Rattle.channel_actions.proofs.GoingCalls.Arms.{CallLaws, kept_same}
-use Rattle.channel_actions.proofs.GoingCalls.Carried.{answers_go_on, deadlines_go_on, each_goes_on, losses_go_on, new_calls_go_on, settlings_go_on, steps_go_on}
+use Rattle.channel_actions.proofs.Calls.Going.Arms.{CallLaws, kept_same}
+use Rattle.channel_actions.proofs.Calls.Going.Carried.{answers_go_on, deadlines_go_on, each_goes_on, losses_go_on, new_calls_go_on, settlings_go_on, steps_go_on}
 use Rattle.channel_actions.proofs.going_calls.calls_of_channels_go_on.Goals as goal
 
 pub returns : goal.returns

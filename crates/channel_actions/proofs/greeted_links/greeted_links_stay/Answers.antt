@@ -1,4 +1,4 @@
-use Rattle.channel_actions.proofs.GreetedLinks.Along.{greeted_along, greeted_begins, greeted_stays}
+use Rattle.channel_actions.proofs.Links.Greeted.Along.{greeted_along, greeted_begins, greeted_stays}
 use Rattle.channel_actions.proofs.greeted_links.greeted_links_stay.Goals as goal
 
 pub returns-clause-begins : goal.returns-clause-begins

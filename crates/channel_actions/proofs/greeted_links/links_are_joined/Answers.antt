@@ -1,4 +1,4 @@
-use Rattle.channel_actions.proofs.GreetedLinks.Along.{links_are_joined}
+use Rattle.channel_actions.proofs.Links.Greeted.Along.{links_are_joined}
 use Rattle.channel_actions.proofs.greeted_links.links_are_joined.Goals as goal
 
 pub returns : goal.returns

@@ -1,5 +1,5 @@
-use Rattle.channel_actions.proofs.KeptCalls.Along.{calls_are_bare, early_along, early_begins, early_stays}
-use Rattle.channel_actions.proofs.KeptCalls.Fresh.{frames_are_fresh}
+use Rattle.channel_actions.proofs.Calls.Kept.Along.{calls_are_bare, early_along, early_begins, early_stays}
+use Rattle.channel_actions.proofs.Calls.Kept.Fresh.{frames_are_fresh}
 use Rattle.channel_actions.proofs.kept_calls.calls_are_kept.Goals as goal
 
 pub returns-clause-begins : goal.returns-clause-begins

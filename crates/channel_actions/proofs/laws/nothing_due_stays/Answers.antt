@@ -1,4 +1,4 @@
-use Rattle.channel_actions.proofs.Idle.{idle_settlings}
+use Rattle.channel_actions.proofs.Idleness.Settlings.{idle_settlings}
 use Rattle.channel_actions.proofs.Timely.{in_time}
 use Rattle.channel_actions.proofs.laws.nothing_due_stays.Goals as goal
 

@@ -1,5 +1,5 @@
-use Rattle.channel_actions.proofs.LinkFrames.Tellings as tellings
-use Rattle.channel_actions.proofs.LinkFrames.Untold as untold
+use Rattle.channel_actions.proofs.Links.Frames.Tellings as tellings
+use Rattle.channel_actions.proofs.Links.Frames.Untold as untold
 use Rattle.channel_actions.proofs.link_frames.actions_are_untold.Goals as goal
 
 pub returns-clause-nothing : goal.returns-clause-nothing

@@ -1,4 +1,4 @@
-use Rattle.channel_actions.proofs.LinkFrames.Frame as frame
+use Rattle.channel_actions.proofs.Links.Frames.Frame as frame
 use Rattle.channel_actions.proofs.link_frames.links_stay.Goals as goal
 
 pub returns-clause-others : goal.returns-clause-others

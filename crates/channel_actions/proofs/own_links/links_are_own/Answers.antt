@@ -1,4 +1,4 @@
-use Rattle.channel_actions.proofs.OwnLinks.Owned.{own_along, own_begins, own_stays}
+use Rattle.channel_actions.proofs.Links.Own.Owned.{own_along, own_begins, own_stays}
 use Rattle.channel_actions.proofs.own_links.links_are_own.Goals as goal
 
 pub returns-clause-begins : goal.returns-clause-begins

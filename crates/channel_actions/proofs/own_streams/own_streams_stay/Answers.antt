@@ -1,5 +1,5 @@
-use Rattle.channel_actions.proofs.OwnStreams.Along.{frames_are_sendable, streams_along, streams_begin, streams_stay}
-use Rattle.channel_actions.proofs.OwnStreams.Others.{writes_leave_others}
+use Rattle.channel_actions.proofs.Streams.Own.Along.{frames_are_sendable, streams_along, streams_begin, streams_stay}
+use Rattle.channel_actions.proofs.Streams.Own.Others.{writes_leave_others}
 use Rattle.channel_actions.proofs.own_streams.own_streams_stay.Goals as goal
 
 pub returns-clause-begins : goal.returns-clause-begins

@@ -1,4 +1,4 @@
-use Rattle.channel_actions.proofs.SetFrames.Pairs.{exactly_by, exactly_insert, exactly_remove}
+use Rattle.channel_actions.proofs.Links.Settings.Pairs.{exactly_by, exactly_insert, exactly_remove}
 use Rattle.channel_actions.proofs.set_frames.sets_change.Goals as goal
 
 pub returns-clause-comes : goal.returns-clause-comes

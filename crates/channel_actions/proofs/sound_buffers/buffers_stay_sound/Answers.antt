@@ -1,4 +1,4 @@
-use Rattle.channel_actions.proofs.GoingCalls.Arms.{CallLaws, kept_same}
+use Rattle.channel_actions.proofs.Calls.Going.Arms.{CallLaws, kept_same}
 use Rattle.channel_actions.proofs.SoundBuffers.Carried.{answers_hold_soundly, deadlines_hold_soundly, each_holds_soundly, new_buffers_are_sound, settlings_hold_soundly, steps_hold_soundly}
 use Rattle.channel_actions.proofs.sound_buffers.buffers_stay_sound.Goals as goal
 

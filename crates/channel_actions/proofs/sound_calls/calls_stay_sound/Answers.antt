@@ -1,5 +1,5 @@
-use Rattle.channel_actions.proofs.GoingCalls.Arms.{CallLaws, kept_same}
-use Rattle.channel_actions.proofs.SoundCalls.Keeping.{answers_keep, deadlines_keep, new_calls, settlings_keep, steps_keep}
+use Rattle.channel_actions.proofs.Calls.Going.Arms.{CallLaws, kept_same}
+use Rattle.channel_actions.proofs.Calls.Sound.Keeping.{answers_keep, deadlines_keep, new_calls, settlings_keep, steps_keep}
 use Rattle.channel_actions.proofs.sound_calls.calls_stay_sound.Goals as goal
 
 pub returns : goal.returns

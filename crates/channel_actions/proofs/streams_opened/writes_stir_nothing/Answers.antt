@@ -1,4 +1,4 @@
-use Rattle.channel_actions.proofs.StreamsOpened.Written as written
+use Rattle.channel_actions.proofs.Streams.Opened.Written as written
 use Rattle.channel_actions.proofs.streams_opened.writes_stir_nothing.Goals as goal
 
 pub returns : goal.returns

@@ -1,4 +1,4 @@
-use Rattle.channel_actions.proofs.TheirLinks.Kept.{theirs_along, theirs_begin, theirs_stay}
+use Rattle.channel_actions.proofs.Links.Theirs.Kept.{theirs_along, theirs_begin, theirs_stay}
 use Rattle.channel_actions.proofs.their_links.links_are_theirs.Goals as goal
 
 pub returns-clause-begins : goal.returns-clause-begins

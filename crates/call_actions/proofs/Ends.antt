@@ -1,0 +1,4 @@
+pub mod Committed
+pub mod Frames
+pub mod Rows
+pub mod Tokens

@@ -1,0 +1,16 @@
+pub mod Chains
+pub mod Followers
+pub mod Following
+pub mod Hedges
+pub mod Judged
+pub mod Licensed
+pub mod Licenses
+pub mod Licensing
+pub mod Made
+pub mod Numbers
+pub mod Retried
+pub mod Retries
+pub mod Splits
+pub mod Tokens
+pub mod Words
+pub mod Writes

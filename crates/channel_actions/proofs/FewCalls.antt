@@ -1,7 +1,0 @@
-pub mod Asks
-pub mod Begins
-pub mod Decides
-pub mod Reached
-pub mod Streams
-pub mod Tallies
-pub mod Walk

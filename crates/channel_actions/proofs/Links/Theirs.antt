@@ -1,0 +1,2 @@
+pub mod Steadily
+pub mod Kept
