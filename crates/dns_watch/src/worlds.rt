@@ -1,7 +1,9 @@
 // Worlds in which names can be looked up.
-ghost use Rattle.std.specs.Prelude.{◌≡◌, [], length};
+ghost use Rattle.std.specs.Prelude.{◌≡◌, ◌∷◌, [], None, length, map};
 ghost use Rattle.rand_core.specs.Pcg32Seed.{pcg32_seed};
 ghost use Rattle.rand_pcg.specs.Pcg.{pcg64_of_seed};
+ghost use Rattle.gate_io.specs.Links.{untold};
+ghost use Rattle.gate_io.specs.MemoryLinks.{held_by};
 
 use crate::{Lookup, MemLookup, StdLookup};
 use gate_io::{ListClock, MemDialer, MemWorld, PcgDraws, StdClock, TcpDialer, TcpWorld, World};
@@ -15,8 +17,9 @@ use std::{mem, time};
 pub trait NamedWorld: World {
     type Lookup: Lookup;
 
-    /// What looks names up.
-    fn lookup(&mut self) -> Self::Lookup;
+    /// What looks names up. What the dialers hold stays.
+    fn lookup(&mut self) -> Self::Lookup
+        ensures held { Self.World.held self.new ≡ Self.World.held self.old };
 }
 
 /// A world in memory with a lookup.
@@ -57,7 +60,10 @@ impl World for MemNamedWorld {
 
     type Dialer = MemDialer;
 
+    ghost held = { λ w. held_by w.world.dialers };
+
     fn parts(self, seed: u64) -> (ListClock, PcgDraws, Vec<MemDialer>)
+        ensures held { held_by result.2.items ≡ held_by self.world.dialers }
         ensures clock { result.0 ≡ self.world.clock }
         ensures draws { result.1 ≡ pcg64_of_seed (pcg32_seed 32 seed) }
         ensures dialers { result.2.items ≡ self.world.dialers }
@@ -72,6 +78,7 @@ impl NamedWorld for MemNamedWorld {
 
     /// The world's lookup. It is handed out once; a later one has no answers.
     fn lookup(&mut self) -> MemLookup
+        ensures held { held_by self.new.world.dialers ≡ held_by self.old.world.dialers }
         ensures lookup { result ≡ self.old.lookup }
         ensures left { self.new.lookup.answers ≡ [] }
         ensures world { self.new.world ≡ self.old.world }
@@ -104,7 +111,10 @@ impl<R: Net<Stream = TcpStream> + time::Clock + Copy + Send + Sync + Drop> World
 
     type Dialer = TcpDialer<R>;
 
+    ghost held = { λ _. None ∷ None ∷ None ∷ None ∷ [] };
+
     fn parts(self, seed: u64) -> (StdClock<R>, PcgDraws, Vec<TcpDialer<R>>)
+        ensures held { map (λ d. untold d) result.2.items ≡ None ∷ None ∷ None ∷ None ∷ [] }
         ensures draws { result.1 ≡ pcg64_of_seed (pcg32_seed 32 seed) }
         ensures four { length result.2.items ≡ 4 }
     {

@@ -1,3 +1,4 @@
 pub mod AppendLaws
 pub mod ReadLaws
 pub mod WordLaws
+pub mod WorldLaws

@@ -38,3 +38,7 @@ DialGives left coming coming_after faults faults_after dialed.Failed = (coming_a
 abbrev pub AcceptCounts : {I O : Type 0} → ℕ → ℕ → Dialed I O → Type 0
 AcceptCounts faults faults_after (dialed.Open input output) = faults_after ≡ faults
 AcceptCounts faults faults_after dialed.Failed = faults_after ≡ one_more faults
+
+-- what a dialer says of the links to come that tells nothing of them
+abbrev pub untold : {D : Type 0} → D → Option (List (List ℕ))
+untold dialer = None

@@ -1,7 +1,9 @@
 // All that a live channel needs of its environment, in one value.
-ghost use Rattle.std.specs.Prelude.{◌≡◌, length};
+ghost use Rattle.std.specs.Prelude.{◌≡◌, ◌∷◌, [], ℕ, List, Option, None, length, map};
 ghost use Rattle.rand_core.specs.Pcg32Seed.{pcg32_seed};
 ghost use Rattle.rand_pcg.specs.Pcg.{pcg64_of_seed};
+ghost use Rattle.gate_io.specs.Links.{untold};
+ghost use Rattle.gate_io.specs.MemoryLinks.{held_by};
 
 use crate::lately::Lately;
 use crate::sleepers::Sleeper;
@@ -24,8 +26,12 @@ pub trait World: Drop {
 
     type Dialer: Dialer;
 
+    /// Of each dialer in turn, the bytes that each link which it is to open will have left, where it tells them.
+    ghost held: { Self → List (Option (List (List ℕ))) };
+
     /// The parts of the world; the random words are those of this seed.
-    fn parts(self, seed: u64) -> (Self::Clock, Self::Draws, Vec<Self::Dialer>);
+    fn parts(self, seed: u64) -> (Self::Clock, Self::Draws, Vec<Self::Dialer>)
+        ensures held { map Self.Dialer.Dialer.coming result.2.items ≡ held self };
 }
 
 /// A world in memory.
@@ -61,7 +67,10 @@ impl World for MemWorld {
 
     type Dialer = MemDialer;
 
+    ghost held = { λ w. held_by w.dialers };
+
     fn parts(self, seed: u64) -> (ListClock, PcgDraws, Vec<MemDialer>)
+        ensures held { held_by result.2.items ≡ held_by self.dialers }
         ensures clock { result.0 ≡ self.clock }
         ensures draws { result.1 ≡ pcg64_of_seed (pcg32_seed 32 seed) }
         ensures dialers { result.2.items ≡ self.dialers }
@@ -104,7 +113,10 @@ impl<R: Net<Stream = TcpStream> + time::Clock + Copy + Send + Sync + Drop> World
 
     type Dialer = TcpDialer<R>;
 
+    ghost held = { λ _. None ∷ None ∷ None ∷ None ∷ [] };
+
     fn parts(self, seed: u64) -> (StdClock<R>, PcgDraws, Vec<TcpDialer<R>>)
+        ensures held { map (λ d. untold d) result.2.items ≡ None ∷ None ∷ None ∷ None ∷ [] }
         ensures draws { result.1 ≡ pcg64_of_seed (pcg32_seed 32 seed) }
         ensures four { length result.2.items ≡ 4 }
     {

@@ -1,4 +1,4 @@
-use Rattle.std.proofs.Common.{rules, sym, ◌∙◌}
+use Rattle.std.proofs.Common.{rules, ◌∙◌}
 use Rattle.dns_watch.proofs.TurnLaws.{tells_looked, turn_taken}
 use Rattle.dns_watch.proofs.job.dns_once.Goals as goal
 
