@@ -41,3 +41,8 @@ KeepsLinks before after look o = (end : Pumped) × Ends before after look end ×
 abbrev pub MakesCalls : List CallLine → HandleSeen → HandleSeen → Outcome → Type 0
 MakesCalls lines before after outcome.Whole = MakesLines lines before.made after.made × (after.errors ≡ before.errors)
 MakesCalls lines before after o = LinesFront lines before.made after.made × ((e : PostError) × (outcome_of e ≡ o) × IsCauseOf e before after)
+
+-- the worker that looks a name up ended: no post of it failed, or an error came, with its cause
+abbrev pub EndsLookups : HandleSeen → HandleSeen → Outcome → Type 0
+EndsLookups before after outcome.Whole = after.errors ≡ before.errors
+EndsLookups before after o = (e : PostError) × (outcome_of e ≡ o) × IsCauseOf e before after

@@ -8,7 +8,7 @@ use Rattle.grpc_base.specs.declared.post.PostError.{PostError}
 use Rattle.live_pump.specs.Fronts.{ArrivesInFront}
 use Rattle.live_pump.specs.Kinds.{AddsOnly, IsOfLinks}
 use Rattle.live_pump.specs.Pumps.{HandleSeen}
-use Rattle.live_run.specs.Outcomes.{KeepsLinks, MakesCalls}
+use Rattle.live_run.specs.Outcomes.{EndsLookups, KeepsLinks, MakesCalls}
 use Rattle.live_run.specs.declared.jobs.CallJob.{CallJob}
 use Rattle.live_run.specs.declared.jobs.NameJob.{NameJob}
 use Rattle.live_run.specs.declared.jobs.NetJob.{NetJob}
@@ -33,15 +33,17 @@ pub record NetDone {H N : Type 0} (seen : H → HandleSeen) (share : H → List 
   pub posts : AddsOnly IsOfLinks (seen before.post).made (seen after.post).made
   pub same_share : share after.post ≡ share before.post
 
--- an event that tells of a lookup
-abbrev pub IsOfNames : Event → Type 0
-IsOfNames (event.Resolved addresses config) = Unit {0}
-IsOfNames event.ResolveFailed = Unit {0}
-IsOfNames _ = ⊥
+-- an event that tells of a lookup; addresses come with this config
+abbrev pub IsOfNames : Option (List ℕ) → Event → Type 0
+IsOfNames told (event.Resolved addresses config) = config ≡ told
+IsOfNames told event.ResolveFailed = Unit {0}
+IsOfNames told _ = ⊥
 
--- the worker that looks a name up posted nothing but what is of lookups. Its handle has the share of the channel that it had
+-- the worker that looks a name up ended. It posted nothing but what is of lookups, with the config that it was given. Its handle has
+-- the share of the channel that it had
 pub record NameDone {H L D : Type 0} (seen : H → HandleSeen) (share : H → List ℕ) (before after : NameJob H L D) : Type 0 where
-  pub posts : AddsOnly IsOfNames (seen before.post).made (seen after.post).made
+  pub ends : EndsLookups (seen before.post) (seen after.post) after.outcome
+  pub posts : AddsOnly (IsOfNames before.config) (seen before.post).made (seen after.post).made
   pub same_share : share after.post ≡ share before.post
 
 -- a worker beside the calls did its work

@@ -3,7 +3,7 @@ ghost use Rattle.std.specs.Prelude.{◌≡◌};
 ghost use Rattle.live_pump.specs.Fronts.{ArrivesInFront};
 ghost use Rattle.live_pump.specs.Kinds.{AddsOnly, IsOfLinks};
 ghost use Rattle.live_pump.specs.Pumps.{HandleSeen};
-ghost use Rattle.live_run.specs.Outcomes.{KeepsLinks, MakesCalls, ended_with};
+ghost use Rattle.live_run.specs.Outcomes.{EndsLookups, KeepsLinks, MakesCalls, ended_with};
 ghost use Rattle.live_run.specs.Sides.{IsOfNames};
 
 use crate::{Outcome, Watching};
@@ -91,7 +91,8 @@ pub struct NameJob<H, L, D> {
 impl<H: Post + Glance, L: Lookup, D: Draws> NameJob<H, L, D> {
     /// Looks the name up whenever it is its turn, until the channel is shut down.
     pub(crate) fn work<W: Wait, C: Clock>(&mut self, rt: &W, clock: &C)
-        ensures posts { AddsOnly IsOfNames (H.made self.old.post) (H.made self.new.post) }
+        ensures end { let before : HandleSeen = record { made = H.made self.old.post; errors = H.errors self.old.post; last = H.last_error self.old.post } in let after : HandleSeen = record { made = H.made self.new.post; errors = H.errors self.new.post; last = H.last_error self.new.post } in EndsLookups before after self.new.outcome }
+        ensures posts { AddsOnly (IsOfNames self.old.config) (H.made self.old.post) (H.made self.new.post) }
         ensures share { H.share self.new.post ≡ H.share self.old.post }
     {
         let mut patience = Patience::new();
@@ -110,7 +111,10 @@ impl<H: Post + Glance, L: Lookup, D: Draws> NameJob<H, L, D> {
                     clock.pause(patience.pause());
                 }
                 DnsOnce::Posted => patience.hit(),
-                DnsOnce::Shut | DnsOnce::Refused { .. } => return,
+                DnsOnce::Shut | DnsOnce::Refused { .. } => {
+                    self.outcome = Outcome::Whole;
+                    return;
+                }
                 DnsOnce::Failed(error) => {
                     self.outcome = Outcome::of_error(error);
                     return;

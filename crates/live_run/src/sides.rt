@@ -8,7 +8,7 @@ ghost use Rattle.live_run.specs.declared.link_job.LinkJob.{LinkJob};
 use crate::calls::WORKERS;
 use crate::{CallJob, LinkJob, Outcome};
 use dns_watch::Lookup;
-use gate_io::{Clock, Dialer, Draws};
+use gate_io::{Clock, Dialer, Draws, NotesLack};
 use grpc_base::{Caller, Glance, Post};
 use std::sync::Wait;
 use std::thread::{Threads, for_each_mut};
@@ -16,10 +16,11 @@ use std::thread::{Threads, for_each_mut};
 /// The most threads of the workers that keep links open and look a name up.
 const LINKERS: usize = 5;
 
-/// Keeps links open and looks a name up, each worker in a thread of its own, until the channel is shut down. May never return.
+/// Keeps links open and looks a name up, each worker in a thread of its own, until the channel is shut down. Where memory was wanting for
+/// one, those learn of it that wait in the channel. May never return.
 pub fn work_links<
     R: Threads + Wait + Sync,
-    H: Post + Glance + Send,
+    H: Post + Glance + NotesLack + Send,
     N: Dialer,
     L: Lookup,
     C: Clock,

@@ -4,6 +4,7 @@ ghost use Rattle.grpc_base.specs.Counts.{one_more};
 ghost use Rattle.grpc_base.specs.Posts.{AddsEntry, CountsErrors, MayReply, Posts, is_not_yet};
 ghost use Rattle.grpc_base.specs.declared.event.Event.TheVariants as event;
 
+use gate_io::NotesLack;
 use grpc_base::{
     Address, Caller, Code, Conn, EndCause, Entry, Event, Glance, Items, Look, Metadata, Moment,
     NoMemory, Octets, Post, PostError, Refusal, Reply, Text, View,
@@ -19,6 +20,12 @@ pub const DIALED: Address = Address {
 /// The moment until which each dial may take.
 pub const DIALED_UNTIL: u64 = 20_000_000_000;
 
+/// A session that has as many entries as one may have has no room for an event.
+pub const FULL: PostError = PostError::SessionFull {
+    entries: 1_048_576,
+    octets: 0,
+};
+
 /// What the channel replies.
 #[derive(Clone, Copy, Debug)]
 pub struct Plan {
@@ -32,6 +39,8 @@ pub struct Plan {
     pub refuses: bool,
     /// Whether each post fails.
     pub fails: bool,
+    /// Whether it has no room for any event.
+    pub full: bool,
     /// When something is due.
     pub due: Option<u64>,
     /// Whether it wants a new result of the resolver.
@@ -51,6 +60,7 @@ impl Plan {
             drains: false,
             refuses: false,
             fails: false,
+            full: false,
             due: None,
             wanted: false,
             messages: 0,
@@ -137,6 +147,8 @@ pub struct Channel {
     last_error: Option<PostError>,
     looks: u64,
     last_look: Option<Look>,
+    /// How often it was told that a worker found no memory.
+    pub notes: u64,
     zero: Moment,
     ok: Code,
     alloc: Global,
@@ -152,6 +164,7 @@ impl Channel {
             last_error: None,
             looks: 0,
             last_look: None,
+            notes: 0,
             zero: Moment::new(0)?,
             ok: Code::new(0)?,
             alloc,
@@ -252,6 +265,9 @@ impl Post for Channel {
         if self.plan.fails {
             return Err(self.fail(PostError::NoMemory { spent: true }));
         }
+        if self.plan.full {
+            return Err(self.fail(FULL));
+        }
         let reply = self.plan.reply_to(&event);
         self.give(event, &reply)
     }
@@ -308,5 +324,11 @@ impl Glance for Channel {
             answer: true,
         });
         true
+    }
+}
+
+impl NotesLack for Channel {
+    fn note_lack(&mut self) {
+        self.notes = self.notes.saturating_add(1);
     }
 }

@@ -11,6 +11,8 @@ mod keepalive_core_tests;
 #[cfg(test)]
 mod live_pump_tests;
 #[cfg(test)]
+mod live_run_tests;
+#[cfg(test)]
 mod names;
 
-pub use channel::{Channel, DIALED, DIALED_UNTIL, Plan};
+pub use channel::{Channel, DIALED, DIALED_UNTIL, FULL, Plan};
