@@ -1,5 +1,6 @@
 // A new channel over them.
-ghost use Rattle.std.specs.Prelude.{IfOk};
+ghost use Rattle.std.specs.Prelude.{◌≡◌, [], ◌∷◌, IfOk};
+ghost use Rattle.plain_channel.specs.declared.plain.Plain.TheVariants as plain;
 ghost use Rattle.channel_core.specs.Core.{IsNew};
 
 use crate::plain::Plain;
@@ -29,8 +30,10 @@ impl From<NoMemory> for Unmade {
     }
 }
 
-/// `pick_first` and `round_robin`.
-fn plain_policies(alloc: Global) -> Result<Vec<Plain>, NoMemory> {
+/// `pick_first` and `round_robin`, new.
+pub fn plain_policies(alloc: Global) -> Result<Vec<Plain>, NoMemory>
+    ensures { IfOk result (λ policies. policies.items ≡ plain.First (record { view = record { subs = []; failed = [] }; turns = 0 }) ∷ plain.Round (record { view = record { subs = []; failed = [] }; turns = 0 }) ∷ []) }
+{
     let mut policies = Items::new(alloc);
     policies.push(Plain::First(PickFirst::new()))?;
     policies.push(Plain::Round(RoundRobin::new()))?;

@@ -4,5 +4,5 @@
 mod channel;
 mod plain;
 
-pub use channel::{AUTHORITY, Unmade, new_channel};
+pub use channel::{AUTHORITY, Unmade, new_channel, plain_policies};
 pub use plain::Plain;

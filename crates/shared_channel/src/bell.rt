@@ -70,6 +70,8 @@ impl Place {
 #[derive(Drop)]
 pub(crate) struct Bell {
     places: Vec<Place>,
+    /// Whether a worker beside the calls ended for want of memory, so that what they wait for may never come.
+    lacks: AtomicBool,
 }
 
 impl Bell {
@@ -79,7 +81,10 @@ impl Bell {
         while places.len() < PLACES {
             places.push(Place::new())?;
         }
-        Ok(Bell { places })
+        Ok(Bell {
+            places,
+            lacks: AtomicBool::new(false),
+        })
     }
 
     /// A place for a thread that waits for what comes for a call. It has it before it looks, so that no ring behind the look is missed.
@@ -115,6 +120,20 @@ impl Bell {
                 place.ring();
             }
         }
+    }
+
+    /// Notes that a worker beside the calls ended for want of memory, and wakes all that wait.
+    pub(crate) fn note_lack(&self) {
+        self.lacks.store(true, Ordering::SeqCst);
+        for place in self.places.iter() {
+            place.ring();
+            place.wake();
+        }
+    }
+
+    /// Whether a worker beside the calls ended for want of memory.
+    pub(crate) fn lacks(&self) -> bool {
+        self.lacks.load(Ordering::SeqCst)
     }
 
     /// Behind a turn: wakes those that were rung for.

@@ -9,6 +9,7 @@ ghost use Rattle.shared_channel.specs.Turns.{Looks, words_of};
 use crate::bell::Bell;
 use crate::channel_seat::ChannelSeat;
 use crate::jobs::Lend;
+use crate::origin::Origin;
 use crate::owed::Owed;
 use crate::reading::Reading;
 use crate::shared::{Seat, Shared};
@@ -17,15 +18,15 @@ use crate::tally::Tally;
 use crate::watched::Watched;
 use channel_core::ChannelCore;
 use gate_io::{Clock, Draws};
-use grpc_base::{Conn, NoMemory, Text};
+use grpc_base::{Conn, NoMemory};
 use lb_policy::Balancer;
 use std::alloc::Global;
 use std::marker::Model;
 use std::sync::Wait;
 use turn_lock::TurnLock;
 
-/// A channel that threads share: its core under a lock at which handles take turns. The origin of the lock is the authority of the
-/// channel's requests.
+/// A channel that threads share: its core under a lock at which handles take turns. The origin of the lock tells with what the channel
+/// was new.
 #[derive(Drop)]
 pub struct SharedChannel<P: Balancer> {
     lock: TurnLock<Shared<P>>,
@@ -54,20 +55,20 @@ fn state_of(number: u8) -> Conn
 }
 
 impl<P: Balancer> SharedChannel<P> {
-    /// A channel over this core, which was new with this authority and was given events and whose journal is within its limit, and the
+    /// A channel over this core, which was new with this origin and was given events and whose journal is within its limit, and the
     /// first handle, whose own entries are all that the core has.
     pub fn new(
         alloc: Global,
         core: ChannelCore<P>,
-        authority: Text,
+        origin: Origin,
     ) -> Result<(SharedChannel<P>, Seat<P>), NoMemory>
         requires limit { length core.journal.entries ≤ 1048576 }
-        requires run { HasRun authority core }
+        requires run { HasRun origin core }
         ensures seat { IfOk result (λ r. r.1 ≡ record { lock = r.0; seen = core.journal.entries; own = places 0 core.journal.entries; parts = 4294967296; found = [] }) }
-        ensures authority { IfOk result (λ r. r.0.origin ≡ authority) }
+        ensures origin { IfOk result (λ r. r.0.origin ≡ origin) }
     {
         let bell = Bell::new(alloc)?;
-        let watched = Watched::new(core, authority);
+        let watched = Watched::new(core, origin);
         let (lock, seat) = TurnLock::new(alloc, Shared { watched })?;
         let channel = SharedChannel { lock, bell };
         Ok((channel, seat))

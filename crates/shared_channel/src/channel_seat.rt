@@ -14,7 +14,7 @@ use crate::jobs::{AtDrain, AtSend, AtTake, AtView, SendStep, Step, TakeStep, mom
 use crate::owed::Owed;
 use crate::shared::{Seat, Shared};
 use crate::tally::Tally;
-use gate_io::{Clock, Draws, GivenUp};
+use gate_io::{Clock, Draws, GivenUp, NotesLack};
 use grpc_base::{Caller, Event, Glance, Look, Octets, Post, PostError, Reply, Stamped, View};
 use lb_policy::Balancer;
 use std::sync::Wait;
@@ -192,8 +192,8 @@ impl<P: Balancer, W: Wait, C: Clock, D: Draws> Glance for ChannelSeat<'_, P, W, 
 
 impl<P: Balancer, W: Wait, C: Clock, D: Draws> Caller for ChannelSeat<'_, P, W, C, D> {
     /// One Take, as soon as something has come for the call: it looks, and again when another thread's event has brought something for it,
-    /// and every 50 ms. Where nothing has come, and a look finds that nothing more happens in the channel, the answer is NoMemory, and all is
-    /// as before.
+    /// and every 50 ms. Where nothing has come, and a look finds that nothing more happens in the channel, or that a worker beside the calls
+    /// ended for want of memory, the answer is NoMemory, and all is as before.
     /// The clock is read at each look, and the entry has the last of these moments and the next random word.
     fn await_take(&mut self, call: u32) -> Result<Reply, PostError>
         ensures made { Posts (entries_of self.old.seat.own) (entries_of self.new.seat.own) (event.Take call) result }
@@ -268,5 +268,18 @@ impl<P: Balancer, W: Wait, C: Clock, D: Draws> Caller for ChannelSeat<'_, P, W, 
             self.clock.pause(left);
         }
         unreachable!()
+    }
+}
+
+impl<P: Balancer, W: Wait, C: Clock, D: Draws> NotesLack for ChannelSeat<'_, P, W, C, D> {
+    /// From now on an awaited Take or Send of any handle for which nothing has come is answered NoMemory, and those that wait are woken.
+    fn note_lack(&mut self)
+        ensures made { entries_of self.new.seat.own ≡ entries_of self.old.seat.own }
+        ensures errors { (self.new.tally.errors ≡ self.old.tally.errors) × (self.new.tally.last_error ≡ self.old.tally.last_error) }
+        ensures looks { (self.new.tally.looks ≡ self.old.tally.looks) × (self.new.tally.last_look ≡ self.old.tally.last_look) }
+        ensures share { share_of self.new.seat ≡ share_of self.old.seat }
+        ensures same { self.new.seat ≡ self.old.seat }
+    {
+        self.bell.note_lack();
     }
 }

@@ -48,7 +48,7 @@ impl<P: Balancer> Job<Shared<P>> for Step<'_> {
     }
 }
 
-/// The answer of a call that waits: none as long as the channel can go on.
+/// The answer of a call that waits: none as long as it may wait.
 fn refused(end: Option<PostError>) -> Option<Result<Reply, PostError>>
     ensures { result ≡ option_map (λ error. Err error) end }
 {
@@ -64,7 +64,7 @@ pub struct TakeStep<'b> {
     pub moment: Moment,
     pub word: u64,
     pub call: u32,
-    /// Where it is rung, if something was due.
+    /// Where it is rung, if something was due, and where it is noted that a worker ended for want of memory.
     pub bell: &'b Bell,
 }
 
@@ -77,7 +77,7 @@ impl<P: Balancer> Job<Shared<P>> for TakeStep<'_> {
 
     fn run(&mut self, state: &mut Shared<P>) -> Option<Result<Reply, PostError>> {
         if !state.watched.core().can_take(self.call) {
-            return refused(state.watched.end());
+            return refused(state.watched.end(self.bell.lacks()));
         }
         let is_due = state.watched.is_due(self.moment);
         let result = state.watched.step(Stamped {
@@ -97,7 +97,7 @@ pub struct SendStep<'b> {
     pub word: u64,
     pub call: u32,
     pub message: Octets,
-    /// Where it is rung, if something was due.
+    /// Where it is rung, if something was due, and where it is noted that a worker ended for want of memory.
     pub bell: &'b Bell,
 }
 
@@ -112,7 +112,7 @@ impl<P: Balancer> Job<Shared<P>> for SendStep<'_> {
     fn run(&mut self, state: &mut Shared<P>) -> Option<Result<Reply, PostError>> {
         if let Ok(len) = u32::try_from(self.message.len()) {
             if !state.watched.core().can_send(self.call, len) {
-                return refused(state.watched.end());
+                return refused(state.watched.end(self.bell.lacks()));
             }
         }
         let message = mem::replace(&mut self.message, Octets::new());
@@ -231,7 +231,7 @@ impl<P: Balancer, R: Reading<P>> Job<Shared<P>> for Lend<'_, R> {
 
     type Answer = R::Answer;
 
-    ghost runs = { λ job state answer job_after after. (after ≡ state) × IsRunning state.watched.authority state.watched.core × R.reads job.reading.now state.watched.core answer job_after.reading.now × (job_after.reading.ghost_name ≡ job.reading.ghost_name) };
+    ghost runs = { λ job state answer job_after after. (after ≡ state) × IsRunning state.watched.origin state.watched.core × R.reads job.reading.now state.watched.core answer job_after.reading.now × (job_after.reading.ghost_name ≡ job.reading.ghost_name) };
 
     fn run(&mut self, state: &mut Shared<P>) -> R::Answer {
         self.reading

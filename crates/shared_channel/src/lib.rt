@@ -5,6 +5,7 @@ mod bell;
 mod channel;
 mod channel_seat;
 mod jobs;
+mod origin;
 mod owed;
 mod reading;
 mod shared;
@@ -14,6 +15,7 @@ mod watched;
 
 pub use channel::SharedChannel;
 pub use channel_seat::ChannelSeat;
+pub use origin::Origin;
 pub use reading::Reading;
 pub use shared::{Seat, Shared};
 pub use take::TakeFuture;

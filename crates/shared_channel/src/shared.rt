@@ -22,8 +22,8 @@ impl<P: Balancer> Chronicle for Shared<P> {
 
     ghost mark_of = { λ entries. mark_in entries };
 
-    // The authority of its requests.
-    ghost origin = { λ s. s.watched.authority };
+    // With what its channel was new.
+    ghost origin = { λ s. s.watched.origin };
 
     fn count(&self) -> u64 {
         self.watched.count()

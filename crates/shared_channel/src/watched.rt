@@ -1,5 +1,5 @@
 // The channel under the lock, whether it was shut down, whether it was found nearly full, and whether it is over.
-ghost use Rattle.std.specs.Prelude.{◌≡◌, ◌≤◌, ◌||◌, true, length, IfSome, OnOk, if◌then◌else◌};
+ghost use Rattle.std.specs.Prelude.{◌≡◌, ◌≤◌, ◌⊎◌, ◌||◌, true, length, IfSome, OnOk, if◌then◌else◌};
 ghost use Rattle.grpc_base.specs.declared.event.Conn.TheVariants as conn;
 ghost use Rattle.grpc_base.specs.Posts.{HasNoRoom};
 ghost use Rattle.turn_lock.specs.History.{StartsWith};
@@ -11,9 +11,11 @@ ghost use Rattle.grpc_base.specs.declared.event.Event.{Event};
 ghost use Rattle.shared_channel.specs.Turns.{CannotGoOn, Fails, ShowsView, StepGives};
 
 use crate::bell::Bell;
+use crate::origin::Origin;
 use channel_core::{ChannelCore, CoreError};
 use grpc_base::limits::MESSAGE_BYTES;
-use grpc_base::{Conn, Entry, Event, Moment, PostError, Reply, Stamped, Text, View};
+use grpc_base::{Conn, Entry, Event, Moment, PostError, Reply, Stamped, View};
+use journal_room::keeps_its_types;
 use lb_policy::Balancer;
 use std::marker::Model;
 
@@ -35,8 +37,8 @@ pub struct Watched<P: Balancer> {
     nearly_full: bool,
     /// Whether a step found no room for what came of a link or for a Shutdown, or ran out of memory half way.
     stopped: bool,
-    // That of the channel's requests, which the core does not show.
-    authority: Text,
+    /// With what the channel was new, which the core does not show.
+    origin: Origin,
 }
 
 impl<P: Balancer> Model for Watched<P> {
@@ -46,9 +48,9 @@ impl<P: Balancer> Model for Watched<P> {
 
     ghost Value = { WatchedSeen };
 
-    ghost view = { λ w. record { core = w.core; authority = w.authority } };
+    ghost view = { λ w. record { core = w.core; origin = w.origin } };
 
-    ghost invariant = { λ w. (w.shut ≡ has_shutdown w.core.journal.entries) × (length w.core.journal.entries ≤ 1048576) × IsRunning w.authority w.core × (w.nearly_full ≡ true → IsNearlyFull w.core.journal.entries) };
+    ghost invariant = { λ w. (w.shut ≡ has_shutdown w.core.journal.entries) × (length w.core.journal.entries ≤ 1048576) × IsRunning w.origin w.core × (w.nearly_full ≡ true → IsNearlyFull w.core.journal.entries) };
 }
 
 fn is_shutdown(event: &Event) -> bool
@@ -144,11 +146,11 @@ fn finds_nearly_full(error: &CoreError) -> bool
 }
 
 impl<P: Balancer> Watched<P> {
-    /// This channel, which was new with this authority and was given events.
-    pub fn new(core: ChannelCore<P>, authority: Text) -> Watched<P>
+    /// This channel, which was new with this origin and was given events.
+    pub fn new(core: ChannelCore<P>, origin: Origin) -> Watched<P>
         requires limit { length core.journal.entries ≤ 1048576 }
-        requires run { HasRun authority core }
-        ensures { result ≡ record { core = core; authority = authority } }
+        requires run { HasRun origin core }
+        ensures { result ≡ record { core = core; origin = origin } }
     {
         let shut = has_shutdown(core.journal().entries.as_slice());
         Watched {
@@ -156,13 +158,13 @@ impl<P: Balancer> Watched<P> {
             shut,
             nearly_full: false,
             stopped: false,
-            authority,
+            origin,
         }
     }
 
     pub fn core(&self) -> &ChannelCore<P>
         ensures core { result.now ≡ self.now.core }
-        ensures running { IsRunning self.now.authority self.now.core }
+        ensures running { IsRunning self.now.origin self.now.core }
     {
         &self.core
     }
@@ -187,12 +189,22 @@ impl<P: Balancer> Watched<P> {
         self.core.view().spent
     }
 
-    /// The error of a call that waits: none as long as the channel can go on.
-    pub fn end(&self) -> Option<PostError>
-        ensures when { IfSome result (λ _. CannotGoOn self.now.core) }
+    /// Whether nobody is to wait any longer: the channel can't go on, or lacks a worker that ended for want of memory.
+    fn ends_waits(&self, lacks: bool) -> bool
+        ensures { result ≡ true → (lacks ≡ true) ⊎ CannotGoOn self.now.core }
+    {
+        if lacks {
+            return true;
+        }
+        self.is_over()
+    }
+
+    /// The error of a call that waits: none as long as the channel can go on, and lacks no worker.
+    pub fn end(&self, lacks: bool) -> Option<PostError>
+        ensures when { IfSome result (λ _. (lacks ≡ true) ⊎ CannotGoOn self.now.core) }
         ensures fails { IfSome result (λ error. (e : Event) → Fails e self.now.core error self.now.core) }
     {
-        if !self.is_over() {
+        if !self.ends_waits(lacks) {
             return None;
         }
         let spent = self.core.view().spent;
@@ -243,11 +255,12 @@ impl<P: Balancer> Watched<P> {
     pub fn step(&mut self, stamped: Stamped) -> Result<Reply, PostError>
         ensures gives { StepGives stamped self.old.core result self.new.core }
         ensures appends { StartsWith self.new.core.journal.entries self.old.core.journal.entries }
-        ensures kept { self.new.authority ≡ self.old.authority }
+        ensures kept { self.new.origin ≡ self.old.origin }
         ensures room { OnOk result (HasNoRoom (length self.old.core.journal.entries) (counted (journal_bytes self.old.core.journal.entries)) stamped.event → ⊥) }
     {
         let shuts = is_shutdown(&stamped.event);
         let needed = is_needed(&stamped.event);
+        keeps_its_types(&stamped.event);
         match self.core.step(stamped) {
             Ok(reply) => {
                 self.shut = either(self.shut, shuts);

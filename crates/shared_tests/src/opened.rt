@@ -1,24 +1,46 @@
 // A channel that threads share, what is asked of it, and what is read of it.
-ghost use Rattle.std.specs.Prelude.{◌≡◌, IfOk};
+ghost use Rattle.std.specs.Prelude.{◌≡◌, IfOk, map};
+ghost use Rattle.shared_channel.specs.Running.{origin_of};
 
 use channel_core::ChannelCore;
-use grpc_base::{Event, Metadata, Post, PostError, Request, Text};
+use grpc_base::{Event, Metadata, Post, PostError, Request, Text, is_authority};
 use lb_policy::Balancer;
-use plain_channel::{AUTHORITY, Plain, Unmade, new_channel};
-use shared_channel::{Reading, Seat, SharedChannel};
+use plain_channel::{AUTHORITY, Plain, Unmade, plain_policies};
+use policy_rack::policies_ready;
+use shared_channel::{Origin, Reading, Seat, SharedChannel};
 use std::alloc::Global;
 
-/// A new channel, and its first handle.
+/// A new channel with this authority and these policies, and its first handle.
 #[tactic(auto, using(crate::proofs::OpenLaws::new_fits))]
+fn open<P: Balancer>(
+    alloc: Global,
+    authority: Text,
+    policies: Vec<P>,
+) -> Result<(SharedChannel<P>, Seat<P>), Unmade>
+    ensures lock { IfOk result (λ r. r.1.lock ≡ r.0) }
+    ensures parts { IfOk result (λ r. r.1.parts ≡ 4294967296) }
+    ensures origin { IfOk result (λ r. r.0.origin ≡ origin_of authority (map P.seen policies.items)) }
+{
+    if !is_authority(authority.as_slice()) {
+        return Err(Unmade::NoAuthority);
+    }
+    if !policies_ready(policies.as_slice()) {
+        return Err(Unmade::NoPolicies);
+    }
+    let origin = Origin::of(&authority, &policies);
+    let core = ChannelCore::new(alloc, authority, policies)?;
+    let opened = SharedChannel::new(alloc, core, origin)?;
+    Ok(opened)
+}
+
+/// A new channel, and its first handle.
 pub fn make_channel(alloc: Global) -> Result<(SharedChannel<Plain>, Seat<Plain>), Unmade>
     ensures lock { IfOk result (λ r. r.1.lock ≡ r.0) }
     ensures parts { IfOk result (λ r. r.1.parts ≡ 4294967296) }
 {
     let authority = Text::of_slice(alloc, AUTHORITY)?;
-    let named = Text::of_slice(alloc, AUTHORITY)?;
-    let core = new_channel(alloc, authority)?;
-    let opened = SharedChannel::new(alloc, core, named)?;
-    Ok(opened)
+    let policies = plain_policies(alloc)?;
+    open(alloc, authority, policies)
 }
 
 /// Begins a call.

@@ -1,12 +1,13 @@
-// A Take that is polled: before anything has come, within a turn of another handle, and by an executor.
+// A Take that is polled: before anything has come, within a turn of another handle, and by an executor. A Take that is awaited where a
+// worker lacked memory.
 use crate::opened::{Count, begin, make_channel, tell};
 use channel_core::ChannelCore;
 use futures::executor::block_on;
 use futures::future::Future;
 use futures::task::Poll;
 use futures::test::MockTask;
-use gate_io::{ListClock, PcgDraws};
-use grpc_base::{Code, Event, PostError, Reply};
+use gate_io::{ListClock, NotesLack, PcgDraws};
+use grpc_base::{Caller, Code, Event, PostError, Reply};
 use plain_channel::Plain;
 use shared_channel::{Reading, TakeFuture};
 use std::test::Fail;
@@ -46,6 +47,11 @@ fn is_cancelled(taken: &Taken) -> bool {
     }
 }
 
+/// Whether a Take ended for want of memory, with nothing changed.
+fn is_without_memory(taken: &Taken) -> bool {
+    matches!(taken, Err(PostError::NoMemory { spent: false }))
+}
+
 /// The call has ended, so that only the turn keeps the first poll from its reply.
 #[test]
 fn a_take_polled_within_a_turn_is_pending_and_ready_after_it(rt: HostRuntime) -> Result<(), Fail> {
@@ -81,5 +87,23 @@ fn a_take_polled_before_anything_has_come_is_pending(rt: HostRuntime) -> Result<
     assert!(rt; is_pending(&task, &mut channel.take(&mut handle, 1)));
     assert!(rt; task.is_woken(), "it asks to be polled again");
     assert_eq!(rt; channel.inspect(&rt, &mut other, &mut Count), 1);
+    Ok(())
+}
+
+#[test]
+fn an_awaited_take_ends_where_a_worker_lacked_memory_and_gives_what_has_come(
+    rt: HostRuntime,
+) -> Result<(), Fail> {
+    let alloc = rt.alloc();
+    let (channel, mut first) = make_channel(alloc)?;
+    let clock = ListClock::new(vec![in alloc; 0u64]?);
+    let seat = channel.split_seat(&mut first);
+    let mut worker = channel.seat(&rt, seat, &clock, PcgDraws::new(1));
+    let mut caller = channel.seat(&rt, first, &clock, PcgDraws::new(2));
+    begin(alloc, &mut caller)?;
+    worker.note_lack();
+    assert!(rt; is_without_memory(&caller.await_take(1)));
+    tell(&mut caller, Event::Cancel { call: 1 })?;
+    assert!(rt; is_cancelled(&caller.await_take(1)));
     Ok(())
 }

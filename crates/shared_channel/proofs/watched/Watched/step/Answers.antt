@@ -1,11 +1,12 @@
-use Rattle.std.proofs.Common.{◌∙◌, Err, [], ap, append-nil, length, subst, sym}
+use Rattle.std.proofs.Common.{◌∙◌, [], ap, append-nil, length, subst, sym}
 use Rattle.grpc_base.specs.Posts.{HasNoRoom}
 use Rattle.channel_core.specs.Core.{CoreSeen, Steps}
 use Rattle.channel_core.specs.Sizes.{counted, journal_bytes}
 use Rattle.turn_lock.specs.History.{StartsWith}
 use Rattle.shared_channel.specs.Errors.{error_of}
 use Rattle.shared_channel.proofs.FullLaws.{full_either, full_found, full_more}
-use Rattle.shared_channel.proofs.RunningLaws.{step_runs, steps_run}
+use Rattle.journal_room.proofs.RoomLaws.{step_room}
+use Rattle.shared_channel.proofs.RunningLaws.{fails_run, steps_run}
 use Rattle.shared_channel.proofs.StateLaws.{error_as, fails_of, fails_same, had_room, has_one_more, ok_of, watched_now, watched_same}
 use Rattle.shared_channel.proofs.watched.Watched.step.Goals as goal
 
@@ -14,7 +15,12 @@ invariant_of-self g c =
     let did = ok_of (Steps c.self.inside.core c.step.new.self c.args.stamped) c.step.result c.in-Ok.reply c.in-Ok.is c.step.ensures.ok in
     let kept = watched_now _ _ _ _ _ _ c.either-self-inside.ensures did.journal c.is_shutdown-shuts.ensures (c.self.invariant.0, c.self.invariant.1)
     (has_one_more _ _ _ (had_room c.self.inside.core c.args.stamped.event c.step.result c.in-Ok.reply c.in-Ok.is did.before c.step.ensures.full)) in
-    (kept.0, kept.1, steps_run _ c.self.inside.core c.step.new.self c.args.stamped c.in-Ok.reply did c.self.invariant.2, λ so. full_more _ _ (_, did.journal) (c.self.invariant.3 so))
+    let room = step_room c.self.inside.core c.args.stamped.event c.step.result c.in-Ok.reply c.in-Ok.is did.before c.step.ensures.full in (
+      kept.0,
+      kept.1,
+      steps_run _ c.self.inside.core c.step.new.self c.args.stamped c.in-Ok.reply did c.keeps_its_types.ensures room c.self.invariant.2,
+      λ so. full_more _ _ (_, did.journal) (c.self.invariant.3 so),
+    )
 
 pub returns-in-Ok-clause-room : goal.returns-in-Ok-clause-room
 returns-in-Ok-clause-room g c =
@@ -34,7 +40,7 @@ invariant_of-self-in-Err g c =
     let kept = watched_same _ _ _ same (c.self.invariant.0, c.self.invariant.1) in (
       kept.0,
       kept.1,
-      step_runs _ c.args.stamped c.self.inside.core c.step.new.self (Err (error_of c.in-Err.error)) fails c.self.invariant.2,
+      fails_run _ c.args.stamped.event c.self.inside.core c.step.new.self (error_of c.in-Err.error) fails c.self.invariant.2,
       full_either _ _ _ _ _ c.either-self-inside-in-Err.ensures ([], same ∙ sym (append-nil _)) c.self.invariant.3
           (λ finds. full_found c.self.inside.core c.args.stamped.event c.step.result c.in-Err.error c.in-Err.is c.step.ensures.full (c.finds_nearly_full.ensures finds)),
     )
