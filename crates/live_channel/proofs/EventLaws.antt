@@ -1,5 +1,5 @@
 -- The kinds of the events that the handles of a run post.
-use Rattle.std.proofs.Common.{◌≡◌, ℕ, List, [], refl, subst, sym}
+use Rattle.std.proofs.Common.{◌≡◌, ℕ, Option, List, [], refl, subst, sym}
 use Rattle.std.specs.List.{AllByRecursion}
 use Rattle.grpc_base.specs.declared.event.Entry.{Entry}
 use Rattle.grpc_base.specs.declared.event.Event.{Event}
@@ -21,7 +21,7 @@ calls_own own adds = each_unmap (λ (e : Entry). IsOfCall e.event) (λ (p : ℕ 
 
 -- ---- beside the calls
 
-links_beside : (e : Event) → IsOfLinks e → IsBeside e
+pub links_beside : (e : Event) → IsOfLinks e → IsBeside e
 links_beside (event.Begin request) is = absurd is
 links_beside (event.Send call message) is = absurd is
 links_beside (event.Finish call) is = absurd is
@@ -39,33 +39,32 @@ links_beside (event.Ping link word) is = record { call = refl; shut = refl }
 links_beside event.Tick is = record { call = refl; shut = refl }
 links_beside event.Shutdown is = absurd is
 
-names_beside : (e : Event) → IsOfNames e → IsBeside e
-names_beside (event.Begin request) is = absurd is
-names_beside (event.Send call message) is = absurd is
-names_beside (event.Finish call) is = absurd is
-names_beside (event.Take call) is = absurd is
-names_beside (event.Cancel call) is = absurd is
-names_beside (event.Resolved addresses config) is = record { call = refl; shut = refl }
-names_beside event.ResolveFailed is = record { call = refl; shut = refl }
-names_beside event.TakeDial is = absurd is
-names_beside (event.LinkUp sub) is = absurd is
-names_beside (event.DialFailed sub) is = absurd is
-names_beside (event.Arrived link piece) is = absurd is
-names_beside (event.LinkLost link) is = absurd is
-names_beside (event.Drain link room) is = absurd is
-names_beside (event.Ping link word) is = absurd is
-names_beside event.Tick is = absurd is
-names_beside event.Shutdown is = absurd is
+names_beside : (told : Option (List ℕ)) (e : Event) → IsOfNames told e → IsBeside e
+names_beside told (event.Begin request) is = absurd is
+names_beside told (event.Send call message) is = absurd is
+names_beside told (event.Finish call) is = absurd is
+names_beside told (event.Take call) is = absurd is
+names_beside told (event.Cancel call) is = absurd is
+names_beside told (event.Resolved addresses config) is = record { call = refl; shut = refl }
+names_beside told event.ResolveFailed is = record { call = refl; shut = refl }
+names_beside told event.TakeDial is = absurd is
+names_beside told (event.LinkUp sub) is = absurd is
+names_beside told (event.DialFailed sub) is = absurd is
+names_beside told (event.Arrived link piece) is = absurd is
+names_beside told (event.LinkLost link) is = absurd is
+names_beside told (event.Drain link room) is = absurd is
+names_beside told (event.Ping link word) is = absurd is
+names_beside told event.Tick is = absurd is
+names_beside told event.Shutdown is = absurd is
 
--- a worker that had made nothing, and posted events of a kind that is beside the calls
-own_beside : (IsOfKind : Event → Type 0) → ((e : Event) → IsOfKind e → IsBeside e) → (before after : List (ℕ × Entry)) → before ≡ [] → AddsOnly IsOfKind (entries_of before) (entries_of after) → AreBeside after
-own_beside IsOfKind leads before after none adds =
-    let all : AllByRecursion (λ e. IsOfKind e.event) (entries_of after) = all_added IsOfKind (entries_of after) (subst (λ (l : List (ℕ × Entry)). AddsOnly IsOfKind (entries_of l) (entries_of after)) none adds) in
-    each_unmap (λ (e : Entry). IsBeside e.event) (λ (p : ℕ × Entry). p.1) after
-    (each_weaker (λ (e : Entry). IsOfKind e.event) (λ (e : Entry). IsBeside e.event) (λ e is. leads e.event is) (entries_of after) all)
+-- a worker that had made nothing, and posted events of a kind
+pub kind_own : (IsOfKind : Event → Type 0) → (before after : List (ℕ × Entry)) → before ≡ [] → AddsOnly IsOfKind (entries_of before) (entries_of after) → AllByRecursion (λ p. IsOfKind p.1.event) after
+kind_own IsOfKind before after none adds =
+    each_unmap (λ (e : Entry). IsOfKind e.event) (λ (p : ℕ × Entry). p.1) after
+    (all_added IsOfKind (entries_of after) (subst (λ (l : List (ℕ × Entry)). AddsOnly IsOfKind (entries_of l) (entries_of after)) none adds))
 
-pub links_own : (before after : List (ℕ × Entry)) → before ≡ [] → AddsOnly IsOfLinks (entries_of before) (entries_of after) → AreBeside after
-links_own before after none adds = own_beside IsOfLinks links_beside before after none adds
+pub links_own_beside : (own : List (ℕ × Entry)) → AllByRecursion (λ p. IsOfLinks p.1.event) own → AreBeside own
+links_own_beside own all = each_weaker (λ (p : ℕ × Entry). IsOfLinks p.1.event) (λ (p : ℕ × Entry). IsBeside p.1.event) (λ p is. links_beside p.1.event is) own all
 
-pub names_own : (before after : List (ℕ × Entry)) → before ≡ [] → AddsOnly IsOfNames (entries_of before) (entries_of after) → AreBeside after
-names_own before after none adds = own_beside IsOfNames names_beside before after none adds
+pub names_own_beside : (config : Option (List ℕ)) (own : List (ℕ × Entry)) → AllByRecursion (λ p. IsOfNames config p.1.event) own → AreBeside own
+names_own_beside config own all = each_weaker (λ (p : ℕ × Entry). IsOfNames config p.1.event) (λ (p : ℕ × Entry). IsBeside p.1.event) (λ p is. names_beside config p.1.event is) own all

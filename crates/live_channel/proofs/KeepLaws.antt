@@ -1,19 +1,22 @@
 -- What the workers beside the calls did, by their handles.
-use Rattle.std.proofs.Common.{◌≡◌, ◌∙◌, ◌<◌, ℕ, suc, Option, List, [], ◌∷◌, ◌++◌, ap, arith, drop, length, map, refl, slice_index_or, sym, take}
+use Rattle.std.proofs.Common.{◌≡◌, ◌∙◌, ◌<◌, ℕ, suc, Option, Some, List, [], ◌∷◌, ◌++◌, ap, arith, drop, length, map, refl, slice_index_or, subst, sym, take}
 use Rattle.std.proofs.Math.Seq.{take-append_seam}
 use Rattle.std.proofs.lemmas.List.{drop_at}
-use Rattle.std.specs.List.{AllByRecursion}
+use Rattle.std.specs.List.{AllByRecursion, AllZip, fold}
 use Rattle.atomic_table.specs.Seated.{TableId}
 use Rattle.grpc_base.specs.declared.event.Entry.{Entry}
 use Rattle.grpc_base.specs.declared.post.Look.{Look}
 use Rattle.grpc_base.specs.declared.post.PostError.{PostError}
-use Rattle.live_run.specs.Sides.{LinkDone, seen_by}
+use Rattle.live_pump.specs.Fronts.{ArrivesInFront, IsFront, Unopened, told_by}
+use Rattle.live_pump.specs.Kinds.{IsOfLinks}
+use Rattle.live_pump.specs.Pumps.{HandleSeen}
+use Rattle.live_run.specs.Sides.{IsOfNames, LinkDone, seen_by}
 use Rattle.live_run.specs.declared.link_job.LinkJob.{LinkJob}
 use Rattle.live_run.specs.declared.link_job.LinkJob.TheVariants as job
 use Rattle.shared_channel.specs.Turns.{entries_of, share_of}
 use Rattle.turn_lock.specs.History.{LockId, SeatSeen}
-use Rattle.live_channel.specs.Handles.{IsFresh, IsKept, IsOne, handle_in}
-use Rattle.live_channel.proofs.EventLaws.{links_own, names_own}
+use Rattle.live_channel.specs.Handles.{IsFresh, IsKept, IsOne, Keeper, handle_in, keeper_in}
+use Rattle.live_channel.proofs.EventLaws.{kind_own}
 
 -- ---- the share of a handle names its lock, and tells its parts
 
@@ -47,22 +50,31 @@ one_still lock before after same one = record {
 
 -- ---- those beside the calls
 
+-- what came, where the handle had made nothing before
+came_as_held : (held : Option (List (List ℕ))) (before after : HandleSeen) → before.made ≡ [] → ArrivesInFront held before after
+    → (coming : List (List ℕ)) → held ≡ Some coming → (link : ℕ) → IsFront (fold (told_by link) (record { tale = Unopened; coming = coming }) after.made).tale
+came_as_held held before after none arrives coming is link =
+    subst (λ (l : List Entry). IsFront (fold (told_by link) (record { tale = Unopened; coming = coming }) l).tale) (sym (arrives.made ∙ ap (λ (l : List Entry). l ++ arrives.more) none)) (arrives.fronts coming is link)
+
 kept_one : {H N L D : Type 0} (seat_of : H → SeatSeen Entry) (errors : H → ℕ) (last : H → Option PostError) (look : H → Option Look) (coming : N → Option (List (List ℕ))) (lock : LockId) (before after : LinkJob H N L D)
-    → LinkDone (seen_by (λ h. entries_of (seat_of h).own) errors last) (λ h. share_of (seat_of h)) look coming before after → IsFresh lock (seat_of (handle_in before)) → IsKept lock (seat_of (handle_in after))
+    → LinkDone (seen_by (λ h. entries_of (seat_of h).own) errors last) (λ h. share_of (seat_of h)) look coming before after → IsFresh lock (seat_of (handle_in before)) → IsKept lock (keeper_in coming before) (seat_of (handle_in after))
 kept_one seat_of errors last look coming lock (job.Net before) (job.Net after) done fresh = record {
   one = one_still lock (seat_of before.post) (seat_of after.post) done.same_share fresh.one;
-  beside = links_own (seat_of before.post).own (seat_of after.post).own fresh.own done.posts;
+  keeps = (
+    kind_own IsOfLinks (seat_of before.post).own (seat_of after.post).own fresh.own done.posts,
+    came_as_held (coming before.dialer) (seen_by (λ h. entries_of (seat_of h).own) errors last before.post) (seen_by (λ h. entries_of (seat_of h).own) errors last after.post) (ap entries_of fresh.own) done.fronts,
+  );
 }
 kept_one seat_of errors last look coming lock (job.Name before) (job.Name after) done fresh = record {
   one = one_still lock (seat_of before.post) (seat_of after.post) done.same_share fresh.one;
-  beside = names_own (seat_of before.post).own (seat_of after.post).own fresh.own done.posts;
+  keeps = kind_own (IsOfNames before.config) (seat_of before.post).own (seat_of after.post).own fresh.own done.posts;
 }
 kept_one seat_of errors last look coming lock (job.Net before) (job.Name after) done fresh = absurd done
 kept_one seat_of errors last look coming lock (job.Name before) (job.Net after) done fresh = absurd done
 
 pub kept : {H N L D : Type 0} (seat_of : H → SeatSeen Entry) (errors : H → ℕ) (last : H → Option PostError) (look : H → Option Look) (coming : N → Option (List (List ℕ))) (lock : LockId) (olds news : List (LinkJob H N L D)) → length news ≡ length olds
     → ((i : ℕ) (d : LinkJob H N L D) → i < length olds → LinkDone (seen_by (λ h. entries_of (seat_of h).own) errors last) (λ h. share_of (seat_of h)) look coming (slice_index_or olds i d) (slice_index_or news i d))
-    → AllByRecursion (IsFresh lock) (map (λ j. seat_of (handle_in j)) olds) → AllByRecursion (IsKept lock) (map (λ j. seat_of (handle_in j)) news)
+    → AllByRecursion (IsFresh lock) (map (λ j. seat_of (handle_in j)) olds) → AllZip (IsKept lock) (map (λ j. keeper_in coming j) olds) (map (λ j. seat_of (handle_in j)) news)
 kept seat_of errors last look coming lock [] [] long each fresh = tt
 kept seat_of errors last look coming lock [] (new ∷ news) long each fresh = absurd (omega (arith, long))
 kept seat_of errors last look coming lock (old ∷ olds) [] long each fresh = absurd (omega (arith, long))
@@ -71,6 +83,8 @@ kept seat_of errors last look coming lock (old ∷ olds) (new ∷ news) long eac
   kept seat_of errors last look coming lock olds news (omega (arith, long)) (λ i d within. each (suc i) d (omega (arith, within))) fresh.1,
 )
 
-pub kept_ones : (lock : LockId) (seats : List (SeatSeen Entry)) → AllByRecursion (IsKept lock) seats → AllByRecursion (IsOne lock) seats
-kept_ones lock [] all = tt
-kept_ones lock (s ∷ seats) all = (all.0.one, kept_ones lock seats all.1)
+pub kept_ones : (lock : LockId) (keepers : List Keeper) (seats : List (SeatSeen Entry)) → AllZip (IsKept lock) keepers seats → AllByRecursion (IsOne lock) seats
+kept_ones lock [] [] all = tt
+kept_ones lock [] (s ∷ seats) all = absurd all
+kept_ones lock (keeper ∷ keepers) [] all = absurd all
+kept_ones lock (keeper ∷ keepers) (s ∷ seats) all = (all.0.one, kept_ones lock keepers seats all.1)

@@ -1,4 +1,6 @@
 pub mod EventLaws
+pub mod GivenLaws
+pub mod HeldLaws
 pub mod KeepLaws
 pub mod OwnLaws
 pub mod ReportLaws

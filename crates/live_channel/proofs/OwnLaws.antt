@@ -139,7 +139,7 @@ found Q history [] x e stands each some at = absurd (omega (arith, some))
 found Q history (p ∷ own) x e stands each some at =
     found_by Q history p (times x own) x e stands.0 each.0 at (λ more. found Q history own x e stands.1 each.1 more at) (p.0 == x) refl some
 
-one_of : (Q : Type 0) (n m : ℕ) → 1 ≤ n + m → (1 ≤ n → Q) → (1 ≤ m → Q) → Q
+pub one_of : (Q : Type 0) (n m : ℕ) → 1 ≤ n + m → (1 ≤ n → Q) → (1 ≤ m → Q) → Q
 one_of Q zero m some here later = later (omega (arith, some))
 one_of Q (suc n) m some here later = here (omega arith)
 

@@ -1,5 +1,5 @@
 -- The one channel of a run: what its report is of.
-use Rattle.std.proofs.Common.{◌≡◌, ◌≤◌, ◌∙◌, ℕ, false, Option, List, [], ap, arith, inl, inr, length, refl, sym, subst}
+use Rattle.std.proofs.Common.{◌≡◌, ◌≤◌, ◌∙◌, ℕ, false, Option, List, ap, arith, inl, inr, length, refl, sym, subst}
 use Rattle.std.specs.Prelude.{Result, Ok, Err, OnOk, OnErr}
 use Rattle.grpc_base.specs.declared.event.Entry.{Entry}
 use Rattle.gate_io.specs.Outside.{AppendsFront, Rises}
@@ -10,40 +10,47 @@ use Rattle.turn_lock.specs.Turn.{Sees}
 use Rattle.turn_lock.proofs.Places.{starts_longer}
 use Rattle.std.specs.Global.{Global}
 use Rattle.lb_policy.specs.Table.{PolicySeen}
+use Rattle.grpc_base.specs.declared.event.Stamped.{Stamped}
 use Rattle.channel_core.specs.Core.{CoreSeen, IsNewBy, ledger_in}
-use Rattle.shared_channel.specs.Running.{HasRun, IsRunning}
+use Rattle.shared_channel.specs.Running.{HasRun, IsRunning, origin_of}
+use Rattle.shared_channel.proofs.OriginLaws.{run_of}
 use Rattle.session_text.specs.declared.ran.Ran.{Ran}
-use Rattle.session_text.specs.Sessions.{run_text}
+use Rattle.session_text.specs.Sessions.{IsSession, run_text}
+use Rattle.session_text.proofs.SessionLaws.{session_of}
 use Rattle.session_text.specs.Writing.{WritesAll, WritesFront, WritesSome}
 use Rattle.live_channel.specs.Reported.{IsReportable, ReportsAt, ReportsOn, Tells}
 use Rattle.live_channel.proofs.SeatLaws.{owns_between}
 
 -- ---- a new channel
 
-pub new_run : (alloc : Global) (authority named : List ℕ) (policies : List PolicySeen) (core : CoreSeen) → authority ≡ named → IsNewBy alloc authority policies core → HasRun named core
-new_run alloc authority named policies core same new = subst (λ (a : List ℕ). HasRun a core) same (core, [], (alloc, policies, new), refl)
-
 pub new_fits : (alloc : Global) (authority : List ℕ) (policies : List PolicySeen) (core : CoreSeen) → IsNewBy alloc authority policies core → length core.journal.entries ≤ 1048576
 new_fits alloc authority policies core new = omega (arith, ap length new.journal)
 
+-- the channel of a lock whose origin tells this authority and these policies: the events that it was given are a session
+pub session_at : (authority : List ℕ) (policies : List PolicySeen) (core : CoreSeen) (origin : List ℕ) → origin ≡ origin_of authority policies → HasRun origin core
+    → (events : List Stamped) × IsSession authority policies events core.journal (ledger_in core)
+session_at authority policies core origin is has =
+    let given = run_of authority policies origin core is has in
+    (given.0, session_of authority policies core given.0 core.journal (ledger_in core) given.1 refl refl)
+
 -- ---- the report
 
-run_of : (lock authority : List ℕ) (core : CoreSeen) → lock ≡ authority → IsRunning authority core → core.spent ≡ false → HasRun lock core
-run_of lock authority core same (inl run) unspent = subst (λ (a : List ℕ). HasRun a core) (sym same) run
-run_of lock authority core same (inr spent) unspent = absurd (cc)
+run_still : (lock origin : List ℕ) (core : CoreSeen) → lock ≡ origin → IsRunning origin core → core.spent ≡ false → HasRun lock core
+run_still lock origin core same (inl run) unspent = subst (λ (o : List ℕ). HasRun o core) (sym same) run
+run_still lock origin core same (inr spent) unspent = absurd (cc)
 
 -- what was told of the channel under the lock
 pub told_ok : (r : Ran) (t : List ℕ) (result : Result Unit ReportFault) (before after : SeatSeen Entry) (taken taken' : Option (List ℕ)) (faults faults' : ℕ) (core : CoreSeen) (lock : LockId) → before.lock ≡ lock → IsRunning lock.origin core → StartsWith core.journal.entries before.seen → after.seen ≡ core.journal.entries → after.own ≡ before.own → after.parts ≡ before.parts
     → Tells r t core result taken taken' faults faults' → OnOk result (WritesAll (ReportsAt r t before after) taken taken')
 told_ok r t (Err fault) before after taken taken' faults faults' core lock at running sees seen own parts tells = tt
 told_ok r t (Ok done) before after taken taken' faults faults' core lock at running sees seen own parts tells =
-    (run_text r t core.journal (ledger_in core), (core, run_of before.lock.origin lock.origin core (ap (λ (l : LockId). l.origin) at) running tells.0.unspent, sees, seen, own, parts, tells.0.full, refl), tells.1)
+    (run_text r t core.journal (ledger_in core), (core, run_still before.lock.origin lock.origin core (ap (λ (l : LockId). l.origin) at) running tells.0.unspent, sees, seen, own, parts, tells.0.full, refl), tells.1)
 
 told_some : (r : Ran) (t : List ℕ) (core : CoreSeen) (fault : ReportFault) (before after : SeatSeen Entry) (taken taken' : Option (List ℕ)) (faults faults' : ℕ) (lock : LockId) → before.lock ≡ lock → IsRunning lock.origin core → StartsWith core.journal.entries before.seen → after.seen ≡ core.journal.entries → after.own ≡ before.own → after.parts ≡ before.parts
     → Tells r t core (Err fault) taken taken' faults faults' → WritesSome (ReportsAt r t before after) taken taken'
 told_some r t core fault before after taken taken' faults faults' lock at running sees seen own parts (inl none) = inl none.1
 told_some r t core fault before after taken taken' faults faults' lock at running sees seen own parts (inr front) =
-    inr (run_text r t core.journal (ledger_in core), (core, run_of before.lock.origin lock.origin core (ap (λ (l : LockId). l.origin) at) running front.0.unspent, sees, seen, own, parts, front.0.full, refl), front.1)
+    inr (run_text r t core.journal (ledger_in core), (core, run_still before.lock.origin lock.origin core (ap (λ (l : LockId). l.origin) at) running front.0.unspent, sees, seen, own, parts, front.0.full, refl), front.1)
 
 pub told_err : (r : Ran) (t : List ℕ) (result : Result Unit ReportFault) (before after : SeatSeen Entry) (taken taken' : Option (List ℕ)) (faults faults' : ℕ) (core : CoreSeen) (lock : LockId) → before.lock ≡ lock → IsRunning lock.origin core → StartsWith core.journal.entries before.seen → after.seen ≡ core.journal.entries → after.own ≡ before.own → after.parts ≡ before.parts
     → Tells r t core result taken taken' faults faults' → OnErr result (WritesSome (ReportsAt r t before after) taken taken')
@@ -54,7 +61,7 @@ told_failed : (r : Ran) (t : List ℕ) (core : CoreSeen) (before after : SeatSee
     → Tells r t core (Err unwritten.Write) taken taken' faults faults' → Rises faults faults' × WritesFront (ReportsAt r t before after) taken taken'
 told_failed r t core before after taken taken' faults faults' lock at running sees seen own parts (inl none) = absurd (let bad : unwritten.Write ≡ unwritten.NoMemory = none.0 in (cc))
 told_failed r t core before after taken taken' faults faults' lock at running sees seen own parts (inr front) =
-    (front.2 refl, (run_text r t core.journal (ledger_in core), (core, run_of before.lock.origin lock.origin core (ap (λ (l : LockId). l.origin) at) running front.0.unspent, sees, seen, own, parts, front.0.full, refl), front.1))
+    (front.2 refl, (run_text r t core.journal (ledger_in core), (core, run_still before.lock.origin lock.origin core (ap (λ (l : LockId). l.origin) at) running front.0.unspent, sees, seen, own, parts, front.0.full, refl), front.1))
 
 pub told_write : (r : Ran) (t : List ℕ) (result : Result Unit ReportFault) (before after : SeatSeen Entry) (taken taken' : Option (List ℕ)) (faults faults' : ℕ) (core : CoreSeen) (lock : LockId) → before.lock ≡ lock → IsRunning lock.origin core → StartsWith core.journal.entries before.seen → after.seen ≡ core.journal.entries → after.own ≡ before.own → after.parts ≡ before.parts
     → Tells r t core result taken taken' faults faults' → result ≡ Err unwritten.Write → Rises faults faults' × WritesFront (ReportsAt r t before after) taken taken'

@@ -23,7 +23,7 @@ use Rattle.live_run.specs.Outcomes.{outcome_of}
 use Rattle.live_run.specs.declared.outcome.Outcome.{Outcome}
 use Rattle.live_run.specs.declared.outcome.Outcome.TheVariants as outcome
 use Rattle.live_channel.specs.Told.{IsToldFirst, TellsTarget}
-use Rattle.live_channel.specs.Handles.{AreBeside, IsBeside, IsFirstSeat, IsFresh, IsKept, IsLeft, IsStarted, Leaves, Shuts, Splits, outcome_of_post}
+use Rattle.live_channel.specs.Handles.{AreBeside, AreGiven, IsBeside, IsFirstSeat, IsFresh, IsLeft, IsStarted, Keeper, Leaves, Shuts, Splits, outcome_of_post}
 use Rattle.live_channel.proofs.OwnLaws.{each_snoc, each_weaker}
 
 -- ---- longer histories
@@ -162,7 +162,7 @@ told_ok may_give word e came lock before before' mid mid' after (Ok s) old new (
     let here : TakesPlace may_give word e came before mid = subst (λ (x : SeatSeen Entry). TakesPlace may_give word e came x mid) old (subst (λ (x : SeatSeen Entry). TakesPlace may_give word e came before' x) (sym new) place) in
     subst (IsFirstTold e) (sym is) (first_told may_give word e came reply lock before mid after ok first here sees same)
 
-if_ok_weaker : {X E : Type 0} (P Q : X → Type 0) (result : Result X E) → ((x : X) → P x → Q x) → IfOk result P → IfOk result Q
+pub if_ok_weaker : {X E : Type 0} (P Q : X → Type 0) (result : Result X E) → ((x : X) → P x → Q x) → IfOk result P → IfOk result Q
 if_ok_weaker P Q (Ok x) leads is = leads x is
 if_ok_weaker P Q (Err e) leads is = tt
 
@@ -184,9 +184,6 @@ splits_empty {X} seat_of none seat is = subst (λ (l : List X). Splits seat (map
 
 pub fresh_at : (lock other : LockId) (seats : List (SeatSeen Entry)) → lock ≡ other → AllByRecursion (IsFresh other) seats → AllByRecursion (IsFresh lock) seats
 fresh_at lock other seats same all = subst (λ (l : LockId). AllByRecursion (IsFresh l) seats) (sym same) all
-
-pub kept_at : (lock other : LockId) (seats : List (SeatSeen Entry)) → lock ≡ other → AllByRecursion (IsKept other) seats → AllByRecursion (IsKept lock) seats
-kept_at lock other seats same all = subst (λ (l : LockId). AllByRecursion (IsKept l) seats) (sym same) all
 
 -- one more
 pub splits_more : {X : Type 0} (seat_of : X → SeatSeen Entry) (start before after : SeatSeen Entry) (olds news : List X) (x : X) → news ≡ olds ++ x ∷ [] → 2 ≤ before.parts → after ≡ record before { parts = before.parts - 1 } → IsFresh before.lock (seat_of x)
@@ -242,20 +239,22 @@ pub told_split : (e : Event) (before after : SeatSeen Entry) → after.seen ≡ 
 told_split e before after same told = subst (IsToldFirst e) (sym same) told
 
 -- and of the first handle, which told the channel its first event or nothing
-pub left_by : (lock : LockId) (o : Outcome) (owns : List (List (ℕ × Entry))) (seats others : List (SeatSeen Entry)) (seat mid closer out : SeatSeen Entry) → IsStarted lock seats seat → Splits seat others mid → closer ≡ mid
-    → out.lock ≡ closer.lock → out.parts ≡ closer.parts + length others + length seats → Leaves o owns closer.seen closer.own out → IsLeft lock o owns out
-left_by lock o owns seats others seat mid closer out started splits same locks parts leaves = record {
+pub left_by : (lock : LockId) (held : List (Option (List (List ℕ)))) (config : Option (List ℕ)) (o : Outcome) (keepers : List Keeper) (owns : List (List (ℕ × Entry))) (seats others : List (SeatSeen Entry)) (seat mid closer out : SeatSeen Entry)
+    → AreGiven held config keepers seat → IsStarted lock seats seat → Splits seat others mid → closer ≡ mid
+    → out.lock ≡ closer.lock → out.parts ≡ closer.parts + length others + length seats → Leaves o keepers owns closer.seen closer.own out → IsLeft lock held config o owns out
+left_by lock held config o keepers owns seats others seat mid closer out given started splits same locks parts leaves = record {
   lock_is = locks ∙ ap (λ (s : SeatSeen Entry). s.lock) same ∙ splits.lock ∙ started.lock_is;
   parts =
       let here : closer.parts ≡ mid.parts = ap (λ (s : SeatSeen Entry). s.parts) same in
       let before = splits.parts in
       let first = started.parts in omega (arith, parts, here, before, first);
-  seen = seat.seen;
-  own = seat.own;
+  keepers = keepers;
+  start = seat;
+  given = given;
   stands = started.stands;
   beside = started.beside;
-  leaves = subst (λ (l : List Entry). Leaves o owns l seat.own out) (ap (λ (s : SeatSeen Entry). s.seen) same ∙ splits.seen)
-      (subst (λ (l : List (ℕ × Entry)). Leaves o owns closer.seen l out) (ap (λ (s : SeatSeen Entry). s.own) same ∙ splits.own) leaves);
+  leaves = subst (λ (l : List Entry). Leaves o keepers owns l seat.own out) (ap (λ (s : SeatSeen Entry). s.seen) same ∙ splits.seen)
+      (subst (λ (l : List (ℕ × Entry)). Leaves o keepers owns closer.seen l out) (ap (λ (s : SeatSeen Entry). s.own) same ∙ splits.own) leaves);
 }
 
 -- and what was told stays so of a handle that has seen all that

@@ -1,6 +1,6 @@
 -- What the handle knows that took all others in: each entry of the history is of one of them.
 use Rattle.std.proofs.Common.{◌≡◌, ◌∙◌, ◌≤◌, ◌<◌, ℕ, ◌+◌, true, true≢false, Option, Some, None, slice_get, List, [], ◌∷◌, ◌++◌, ap, append_assoc, arith, length, refl, sym, subst}
-use Rattle.std.specs.List.{AllByRecursion}
+use Rattle.std.specs.List.{AllByRecursion, AllZip}
 use Rattle.std.specs.Option.{option_to_list}
 use Rattle.std.proofs.lemmas.Bool.Decides.{nat_tests}
 use Rattle.std.proofs.lemmas.Option.{slice_get_within}
@@ -16,7 +16,8 @@ use Rattle.shared_channel.specs.Histories.{is_shutdown}
 use Rattle.turn_lock.specs.History.{LockId, Owns, SeatSeen, Stands, StartsWith, once_below, places, times}
 use Rattle.turn_lock.proofs.Places.{stands-later, stands-places, starts_longer, times-append}
 use Rattle.live_channel.specs.Sharing.{IsOfCall, IsShutFirst, SharesOut, is_of_call, times_in}
-use Rattle.live_channel.specs.Handles.{AreBeside, Closes, IsBeside, IsClosing, IsKept, IsLeft, Leaves, Shuts, Splits, StandInOrder, TakesIn, owns_of}
+use Rattle.live_channel.specs.Handles.{AreBeside, Closes, IsBeside, IsClosing, IsKept, IsLeft, Keeper, KeepsAs, Leaves, OfLinks, OfNames, Shuts, Splits, StandInOrder, TakesIn, owns_of}
+use Rattle.live_channel.proofs.EventLaws.{links_own_beside, names_own_beside}
 use Rattle.live_channel.proofs.OwnLaws.{all_stand_later, found, found_in, placed, zero_of}
 
 -- ---- outcomes
@@ -51,63 +52,75 @@ closes_taken shut o owns before mid after worse takes shuts = record {
 
 -- ---- the handles of the others
 
-pub beside_all : (lock : LockId) (seats : List (SeatSeen Entry)) → AllByRecursion (IsKept lock) seats → AllByRecursion AreBeside (owns_of seats)
-beside_all lock [] all = tt
-beside_all lock (s ∷ seats) all = (all.0.beside, beside_all lock seats all.1)
+keeps_all : (lock : LockId) (keepers : List Keeper) (seats : List (SeatSeen Entry)) → AllZip (IsKept lock) keepers seats → AllZip KeepsAs keepers (owns_of seats)
+keeps_all lock [] [] all = tt
+keeps_all lock [] (s ∷ seats) all = absurd all
+keeps_all lock (keeper ∷ keepers) [] all = absurd all
+keeps_all lock (keeper ∷ keepers) (s ∷ seats) all = (all.0.keeps, keeps_all lock keepers seats all.1)
 
-pub leaves_by : (lock : LockId) (made kept o : Outcome) (owns : List (List (ℕ × Entry))) (seen : List Entry) (own : List (ℕ × Entry)) (shut after seat : SeatSeen Entry) (seats : List (SeatSeen Entry)) → o ≡ graver made kept → seat ≡ after
-    → Closes made owns seen own shut → AllByRecursion (IsKept lock) seats → TakesIn shut (owns_of seats) after → Leaves o owns seen own seat
-leaves_by lock made kept o owns seen own shut after seat seats is same closes all takes = record {
+beside_of : (keeper : Keeper) (own : List (ℕ × Entry)) → KeepsAs keeper own → AreBeside own
+beside_of (OfLinks held) own keeps = links_own_beside own keeps.0
+beside_of (OfNames config) own keeps = names_own_beside config own keeps
+
+beside_all : (keepers : List Keeper) (owns : List (List (ℕ × Entry))) → AllZip KeepsAs keepers owns → AllByRecursion AreBeside owns
+beside_all [] [] all = tt
+beside_all [] (own ∷ owns) all = absurd all
+beside_all (keeper ∷ keepers) [] all = absurd all
+beside_all (keeper ∷ keepers) (own ∷ owns) all = (beside_of keeper own all.0, beside_all keepers owns all.1)
+
+pub leaves_by : (lock : LockId) (keepers : List Keeper) (made kept o : Outcome) (owns : List (List (ℕ × Entry))) (seen : List Entry) (own : List (ℕ × Entry)) (shut after seat : SeatSeen Entry) (seats : List (SeatSeen Entry)) → o ≡ graver made kept → seat ≡ after
+    → Closes made owns seen own shut → AllZip (IsKept lock) keepers seats → TakesIn shut (owns_of seats) after → Leaves o keepers owns seen own seat
+leaves_by lock keepers made kept o owns seen own shut after seat seats is same closes all takes = record {
   made = made;
   kept = kept;
   outcome = is;
   shut = shut;
   closes = closes;
   others = owns_of seats;
-  beside = beside_all lock seats all;
+  keeps = keeps_all lock keepers seats all;
   takes = subst (λ (s : SeatSeen Entry). TakesIn shut (owns_of seats) s) (sym same) takes;
 }
 
 -- the handle has seen all that it had seen
-pub leaves_see : (o : Outcome) (owns : List (List (ℕ × Entry))) (seen : List Entry) (own : List (ℕ × Entry)) (after : SeatSeen Entry) → Leaves o owns seen own after → StartsWith after.seen seen
-leaves_see o owns seen own after leaves =
+pub leaves_see : (o : Outcome) (keepers : List Keeper) (owns : List (List (ℕ × Entry))) (seen : List Entry) (own : List (ℕ × Entry)) (after : SeatSeen Entry) → Leaves o keepers owns seen own after → StartsWith after.seen seen
+leaves_see o keepers owns seen own after leaves =
     let closes = leaves.closes in
     starts_longer seen leaves.shut.seen after.seen (starts_longer seen closes.front leaves.shut.seen closes.sees (option_to_list closes.closing, closes.shows)) leaves.takes.sees
 
 -- and it has seen all that was seen before others were split off
-pub left_sees : (o : Outcome) (owns : List (List (ℕ × Entry))) (seat mid closer out : SeatSeen Entry) (others : List (SeatSeen Entry)) → Splits seat others mid → closer ≡ mid → Leaves o owns closer.seen closer.own out → StartsWith out.seen seat.seen
-left_sees o owns seat mid closer out others splits same leaves =
-    subst (λ (l : List Entry). StartsWith out.seen l) (ap (λ (s : SeatSeen Entry). s.seen) same ∙ splits.seen) (leaves_see o owns closer.seen closer.own out leaves)
+pub left_sees : (o : Outcome) (keepers : List Keeper) (owns : List (List (ℕ × Entry))) (seat mid closer out : SeatSeen Entry) (others : List (SeatSeen Entry)) → Splits seat others mid → closer ≡ mid → Leaves o keepers owns closer.seen closer.own out → StartsWith out.seen seat.seen
+left_sees o keepers owns seat mid closer out others splits same leaves =
+    subst (λ (l : List Entry). StartsWith out.seen l) (ap (λ (s : SeatSeen Entry). s.seen) same ∙ splits.seen) (leaves_see o keepers owns closer.seen closer.own out leaves)
 
 -- ---- each entry is of one
 
 call_or_shut : (e : Event) → is_of_call e ≡ true → e ≡ event.Shutdown → ⊥
 call_or_shut e call shut = true≢false (sym call ∙ ap is_of_call shut)
 
-beside_call : (e : Event) → IsBeside e → is_of_call e ≡ true → ⊥
+pub beside_call : (e : Event) → IsBeside e → is_of_call e ≡ true → ⊥
 beside_call e beside call = true≢false (sym call ∙ beside.call)
 
-beside_shut : (e : Event) → IsBeside e → e ≡ event.Shutdown → ⊥
+pub beside_shut : (e : Event) → IsBeside e → e ≡ event.Shutdown → ⊥
 beside_shut e beside shut = true≢false (sym (ap is_shutdown shut) ∙ beside.shut)
 
-below : (x n : ℕ) → x < n → once_below x n ≡ 1
+pub below : (x n : ℕ) → x < n → once_below x n ≡ 1
 below x n within = grind (arith, nat_tests)
 
 at_most_one : (x n : ℕ) → once_below x n ≤ 1
 at_most_one x n = grind (arith, nat_tests)
 
 -- how the entries of such a history are shared out
-record IsShared (entries front : List Entry) (closing : Option Entry) (own : List (ℕ × Entry)) (owns others : List (List (ℕ × Entry))) : Type 0 where
-  first : Stands entries own
-  first_beside : AreBeside own
-  callers : AllByRecursion (StandInOrder entries) owns
-  of_calls : AllByRecursion (λ own. AllByRecursion (λ p. IsOfCall p.1.event) own) owns
-  last : Stands entries (places (length front) (option_to_list closing))
-  kept : AllByRecursion (StandInOrder entries) others
-  beside : AllByRecursion AreBeside others
-  count : (x : ℕ) → times x own + times_in x owns + times x (places (length front) (option_to_list closing)) + times_in x others ≡ once_below x (length entries)
+pub record IsShared (entries front : List Entry) (closing : Option Entry) (own : List (ℕ × Entry)) (owns others : List (List (ℕ × Entry))) : Type 0 where
+  pub first : Stands entries own
+  pub first_beside : AreBeside own
+  pub callers : AllByRecursion (StandInOrder entries) owns
+  pub of_calls : AllByRecursion (λ own. AllByRecursion (λ p. IsOfCall p.1.event) own) owns
+  pub last : Stands entries (places (length front) (option_to_list closing))
+  pub kept : AllByRecursion (StandInOrder entries) others
+  pub beside : AllByRecursion AreBeside others
+  pub count : (x : ℕ) → times x own + times_in x owns + times x (places (length front) (option_to_list closing)) + times_in x others ≡ once_below x (length entries)
 
-closing_is : (o : Outcome) (n : ℕ) (closing : Option Entry) → IsClosing o closing → AllByRecursion (λ p. p.1.event ≡ event.Shutdown) (places n (option_to_list closing))
+pub closing_is : (o : Outcome) (n : ℕ) (closing : Option Entry) → IsClosing o closing → AllByRecursion (λ p. p.1.event ≡ event.Shutdown) (places n (option_to_list closing))
 closing_is o n (Some e) is = (is, tt)
 closing_is o n None is = tt
 
@@ -148,22 +161,22 @@ shut_first o (Some e) more whole is = (e, more, is, refl)
 shut_first o None more whole is = absurd (is whole)
 
 -- all parts are together, so the entries of the handle are all that there are
-shared_out : (lock : LockId) (o : Outcome) (owns : List (List (ℕ × Entry))) (seat : SeatSeen Entry) (entries : List Entry) → (left : IsLeft lock o owns seat) → AllByRecursion (λ own. AllByRecursion (λ p. IsOfCall p.1.event) own) owns → Owns seat.parts seat.own entries → StartsWith entries seat.seen
-    → IsShared entries left.leaves.closes.front left.leaves.closes.closing left.own owns left.leaves.others
-shared_out lock o owns seat entries left of_calls all sees =
+pub shared_out : (lock : LockId) (held : List (Option (List (List ℕ)))) (config : Option (List ℕ)) (o : Outcome) (owns : List (List (ℕ × Entry))) (seat : SeatSeen Entry) (entries : List Entry) → (left : IsLeft lock held config o owns seat) → AllByRecursion (λ own. AllByRecursion (λ p. IsOfCall p.1.event) own) owns → Owns seat.parts seat.own entries → StartsWith entries seat.seen
+    → IsShared entries left.leaves.closes.front left.leaves.closes.closing left.start.own owns left.leaves.others
+shared_out lock held config o owns seat entries left of_calls all sees =
     let leaves = left.leaves in
     let closes = leaves.closes in
     let shut_seen : StartsWith entries leaves.shut.seen = starts_longer leaves.shut.seen seat.seen entries leaves.takes.sees sees in
     let front_seen : StartsWith entries closes.front = starts_longer closes.front leaves.shut.seen entries (option_to_list closes.closing, closes.shows) shut_seen in
     record {
-      first = stands-later left.seen entries left.own (starts_longer left.seen closes.front entries closes.sees front_seen) left.stands;
+      first = stands-later left.start.seen entries left.start.own (starts_longer left.start.seen closes.front entries closes.sees front_seen) left.stands;
       first_beside = left.beside;
       callers = all_stand_later closes.front entries owns front_seen closes.each;
       of_calls = of_calls;
       last = stands-later leaves.shut.seen entries (places (length closes.front) (option_to_list closes.closing)) shut_seen
           (stands-places closes.front leaves.shut.seen (option_to_list closes.closing) closes.shows);
       kept = all_stand_later seat.seen entries leaves.others sees leaves.takes.each;
-      beside = leaves.beside;
+      beside = beside_all left.keepers leaves.others leaves.keeps;
       count = λ x.
           let whole : times x seat.own ≡ once_below x (length entries) = all.whole left.parts x in
           let taken = leaves.takes.count x in
@@ -177,12 +190,12 @@ pub record IsSharedOut (r : Ran) (owns : List (List (ℕ × Entry))) (entries : 
   pub each : AllByRecursion (StandInOrder front) owns
   pub shares : SharesOut r owns front rest entries
 
-pub shares : (r : Ran) (lock : LockId) (o : Outcome) (owns : List (List (ℕ × Entry))) (seat : SeatSeen Entry) (entries : List Entry) → (r ≡ ran.Whole → o ≡ outcome.Whole)
-    → IsLeft lock o owns seat → AllByRecursion (λ own. AllByRecursion (λ p. IsOfCall p.1.event) own) owns → Owns seat.parts seat.own entries → StartsWith entries seat.seen → IsSharedOut r owns entries
-shares r lock o owns seat entries whole left of_calls all sees =
+pub shares : (r : Ran) (lock : LockId) (held : List (Option (List (List ℕ)))) (config : Option (List ℕ)) (o : Outcome) (owns : List (List (ℕ × Entry))) (seat : SeatSeen Entry) (entries : List Entry) → (r ≡ ran.Whole → o ≡ outcome.Whole)
+    → IsLeft lock held config o owns seat → AllByRecursion (λ own. AllByRecursion (λ p. IsOfCall p.1.event) own) owns → Owns seat.parts seat.own entries → StartsWith entries seat.seen → IsSharedOut r owns entries
+shares r lock held config o owns seat entries whole left of_calls all sees =
     let leaves = left.leaves in
     let closes = leaves.closes in
-    let shared = shared_out lock o owns seat entries left of_calls all sees in
+    let shared = shared_out lock held config o owns seat entries left of_calls all sees in
     let made_whole : r ≡ ran.Whole → leaves.made ≡ outcome.Whole = λ is. (graver_whole leaves.made leaves.kept (sym leaves.outcome ∙ whole is)).0 in
     let shut_seen : StartsWith entries leaves.shut.seen = starts_longer leaves.shut.seen seat.seen entries leaves.takes.sees sees in
     record {
@@ -191,9 +204,9 @@ shares r lock o owns seat entries whole left of_calls all sees =
       each = closes.each;
       shares = record {
         parts = shut_seen.1 ∙ ap (λ (l : List Entry). l ++ shut_seen.0) closes.shows ∙ append_assoc closes.front (option_to_list closes.closing) shut_seen.0;
-        once = λ x. once_owned entries closes.front closes.closing left.own owns leaves.others shared x;
-        only = λ x e at call. call_owned leaves.made entries closes.front closes.closing left.own owns leaves.others closes.is_closing shared x e at call;
+        once = λ x. once_owned entries closes.front closes.closing left.start.own owns leaves.others shared x;
+        only = λ x e at call. call_owned leaves.made entries closes.front closes.closing left.start.own owns leaves.others closes.is_closing shared x e at call;
         shut = λ is. shut_first leaves.made closes.closing shut_seen.0 (made_whole is) closes.is_closing;
-        alone = λ x e at is. shut_owned entries closes.front closes.closing left.own owns leaves.others shared x e at is;
+        alone = λ x e at is. shut_owned entries closes.front closes.closing left.start.own owns leaves.others shared x e at is;
       };
     }

@@ -1,19 +1,23 @@
 -- Between the functions of the modes: what the handles of a run are, and what the one knows that takes the others in. The promises of
 -- the modes don't name these.
-use Rattle.std.specs.Prelude.{◌≡◌, ◌≤◌, ℕ, ◌+◌, false, Option, Some, None, Result, Ok, Err, List, [], ◌++◌, length, map}
-use Rattle.std.specs.List.{AllByRecursion}
+use Rattle.std.specs.Prelude.{◌≡◌, ◌≤◌, ℕ, ◌+◌, false, Option, Some, None, Result, Ok, Err, List, [], ◌∷◌, ◌++◌, length, map, take}
+use Rattle.std.specs.List.{AllByRecursion, AllZip, fold}
 use Rattle.std.specs.Option.{option_to_list}
 use Rattle.grpc_base.specs.declared.event.Entry.{Entry}
 use Rattle.grpc_base.specs.declared.event.Event.{Event}
 use Rattle.grpc_base.specs.declared.event.Event.TheVariants as event
 use Rattle.grpc_base.specs.declared.event.Reply.{Reply}
 use Rattle.grpc_base.specs.declared.post.PostError.{PostError}
+use Rattle.live_pump.specs.Fronts.{IsFront, Unopened, told_by}
+use Rattle.live_pump.specs.Kinds.{IsOfLinks}
 use Rattle.live_run.specs.Outcomes.{graver, outcome_of}
+use Rattle.live_run.specs.Sides.{IsOfNames}
 use Rattle.live_run.specs.declared.link_job.LinkJob.{LinkJob}
 use Rattle.live_run.specs.declared.link_job.LinkJob.TheVariants as job
 use Rattle.live_run.specs.declared.outcome.Outcome.{Outcome}
 use Rattle.live_run.specs.declared.outcome.Outcome.TheVariants as outcome
 use Rattle.shared_channel.specs.Histories.{is_shutdown}
+use Rattle.shared_channel.specs.Turns.{entries_of}
 use Rattle.turn_lock.specs.History.{Ascends, LockId, SeatSeen, Stands, StartsWith, places, times}
 use Rattle.live_channel.specs.Sharing.{is_of_call, times_in}
 
@@ -50,10 +54,42 @@ pub record IsBeside (e : Event) : Type 0 where
 abbrev pub AreBeside : List (ℕ × Entry) → Type 0
 AreBeside own = AllByRecursion (λ p. IsBeside p.1.event) own
 
--- the handle of a worker beside the calls
-pub record IsKept (lock : LockId) (seat : SeatSeen Entry) : Type 0 where
+-- what a worker beside the calls is there for: it keeps links open of a dialer that held this for them, where the dialer tells, or it looks a name up and tells its
+-- addresses with this config
+pub data Keeper : Type 0 where
+  OfLinks : Option (List (List ℕ)) → Keeper
+  OfNames : Option (List ℕ) → Keeper
+
+-- the entries of such a worker: what came on its links is as its dialer held it
+abbrev pub KeepsAs : Keeper → List (ℕ × Entry) → Type 0
+KeepsAs (OfLinks held) own =
+    AllByRecursion (λ p. IsOfLinks p.1.event) own
+    × ((coming : List (List ℕ)) → held ≡ Some coming → (link : ℕ) → IsFront (fold (told_by link) (record { tale = Unopened; coming = coming }) (entries_of own)).tale)
+KeepsAs (OfNames config) own = AllByRecursion (λ p. IsOfNames config p.1.event) own
+
+-- the handle of such a worker
+pub record IsKept (lock : LockId) (keeper : Keeper) (seat : SeatSeen Entry) : Type 0 where
   pub one : IsOne lock seat
-  pub beside : AreBeside seat.own
+  pub keeps : KeepsAs keeper seat.own
+
+-- what the dialers held, of those that keep links open
+abbrev pub helds_of : List Keeper → List (Option (List (List ℕ)))
+helds_of [] = []
+helds_of (OfLinks held ∷ keepers) = held ∷ helds_of keepers
+helds_of (OfNames config ∷ keepers) = helds_of keepers
+
+-- addresses of a name come with this config
+abbrev pub IsWithConfig : Option (List ℕ) → Keeper → Type 0
+IsWithConfig told (OfLinks held) = Unit {0}
+IsWithConfig told (OfNames config) = config ≡ told
+
+-- of the first dialers each has a worker that keeps links open, and what these held is so; addresses come with this config, from the workers and from the first handle,
+-- which told of nothing else
+pub record AreGiven (held : List (Option (List (List ℕ)))) (config : Option (List ℕ)) (keepers : List Keeper) (seat : SeatSeen Entry) : Type 0 where
+  pub workers : ℕ
+  pub links : helds_of keepers ≡ take workers held
+  pub names : AllByRecursion (IsWithConfig config) keepers
+  pub first : AllByRecursion (λ p. IsOfNames config p.1.event) seat.own
 
 -- entries with their places, which stand in this history, in their order
 pub record StandInOrder (history : List Entry) (own : List (ℕ × Entry)) : Type 0 where
@@ -67,6 +103,14 @@ handle_in (job.Name name) = name.post
 
 abbrev pub seats_in : {H N L D : Type 0} → (H → SeatSeen Entry) → List (LinkJob H N L D) → List (SeatSeen Entry)
 seats_in seat_of jobs = map (λ j. seat_of (handle_in j)) jobs
+
+-- and what each is there for
+abbrev pub keeper_in : {H N L D : Type 0} → (N → Option (List (List ℕ))) → LinkJob H N L D → Keeper
+keeper_in coming (job.Net net) = OfLinks (coming net.dialer)
+keeper_in coming (job.Name name) = OfNames name.config
+
+abbrev pub keepers_in : {H N L D : Type 0} → (N → Option (List (List ℕ))) → List (LinkJob H N L D) → List Keeper
+keepers_in coming jobs = map (λ j. keeper_in coming j) jobs
 
 -- the entries of each handle
 abbrev pub owns_of : List (SeatSeen Entry) → List (List (ℕ × Entry))
@@ -122,22 +166,24 @@ pub record Closes (o : Outcome) (owns : List (List (ℕ × Entry))) (seen : List
   pub count : (x : ℕ) → times x after.own ≡ times x own + times_in x owns + times x (places (length front) (option_to_list closing))
 
 -- and then it took in those of the workers beside the calls
-pub record Leaves (o : Outcome) (owns : List (List (ℕ × Entry))) (seen : List Entry) (own : List (ℕ × Entry)) (after : SeatSeen Entry) : Type 0 where
+pub record Leaves (o : Outcome) (keepers : List Keeper) (owns : List (List (ℕ × Entry))) (seen : List Entry) (own : List (ℕ × Entry)) (after : SeatSeen Entry) : Type 0 where
   pub made : Outcome
   pub kept : Outcome
   pub outcome : o ≡ graver made kept
   pub shut : SeatSeen Entry
   pub closes : Closes made owns seen own shut
   pub others : List (List (ℕ × Entry))
-  pub beside : AllByRecursion AreBeside others
+  pub keeps : AllZip KeepsAs keepers others
   pub takes : TakesIn shut others after
 
--- the handle that a run leaves has every part. Before it took the others in, none of its entries was of an application or a Shutdown
-pub record IsLeft (lock : LockId) (o : Outcome) (owns : List (List (ℕ × Entry))) (seat : SeatSeen Entry) : Type 0 where
+-- the handle that a run leaves has every part. Before it took the others in, none of its entries was of an application or a Shutdown. Beside the calls were workers of
+-- the first of these dialers, and addresses were told with this config
+pub record IsLeft (lock : LockId) (held : List (Option (List (List ℕ)))) (config : Option (List ℕ)) (o : Outcome) (owns : List (List (ℕ × Entry))) (seat : SeatSeen Entry) : Type 0 where
   pub lock_is : seat.lock ≡ lock
   pub parts : seat.parts ≡ 4294967296
-  pub seen : List Entry
-  pub own : List (ℕ × Entry)
-  pub stands : Stands seen own
-  pub beside : AreBeside own
-  pub leaves : Leaves o owns seen own seat
+  pub keepers : List Keeper
+  pub start : SeatSeen Entry
+  pub given : AreGiven held config keepers start
+  pub stands : Stands start.seen start.own
+  pub beside : AreBeside start.own
+  pub leaves : Leaves o keepers owns start.seen start.own seat

@@ -1,12 +1,12 @@
 -- Between the functions of the modes: what the workers beside the calls do to their handles. The promises of the modes don't name this.
-use Rattle.std.specs.Prelude.{◌≡◌, length}
-use Rattle.std.specs.List.{AllByRecursion}
+use Rattle.std.specs.Prelude.{◌≡◌, ℕ, Option, List, length}
+use Rattle.std.specs.List.{AllByRecursion, AllZip}
 use Rattle.grpc_base.specs.declared.event.Entry.{Entry}
 use Rattle.turn_lock.specs.History.{LockId, SeatSeen}
-use Rattle.live_channel.specs.Handles.{IsFresh, IsKept, seats_in}
+use Rattle.live_channel.specs.Handles.{IsFresh, IsKept, keepers_in, seats_in}
 use Rattle.live_channel.specs.declared.linkers.Linkers.{Linkers}
 
--- those beside the calls did their work
-pub record KeepsDone {H N L D : Type 0} (seat_of : H → SeatSeen Entry) (before after : Linkers H N L D) : Type 0 where
-  pub kept : (lock : LockId) → AllByRecursion (IsFresh lock) (seats_in seat_of before.jobs.items) → AllByRecursion (IsKept lock) (seats_in seat_of after.jobs.items)
+-- those beside the calls did their work, each what it is there for
+pub record KeepsDone {H N L D : Type 0} (seat_of : H → SeatSeen Entry) (coming : N → Option (List (List ℕ))) (before after : Linkers H N L D) : Type 0 where
+  pub kept : (lock : LockId) → AllByRecursion (IsFresh lock) (seats_in seat_of before.jobs.items) → AllZip (IsKept lock) (keepers_in coming before.jobs.items) (seats_in seat_of after.jobs.items)
   pub count : length after.jobs.items ≡ length before.jobs.items

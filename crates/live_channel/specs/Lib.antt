@@ -1,4 +1,5 @@
 pub mod Handles
+pub mod Held
 pub mod Keeping
 pub mod Reported
 pub mod Sharing

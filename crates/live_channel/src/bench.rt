@@ -1,7 +1,7 @@
 // The workers beside the calls, each with a handle of its own.
-ghost use Rattle.std.specs.Prelude.{◌≡◌, ◌≤◌, ◌-◌, ◌+◌, OnOk};
+ghost use Rattle.std.specs.Prelude.{◌≡◌, ◌≤◌, ◌-◌, ◌+◌, ◌++◌, ◌∷◌, [], ℕ, OnOk, map, take};
 ghost use Rattle.grpc_base.specs.declared.event.Entry.{Entry};
-ghost use Rattle.live_channel.specs.Handles.{IsFresh, Splits, seats_in};
+ghost use Rattle.live_channel.specs.Handles.{IsFresh, OfLinks, OfNames, Splits, keepers_in, seats_in};
 ghost use Rattle.turn_lock.specs.History.{SeatSeen};
 
 use dns_watch::{DnsWatch, Lookup};
@@ -66,6 +66,7 @@ pub fn add_nets<'a, R, P: Balancer, C: Clock, D: Draws, N: Dialer, L: Lookup>(
     requires parts { 16 ≤ seat.old.parts }
     ensures parts { OnOk result (seat.old.parts ≤ seat.new.parts + 4) }
     ensures splits { OnOk result ((start : SeatSeen Entry) → Splits start (seats_in (λ h. h.seat) links.old.items) seat.old → Splits start (seats_in (λ h. h.seat) links.new.items) seat.new) }
+    ensures keepers { OnOk result ((workers : ℕ) × (keepers_in N.coming links.new.items ≡ keepers_in N.coming links.old.items ++ map (λ held. OfLinks held) (take workers (map N.coming dialers.items)))) }
 {
     let mut left = (bench.nets as usize).min(NETS);
     let mut rest = dialers.into_iter();
@@ -92,6 +93,7 @@ fn add_net<'a, R, P: Balancer, C: Clock, D: Draws, N: Dialer, L: Lookup>(
     ensures lock { seat.new.lock ≡ seat.old.lock }
     ensures parts { seat.old.parts ≡ seat.new.parts + 1 }
     ensures splits { OnOk result ((start : SeatSeen Entry) → Splits start (seats_in (λ h. h.seat) links.old.items) seat.old → Splits start (seats_in (λ h. h.seat) links.new.items) seat.new) }
+    ensures keepers { OnOk result (keepers_in N.coming links.new.items ≡ keepers_in N.coming links.old.items ++ OfLinks (N.coming dialer) ∷ []) }
 {
     let mut post = bench.own_handle(seat, draws);
     let given_up = GivenUp::new(bench.alloc)?;
@@ -123,6 +125,7 @@ pub fn add_name<'a, R, P: Balancer, C: Clock, D: Draws, N: Dialer, L: Lookup>(
     ensures lock { seat.new.lock ≡ seat.old.lock }
     ensures parts { seat.old.parts ≡ seat.new.parts + 1 }
     ensures splits { OnOk result ((start : SeatSeen Entry) → Splits start (seats_in (λ h. h.seat) links.old.items) seat.old → Splits start (seats_in (λ h. h.seat) links.new.items) seat.new) }
+    ensures keepers { OnOk result (keepers_in N.coming links.new.items ≡ keepers_in N.coming links.old.items ++ OfNames config ∷ []) }
 {
     let job = NameJob {
         alloc: bench.alloc,

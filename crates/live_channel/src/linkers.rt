@@ -1,16 +1,16 @@
 // The workers beside the calls: those that keep links open, and the one that looks a name up.
 ghost use Rattle.std.specs.Prelude.{◌≡◌, ◌<◌, ◌+◌, ℕ, List, length, slice_index_or};
-ghost use Rattle.std.specs.List.{AllByRecursion};
+ghost use Rattle.std.specs.List.{AllByRecursion, AllZip};
 ghost use Rattle.grpc_base.specs.declared.event.Entry.{Entry};
 ghost use Rattle.live_run.specs.Sides.{LinkDone, seen_by};
 ghost use Rattle.live_run.specs.declared.link_job.LinkJob.{LinkJob};
 ghost use Rattle.live_run.specs.declared.outcome.Outcome.TheVariants as outcome_is;
 ghost use Rattle.turn_lock.specs.History.{LockId};
-ghost use Rattle.live_channel.specs.Handles.{Closes, IsFresh, IsKept, IsOne, Leaves, TakesIn, handle_in, owns_of, seats_in};
+ghost use Rattle.live_channel.specs.Handles.{Closes, IsFresh, IsKept, IsOne, Keeper, Leaves, TakesIn, handle_in, keepers_in, owns_of, seats_in};
 ghost use Rattle.live_channel.specs.Keeping.{KeepsDone};
 
 use dns_watch::Lookup;
-use gate_io::{Clock, Dialer, Draws};
+use gate_io::{Clock, Dialer, Draws, NotesLack};
 use grpc_base::{Glance, Post};
 use lb_policy::Balancer;
 use live_run::{LinkJob, Outcome, work_links};
@@ -35,7 +35,7 @@ impl<
 > Linkers<ChannelSeat<'_, P, R, C, D>, N, L, D> {
     /// Keeps links open until the channel is shut down.
     pub fn keep(&mut self, rt: &R, clock: &C)
-        ensures { KeepsDone (λ h. h.seat) self.old self.new }
+        ensures { KeepsDone (λ h. h.seat) N.coming self.old self.new }
     {
         self.outcome = keep_links(rt, clock, &mut self.jobs);
     }
@@ -50,7 +50,7 @@ fn keep_links<
     N: Dialer,
     L: Lookup,
 >(rt: &R, clock: &C, jobs: &mut Vec<LinkJob<ChannelSeat<'_, P, R, C, D>, N, L, D>>) -> Outcome
-    ensures kept { (lock : LockId) → AllByRecursion (IsFresh lock) (seats_in (λ h. h.seat) jobs.old.items) → AllByRecursion (IsKept lock) (seats_in (λ h. h.seat) jobs.new.items) }
+    ensures kept { (lock : LockId) → AllByRecursion (IsFresh lock) (seats_in (λ h. h.seat) jobs.old.items) → AllZip (IsKept lock) (keepers_in N.coming jobs.old.items) (seats_in (λ h. h.seat) jobs.new.items) }
     ensures count { length jobs.new.items ≡ length jobs.old.items }
 {
     work_links_of(rt, clock, jobs)
@@ -59,7 +59,7 @@ fn keep_links<
 /// The work of these workers, each by its place.
 fn work_links_of<
     R: Threads + Wait + Sync,
-    H: Post + Glance + Send,
+    H: Post + Glance + NotesLack + Send,
     N: Dialer,
     L: Lookup,
     C: Clock,
@@ -102,10 +102,10 @@ pub fn close_links<P: Balancer, R, C: Clock, D: Draws, N: Dialer, L: Lookup>(
     mut closer: ChannelSeat<'_, P, R, C, D>,
     made: Outcome,
 ) -> (Seat<P>, Outcome)
-    requires kept { AllByRecursion (IsKept closer.seat.lock) (seats_in (λ h. h.seat) links.jobs.items) }
+    requires ones { AllByRecursion (IsOne closer.seat.lock) (seats_in (λ h. h.seat) links.jobs.items) }
     ensures lock { result.0.lock ≡ closer.entry.seat.lock }
     ensures parts { result.0.parts ≡ closer.entry.seat.parts + length links.entry.jobs.items }
-    ensures leaves { (owns : List (List (ℕ × Entry))) (seen : List Entry) (own : _) → Closes made owns seen own closer.entry.seat → Leaves result.1 owns seen own result.0 }
+    ensures leaves { (keepers : List Keeper) (owns : List (List (ℕ × Entry))) (seen : List Entry) (own : _) → AllZip (IsKept closer.entry.seat.lock) keepers (seats_in (λ h. h.seat) links.entry.jobs.items) → Closes made owns seen own closer.entry.seat → Leaves result.1 keepers owns seen own result.0 }
     ensures worse { result.1 ≡ outcome_is.Whole → made ≡ outcome_is.Whole }
 {
     let Linkers {

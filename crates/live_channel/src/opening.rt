@@ -9,6 +9,7 @@ ghost use Rattle.live_run.specs.declared.outcome.Outcome.TheVariants as outcome_
 ghost use Rattle.policy_rack.specs.Kinds.{are_ready};
 ghost use Rattle.resolver_core.specs.AnyTargets.{IsTarget, authority_of};
 ghost use Rattle.session_text.specs.declared.ran.Ran.TheVariants as ran_is;
+ghost use Rattle.shared_channel.specs.Running.{origin_of};
 ghost use Rattle.turn_lock.specs.History.{Stands};
 
 use crate::bench::Bench;
@@ -19,12 +20,12 @@ use lb_policy::Balancer;
 use live_run::Outcome;
 use resolver_core::Target;
 use session_text::Ran;
-use shared_channel::{Seat, SharedChannel};
+use shared_channel::{Origin, Seat, SharedChannel};
 use std::alloc::Global;
 use std::sync::Wait;
 
 /// A new channel for a target, and its handle.
-#[tactic(auto, using(crate::proofs::ReportLaws::new_run, crate::proofs::ReportLaws::new_fits))]
+#[tactic(auto, using(crate::proofs::ReportLaws::new_fits))]
 pub fn open_channel<P: Balancer>(
     alloc: Global,
     policies: Vec<P>,
@@ -33,12 +34,12 @@ pub fn open_channel<P: Balancer>(
     requires ready { are_ready (map P.seen policies.items) ≡ true }
     requires target { IsTarget target.now }
     ensures seat { IfOk result (λ r. IsFirstSeat r.0 r.1) }
-    ensures authority { IfOk result (λ r. r.0.origin ≡ authority_of target.now) }
+    ensures origin { IfOk result (λ r. r.0.origin ≡ origin_of (authority_of target.now) (map P.seen policies.items)) }
 {
     let authority = target.authority(alloc)?;
+    let origin = Origin::of(&authority, &policies);
     let core = ChannelCore::new(alloc, authority, policies)?;
-    let named = target.authority(alloc)?;
-    let (channel, seat) = SharedChannel::new(alloc, core, named)?;
+    let (channel, seat) = SharedChannel::new(alloc, core, origin)?;
     Ok((channel, seat))
 }
 

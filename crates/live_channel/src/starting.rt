@@ -1,6 +1,6 @@
 // The beginning of a run: what the channel is told, and the workers beside the calls.
-ghost use Rattle.std.specs.Prelude.{◌≡◌, IfOk};
-ghost use Rattle.live_channel.specs.Handles.{IsFirstSeat, IsStarted, seats_in};
+ghost use Rattle.std.specs.Prelude.{◌≡◌, IfOk, map};
+ghost use Rattle.live_channel.specs.Handles.{AreGiven, IsFirstSeat, IsStarted, keepers_in, seats_in};
 ghost use Rattle.live_channel.specs.Told.{IsToldFirst, TellsTarget};
 ghost use Rattle.grpc_base.specs.declared.event.Event.TheVariants as event;
 
@@ -28,6 +28,7 @@ pub fn start_links<'a, R: Wait, P: Balancer, C: Clock, D: Draws, N: Dialer, L: L
 ) -> Result<(Seat<P>, Vec<LinkJob<ChannelSeat<'a, P, R, C, D>, N, L, D>>), NoMemory>
     requires seat { IsFirstSeat bench.now.channel.now seat }
     ensures started { IfOk result (λ r. IsStarted bench.now.channel.now (seats_in (λ h. h.seat) r.1.items) r.0) }
+    ensures given { IfOk result (λ r. AreGiven (map N.coming dialers.items) config (keepers_in N.coming r.1.items) r.0) }
     ensures told { IfOk result (λ r. TellsTarget target config r.0.seen) }
 {
     match target {
@@ -54,6 +55,7 @@ fn start_resolved<'a, R: Wait, P: Balancer, C: Clock, D: Draws, N: Dialer, L: Lo
 ) -> Result<(Seat<P>, Vec<LinkJob<ChannelSeat<'a, P, R, C, D>, N, L, D>>), NoMemory>
     requires seat { IsFirstSeat bench.now.channel.now seat }
     ensures started { IfOk result (λ r. IsStarted bench.now.channel.now (seats_in (λ h. h.seat) r.1.items) r.0) }
+    ensures given { IfOk result (λ r. AreGiven (map N.coming dialers.items) config (keepers_in N.coming r.1.items) r.0) }
     ensures told { IfOk result (λ r. IsToldFirst (event.Resolved addresses config) r.0.seen) }
 {
     let event = resolved(bench.alloc, addresses, config)?;
@@ -74,7 +76,8 @@ fn start_named<'a, R: Wait, P: Balancer, C: Clock, D: Draws, N: Dialer, L: Looku
     config: Option<Octets>,
 ) -> Result<(Seat<P>, Vec<LinkJob<ChannelSeat<'a, P, R, C, D>, N, L, D>>), NoMemory>
     requires seat { IsFirstSeat bench.now.channel.now seat }
-    ensures { IfOk result (λ r. IsStarted bench.now.channel.now (seats_in (λ h. h.seat) r.1.items) r.0) }
+    ensures started { IfOk result (λ r. IsStarted bench.now.channel.now (seats_in (λ h. h.seat) r.1.items) r.0) }
+    ensures given { IfOk result (λ r. AreGiven (map N.coming dialers.items) config (keepers_in N.coming r.1.items) r.0) }
 {
     let mut links: Vec<LinkJob<ChannelSeat<'a, P, R, C, D>, N, L, D>> = Vec::new(bench.alloc);
     add_name(bench, &mut seat, draws, watch, lookup, config, &mut links)?;

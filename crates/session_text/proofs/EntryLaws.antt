@@ -7,7 +7,9 @@ use Rattle.grpc_base.specs.declared.event.Entry.{Entry}
 use Rattle.grpc_base.specs.declared.event.Reply.{Reply}
 use Rattle.grpc_base.specs.declared.event.Stamped.{Stamped}
 use Rattle.channel_core.specs.Applying.{conn_of}
-use Rattle.channel_core.specs.Core.{CoreSeen, IsNew, Runs, Steps, last_moment, moment_of}
+use Rattle.channel_core.specs.Core.{CoreSeen, Runs, Steps, last_moment, moment_of}
+use Rattle.journal_room.specs.Runs.{HasRunBy}
+use Rattle.lb_policy.specs.Table.{PolicySeen}
 use Rattle.session_text.specs.Sessions.{AreEntriesOf, highest_so_far}
 
 -- the entry of a step
@@ -68,13 +70,13 @@ adds old (s ∷ events) new runs =
     }
 
 -- and to that of a new channel
-pub entries_of : (authority : List ℕ) (old : CoreSeen) (events : List Stamped) (new : CoreSeen) → IsNew authority old → Runs old events new → AreEntriesOf events new.journal
-entries_of authority old events new is_new runs =
-    let more : Adds old events new = adds old events new runs in
+pub entries_of : (authority : List ℕ) (policies : List PolicySeen) (events : List Stamped) (core : CoreSeen) → HasRunBy authority policies events core → AreEntriesOf events core.journal
+entries_of authority policies events core run =
+    let more : Adds run.new events core = adds run.new events core run.runs in
     record {
-      events_are = more.events_are ∙ ap (λ (es : List Entry). map (λ (x : Entry). x.event) es ++ map (λ (x : Stamped). x.event) events) is_new.2.journal;
-      words_are = more.words_are ∙ ap (λ (es : List Entry). map (λ (x : Entry). x.word) es ++ map (λ (x : Stamped). x.word) events) is_new.2.journal;
+      events_are = more.events_are ∙ ap (λ (es : List Entry). map (λ (x : Entry). x.event) es ++ map (λ (x : Stamped). x.event) events) run.is_new.journal;
+      words_are = more.words_are ∙ ap (λ (es : List Entry). map (λ (x : Entry). x.word) es ++ map (λ (x : Stamped). x.word) events) run.is_new.journal;
       moments_are =
           more.moments_are
-          ∙ ap (λ (es : List Entry). map (λ (x : Entry). x.moment) es ++ highest_so_far (last_moment es) (map (λ (x : Stamped). x.moment) events)) is_new.2.journal;
+          ∙ ap (λ (es : List Entry). map (λ (x : Entry). x.moment) es ++ highest_so_far (last_moment es) (map (λ (x : Stamped). x.moment) events)) run.is_new.journal;
     }

@@ -7,21 +7,21 @@ use Rattle.gate_io.specs.Outside.{Appends, AppendsFront}
 use Rattle.gate_io.proofs.AppendLaws.{Appends-append}
 use Rattle.script_text.specs.Report.{report_of}
 use Rattle.script_text.proofs.Passing.{AppendsFront-behind, AppendsFront-more, Passes-all}
-use Rattle.channel_core.specs.Core.{CoreSeen, IsNew, Runs, ledger_in}
+use Rattle.channel_core.specs.Core.{CoreSeen, ledger_in}
+use Rattle.journal_room.specs.Runs.{HasRunBy}
+use Rattle.lb_policy.specs.Table.{PolicySeen}
 use Rattle.session_text.specs.declared.ran.Ran.{Ran}
 use Rattle.session_text.specs.declared.ran.Ran.TheVariants as ran
 use Rattle.session_text.specs.Sessions.{AreEntriesOf, IsSession, run_text, session_full_text}
 use Rattle.session_text.proofs.EntryLaws.{entries_of}
 
-pub session_of : (authority : List ℕ) (new core : CoreSeen) (events : List Stamped) (journal : Journal) (ledger : Ledger) → IsNew authority new → Runs new events core → journal ≡ core.journal → ledger ≡ ledger_in core → IsSession authority events journal ledger
-session_of authority new core events journal ledger is_new runs j l = record {
-  new = new;
+pub session_of : (authority : List ℕ) (policies : List PolicySeen) (core : CoreSeen) (events : List Stamped) (journal : Journal) (ledger : Ledger) → HasRunBy authority policies events core → journal ≡ core.journal → ledger ≡ ledger_in core → IsSession authority policies events journal ledger
+session_of authority policies core events journal ledger run j l = record {
   core = core;
-  is_new = is_new;
-  runs = runs;
+  run = run;
   journal_is = j;
   ledger_is = l;
-  entries = subst (λ (x : Journal). AreEntriesOf events x) (sym j) (entries_of authority new events core is_new runs);
+  entries = subst (λ (x : Journal). AreEntriesOf events x) (sym j) (entries_of authority policies events core run);
 }
 
 -- two texts are written, one behind the other

@@ -3,7 +3,9 @@ use Rattle.std.specs.Prelude.{◌≡◌, ℕ, List, [], ◌∷◌, ◌++◌, map
 use Rattle.grpc_base.specs.declared.event.Stamped.{Stamped}
 use Rattle.attempt_ledger.specs.declared.journal.Journal.{Journal}
 use Rattle.attempt_ledger.specs.declared.ledger.Ledger.{Ledger}
-use Rattle.channel_core.specs.Core.{CoreSeen, IsNew, Runs, ledger_in}
+use Rattle.channel_core.specs.Core.{CoreSeen, ledger_in}
+use Rattle.journal_room.specs.Runs.{HasRunBy}
+use Rattle.lb_policy.specs.Table.{PolicySeen}
 use Rattle.script_text.specs.Report.{report_of}
 use Rattle.session_text.specs.declared.ran.Ran.{Ran}
 use Rattle.session_text.specs.declared.ran.Ran.TheVariants as ran
@@ -28,12 +30,11 @@ pub record AreEntriesOf (events : List Stamped) (journal : Journal) : Type 0 whe
   pub words_are : map (λ e. e.word) journal.entries ≡ map (λ s. s.word) events
   pub moments_are : map (λ e. e.moment) journal.entries ≡ highest_so_far 0 (map (λ s. s.moment) events)
 
--- a session: a new channel, whose requests have this authority, ran these events and no other, and this is its journal and ledger
-pub record IsSession (authority : List ℕ) (events : List Stamped) (journal : Journal) (ledger : Ledger) : Type 0 where
-  pub new : CoreSeen
+-- a session: a channel that was new with this authority and policies that look like these was given these events and no other, each where there was room, and this
+-- is its journal and ledger
+pub record IsSession (authority : List ℕ) (policies : List PolicySeen) (events : List Stamped) (journal : Journal) (ledger : Ledger) : Type 0 where
   pub core : CoreSeen
-  pub is_new : IsNew authority new
-  pub runs : Runs new events core
+  pub run : HasRunBy authority policies events core
   pub journal_is : journal ≡ core.journal
   pub ledger_is : ledger ≡ ledger_in core
   pub entries : AreEntriesOf events journal
