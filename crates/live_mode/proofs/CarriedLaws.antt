@@ -1,5 +1,5 @@
 -- What the handle knows of the calls that took all others in.
-use Rattle.std.proofs.Common.{◌≡◌, ◌⊎◌, ◌∙◌, ℕ, suc, ◌+◌, List, [], ◌∷◌, ap, arith, inl, inr, length, map, refl, sym, subst}
+use Rattle.std.proofs.Common.{◌≡◌, ◌⊎◌, ◌∙◌, ℕ, suc, ◌+◌, Option, List, [], ◌∷◌, ap, arith, inl, length, map, refl, sym, subst}
 use Rattle.std.specs.List.{AllByRecursion, AllZip}
 use Rattle.grpc_base.specs.declared.event.Entry.{Entry}
 use Rattle.grpc_base.specs.declared.script.CallLine.{CallLine}
@@ -14,6 +14,8 @@ use Rattle.shared_channel.specs.Turns.{entries_of}
 use Rattle.turn_lock.specs.History.{LockId, Owns, SeatSeen, StartsWith}
 use Rattle.live_channel.specs.Handles.{Shuts, StandInOrder, TakesIn, owns_of}
 use Rattle.live_channel.specs.Sharing.{IsOfCall, times_in}
+use Rattle.live_channel.specs.Held.{ComeAsHeld}
+use Rattle.live_channel.proofs.HeldLaws.{come_as_held}
 use Rattle.live_channel.proofs.ShareLaws.{closes_taken, graver_whole, shares}
 use Rattle.live_mode.specs.Made.{CarriesCalls, IsWorkOf, MakesOwn, worker_lines}
 use Rattle.live_mode.specs.Handles.{AreMade, IsWorked, LeavesCalls, MakesUpTo, busy}
@@ -105,10 +107,10 @@ calls_all o [] (own ∷ owns) makes = absurd makes
 calls_all o (lines ∷ groups) [] makes = absurd makes
 calls_all o (lines ∷ groups) (own ∷ owns) makes = (own_of_calls o lines own makes.0, calls_all o groups owns makes.1)
 
-pub carries : (r : Ran) (lock : LockId) (o : Outcome) (calls : List WorkerLine) (groups : List (List CallLine)) (seat : SeatSeen Entry) (entries : List Entry) → (r ≡ ran.Whole → o ≡ outcome.Whole) → groups ≡ worker_lines calls
-    → LeavesCalls lock o groups seat → Owns seat.parts seat.own entries → StartsWith entries seat.seen → CarriesCalls r calls entries
-carries r lock o calls groups seat entries whole same by all sees =
-    let out = shares r lock o by.owns seat entries whole by.left (calls_all o (busy groups) by.owns by.makes) all sees in
+pub carries : (r : Ran) (lock : LockId) (held : List (Option (List (List ℕ)))) (config : Option (List ℕ)) (o : Outcome) (calls : List WorkerLine) (groups : List (List CallLine)) (seat : SeatSeen Entry) (entries : List Entry) → (r ≡ ran.Whole → o ≡ outcome.Whole) → groups ≡ worker_lines calls
+    → LeavesCalls lock held config o groups seat → Owns seat.parts seat.own entries → StartsWith entries seat.seen → CarriesCalls r calls entries
+carries r lock held config o calls groups seat entries whole same by all sees =
+    let out = shares r lock held config o by.owns seat entries whole by.left (calls_all o (busy groups) by.owns by.makes) all sees in
     let spread = spread_out r o out.front groups by.owns whole by.makes out.each in
     record {
       front = out.front;
@@ -121,3 +123,9 @@ carries r lock o calls groups seat entries whole same by all sees =
       shut = out.shares.shut;
       alone = out.shares.alone;
     }
+
+-- ---- what came on the links
+
+pub come : (lock : LockId) (held : List (Option (List (List ℕ)))) (config : Option (List ℕ)) (o : Outcome) (groups : List (List CallLine)) (seat : SeatSeen Entry) (entries : List Entry) → LeavesCalls lock held config o groups seat → Owns seat.parts seat.own entries → StartsWith entries seat.seen
+    → ComeAsHeld held config entries
+come lock held config o groups seat entries by all sees = come_as_held lock held config o by.owns seat entries by.left (calls_all o (busy groups) by.owns by.makes) all sees

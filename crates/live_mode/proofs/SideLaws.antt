@@ -14,10 +14,10 @@ use Rattle.live_run.specs.declared.outcome.Outcome.{Outcome}
 use Rattle.live_run.specs.declared.outcome.Outcome.TheVariants as outcome
 use Rattle.shared_channel.specs.Turns.{entries_of, share_of}
 use Rattle.turn_lock.specs.History.{LockId, SeatSeen}
-use Rattle.live_channel.specs.Handles.{Closes, IsFresh, IsKept, IsOne, Leaves, seats_in}
+use Rattle.live_channel.specs.Handles.{Closes, IsFresh, IsKept, IsOne, Keeper, Leaves, keepers_in, seats_in}
 use Rattle.live_channel.specs.Keeping.{KeepsDone}
 use Rattle.live_channel.specs.declared.linkers.Linkers.{Linkers}
-use Rattle.live_channel.proofs.KeepLaws.{one_still}
+use Rattle.live_channel.proofs.KeepLaws.{kept_ones, one_still}
 use Rattle.live_channel.proofs.ShareLaws.{graver_whole}
 use Rattle.live_mode.specs.Handles.{IsWorked, MakesUpTo}
 use Rattle.live_mode.specs.Sides.{IsReady, MakesDone, RunDone, SideDone}
@@ -64,30 +64,30 @@ worked_ones lock o (lines ∷ groups) (s ∷ seats) all = (all.0.one, worked_one
 
 -- ---- both sides, out of the list of the sides
 
-of_kinds : {H N L D : Type 0} (seat_of : H → SeatSeen Entry) (links : Linkers H N L D) (calls : Callers H) (a b : Side H N L D) → SideDone seat_of (side.Links links) a → SideDone seat_of (side.Calls calls) b → (l : Linkers H N L D) × (c : Callers H) × (a ∷ b ∷ [] ≡ side.Links l ∷ side.Calls c ∷ [])
-of_kinds seat_of links calls (side.Links l) (side.Calls c) kept made = (l, c, refl)
-of_kinds seat_of links calls (side.Links l) (side.Links k) kept made = absurd made
-of_kinds seat_of links calls (side.Calls c) b kept made = absurd kept
+of_kinds : {H N L D : Type 0} (seat_of : H → SeatSeen Entry) (coming : N → Option (List (List ℕ))) (links : Linkers H N L D) (calls : Callers H) (a b : Side H N L D) → SideDone seat_of coming (side.Links links) a → SideDone seat_of coming (side.Calls calls) b → (l : Linkers H N L D) × (c : Callers H) × (a ∷ b ∷ [] ≡ side.Links l ∷ side.Calls c ∷ [])
+of_kinds seat_of coming links calls (side.Links l) (side.Calls c) kept made = (l, c, refl)
+of_kinds seat_of coming links calls (side.Links l) (side.Links k) kept made = absurd made
+of_kinds seat_of coming links calls (side.Calls c) b kept made = absurd kept
 
-of_two : {H N L D : Type 0} (seat_of : H → SeatSeen Entry) (links : Linkers H N L D) (calls : Callers H) (new : List (Side H N L D)) → length new ≡ 2 → ((i : ℕ) (d : Side H N L D) → i < 2 → SideDone seat_of (slice_index_or (side.Links links ∷ side.Calls calls ∷ []) i d) (slice_index_or new i d))
+of_two : {H N L D : Type 0} (seat_of : H → SeatSeen Entry) (coming : N → Option (List (List ℕ))) (links : Linkers H N L D) (calls : Callers H) (new : List (Side H N L D)) → length new ≡ 2 → ((i : ℕ) (d : Side H N L D) → i < 2 → SideDone seat_of coming (slice_index_or (side.Links links ∷ side.Calls calls ∷ []) i d) (slice_index_or new i d))
     → (l : Linkers H N L D) × (c : Callers H) × (new ≡ side.Links l ∷ side.Calls c ∷ [])
-of_two seat_of links calls [] long each = absurd (omega (arith, long))
-of_two seat_of links calls (a ∷ []) long each = absurd (omega (arith, long))
-of_two seat_of links calls (a ∷ (b ∷ [])) long each = of_kinds seat_of links calls a b (each 0 a (omega arith)) (each 1 b (omega arith))
-of_two seat_of links calls (a ∷ (b ∷ (c ∷ more))) long each = absurd (omega (arith, long))
+of_two seat_of coming links calls [] long each = absurd (omega (arith, long))
+of_two seat_of coming links calls (a ∷ []) long each = absurd (omega (arith, long))
+of_two seat_of coming links calls (a ∷ (b ∷ [])) long each = of_kinds seat_of coming links calls a b (each 0 a (omega arith)) (each 1 b (omega arith))
+of_two seat_of coming links calls (a ∷ (b ∷ (c ∷ more))) long each = absurd (omega (arith, long))
 
-pub still_two : {H N L D : Type 0} (seat_of : H → SeatSeen Entry) (links : Linkers H N L D) (calls : Callers H) (old new : List (Side H N L D)) → old ≡ side.Links links ∷ side.Calls calls ∷ [] → length new ≡ length old
-    → ((i : ℕ) (d : Side H N L D) → i < length old → SideDone seat_of (slice_index_or old i d) (slice_index_or new i d)) → (l : Linkers H N L D) × (c : Callers H) × (new ≡ side.Links l ∷ side.Calls c ∷ [])
-still_two {H} {N} {L} {D} seat_of links calls old new is same each =
-    of_two seat_of links calls new (same ∙ ap length is)
-    (subst (λ (xs : List (Side H N L D)). (i : ℕ) (d : Side H N L D) → i < length xs → SideDone seat_of (slice_index_or xs i d) (slice_index_or new i d)) is each)
+pub still_two : {H N L D : Type 0} (seat_of : H → SeatSeen Entry) (coming : N → Option (List (List ℕ))) (links : Linkers H N L D) (calls : Callers H) (old new : List (Side H N L D)) → old ≡ side.Links links ∷ side.Calls calls ∷ [] → length new ≡ length old
+    → ((i : ℕ) (d : Side H N L D) → i < length old → SideDone seat_of coming (slice_index_or old i d) (slice_index_or new i d)) → (l : Linkers H N L D) × (c : Callers H) × (new ≡ side.Links l ∷ side.Calls c ∷ [])
+still_two {H} {N} {L} {D} seat_of coming links calls old new is same each =
+    of_two seat_of coming links calls new (same ∙ ap length is)
+    (subst (λ (xs : List (Side H N L D)). (i : ℕ) (d : Side H N L D) → i < length xs → SideDone seat_of coming (slice_index_or xs i d) (slice_index_or new i d)) is each)
 
-pub both_done : {H N L D : Type 0} (seat_of : H → SeatSeen Entry) (links l : Linkers H N L D) (calls c : Callers H) (old new : List (Side H N L D)) → old ≡ side.Links links ∷ side.Calls calls ∷ [] → new ≡ side.Links l ∷ side.Calls c ∷ []
-    → ((i : ℕ) (d : Side H N L D) → i < length old → SideDone seat_of (slice_index_or old i d) (slice_index_or new i d)) → KeepsDone seat_of links l × MakesDone seat_of calls c
-both_done {H} {N} {L} {D} seat_of links l calls c old new is now each =
-    let here : (i : ℕ) (d : Side H N L D) → i < 2 → SideDone seat_of (slice_index_or (side.Links links ∷ side.Calls calls ∷ []) i d) (slice_index_or (side.Links l ∷ side.Calls c ∷ []) i d) =
-    subst (λ (ys : List (Side H N L D)). (i : ℕ) (d : Side H N L D) → i < 2 → SideDone seat_of (slice_index_or (side.Links links ∷ side.Calls calls ∷ []) i d) (slice_index_or ys i d)) now
-    (subst (λ (xs : List (Side H N L D)). (i : ℕ) (d : Side H N L D) → i < length xs → SideDone seat_of (slice_index_or xs i d) (slice_index_or new i d)) is each) in
+pub both_done : {H N L D : Type 0} (seat_of : H → SeatSeen Entry) (coming : N → Option (List (List ℕ))) (links l : Linkers H N L D) (calls c : Callers H) (old new : List (Side H N L D)) → old ≡ side.Links links ∷ side.Calls calls ∷ [] → new ≡ side.Links l ∷ side.Calls c ∷ []
+    → ((i : ℕ) (d : Side H N L D) → i < length old → SideDone seat_of coming (slice_index_or old i d) (slice_index_or new i d)) → KeepsDone seat_of coming links l × MakesDone seat_of calls c
+both_done {H} {N} {L} {D} seat_of coming links l calls c old new is now each =
+    let here : (i : ℕ) (d : Side H N L D) → i < 2 → SideDone seat_of coming (slice_index_or (side.Links links ∷ side.Calls calls ∷ []) i d) (slice_index_or (side.Links l ∷ side.Calls c ∷ []) i d) =
+    subst (λ (ys : List (Side H N L D)). (i : ℕ) (d : Side H N L D) → i < 2 → SideDone seat_of coming (slice_index_or (side.Links links ∷ side.Calls calls ∷ []) i d) (slice_index_or ys i d)) now
+    (subst (λ (xs : List (Side H N L D)). (i : ℕ) (d : Side H N L D) → i < length xs → SideDone seat_of coming (slice_index_or xs i d) (slice_index_or new i d)) is each) in
     (here 0 (side.Links l) (omega arith), here 1 (side.Calls c) (omega arith))
 
 pub ready_two : {H N L D : Type 0} (seat_of : H → SeatSeen Entry) (links : Linkers H N L D) (calls : Callers H) (sides : List (Side H N L D)) → sides ≡ side.Links links ∷ side.Calls calls ∷ [] → AllByRecursion (IsFresh (seat_of calls.closer).lock) (map (λ j. seat_of j.post) calls.jobs.items)
@@ -103,19 +103,26 @@ ready_two {H} {N} {L} {D} seat_of links calls sides is fresh =
 pub ready_at : {H N L D : Type 0} (seat_of : H → SeatSeen Entry) (x y : Side H N L D) → x ≡ y → IsReady seat_of y → IsReady seat_of x
 ready_at seat_of x y same ready = subst (IsReady seat_of) (sym same) ready
 
-pub run_done : {H N L D : Type 0} (seat_of : H → SeatSeen Entry) (links l : Linkers H N L D) (calls c : Callers H) (seat : SeatSeen Entry) (o : Outcome) → KeepsDone seat_of links l → MakesDone seat_of calls c → seat.lock ≡ (seat_of c.closer).lock → seat.parts ≡ (seat_of c.closer).parts + length l.jobs.items
-    → ((owns : List (List (ℕ × Entry))) (seen : List Entry) (own : List (ℕ × Entry)) → Closes c.outcome owns seen own (seat_of c.closer) → Leaves o owns seen own seat) → (o ≡ outcome.Whole → c.outcome ≡ outcome.Whole) → RunDone seat_of links calls seat o
-run_done seat_of links l calls c seat o keeps makes lock parts leaves worse = record {
+pub kept_by : {H N L D : Type 0} (seat_of : H → SeatSeen Entry) (coming : N → Option (List (List ℕ))) (links l : Linkers H N L D) (calls c : Callers H) → KeepsDone seat_of coming links l → MakesDone seat_of calls c → AllByRecursion (IsFresh (seat_of calls.closer).lock) (seats_in seat_of links.jobs.items)
+    → AllZip (IsKept (seat_of c.closer).lock) (keepers_in coming links.jobs.items) (seats_in seat_of l.jobs.items)
+kept_by seat_of coming links l calls c keeps makes fresh =
+    subst (λ (lock : LockId). AllZip (IsKept lock) (keepers_in coming links.jobs.items) (seats_in seat_of l.jobs.items)) (sym makes.lock) (keeps.kept (seat_of calls.closer).lock fresh)
+
+pub ones_by : {H N L D : Type 0} (seat_of : H → SeatSeen Entry) (coming : N → Option (List (List ℕ))) (links l : Linkers H N L D) (calls c : Callers H) → KeepsDone seat_of coming links l → MakesDone seat_of calls c → AllByRecursion (IsFresh (seat_of calls.closer).lock) (seats_in seat_of links.jobs.items)
+    → AllByRecursion (IsOne (seat_of c.closer).lock) (seats_in seat_of l.jobs.items)
+ones_by seat_of coming links l calls c keeps makes fresh = kept_ones (seat_of c.closer).lock (keepers_in coming links.jobs.items) (seats_in seat_of l.jobs.items) (kept_by seat_of coming links l calls c keeps makes fresh)
+
+pub run_done : {H N L D : Type 0} (seat_of : H → SeatSeen Entry) (coming : N → Option (List (List ℕ))) (links l : Linkers H N L D) (calls c : Callers H) (seat : SeatSeen Entry) (o : Outcome) → KeepsDone seat_of coming links l → MakesDone seat_of calls c → AllByRecursion (IsFresh (seat_of calls.closer).lock) (seats_in seat_of links.jobs.items) → seat.lock ≡ (seat_of c.closer).lock
+    → seat.parts ≡ (seat_of c.closer).parts + length l.jobs.items
+    → ((keepers : List Keeper) (owns : List (List (ℕ × Entry))) (seen : List Entry) (own : List (ℕ × Entry)) → AllZip (IsKept (seat_of c.closer).lock) keepers (seats_in seat_of l.jobs.items) → Closes c.outcome owns seen own (seat_of c.closer) → Leaves o keepers owns seen own seat)
+    → (o ≡ outcome.Whole → c.outcome ≡ outcome.Whole) → RunDone seat_of coming links calls seat o
+run_done seat_of coming links l calls c seat o keeps makes fresh lock parts leaves worse = record {
   lock = lock ∙ makes.lock;
   parts = let made = makes.parts in let count = keeps.count in omega (arith, parts, made, count);
   owns = makes.owns;
   makes = all_worse c.outcome o (map (λ j. j.lines.items) calls.jobs.items) makes.owns worse makes.makes;
-  leaves = leaves _ _ _ makes.closes;
+  leaves = leaves _ _ _ _ (kept_by seat_of coming links l calls c keeps makes fresh) makes.closes;
 }
-
-pub kept_by : {H N L D : Type 0} (seat_of : H → SeatSeen Entry) (links l : Linkers H N L D) (calls c : Callers H) → KeepsDone seat_of links l → MakesDone seat_of calls c → AllByRecursion (IsFresh (seat_of calls.closer).lock) (seats_in seat_of links.jobs.items) → AllByRecursion (IsKept (seat_of c.closer).lock) (seats_in seat_of l.jobs.items)
-kept_by seat_of links l calls c keeps makes fresh =
-    subst (λ (lock : LockId). AllByRecursion (IsKept lock) (seats_in seat_of l.jobs.items)) (sym makes.lock) (keeps.kept (seat_of calls.closer).lock fresh)
 
 -- two that were popped
 pub two_popped : {X : Type 0} (items mid rest : List X) (first last : Option X) (a b : X) → length items ≡ 2 → items ≡ mid ++ option_to_list last → mid ≡ rest ++ option_to_list first → last ≡ Some b → first ≡ Some a → items ≡ a ∷ b ∷ []

@@ -1,6 +1,6 @@
 -- Between the functions of this crate: what the handles of a run are whose workers make calls. The promises of the crate don't name
 -- these.
-use Rattle.std.specs.Prelude.{◌≡◌, ◌⊎◌, ℕ, List, [], ◌∷◌}
+use Rattle.std.specs.Prelude.{◌⊎◌, ℕ, Option, List, [], ◌∷◌}
 use Rattle.std.specs.List.{AllZip}
 use Rattle.grpc_base.specs.declared.event.Entry.{Entry}
 use Rattle.grpc_base.specs.declared.script.CallLine.{CallLine}
@@ -31,8 +31,8 @@ busy [] = []
 busy ([] ∷ groups) = busy groups
 busy ((line ∷ lines) ∷ groups) = (line ∷ lines) ∷ busy groups
 
--- the handle that a run leaves whose workers made these calls
-pub record LeavesCalls (lock : LockId) (o : Outcome) (groups : List (List CallLine)) (seat : SeatSeen Entry) : Type 0 where
+-- the handle that a run leaves whose workers made these calls, over links of which the dialers held this, and whose addresses came with this config
+pub record LeavesCalls (lock : LockId) (held : List (Option (List (List ℕ)))) (config : Option (List ℕ)) (o : Outcome) (groups : List (List CallLine)) (seat : SeatSeen Entry) : Type 0 where
   pub owns : List (List (ℕ × Entry))
   pub makes : AreMade o (busy groups) owns
-  pub left : IsLeft lock o owns seat
+  pub left : IsLeft lock held config o owns seat

@@ -39,12 +39,12 @@ pub fn run_live<R: Threads + Wait + Sync, P: Balancer + Send, S: Source, K: Sink
     report: &mut K,
 ) -> u8
     requires { are_ready (map P.seen policies.items) ≡ true }
-    ensures done { result ≡ 0 → WritesAll (IsLived (S.left script.old) (S.left script.new)) (K.taken report.old) (K.taken report.new) }
+    ensures done { result ≡ 0 → WritesAll (IsLived (map P.seen policies.items) (W.held world) (S.left script.old) (S.left script.new)) (K.taken report.old) (K.taken report.new) }
     ensures line { result ≡ 3 → WritesAll (TellsBadCall (S.left script.old) (S.left script.new)) (K.taken report.old) (K.taken report.new) }
     ensures reading { result ≡ 4 → StopsInCalls (S.left script.old) (S.left script.new) (K.taken report.old) (K.taken report.new) (S.faults script.old) (S.faults script.new) }
-    ensures writing { result ≡ 5 → Rises (K.faults report.old) (K.faults report.new) × WritesFront (IsLiveText (S.left script.old) (S.left script.new)) (K.taken report.old) (K.taken report.new) }
-    ensures memory { result ≡ 6 → WritesSome (IsLiveText (S.left script.old) (S.left script.new)) (K.taken report.old) (K.taken report.new) }
-    ensures full { result ≡ 7 → WritesAll (EndsLiveFull (S.left script.old) (S.left script.new)) (K.taken report.old) (K.taken report.new) }
+    ensures writing { result ≡ 5 → Rises (K.faults report.old) (K.faults report.new) × WritesFront (IsLiveText (map P.seen policies.items) (W.held world) (S.left script.old) (S.left script.new)) (K.taken report.old) (K.taken report.new) }
+    ensures memory { result ≡ 6 → WritesSome (IsLiveText (map P.seen policies.items) (W.held world) (S.left script.old) (S.left script.new)) (K.taken report.old) (K.taken report.new) }
+    ensures full { result ≡ 7 → WritesAll (EndsLiveFull (map P.seen policies.items) (W.held world) (S.left script.old) (S.left script.new)) (K.taken report.old) (K.taken report.new) }
     ensures known { (result ≡ 0) ⊎ (result ≡ 3) ⊎ (result ≡ 4) ⊎ (result ≡ 5) ⊎ (result ≡ 6) ⊎ (result ≡ 7) }
 {
     match read_live(alloc, script) {
@@ -70,10 +70,10 @@ fn live_script<R: Threads + Wait + Sync, P: Balancer + Send, K: Sink, W: NamedWo
 ) -> u8
     requires ready { are_ready (map P.seen policies.items) ≡ true }
     requires target { IsTarget script.value }
-    ensures done { result ≡ 0 → WritesAll (IsLiveReport ran_is.Whole script) (K.taken report.old) (K.taken report.new) }
-    ensures full { result ≡ 7 → WritesAll (IsLiveReport ran_is.Full script) (K.taken report.old) (K.taken report.new) }
-    ensures writing { result ≡ 5 → Rises (K.faults report.old) (K.faults report.new) × WritesFront (IsAnyLiveReport script) (K.taken report.old) (K.taken report.new) }
-    ensures memory { result ≡ 6 → WritesSome (IsAnyLiveReport script) (K.taken report.old) (K.taken report.new) }
+    ensures done { result ≡ 0 → WritesAll (IsLiveReport (map P.seen policies.items) (W.held world) ran_is.Whole script) (K.taken report.old) (K.taken report.new) }
+    ensures full { result ≡ 7 → WritesAll (IsLiveReport (map P.seen policies.items) (W.held world) ran_is.Full script) (K.taken report.old) (K.taken report.new) }
+    ensures writing { result ≡ 5 → Rises (K.faults report.old) (K.faults report.new) × WritesFront (IsAnyLiveReport (map P.seen policies.items) (W.held world) script) (K.taken report.old) (K.taken report.new) }
+    ensures memory { result ≡ 6 → WritesSome (IsAnyLiveReport (map P.seen policies.items) (W.held world) script) (K.taken report.old) (K.taken report.new) }
     ensures known { (result ≡ 0) ⊎ (result ≡ 5) ⊎ (result ≡ 6) ⊎ (result ≡ 7) }
 {
     match report_live(rt, alloc, settings, policies, world, script, report) {

@@ -39,9 +39,9 @@ pub fn report_live<R: Threads + Wait + Sync, P: Balancer + Send, K: Sink, W: Nam
 ) -> Result<Ran, ReportFault>
     requires ready { are_ready (map P.seen policies.items) ≡ true }
     requires target { IsTarget script.value }
-    ensures ok { IfOk result (λ ran. WritesAll (IsLiveReport ran script) (K.taken report.old) (K.taken report.new)) }
-    ensures err { OnErr result (WritesSome (IsAnyLiveReport script) (K.taken report.old) (K.taken report.new)) }
-    ensures write { (result ≡ Err ReportFault.Write) → Rises (K.faults report.old) (K.faults report.new) × WritesFront (IsAnyLiveReport script) (K.taken report.old) (K.taken report.new) }
+    ensures ok { IfOk result (λ ran. WritesAll (IsLiveReport (map P.seen policies.items) (W.held world) ran script) (K.taken report.old) (K.taken report.new)) }
+    ensures err { OnErr result (WritesSome (IsAnyLiveReport (map P.seen policies.items) (W.held world) script) (K.taken report.old) (K.taken report.new)) }
+    ensures write { (result ≡ Err ReportFault.Write) → Rises (K.faults report.old) (K.faults report.new) × WritesFront (IsAnyLiveReport (map P.seen policies.items) (W.held world) script) (K.taken report.old) (K.taken report.new) }
 {
     let LiveScript {
         target,
@@ -75,7 +75,7 @@ fn run_world<R: Threads + Wait + Sync, P: Balancer + Send, W: NamedWorld>(
 ) -> Result<(Seat<P>, Outcome), NoMemory>
     requires seat { IsFirstSeat channel.now seat }
     requires few { length groups.items ≤ 16 }
-    ensures left { IfOk result (λ r. LeavesCalls channel.now r.1 (map (λ g. g.items) groups.items) r.0) }
+    ensures left { IfOk result (λ r. LeavesCalls channel.now (W.held world) config r.1 (map (λ g. g.items) groups.items) r.0) }
     ensures told { IfOk result (λ r. TellsTarget target config r.0.seen) }
 {
     let lookup = world.lookup();

@@ -1,5 +1,5 @@
 // Both sides of a live run at once: the workers beside the calls, and those that make calls.
-ghost use Rattle.std.specs.Prelude.{◌≡◌, ◌<◌, ◌+◌, ◌∷◌, [], ℕ, IfOk, List, length, map, slice_index_or};
+ghost use Rattle.std.specs.Prelude.{◌≡◌, ◌<◌, ◌+◌, ◌∷◌, [], ℕ, IfOk, length, map, slice_index_or};
 ghost use Rattle.std.specs.List.{AllByRecursion, AllZip};
 ghost use Rattle.live_run.specs.Outcomes.{gravest};
 ghost use Rattle.live_run.specs.Sides.{CallDone, seen_by};
@@ -105,7 +105,7 @@ impl<P: Balancer + Send, R: Threads + Wait + Sync, C: Clock, D: Draws, N: Dialer
     /// Does the work of the side.
     fn work(&mut self, rt: &R, clock: &C)
         requires ready { IsReady (λ h. h.seat) self.old }
-        ensures { SideDone (λ h. h.seat) self.old self.new }
+        ensures { SideDone (λ h. h.seat) N.coming self.old self.new }
     {
         match self {
             Side::Links(links) => links.keep(rt, clock),
@@ -124,7 +124,7 @@ fn work_sides<
     L: Lookup,
 >(rt: &R, clock: &C, sides: &mut [Side<ChannelSeat<'_, P, R, C, D>, N, L, D>])
     requires ready { (i : ℕ) (d : _) → i < length sides.old → IsReady (λ h. h.seat) (slice_index_or sides.old i d) }
-    ensures { (i : ℕ) (d : _) → i < length sides.old → SideDone (λ h. h.seat) (slice_index_or sides.old i d) (slice_index_or sides.new i d) }
+    ensures { (i : ℕ) (d : _) → i < length sides.old → SideDone (λ h. h.seat) N.coming (slice_index_or sides.old i d) (slice_index_or sides.new i d) }
 {
     for_each_mut(
         rt,
@@ -132,7 +132,7 @@ fn work_sides<
         2,
         &|_: usize, side: &mut Side<ChannelSeat<'_, P, R, C, D>, N, L, D>| -> ()
             requires { IsReady (λ h. h.seat) side.now }
-            ensures { SideDone (λ h. h.seat) side.entry.now side.exit.now }
+            ensures { SideDone (λ h. h.seat) N.coming side.entry.now side.exit.now }
         { side.work(rt, clock) },
     );
 }
@@ -148,7 +148,7 @@ fn work_both<
 >(rt: &R, clock: &C, sides: &mut Vec<Side<ChannelSeat<'_, P, R, C, D>, N, L, D>>)
     requires ready { (i : ℕ) (d : _) → i < length sides.old.items → IsReady (λ h. h.seat) (slice_index_or sides.old.items i d) }
     ensures count { length sides.new.items ≡ length sides.old.items }
-    ensures each { (i : ℕ) (d : _) → i < length sides.old.items → SideDone (λ h. h.seat) (slice_index_or sides.old.items i d) (slice_index_or sides.new.items i d) }
+    ensures each { (i : ℕ) (d : _) → i < length sides.old.items → SideDone (λ h. h.seat) N.coming (slice_index_or sides.old.items i d) (slice_index_or sides.new.items i d) }
 {
     work_sides(rt, clock, sides.as_mut_slice());
 }
@@ -186,7 +186,7 @@ pub fn run_sides<
 ) -> Result<(Seat<P>, Outcome), NoMemory>
     requires calls { AllByRecursion (IsFresh calls.closer.seat.lock) (map (λ j. j.post.seat) calls.jobs.items) }
     requires links { AllByRecursion (IsFresh calls.closer.seat.lock) (seats_in (λ h. h.seat) links.jobs.items) }
-    ensures { IfOk result (λ r. RunDone (λ h. h.seat) links.entry calls.entry r.0 r.1) }
+    ensures { IfOk result (λ r. RunDone (λ h. h.seat) N.coming links.entry calls.entry r.0 r.1) }
 {
     if calls.jobs.is_empty() {
         return Ok(run_alone(rt, clock, links, calls));
@@ -210,7 +210,7 @@ fn run_alone<
 ) -> (Seat<P>, Outcome)
     requires calls { AllByRecursion (IsFresh calls.closer.seat.lock) (map (λ j. j.post.seat) calls.jobs.items) }
     requires links { AllByRecursion (IsFresh calls.closer.seat.lock) (seats_in (λ h. h.seat) links.jobs.items) }
-    ensures { RunDone (λ h. h.seat) links.entry calls.entry result.0 result.1 }
+    ensures { RunDone (λ h. h.seat) N.coming links.entry calls.entry result.0 result.1 }
 {
     calls.make(rt);
     links.keep(rt, clock);
@@ -239,7 +239,7 @@ fn run_beside<
 ) -> Result<(Seat<P>, Outcome), NoMemory>
     requires calls { AllByRecursion (IsFresh calls.closer.seat.lock) (map (λ j. j.post.seat) calls.jobs.items) }
     requires links { AllByRecursion (IsFresh calls.closer.seat.lock) (seats_in (λ h. h.seat) links.jobs.items) }
-    ensures { IfOk result (λ r. RunDone (λ h. h.seat) links.entry calls.entry r.0 r.1) }
+    ensures { IfOk result (λ r. RunDone (λ h. h.seat) N.coming links.entry calls.entry r.0 r.1) }
 {
     let mut sides = sides_of(alloc, links, calls)?;
     work_both(rt, clock, &mut sides);

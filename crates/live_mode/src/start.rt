@@ -1,6 +1,6 @@
 // The workers of a live run, side by side.
-ghost use Rattle.std.specs.Prelude.{◌≡◌, ◌≤◌, IfOk, length, map};
-ghost use Rattle.live_channel.specs.Handles.{IsStarted, seats_in};
+ghost use Rattle.std.specs.Prelude.{◌≤◌, ℕ, IfOk, List, Option, length, map};
+ghost use Rattle.live_channel.specs.Handles.{AreGiven, IsStarted, keepers_in, seats_in};
 ghost use Rattle.live_mode.specs.Handles.{LeavesCalls};
 ghost use Rattle.turn_lock.specs.History.{StartsWith};
 
@@ -34,7 +34,7 @@ pub fn run_calls<
 ) -> Result<(Seat<P>, Outcome), NoMemory>
     requires few { length groups.items ≤ 16 }
     requires started { IsStarted bench.now.channel.now (seats_in (λ h. h.seat) links.items) seat }
-    ensures left { IfOk result (λ r. LeavesCalls bench.now.channel.now r.1 (map (λ g. g.items) groups.items) r.0) }
+    ensures left { IfOk result (λ r. (held : List (Option (List (List ℕ)))) (told : Option (List ℕ)) → AreGiven held told (keepers_in N.coming links.entry.items) seat → LeavesCalls bench.now.channel.now held told r.1 (map (λ g. g.items) groups.items) r.0) }
     ensures sees { IfOk result (λ r. StartsWith r.0.seen seat.seen) }
 {
     let jobs = call_jobs(bench, &mut seat, &mut draws, groups)?;

@@ -1,4 +1,4 @@
-use Rattle.std.proofs.Common.{List, ℕ, inr, refl, rules, subst}
+use Rattle.std.proofs.Common.{List, ℕ, inr, map, refl, rules, subst}
 use Rattle.script_input.specs.declared.fault.InputFault.{InputFault}
 use Rattle.script_input.specs.Lives.{GivesNoLive}
 use Rattle.script_input.proofs.LiveLaws.{live_target}
@@ -13,12 +13,12 @@ live_script-requires-clause-target g c = λ a b. live_target _ _ c.in-Ok.read c.
 
 pub returns-in-Ok : goal.returns-in-Ok
 returns-in-Ok g c =
-    let done : (text : List ℕ) → _ → IsLived (g.S.Source.left c.args.script.now) (g.S.Source.left c.read_live.new.source) text = λ text is.
-    lived_of _ _ c.in-Ok.read text c.in-Ok.ensures.ok is in
-    let ends : (text : List ℕ) → _ → EndsLiveFull (g.S.Source.left c.args.script.now) (g.S.Source.left c.read_live.new.source) text = λ text is.
-    full_of _ _ c.in-Ok.read text c.in-Ok.ensures.ok is in
-    let told : (text : List ℕ) → IsAnyLiveReport c.in-Ok.read text → IsLiveText (g.S.Source.left c.args.script.now) (g.S.Source.left c.read_live.new.source) text = λ text is.
-    live_text _ _ c.in-Ok.read text c.in-Ok.ensures.ok is in
+    let done : (text : List ℕ) → _ → IsLived (map g.P.Balancer.seen c.args.policies.items) (g.W.World.held c.args.world) (g.S.Source.left c.args.script.now) (g.S.Source.left c.read_live.new.source) text = λ text is.
+    lived_of _ _ _ _ c.in-Ok.read text c.in-Ok.ensures.ok is in
+    let ends : (text : List ℕ) → _ → EndsLiveFull (map g.P.Balancer.seen c.args.policies.items) (g.W.World.held c.args.world) (g.S.Source.left c.args.script.now) (g.S.Source.left c.read_live.new.source) text = λ text is.
+    full_of _ _ _ _ c.in-Ok.read text c.in-Ok.ensures.ok is in
+    let told : (text : List ℕ) → IsAnyLiveReport (map g.P.Balancer.seen c.args.policies.items) (g.W.World.held c.args.world) c.in-Ok.read text → IsLiveText (map g.P.Balancer.seen c.args.policies.items) (g.W.World.held c.args.world) (g.S.Source.left c.args.script.now) (g.S.Source.left c.read_live.new.source) text = λ text is.
+    live_text _ _ _ _ c.in-Ok.read text c.in-Ok.ensures.ok is in
     record {
       done = λ zero. all_as _ _ _ _ done (c.live_script.ensures.done zero);
       line = search rules;

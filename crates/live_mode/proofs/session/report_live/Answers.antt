@@ -6,13 +6,13 @@ use Rattle.session_text.proofs.WrittenLaws.{all_as, err_write, front_as, some_as
 use Rattle.live_mode.proofs.session.report_live.Goals as goal
 
 pub returns-in-Ok-clause-ok : goal.returns-in-Ok-clause-ok
-returns-in-Ok-clause-ok g c = all_as _ _ _ _ (λ text is. live_report c.in_ok-ran.ran _ _ c.args.script _ c.in_ok-seat.seat text c.in_ok-channel.ensures.authority c.in_ok-seat.ensures.told c.in_ok-ran.ensures
+returns-in-Ok-clause-ok g c = all_as _ _ _ _ (λ text is. live_report _ _ c.in_ok-ran.ran _ _ c.args.script _ c.in_ok-seat.seat text c.in_ok-channel.ensures.origin c.in_ok-seat.ensures.told c.in_ok-ran.ensures
     (worker_groups (λ g. g.items) c.args.script.calls.items _ c.in_ok-groups.ensures.count c.in_ok-groups.ensures.each) c.in_ok-seat.ensures.left is) c.in-Ok.ensures.ok
 
 pub returns-clause-err : goal.returns-clause-err
 returns-clause-err g c = some_as _ _ _ _ (λ text is. (
   c.in_ok-ran.ran,
-  live_report c.in_ok-ran.ran _ _ c.args.script _ c.in_ok-seat.seat text c.in_ok-channel.ensures.authority c.in_ok-seat.ensures.told c.in_ok-ran.ensures
+  live_report _ _ c.in_ok-ran.ran _ _ c.args.script _ c.in_ok-seat.seat text c.in_ok-channel.ensures.origin c.in_ok-seat.ensures.told c.in_ok-ran.ensures
       (worker_groups (λ g. g.items) c.args.script.calls.items _ c.in_ok-groups.ensures.count c.in_ok-groups.ensures.each) c.in_ok-seat.ensures.left is,
 )) c.in-Err.ensures.err
 
@@ -23,7 +23,7 @@ returns-clause-write g c = λ failed.
       wrote.0,
       front_as _ _ _ _ (λ text is. (
         c.in_ok-ran.ran,
-        live_report c.in_ok-ran.ran _ _ c.args.script _ c.in_ok-seat.seat text c.in_ok-channel.ensures.authority c.in_ok-seat.ensures.told c.in_ok-ran.ensures
+        live_report _ _ c.in_ok-ran.ran _ _ c.args.script _ c.in_ok-seat.seat text c.in_ok-channel.ensures.origin c.in_ok-seat.ensures.told c.in_ok-ran.ensures
             (worker_groups (λ g. g.items) c.args.script.calls.items _ c.in_ok-groups.ensures.count c.in_ok-groups.ensures.each) c.in_ok-seat.ensures.left is,
       )) wrote.1,
     )
