@@ -7,7 +7,7 @@ use Rattle.grpc_base.specs.declared.event.Entry.{Entry}
 use Rattle.grpc_base.specs.declared.event.Event.{Event}
 use Rattle.grpc_base.specs.declared.event.Event.TheVariants as event
 use Rattle.client_calls.specs.Entries.{is_step, others_in}
-use Rattle.live_channel.specs.Handles.{Closes, IsFresh, IsKept, IsOne, IsStarted, Leaves, Shuts, Splits, StandInOrder, TakesIn, owns_of, seats_in}
+use Rattle.live_channel.specs.Handles.{AreGiven, Closes, IsFresh, IsKept, IsOne, IsStarted, Keeper, Leaves, Shuts, Splits, StandInOrder, TakesIn, keepers_in, owns_of, seats_in}
 use Rattle.live_channel.specs.Keeping.{KeepsDone}
 use Rattle.live_channel.specs.Sharing.{IsOfCall, times_in}
 use Rattle.live_channel.specs.Told.{TellsTarget}
@@ -183,23 +183,29 @@ pub seats_length : {H N L D : Type 0} (jobs : List (LinkJob H N L D)) (seat_of :
 seats_length [] seat_of = refl
 seats_length (job ∷ jobs) seat_of = ap suc (seats_length jobs seat_of)
 
-pub kept_beside : {H N L D J : Type 0} (seat_of : H → SeatSeen Entry) (shows : J → List Entry → Type 0) (links l : Linkers H N L D) (before after : Clients H J) → KeepsDone seat_of links l → ClientsDone seat_of shows before after
-    → AllByRecursion (IsFresh (seat_of before.closer).lock) (seats_in seat_of links.jobs.items) → AllByRecursion (IsKept (seat_of after.closer).lock) (seats_in seat_of l.jobs.items)
-kept_beside seat_of shows links l before after keeps clients fresh =
-    subst (λ (lock : LockId). AllByRecursion (IsKept lock) (seats_in seat_of l.jobs.items)) (sym clients.lock) (keeps.kept (seat_of before.closer).lock fresh)
+pub kept_beside : {H N L D J : Type 0} (seat_of : H → SeatSeen Entry) (shows : J → List Entry → Type 0) (coming : N → Option (List (List ℕ))) (links l : Linkers H N L D) (before after : Clients H J) → KeepsDone seat_of coming links l → ClientsDone seat_of shows before after
+    → AllByRecursion (IsFresh (seat_of before.closer).lock) (seats_in seat_of links.jobs.items) → AllZip (IsKept (seat_of after.closer).lock) (keepers_in coming links.jobs.items) (seats_in seat_of l.jobs.items)
+kept_beside seat_of shows coming links l before after keeps clients fresh =
+    subst (λ (lock : LockId). AllZip (IsKept lock) (keepers_in coming links.jobs.items) (seats_in seat_of l.jobs.items)) (sym clients.lock) (keeps.kept (seat_of before.closer).lock fresh)
 
 -- what a run left of a handle of which others were split off before
-pub left_clients : {H J : Type 0} (seat_of : H → SeatSeen Entry) (shows : J → List Entry → Type 0) (lock : LockId) (o : Outcome) (beside : ℕ) (before after : Clients H J) (links others : List (SeatSeen Entry)) (seat mid out : SeatSeen Entry)
-    → IsStarted lock links seat → Splits seat others mid → seat_of before.closer ≡ mid → length before.jobs.items ≡ length others → beside ≡ length links → after.is_whole ≡ true → before.done.items ≡ [] → ClientsDone seat_of shows before after
+pub left_clients : {H J : Type 0} (seat_of : H → SeatSeen Entry) (shows : J → List Entry → Type 0) (lock : LockId) (held : List (Option (List (List ℕ)))) (config : Option (List ℕ)) (o : Outcome) (beside : ℕ) (keepers : List Keeper) (before after : Clients H J) (links others : List (SeatSeen Entry)) (seat mid out : SeatSeen Entry)
+    → AreGiven held config keepers seat → IsStarted lock links seat → Splits seat others mid → seat_of before.closer ≡ mid → length before.jobs.items ≡ length others → beside ≡ length links → after.is_whole ≡ true → before.done.items ≡ [] → ClientsDone seat_of shows before after
     → out.lock ≡ (seat_of after.closer).lock → out.parts ≡ (seat_of after.closer).parts + beside
-    → ((owns : List (List (ℕ × Entry))) (seen : List Entry) (own : List (ℕ × Entry)) → Closes after.outcome owns seen own (seat_of after.closer) → Leaves o owns seen own out) → LeavesClients shows lock o after.done.items out
-left_clients seat_of shows lock o beside before after links others seat mid out started splits same mine all whole none clients locks parts leaves = record {
+    → ((owns : List (List (ℕ × Entry))) (seen : List Entry) (own : List (ℕ × Entry)) → Closes after.outcome owns seen own (seat_of after.closer) → Leaves o keepers owns seen own out) → LeavesClients shows lock held config o after.done.items out
+left_clients seat_of shows lock held config o beside keepers before after links others seat mid out given started splits same mine all whole none clients locks parts leaves = record {
   owns = clients.owns;
   done = clients.done whole none;
   calls = clients.calls;
-  left = left_by lock o clients.owns links others seat mid (seat_of before.closer) out started splits same (locks ∙ clients.lock)
+  left = left_by lock held config o keepers clients.owns links others seat mid (seat_of before.closer) out given started splits same (locks ∙ clients.lock)
       (let made = clients.parts in omega (arith, parts, made, mine, all)) (leaves clients.owns (seat_of before.closer).seen (seat_of before.closer).own clients.closes);
 }
+
+-- the same of a run over a world, which tells what its dialers hold
+pub left_world : {J E : Type 0} {V : Type 0} (shows : J → List Entry → Type 0) (items : V → List J) (lock : LockId) (held told : List (Option (List (List ℕ)))) (config : Option (List ℕ)) (keepers : List Keeper) (seat : SeatSeen Entry) (result : Result (SeatSeen Entry × Outcome × V) E) → held ≡ told → AreGiven held config keepers seat
+    → IfOk result (λ r. (h : List (Option (List (List ℕ)))) (g : Option (List ℕ)) → AreGiven h g keepers seat → LeavesClients shows lock h g r.1 (items r.2) r.0) → IfOk result (λ r. LeavesClients shows lock told config r.1 (items r.2) r.0)
+left_world shows items lock held told config keepers seat (Ok r) same given left = subst (λ (h : List (Option (List (List ℕ)))). LeavesClients shows lock h config r.1 (items r.2) r.0) same (left held config given)
+left_world shows items lock held told config keepers seat (Err e) same given left = tt
 
 -- and what was told stays so of a handle that has seen all that
 pub told_client : {X Y E : Type 0} (t : Target) (config : Option (List ℕ)) (seat : SeatSeen Entry) (result : Result (SeatSeen Entry × X × Y) E) → TellsTarget t config seat.seen → IfOk result (λ r. StartsWith r.0.seen seat.seen) → IfOk result (λ r. TellsTarget t config r.0.seen)

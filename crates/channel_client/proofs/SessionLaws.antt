@@ -1,46 +1,49 @@
 -- The one channel of a run: what is promised of its work and of its report.
-use Rattle.std.proofs.Common.{◌≡◌, ◌∙◌, ℕ, Option, List, ap, refl, subst}
+use Rattle.std.proofs.Common.{◌≡◌, ◌∙◌, ℕ, Option, List, ap}
 use Rattle.grpc_base.specs.declared.event.Entry.{Entry}
+use Rattle.lb_policy.specs.Table.{PolicySeen}
 use Rattle.resolver_core.specs.AnyTargets.{authority_of}
 use Rattle.resolver_core.specs.declared.any_target.Target.{Target}
 use Rattle.turn_lock.specs.History.{LockId, Owns, SeatSeen, StartsWith}
 use Rattle.channel_core.specs.Core.{CoreSeen, ledger_in}
-use Rattle.shared_channel.specs.Running.{HasRun}
+use Rattle.shared_channel.specs.Running.{origin_of}
 use Rattle.session_text.specs.declared.ran.Ran.{Ran}
 use Rattle.session_text.specs.declared.ran.Ran.TheVariants as ran
-use Rattle.session_text.proofs.SessionLaws.{session_of}
 use Rattle.live_run.specs.declared.outcome.Outcome.{Outcome}
 use Rattle.live_run.specs.declared.outcome.Outcome.TheVariants as outcome
 use Rattle.live_channel.specs.Reported.{ReportsOn}
 use Rattle.live_channel.specs.Told.{TellsTarget}
+use Rattle.live_channel.proofs.HeldLaws.{come_as_held}
+use Rattle.live_channel.proofs.ReportLaws.{session_at}
 use Rattle.live_channel.proofs.SeatLaws.{told_stays}
 use Rattle.live_channel.proofs.ShareLaws.{shares}
 use Rattle.channel_client.specs.Jobs.{LeavesClients}
 use Rattle.channel_client.specs.Sessions.{AreDone, CarriesWorks, IsClientReport}
 
 -- the work stands in a history
-pub are_done : {J : Type 0} (shows : J → List Entry → Type 0) (lock : LockId) (o : Outcome) (works : List J) (seat : SeatSeen Entry) → LeavesClients shows lock o works seat → AreDone shows works
-are_done shows lock o works seat by = (by.owns, by.left.leaves.closes.front, record { done = by.done; calls = by.calls; stand = by.left.leaves.closes.each })
+pub are_done : {J : Type 0} (shows : J → List Entry → Type 0) (lock : LockId) (held : List (Option (List (List ℕ)))) (config : Option (List ℕ)) (o : Outcome) (works : List J) (seat : SeatSeen Entry) → LeavesClients shows lock held config o works seat → AreDone shows works
+are_done shows lock held config o works seat by = (by.owns, by.left.leaves.closes.front, record { done = by.done; calls = by.calls; stand = by.left.leaves.closes.each })
 
-carries_works : {J : Type 0} (shows : J → List Entry → Type 0) (r : Ran) (lock : LockId) (o : Outcome) (works : List J) (seat : SeatSeen Entry) (entries : List Entry) → (r ≡ ran.Whole → o ≡ outcome.Whole) → LeavesClients shows lock o works seat
+carries_works : {J : Type 0} (shows : J → List Entry → Type 0) (r : Ran) (lock : LockId) (held : List (Option (List (List ℕ)))) (config : Option (List ℕ)) (o : Outcome) (works : List J) (seat : SeatSeen Entry) (entries : List Entry) → (r ≡ ran.Whole → o ≡ outcome.Whole) → LeavesClients shows lock held config o works seat
     → Owns seat.parts seat.own entries → StartsWith entries seat.seen → CarriesWorks shows r works entries
-carries_works shows r lock o works seat entries whole by all sees =
-    let out = shares r lock o by.owns seat entries whole by.left by.calls all sees in
+carries_works shows r lock held config o works seat entries whole by all sees =
+    let out = shares r lock held config o by.owns seat entries whole by.left by.calls all sees in
     record { front = out.front; rest = out.rest; owns = by.owns; done = record { done = by.done; calls = by.calls; stand = out.each }; shares = out.shares }
 
-pub client_report : {J : Type 0} (shows : J → List Entry → Type 0) (r : Ran) (lock : LockId) (o : Outcome) (target : Target) (config : Option (List ℕ)) (name : List ℕ) (works : List J) (seat : SeatSeen Entry) (text : List ℕ)
-    → lock.origin ≡ authority_of target → TellsTarget target config seat.seen → (r ≡ ran.Whole → o ≡ outcome.Whole)
-    → LeavesClients shows lock o works seat → ReportsOn r name seat text → IsClientReport shows r target config name works text
-client_report shows r lock o target config name works seat text root told whole by is =
+pub client_report : {J : Type 0} (shows : J → List Entry → Type 0) (policies : List PolicySeen) (held : List (Option (List (List ℕ)))) (r : Ran) (lock : LockId) (o : Outcome) (target : Target) (config : Option (List ℕ)) (name : List ℕ) (works : List J) (seat : SeatSeen Entry) (text : List ℕ)
+    → lock.origin ≡ origin_of (authority_of target) policies → TellsTarget target config seat.seen → (r ≡ ran.Whole → o ≡ outcome.Whole)
+    → LeavesClients shows lock held config o works seat → ReportsOn r name seat text → IsClientReport shows policies held r target config name works text
+client_report shows policies held r lock o target config name works seat text root told whole by is =
     let core : CoreSeen = is.0 in
-    let run : HasRun (authority_of target) core = subst (λ (a : List ℕ). HasRun a core) (ap (λ (l : LockId). l.origin) by.left.lock_is ∙ root) is.1 in
+    let session = session_at (authority_of target) policies core seat.lock.origin (ap (λ (l : LockId). l.origin) by.left.lock_is ∙ root) is.1 in
     record {
-      events = run.1;
+      events = session.0;
       journal = core.journal;
       ledger = ledger_in core;
-      session = session_of (authority_of target) run.0 core run.1 core.journal (ledger_in core) run.2 run.3 refl refl;
+      session = session.1;
       told = told_stays target config core.journal.entries seat.seen is.2 told;
-      carries = carries_works shows r lock o works seat core.journal.entries whole by is.3 is.2;
+      carries = carries_works shows r lock held config o works seat core.journal.entries whole by is.3 is.2;
+      come = come_as_held lock held config o by.owns seat core.journal.entries by.left by.calls is.3 is.2;
       full = is.4;
       text_is = is.5;
     }

@@ -1,6 +1,6 @@
 -- Between the functions of this crate: what the work of a program did to its handles. The promises of the crate name `ShowsOwn` and
 -- `AreOfCalls` alone.
-use Rattle.std.specs.Prelude.{◌≡◌, ℕ, ◌+◌, true, List, [], ◌∷◌, ◌++◌, length}
+use Rattle.std.specs.Prelude.{◌≡◌, ℕ, ◌+◌, true, Option, List, [], ◌∷◌, ◌++◌, length}
 use Rattle.std.specs.List.{AllByRecursion, AllZip}
 use Rattle.grpc_base.specs.declared.event.Entry.{Entry}
 use Rattle.client_calls.specs.Entries.{others_in}
@@ -50,9 +50,9 @@ pub record ClientsDone {H J : Type 0} (seat_of : H → SeatSeen Entry) (shows : 
   pub calls : AllByRecursion AreOfCalls owns
   pub closes : Closes after.outcome owns (seat_of before.closer).seen (seat_of before.closer).own (seat_of after.closer)
 
--- the handle that a run leaves, and the work that was done
-pub record LeavesClients {J : Type 0} (shows : J → List Entry → Type 0) (lock : LockId) (o : Outcome) (works : List J) (seat : SeatSeen Entry) : Type 0 where
+-- the handle that a run leaves beside workers of the first of these dialers, and where addresses were told with this config; and the work that was done
+pub record LeavesClients {J : Type 0} (shows : J → List Entry → Type 0) (lock : LockId) (held : List (Option (List (List ℕ)))) (config : Option (List ℕ)) (o : Outcome) (works : List J) (seat : SeatSeen Entry) : Type 0 where
   pub owns : List (List (ℕ × Entry))
   pub done : AllZip (ShowsOwn shows) works owns
   pub calls : AllByRecursion AreOfCalls owns
-  pub left : IsLeft lock o owns seat
+  pub left : IsLeft lock held config o owns seat

@@ -5,7 +5,9 @@ use Rattle.grpc_base.specs.declared.event.Entry.{Entry}
 use Rattle.grpc_base.specs.declared.event.Stamped.{Stamped}
 use Rattle.attempt_ledger.specs.declared.journal.Journal.{Journal}
 use Rattle.attempt_ledger.specs.declared.ledger.Ledger.{Ledger}
+use Rattle.lb_policy.specs.Table.{PolicySeen}
 use Rattle.live_channel.specs.Handles.{StandInOrder}
+use Rattle.live_channel.specs.Held.{ComeAsHeld}
 use Rattle.live_channel.specs.Sharing.{SharesOut}
 use Rattle.live_channel.specs.Told.{TellsTarget}
 use Rattle.resolver_core.specs.AnyTargets.{authority_of}
@@ -35,15 +37,17 @@ pub record CarriesWorks {J : Type 0} (shows : J → List Entry → Type 0) (r : 
   pub done : StandDone shows works owns front
   pub shares : SharesOut r owns front rest entries
 
--- the text is the report of the one channel of a run: a new channel, whose requests have the authority of the target, was given exactly the
--- events of this journal, one behind another. The journal begins with what the channel is told first, and has the entries of the
--- work, and the Shutdown behind them. Where the session was stopped it is nearly full
-pub record IsClientReport {J : Type 0} (shows : J → List Entry → Type 0) (r : Ran) (target : Target) (config : Option (List ℕ)) (name : List ℕ) (works : List J) (text : List ℕ) : Type 0 where
+-- the text is the report of the one channel of a run: a new channel, whose requests have the authority of the target, and which has these
+-- policies, was given exactly the events of this journal, one behind another. The journal begins with what the channel is told first, and
+-- has the entries of the work, and the Shutdown behind them; what came on its links is as the dialers held it. Where the session was
+-- stopped it is nearly full
+pub record IsClientReport {J : Type 0} (shows : J → List Entry → Type 0) (policies : List PolicySeen) (held : List (Option (List (List ℕ)))) (r : Ran) (target : Target) (config : Option (List ℕ)) (name : List ℕ) (works : List J) (text : List ℕ) : Type 0 where
   pub events : List Stamped
   pub journal : Journal
   pub ledger : Ledger
-  pub session : IsSession (authority_of target) events journal ledger
+  pub session : IsSession (authority_of target) policies events journal ledger
   pub told : TellsTarget target config journal.entries
   pub carries : CarriesWorks shows r works journal.entries
+  pub come : ComeAsHeld held config journal.entries
   pub full : r ≡ ran.Full → IsNearlyFull journal.entries
   pub text_is : text ≡ run_text r name journal ledger

@@ -1,7 +1,7 @@
 // The run of a program's work beside the workers that keep links.
-ghost use Rattle.std.specs.Prelude.{◌≡◌, ◌≤◌, ◌+◌, [], IfOk, OnOk, length, map};
+ghost use Rattle.std.specs.Prelude.{◌≡◌, ◌≤◌, ◌+◌, ℕ, [], IfOk, List, OnOk, Option, length, map};
 ghost use Rattle.grpc_base.specs.declared.event.Entry.{Entry};
-ghost use Rattle.live_channel.specs.Handles.{IsStarted, Splits, seats_in};
+ghost use Rattle.live_channel.specs.Handles.{AreGiven, IsStarted, Splits, keepers_in, seats_in};
 ghost use Rattle.turn_lock.specs.History.{SeatSeen, StartsWith};
 ghost use Rattle.channel_client.specs.Jobs.{LeavesClients};
 
@@ -39,7 +39,7 @@ pub(crate) fn run_beside<
 ) -> Result<(Seat<P>, Outcome, Vec<J>), NoMemory>
     requires started { IsStarted bench.now.channel.now (seats_in (λ h. h.seat) links.items) seat }
     requires few { length works.items ≤ 1024 }
-    ensures left { IfOk result (λ r. LeavesClients J.shows bench.now.channel.now r.1 r.2.items r.0) }
+    ensures left { IfOk result (λ r. (held : List (Option (List (List ℕ)))) (config : Option (List ℕ)) → AreGiven held config (keepers_in N.coming links.entry.items) seat → LeavesClients J.shows bench.now.channel.now held config r.1 r.2.items r.0) }
     ensures sees { IfOk result (λ r. StartsWith r.0.seen seat.seen) }
 {
     let jobs = client_jobs(bench, &mut seat, &mut draws, &mut works)?;

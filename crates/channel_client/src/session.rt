@@ -98,7 +98,7 @@ pub fn record_clients<
     requires ready { are_ready (map P.seen policies.items) ≡ true }
     requires target { IsTarget options.target }
     requires few { length works.items ≤ 1024 }
-    ensures recorded { IfOk result (λ r. AreDone J.shows r.0.items × IfOk r.1 (λ ran. WritesAll (IsClientReport J.shows ran options.target options.config name.now r.0.items) (K.taken report.old) (K.taken report.new))) }
+    ensures recorded { IfOk result (λ r. AreDone J.shows r.0.items × IfOk r.1 (λ ran. WritesAll (IsClientReport J.shows (map P.seen policies.items) (W.held world) ran options.target options.config name.now r.0.items) (K.taken report.old) (K.taken report.new))) }
 {
     let ChannelOptions {
         target,
@@ -139,7 +139,7 @@ fn run_world<
 ) -> Result<(Seat<P>, Outcome, Vec<J>), NoMemory>
     requires seat { IsFirstSeat channel.now seat }
     requires few { length works.items ≤ 1024 }
-    ensures left { IfOk result (λ r. LeavesClients J.shows channel.now r.1 r.2.items r.0) }
+    ensures left { IfOk result (λ r. LeavesClients J.shows channel.now (W.held world) config r.1 r.2.items r.0) }
     ensures told { IfOk result (λ r. TellsTarget target config r.0.seen) }
 {
     let lookup = world.lookup();

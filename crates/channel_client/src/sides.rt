@@ -68,7 +68,7 @@ pub(crate) fn work_beside<
 )
     requires fresh { AllByRecursion (IsFresh clients.old.closer.seat.lock) (map (λ j. j.post.seat) clients.old.jobs.items) }
     ensures clients { ClientsDone (λ h. h.seat) J.shows clients.old clients.new }
-    ensures links { KeepsDone (λ h. h.seat) links.old links.new }
+    ensures links { KeepsDone (λ h. h.seat) N.coming links.old links.new }
 {
     work_both(
         rt,
@@ -79,7 +79,7 @@ pub(crate) fn work_beside<
             ensures { ClientsDone (λ h. h.seat) J.shows clients.entry.now clients.exit.now }
         { clients.run(rt) },
         &|_: usize, links: &mut Linkers<ChannelSeat<'_, P, R, C, D>, N, K, D>| -> ()
-            ensures { KeepsDone (λ h. h.seat) links.entry.now links.exit.now }
+            ensures { KeepsDone (λ h. h.seat) N.coming links.entry.now links.exit.now }
         { links.keep(rt, clock) },
     );
 }

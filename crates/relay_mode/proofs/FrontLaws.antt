@@ -1,6 +1,6 @@
 -- What the workers of a relay did, by their handles.
 use Rattle.std.proofs.Common.{◌≡◌, ◌∙◌, ◌<◌, ◌+◌, ℕ, zero, suc, Option, List, [], ◌∷◌, ◌++◌, ap, arith, length, map, refl, slice_index_or, sym, subst}
-use Rattle.std.specs.List.{AllByRecursion}
+use Rattle.std.specs.List.{AllByRecursion, AllZip}
 use Rattle.std.specs.Prelude.{Result, Ok, Err, IfOk}
 use Rattle.grpc_base.specs.declared.event.Entry.{Entry}
 use Rattle.grpc_base.specs.declared.post.PostError.{PostError}
@@ -13,7 +13,7 @@ use Rattle.live_run.specs.declared.link_job.LinkJob.{LinkJob}
 use Rattle.live_run.specs.declared.outcome.Outcome.{Outcome}
 use Rattle.shared_channel.specs.Turns.{entries_of, share_of}
 use Rattle.turn_lock.specs.History.{LockId, SeatSeen, StartsWith}
-use Rattle.live_channel.specs.Handles.{Closes, IsFresh, IsKept, IsOne, IsStarted, Leaves, Shuts, Splits, TakesIn, owns_of, seats_in}
+use Rattle.live_channel.specs.Handles.{AreGiven, Closes, IsFresh, IsKept, IsOne, IsStarted, Keeper, Leaves, Shuts, Splits, TakesIn, keepers_in, owns_of, seats_in}
 use Rattle.live_channel.specs.Keeping.{KeepsDone}
 use Rattle.live_channel.specs.declared.linkers.Linkers.{Linkers}
 use Rattle.live_channel.specs.Told.{TellsTarget}
@@ -105,22 +105,29 @@ pub seats_length : {H N L D : Type 0} (jobs : List (LinkJob H N L D)) (seat_of :
 seats_length [] seat_of = refl
 seats_length (job ∷ jobs) seat_of = ap suc (seats_length jobs seat_of)
 
-pub kept_beside : {H N L D : Type 0} (seat_of : H → SeatSeen Entry) (links l : Linkers H N L D) (before after : Front H) → KeepsDone seat_of links l → FrontDone seat_of before after → AllByRecursion (IsFresh (seat_of before.closer).lock) (seats_in seat_of links.jobs.items) → AllByRecursion (IsKept (seat_of after.closer).lock) (seats_in seat_of l.jobs.items)
-kept_beside seat_of links l before after keeps front fresh =
-    subst (λ (lock : LockId). AllByRecursion (IsKept lock) (seats_in seat_of l.jobs.items)) (sym front.lock) (keeps.kept (seat_of before.closer).lock fresh)
+pub kept_beside : {H N L D : Type 0} (seat_of : H → SeatSeen Entry) (coming : N → Option (List (List ℕ))) (links l : Linkers H N L D) (before after : Front H) → KeepsDone seat_of coming links l → FrontDone seat_of before after
+    → AllByRecursion (IsFresh (seat_of before.closer).lock) (seats_in seat_of links.jobs.items) → AllZip (IsKept (seat_of after.closer).lock) (keepers_in coming links.jobs.items) (seats_in seat_of l.jobs.items)
+kept_beside seat_of coming links l before after keeps front fresh =
+    subst (λ (lock : LockId). AllZip (IsKept lock) (keepers_in coming links.jobs.items) (seats_in seat_of l.jobs.items)) (sym front.lock) (keeps.kept (seat_of before.closer).lock fresh)
 
 -- what a run left of a handle of which others were split off before
-pub left_links : {H : Type 0} (seat_of : H → SeatSeen Entry) (lock : LockId) (o : Outcome) (count beside : ℕ) (before after : Front H) (links others : List (SeatSeen Entry)) (seat mid out : SeatSeen Entry)
-    → IsStarted lock links seat → Splits seat others mid → seat_of before.closer ≡ mid → length before.jobs.items ≡ count → length others ≡ count → beside ≡ length links → FrontDone seat_of before after
+pub left_links : {H : Type 0} (seat_of : H → SeatSeen Entry) (lock : LockId) (held : List (Option (List (List ℕ)))) (config : Option (List ℕ)) (o : Outcome) (count beside : ℕ) (keepers : List Keeper) (before after : Front H) (links others : List (SeatSeen Entry)) (seat mid out : SeatSeen Entry)
+    → AreGiven held config keepers seat → IsStarted lock links seat → Splits seat others mid → seat_of before.closer ≡ mid → length before.jobs.items ≡ count → length others ≡ count → beside ≡ length links → FrontDone seat_of before after
     → out.lock ≡ (seat_of after.closer).lock → out.parts ≡ (seat_of after.closer).parts + beside
-    → ((owns : List (List (ℕ × Entry))) (seen : List Entry) (own : List (ℕ × Entry)) → Closes after.outcome owns seen own (seat_of after.closer) → Leaves o owns seen own out) → LeavesLinks lock o count out
-left_links seat_of lock o count beside before after links others seat mid out started splits same jobs mine all front locks parts leaves = record {
+    → ((owns : List (List (ℕ × Entry))) (seen : List Entry) (own : List (ℕ × Entry)) → Closes after.outcome owns seen own (seat_of after.closer) → Leaves o keepers owns seen own out) → LeavesLinks lock held config o count out
+left_links seat_of lock held config o count beside keepers before after links others seat mid out given started splits same jobs mine all front locks parts leaves = record {
   owns = front.owns;
   count = front.count ∙ jobs;
   calls = front.calls;
-  left = left_by lock o front.owns links others seat mid (seat_of before.closer) out started splits same (locks ∙ front.lock)
+  left = left_by lock held config o keepers front.owns links others seat mid (seat_of before.closer) out given started splits same (locks ∙ front.lock)
       (let made = front.parts in omega (arith, parts, made, jobs, mine, all)) (leaves front.owns (seat_of before.closer).seen (seat_of before.closer).own front.closes);
 }
+
+-- the same of a run over a world, which tells what its dialers hold
+pub left_world : {X E : Type 0} (lock : LockId) (held told : List (Option (List (List ℕ)))) (config : Option (List ℕ)) (links : ℕ) (keepers : List Keeper) (seat : SeatSeen Entry) (result : Result (SeatSeen Entry × Outcome × X) E) → held ≡ told → AreGiven held config keepers seat
+    → IfOk result (λ r. (h : List (Option (List (List ℕ)))) (g : Option (List ℕ)) → AreGiven h g keepers seat → LeavesLinks lock h g r.1 links r.0) → IfOk result (λ r. LeavesLinks lock told config r.1 links r.0)
+left_world lock held told config links keepers seat (Ok r) same given left = subst (λ (h : List (Option (List (List ℕ)))). LeavesLinks lock h config r.1 links r.0) same (left held config given)
+left_world lock held told config links keepers seat (Err e) same given left = tt
 
 -- and what was told stays so of a handle that has seen all that
 pub told_front : {X Y E : Type 0} (t : Target) (config : Option (List ℕ)) (seat : SeatSeen Entry) (result : Result (SeatSeen Entry × X × Y) E) → TellsTarget t config seat.seen → IfOk result (λ r. StartsWith r.0.seen seat.seen) → IfOk result (λ r. TellsTarget t config r.0.seen)

@@ -1,6 +1,6 @@
 -- Between the functions of this crate: what the front of a relay did to the handles of its workers. The promises of the crate don't name
 -- these.
-use Rattle.std.specs.Prelude.{◌≡◌, ◌+◌, ℕ, List, length}
+use Rattle.std.specs.Prelude.{◌≡◌, ◌+◌, ℕ, Option, List, length}
 use Rattle.std.specs.List.{AllByRecursion}
 use Rattle.grpc_base.specs.declared.event.Entry.{Entry}
 use Rattle.live_channel.specs.Handles.{Closes, IsLeft, IsOne}
@@ -27,9 +27,9 @@ pub record FrontDone {H : Type 0} (seat_of : H → SeatSeen Entry) (before after
   pub calls : AllByRecursion AreOfCalls owns
   pub closes : Closes after.outcome owns (seat_of before.closer).seen (seat_of before.closer).own (seat_of after.closer)
 
--- the handle that a run leaves of so many links
-pub record LeavesLinks (lock : LockId) (o : Outcome) (links : ℕ) (seat : SeatSeen Entry) : Type 0 where
+-- the handle that a run leaves of so many links, beside workers of the first of these dialers, and where addresses were told with this config
+pub record LeavesLinks (lock : LockId) (held : List (Option (List (List ℕ)))) (config : Option (List ℕ)) (o : Outcome) (links : ℕ) (seat : SeatSeen Entry) : Type 0 where
   pub owns : List (List (ℕ × Entry))
   pub count : length owns ≡ links
   pub calls : AllByRecursion AreOfCalls owns
-  pub left : IsLeft lock o owns seat
+  pub left : IsLeft lock held config o owns seat

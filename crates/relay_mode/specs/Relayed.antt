@@ -6,6 +6,8 @@ use Rattle.grpc_base.specs.declared.event.Entry.{Entry}
 use Rattle.grpc_base.specs.declared.event.Stamped.{Stamped}
 use Rattle.attempt_ledger.specs.declared.journal.Journal.{Journal}
 use Rattle.attempt_ledger.specs.declared.ledger.Ledger.{Ledger}
+use Rattle.lb_policy.specs.Table.{PolicySeen}
+use Rattle.live_channel.specs.Held.{ComeAsHeld}
 use Rattle.live_channel.specs.Sharing.{IsOfCall, SharesOut}
 use Rattle.live_channel.specs.Told.{TellsTarget}
 use Rattle.resolver_core.specs.AnyTargets.{authority_of}
@@ -36,40 +38,42 @@ pub record CarriesLinks (r : Ran) (links : ℕ) (entries : List Entry) : Type 0 
   pub made : AllByRecursion (IsWorkOfLink front) owns
   pub shares : SharesOut r owns front rest entries
 
--- the text is the report of the one channel of a relay: a new channel, whose requests have the authority of the script's target, was given
--- exactly the events of this journal, one behind another. The journal begins with what the channel is told first, and has the entries of
--- the links, and the Shutdown behind them. Where the session was stopped it is nearly full
-pub record IsRelayReport (r : Ran) (links : ℕ) (script : LiveScript) (text : List ℕ) : Type 0 where
+-- the text is the report of the one channel of a relay: a new channel, whose requests have the authority of the script's target, and which
+-- has these policies, was given exactly the events of this journal, one behind another. The journal begins with what the channel is told
+-- first, and has the entries of the links, and the Shutdown behind them; what came on the channel's links is as the dialers held it. Where
+-- the session was stopped it is nearly full
+pub record IsRelayReport (policies : List PolicySeen) (held : List (Option (List (List ℕ)))) (r : Ran) (links : ℕ) (script : LiveScript) (text : List ℕ) : Type 0 where
   pub events : List Stamped
   pub journal : Journal
   pub ledger : Ledger
-  pub session : IsSession (authority_of script.value) events journal ledger
+  pub session : IsSession (authority_of script.value) policies events journal ledger
   pub told : TellsTarget script.value script.config journal.entries
   pub carries : CarriesLinks r links journal.entries
+  pub come : ComeAsHeld held script.config journal.entries
   pub full : r ≡ ran.Full → IsNearlyFull journal.entries
   pub text_is : text ≡ run_text r script.target journal ledger
 
-abbrev pub IsAnyRelayReport : ℕ → LiveScript → List ℕ → Type 0
-IsAnyRelayReport links script text = (r : Ran) × IsRelayReport r links script text
+abbrev pub IsAnyRelayReport : List PolicySeen → List (Option (List (List ℕ))) → ℕ → LiveScript → List ℕ → Type 0
+IsAnyRelayReport policies held links script text = (r : Ran) × IsRelayReport policies held r links script text
 
 -- how a relay ended: its report was written, and each link was accepted; or one was not, and nothing was written
-abbrev pub TellsRelayed : Relayed → ℕ → LiveScript → Option (List ℕ) → Option (List ℕ) → ℕ → ℕ → Type 0
-TellsRelayed (relayed.Told r) links script taken taken' faults faults' = WritesAll (IsRelayReport r links script) taken taken' × (faults' ≡ faults)
-TellsRelayed relayed.Unheard links script taken taken' faults faults' = (taken' ≡ taken) × (faults' ≡ one_more faults)
+abbrev pub TellsRelayed : List PolicySeen → List (Option (List (List ℕ))) → Relayed → ℕ → LiveScript → Option (List ℕ) → Option (List ℕ) → ℕ → ℕ → Type 0
+TellsRelayed policies held (relayed.Told r) links script taken taken' faults faults' = WritesAll (IsRelayReport policies held r links script) taken taken' × (faults' ≡ faults)
+TellsRelayed policies held relayed.Unheard links script taken taken' faults faults' = (taken' ≡ taken) × (faults' ≡ one_more faults)
 
 -- status 0: the input was read to its end and is a live script without calls, and the text is the report of its relay
-pub record IsRelayed (links : ℕ) (left left' : Option (List ℕ)) (text : List ℕ) : Type 0 where
+pub record IsRelayed (policies : List PolicySeen) (held : List (Option (List (List ℕ)))) (links : ℕ) (left left' : Option (List ℕ)) (text : List ℕ) : Type 0 where
   pub script : LiveScript
   pub read : ReadsRelay left left' script
-  pub report : IsRelayReport ran.Whole links script text
+  pub report : IsRelayReport policies held ran.Whole links script text
 
 -- status 7: the same of a run that was stopped, since a worker was told that the session had no room for its event, as the text says
 -- behind the report. The journal that is reported is nearly full: it has 1,048,576 entries, or its bytes and 4,194,368, those of the
 -- largest event of a live run, pass 268,435,456
-pub record EndsRelayFull (links : ℕ) (left left' : Option (List ℕ)) (text : List ℕ) : Type 0 where
+pub record EndsRelayFull (policies : List PolicySeen) (held : List (Option (List (List ℕ)))) (links : ℕ) (left left' : Option (List ℕ)) (text : List ℕ) : Type 0 where
   pub script : LiveScript
   pub read : ReadsRelay left left' script
-  pub report : IsRelayReport ran.Full links script text
+  pub report : IsRelayReport policies held ran.Full links script text
 
 -- status 3: the text tells the first bad line; one that makes a call is bad
 pub record TellsBadRelay (left left' : Option (List ℕ)) (text : List ℕ) : Type 0 where
@@ -79,8 +83,8 @@ pub record TellsBadRelay (left left' : Option (List ℕ)) (text : List ℕ) : Ty
   pub text_is : text ≡ line_fault_text line cause
 
 -- the output of the mode
-abbrev pub IsRelayText : ℕ → Option (List ℕ) → Option (List ℕ) → List ℕ → Type 0
-IsRelayText links left left' text = (IsRelayed links left left' text ⊎ EndsRelayFull links left left' text) ⊎ TellsBadRelay left left' text
+abbrev pub IsRelayText : List PolicySeen → List (Option (List (List ℕ))) → ℕ → Option (List ℕ) → Option (List ℕ) → List ℕ → Type 0
+IsRelayText policies held links left left' text = (IsRelayed policies held links left left' text ⊎ EndsRelayFull policies held links left left' text) ⊎ TellsBadRelay left left' text
 
 -- status 4: a read failed before the input's end and before its first bad line; nothing was written
 pub record StopsAtRelay (left left' taken taken' : Option (List ℕ)) (faults faults' : ℕ) : Type 0 where

@@ -49,12 +49,12 @@ pub fn run_relay<
     listener: &mut L,
 ) -> u8
     requires { are_ready (map P.seen policies.items) ≡ true }
-    ensures done { result ≡ 0 → WritesAll (IsRelayed settings.links (S.left script.old) (S.left script.new)) (K.taken report.old) (K.taken report.new) }
+    ensures done { result ≡ 0 → WritesAll (IsRelayed (map P.seen policies.items) (W.held world) settings.links (S.left script.old) (S.left script.new)) (K.taken report.old) (K.taken report.new) }
     ensures line { result ≡ 3 → WritesAll (TellsBadRelay (S.left script.old) (S.left script.new)) (K.taken report.old) (K.taken report.new) }
     ensures reading { result ≡ 4 → StopsAtRelay (S.left script.old) (S.left script.new) (K.taken report.old) (K.taken report.new) (S.faults script.old) (S.faults script.new) }
-    ensures writing { result ≡ 5 → Rises (K.faults report.old) (K.faults report.new) × WritesFront (IsRelayText settings.links (S.left script.old) (S.left script.new)) (K.taken report.old) (K.taken report.new) }
-    ensures memory { result ≡ 6 → WritesSome (IsRelayText settings.links (S.left script.old) (S.left script.new)) (K.taken report.old) (K.taken report.new) }
-    ensures full { result ≡ 7 → WritesAll (EndsRelayFull settings.links (S.left script.old) (S.left script.new)) (K.taken report.old) (K.taken report.new) }
+    ensures writing { result ≡ 5 → Rises (K.faults report.old) (K.faults report.new) × WritesFront (IsRelayText (map P.seen policies.items) (W.held world) settings.links (S.left script.old) (S.left script.new)) (K.taken report.old) (K.taken report.new) }
+    ensures memory { result ≡ 6 → WritesSome (IsRelayText (map P.seen policies.items) (W.held world) settings.links (S.left script.old) (S.left script.new)) (K.taken report.old) (K.taken report.new) }
+    ensures full { result ≡ 7 → WritesAll (EndsRelayFull (map P.seen policies.items) (W.held world) settings.links (S.left script.old) (S.left script.new)) (K.taken report.old) (K.taken report.new) }
     ensures unheard { result ≡ 8 → EndsUnrelayed (S.left script.old) (S.left script.new) (K.taken report.old) (K.taken report.new) (L.faults listener.old) (L.faults listener.new) }
     ensures heard { result ≢ 6 → result ≢ 8 → L.faults listener.new ≡ L.faults listener.old }
     ensures known { (result ≡ 0) ⊎ (result ≡ 3) ⊎ (result ≡ 4) ⊎ (result ≡ 5) ⊎ (result ≡ 6) ⊎ (result ≡ 7) ⊎ (result ≡ 8) }
@@ -83,10 +83,10 @@ fn relay_script<R: Threads + Wait + Sync, P: Balancer + Send, K: Sink, W: NamedW
 ) -> u8
     requires ready { are_ready (map P.seen policies.items) ≡ true }
     requires target { IsTarget script.value }
-    ensures done { result ≡ 0 → WritesAll (IsRelayReport ran_is.Whole settings.links script) (K.taken report.old) (K.taken report.new) }
-    ensures full { result ≡ 7 → WritesAll (IsRelayReport ran_is.Full settings.links script) (K.taken report.old) (K.taken report.new) }
-    ensures writing { result ≡ 5 → Rises (K.faults report.old) (K.faults report.new) × WritesFront (IsAnyRelayReport settings.links script) (K.taken report.old) (K.taken report.new) }
-    ensures memory { result ≡ 6 → WritesSome (IsAnyRelayReport settings.links script) (K.taken report.old) (K.taken report.new) }
+    ensures done { result ≡ 0 → WritesAll (IsRelayReport (map P.seen policies.items) (W.held world) ran_is.Whole settings.links script) (K.taken report.old) (K.taken report.new) }
+    ensures full { result ≡ 7 → WritesAll (IsRelayReport (map P.seen policies.items) (W.held world) ran_is.Full settings.links script) (K.taken report.old) (K.taken report.new) }
+    ensures writing { result ≡ 5 → Rises (K.faults report.old) (K.faults report.new) × WritesFront (IsAnyRelayReport (map P.seen policies.items) (W.held world) settings.links script) (K.taken report.old) (K.taken report.new) }
+    ensures memory { result ≡ 6 → WritesSome (IsAnyRelayReport (map P.seen policies.items) (W.held world) settings.links script) (K.taken report.old) (K.taken report.new) }
     ensures unheard { result ≡ 8 → (K.taken report.new ≡ K.taken report.old) × (L.faults listener.new ≡ one_more (L.faults listener.old)) }
     ensures heard { result ≢ 6 → result ≢ 8 → L.faults listener.new ≡ L.faults listener.old }
     ensures known { (result ≡ 0) ⊎ (result ≡ 5) ⊎ (result ≡ 6) ⊎ (result ≡ 7) ⊎ (result ≡ 8) }

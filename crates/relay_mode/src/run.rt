@@ -1,7 +1,7 @@
 // The run of a relay: its links beside the workers that keep those of the world.
-ghost use Rattle.std.specs.Prelude.{◌≡◌, ◌≤◌, ◌+◌, IfOk, OnOk, length, map};
+ghost use Rattle.std.specs.Prelude.{◌≡◌, ◌≤◌, ◌+◌, ℕ, IfOk, List, OnOk, Option, length, map};
 ghost use Rattle.grpc_base.specs.declared.event.Entry.{Entry};
-ghost use Rattle.live_channel.specs.Handles.{IsStarted, Splits, seats_in};
+ghost use Rattle.live_channel.specs.Handles.{AreGiven, IsStarted, Splits, keepers_in, seats_in};
 ghost use Rattle.turn_lock.specs.History.{SeatSeen, StartsWith};
 ghost use Rattle.relay_mode.specs.Fronts.{LeavesLinks};
 ghost use Rattle.relay_mode.specs.Links.{IsHeard};
@@ -40,7 +40,7 @@ pub fn run_front<
 ) -> Result<(Seat<P>, Outcome, bool), NoMemory>
     requires started { IsStarted bench.now.channel.now (seats_in (λ h. h.seat) links.items) seat }
     requires few { count ≤ 1024 }
-    ensures left { IfOk result (λ r. LeavesLinks bench.now.channel.now r.1 count r.0) }
+    ensures left { IfOk result (λ r. (held : List (Option (List (List ℕ)))) (config : Option (List ℕ)) → AreGiven held config (keepers_in N.coming links.entry.items) seat → LeavesLinks bench.now.channel.now held config r.1 count r.0) }
     ensures sees { IfOk result (λ r. StartsWith r.0.seen seat.seen) }
     ensures heard { IfOk result (λ r. IsHeard r.2 (L.faults listener.old) (L.faults listener.new)) }
 {

@@ -56,9 +56,9 @@ pub fn report_relay<
 ) -> Result<Relayed, ReportFault>
     requires ready { are_ready (map P.seen policies.items) ≡ true }
     requires target { IsTarget script.value }
-    ensures ok { IfOk result (λ r. TellsRelayed r settings.links script (K.taken report.old) (K.taken report.new) (L.faults listener.old) (L.faults listener.new)) }
-    ensures err { OnErr result (WritesSome (IsAnyRelayReport settings.links script) (K.taken report.old) (K.taken report.new)) }
-    ensures write { (result ≡ Err ReportFault.Write) → Rises (K.faults report.old) (K.faults report.new) × WritesFront (IsAnyRelayReport settings.links script) (K.taken report.old) (K.taken report.new) × (L.faults listener.new ≡ L.faults listener.old) }
+    ensures ok { IfOk result (λ r. TellsRelayed (map P.seen policies.items) (W.held world) r settings.links script (K.taken report.old) (K.taken report.new) (L.faults listener.old) (L.faults listener.new)) }
+    ensures err { OnErr result (WritesSome (IsAnyRelayReport (map P.seen policies.items) (W.held world) settings.links script) (K.taken report.old) (K.taken report.new)) }
+    ensures write { (result ≡ Err ReportFault.Write) → Rises (K.faults report.old) (K.faults report.new) × WritesFront (IsAnyRelayReport (map P.seen policies.items) (W.held world) settings.links script) (K.taken report.old) (K.taken report.new) × (L.faults listener.new ≡ L.faults listener.old) }
 {
     let LiveScript {
         target,
@@ -93,7 +93,7 @@ fn run_world<R: Threads + Wait + Sync, P: Balancer + Send, W: NamedWorld, L: Lis
     config: Option<Octets>,
 ) -> Result<(Seat<P>, Outcome, bool), NoMemory>
     requires seat { IsFirstSeat channel.now seat }
-    ensures left { IfOk result (λ r. LeavesLinks channel.now r.1 settings.links r.0) }
+    ensures left { IfOk result (λ r. LeavesLinks channel.now (W.held world) config r.1 settings.links r.0) }
     ensures told { IfOk result (λ r. TellsTarget target config r.0.seen) }
     ensures heard { IfOk result (λ r. IsHeard r.2 (L.faults listener.old) (L.faults listener.new)) }
 {

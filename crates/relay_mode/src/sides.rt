@@ -81,7 +81,7 @@ pub(crate) fn work_beside<
     requires fresh { AllByRecursion (IsFresh front.old.closer.seat.lock) (map (λ j. j.post.seat) front.old.jobs.items) }
     ensures heard { IsHeard result (L.faults listener.old) (L.faults listener.new) }
     ensures front { FrontDone (λ h. h.seat) front.old front.new }
-    ensures links { KeepsDone (λ h. h.seat) links.old links.new }
+    ensures links { KeepsDone (λ h. h.seat) N.coming links.old links.new }
 {
     work_both(
         rt,
@@ -93,7 +93,7 @@ pub(crate) fn work_beside<
             ensures { IsHeard result (L.faults listener.entry.now) (L.faults listener.exit.now) × FrontDone (λ h. h.seat) front.entry.now front.exit.now }
         { front.relay(rt, clock, listener) },
         &|_: usize, links: &mut Linkers<ChannelSeat<'_, P, R, C, D>, N, K, D>| -> ()
-            ensures { KeepsDone (λ h. h.seat) links.entry.now links.exit.now }
+            ensures { KeepsDone (λ h. h.seat) N.coming links.entry.now links.exit.now }
         { links.keep(rt, clock) },
     )
 }

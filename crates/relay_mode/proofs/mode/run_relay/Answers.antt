@@ -1,4 +1,4 @@
-use Rattle.std.proofs.Common.{List, ℕ, inr, refl, rules, subst}
+use Rattle.std.proofs.Common.{List, ℕ, inr, map, refl, rules, subst}
 use Rattle.script_input.specs.declared.fault.InputFault.{InputFault}
 use Rattle.script_input.specs.Relays.{GivesNoRelay}
 use Rattle.session_text.specs.Sessions.{line_fault_text}
@@ -12,12 +12,12 @@ relay_script-requires-clause-target g c = λ a b. relay_target _ _ c.in-Ok.read 
 
 pub returns-in-Ok : goal.returns-in-Ok
 returns-in-Ok g c =
-    let done : (text : List ℕ) → _ → IsRelayed c.args.settings.links (g.S.Source.left c.args.script.now) (g.S.Source.left c.read_relay.new.source) text = λ text is.
-    relayed_of _ _ _ c.in-Ok.read text c.in-Ok.ensures.ok is in
-    let ends : (text : List ℕ) → _ → EndsRelayFull c.args.settings.links (g.S.Source.left c.args.script.now) (g.S.Source.left c.read_relay.new.source) text = λ text is.
-    full_of _ _ _ c.in-Ok.read text c.in-Ok.ensures.ok is in
-    let told : (text : List ℕ) → IsAnyRelayReport c.args.settings.links c.in-Ok.read text → IsRelayText c.args.settings.links (g.S.Source.left c.args.script.now) (g.S.Source.left c.read_relay.new.source) text = λ text is.
-    relay_text _ _ _ c.in-Ok.read text c.in-Ok.ensures.ok is in
+    let done : (text : List ℕ) → _ → IsRelayed (map g.P.Balancer.seen c.args.policies.items) (g.W.World.held c.args.world) c.args.settings.links (g.S.Source.left c.args.script.now) (g.S.Source.left c.read_relay.new.source) text = λ text is.
+    relayed_of _ _ _ _ _ c.in-Ok.read text c.in-Ok.ensures.ok is in
+    let ends : (text : List ℕ) → _ → EndsRelayFull (map g.P.Balancer.seen c.args.policies.items) (g.W.World.held c.args.world) c.args.settings.links (g.S.Source.left c.args.script.now) (g.S.Source.left c.read_relay.new.source) text = λ text is.
+    full_of _ _ _ _ _ c.in-Ok.read text c.in-Ok.ensures.ok is in
+    let told : (text : List ℕ) → IsAnyRelayReport (map g.P.Balancer.seen c.args.policies.items) (g.W.World.held c.args.world) c.args.settings.links c.in-Ok.read text → IsRelayText (map g.P.Balancer.seen c.args.policies.items) (g.W.World.held c.args.world) c.args.settings.links (g.S.Source.left c.args.script.now) (g.S.Source.left c.read_relay.new.source) text = λ text is.
+    relay_text _ _ _ _ _ c.in-Ok.read text c.in-Ok.ensures.ok is in
     record {
       done = λ zero. all_as _ _ _ _ done (c.relay_script.ensures.done zero);
       line = search rules;

@@ -1,4 +1,5 @@
 use Rattle.std.proofs.Common.{◌∙◌, ap}
+use Rattle.live_channel.proofs.KeepLaws.{kept_ones}
 use Rattle.grpc_base.specs.declared.event.Entry.{Entry}
 use Rattle.turn_lock.specs.History.{SeatSeen}
 use Rattle.live_channel.proofs.SeatLaws.{fresh_at, map_length}
@@ -9,15 +10,20 @@ use Rattle.relay_mode.proofs.run.run_front.Goals as goal
 pub work_beside-heard-requires-clause-fresh : goal.work_beside-heard-requires-clause-fresh
 work_beside-heard-requires-clause-fresh g c κs within = fresh_at _ _ _ (ap (λ (s : SeatSeen Entry). s.lock) c.handle.ensures.seat ∙ c.in_ok-jobs.ensures.splits.lock) c.in_ok-jobs.ensures.splits.fresh
 
-pub close_links-seat-requires-clause-kept : goal.close_links-seat-requires-clause-kept
-close_links-seat-requires-clause-kept g c κs within = kept_beside (λ h. h.seat) _ _ _ _ c.work_beside-heard.ensures.links c.work_beside-heard.ensures.front
-    (fresh_at _ _ _ (ap (λ (s : SeatSeen Entry). s.lock) c.handle.ensures.seat ∙ c.in_ok-jobs.ensures.splits.lock ∙ c.requires.started.lock_is) c.requires.started.fresh)
+pub close_links-seat-requires-clause-ones : goal.close_links-seat-requires-clause-ones
+close_links-seat-requires-clause-ones g c κs within = kept_ones _ _ _ (kept_beside (λ h. h.seat) g.N.Dialer.coming _ _ _ _ c.work_beside-heard.ensures.links c.work_beside-heard.ensures.front
+    (fresh_at _ _ _ (ap (λ (s : SeatSeen Entry). s.lock) c.handle.ensures.seat ∙ c.in_ok-jobs.ensures.splits.lock ∙ c.requires.started.lock_is) c.requires.started.fresh))
 
 pub returns-clause-left : goal.returns-clause-left
-returns-clause-left g c =
-    left_links (λ h. h.seat) _ _ _ _ _ _ _ _ c.args.seat c.relay_jobs.new.seat _ c.requires.started c.in_ok-jobs.ensures.splits c.handle.ensures.seat c.in_ok-jobs.ensures.count
+returns-clause-left g c = λ held config given.
+    let kept = kept_beside (λ h. h.seat) g.N.Dialer.coming _ _ _ _ c.work_beside-heard.ensures.links c.work_beside-heard.ensures.front
+    (fresh_at _ _ _ (ap (λ (s : SeatSeen Entry). s.lock) c.handle.ensures.seat ∙ c.in_ok-jobs.ensures.splits.lock ∙ c.requires.started.lock_is) c.requires.started.fresh) in
+    left_links (λ h. h.seat) _ held config _ _ _ _ _ _ _ _ c.args.seat c.relay_jobs.new.seat _ given c.requires.started c.in_ok-jobs.ensures.splits c.handle.ensures.seat c.in_ok-jobs.ensures.count
     (map_length (λ j. j.post.seat) c.in_ok-jobs.jobs.items ∙ c.in_ok-jobs.ensures.count) (c.work_beside-heard.ensures.links.count ∙ seats_length c.args.links.items (λ h. h.seat)) c.work_beside-heard.ensures.front
-    c.close_links-seat.ensures.lock c.close_links-seat.ensures.parts c.close_links-seat.ensures.leaves
+    c.close_links-seat.ensures.lock c.close_links-seat.ensures.parts (λ owns seen own closes. c.close_links-seat.ensures.leaves _ owns seen own kept closes)
 
 pub returns-clause-sees : goal.returns-clause-sees
-returns-clause-sees g c = left_sees _ _ c.args.seat c.relay_jobs.new.seat c.handle.result.seat _ _ c.in_ok-jobs.ensures.splits c.handle.ensures.seat (c.close_links-seat.ensures.leaves _ _ _ c.work_beside-heard.ensures.front.closes)
+returns-clause-sees g c =
+    let kept = kept_beside (λ h. h.seat) g.N.Dialer.coming _ _ _ _ c.work_beside-heard.ensures.links c.work_beside-heard.ensures.front
+    (fresh_at _ _ _ (ap (λ (s : SeatSeen Entry). s.lock) c.handle.ensures.seat ∙ c.in_ok-jobs.ensures.splits.lock ∙ c.requires.started.lock_is) c.requires.started.fresh) in
+    left_sees _ _ _ c.args.seat c.relay_jobs.new.seat c.handle.result.seat _ _ c.in_ok-jobs.ensures.splits c.handle.ensures.seat (c.close_links-seat.ensures.leaves _ _ _ _ kept c.work_beside-heard.ensures.front.closes)

@@ -6,14 +6,14 @@ use Rattle.relay_mode.proofs.session.report_relay.Goals as goal
 
 pub returns-in-Ok-clause-ok : goal.returns-in-Ok-clause-ok
 returns-in-Ok-clause-ok g c = (
-  all_as _ _ _ _ (λ text is. relay_report c.in_ok-ran.ran _ _ _ c.args.script c.in_ok-seat.seat text c.in_ok-channel.ensures.authority c.in_ok-seat.ensures.told c.in_ok-ran.ensures c.in_ok-seat.ensures.left is) c.in-Ok.ensures.ok,
+  all_as _ _ _ _ (λ text is. relay_report _ _ c.in_ok-ran.ran _ _ _ c.args.script c.in_ok-seat.seat text c.in_ok-channel.ensures.origin c.in_ok-seat.ensures.told c.in_ok-ran.ensures c.in_ok-seat.ensures.left is) c.in-Ok.ensures.ok,
   heard_all _ _ _ (search rules) c.in_ok-seat.ensures.heard,
 )
 
 pub returns-clause-err : goal.returns-clause-err
 returns-clause-err g c = some_as _ _ _ _ (λ text is. (
   c.in_ok-ran.ran,
-  relay_report c.in_ok-ran.ran _ _ _ c.args.script c.in_ok-seat.seat text c.in_ok-channel.ensures.authority c.in_ok-seat.ensures.told c.in_ok-ran.ensures c.in_ok-seat.ensures.left is,
+  relay_report _ _ c.in_ok-ran.ran _ _ _ c.args.script c.in_ok-seat.seat text c.in_ok-channel.ensures.origin c.in_ok-seat.ensures.told c.in_ok-ran.ensures c.in_ok-seat.ensures.left is,
 )) c.in-Err.ensures.err
 
 pub returns-clause-write : goal.returns-clause-write
@@ -23,7 +23,7 @@ returns-clause-write g c = λ failed.
       wrote.0,
       front_as _ _ _ _ (λ text is. (
         c.in_ok-ran.ran,
-        relay_report c.in_ok-ran.ran _ _ _ c.args.script c.in_ok-seat.seat text c.in_ok-channel.ensures.authority c.in_ok-seat.ensures.told c.in_ok-ran.ensures c.in_ok-seat.ensures.left is,
+        relay_report _ _ c.in_ok-ran.ran _ _ _ c.args.script c.in_ok-seat.seat text c.in_ok-channel.ensures.origin c.in_ok-seat.ensures.told c.in_ok-ran.ensures c.in_ok-seat.ensures.left is,
       )) wrote.1,
       heard_all _ _ _ (search rules) c.in_ok-seat.ensures.heard,
     )
