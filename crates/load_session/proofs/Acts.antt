@@ -1,6 +1,6 @@
 -- How the parts of a played action, and played actions, come together.
 use Rattle.std.proofs.Common.{◌≡◌, ◌∙◌, ℕ, Bool, true, false, zero, suc, ◌+◌, List, [], ◌∷◌, ◌++◌, refl, sym, subst, ap, append_assoc, append-nil, arith}
-use Rattle.std.specs.Prelude.{MatchBool, Option, Some, None, flat_map}
+use Rattle.std.specs.Prelude.{MatchBool, Option, flat_map}
 use Rattle.std.specs.List.{range_with_len}
 use Rattle.std.proofs.lemmas.Grind.{flat_map-append}
 use Rattle.grpc_base.specs.declared.event.Event.{Event}

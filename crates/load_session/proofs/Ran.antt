@@ -1,7 +1,6 @@
 -- What was played is a run of the channel, and where it stopped the journal lacks room.
-use Rattle.std.proofs.Common.{◌≡◌, ◌∙◌, ◌<◌, ◌≤◌, ℕ, Bool, true, false, List, [], ◌∷◌, ◌++◌, length, length-append, refl, subst, inl, inr, arith, ap, ◌+◌}
-use Rattle.std.specs.Prelude.{◌⊎◌, MatchBool, Option, Some, None, IfOk, IsErrAnd, OnOk, Result, Ok, Err}
-use Rattle.std.proofs.lemmas.Bool.{cases_lt}
+use Rattle.std.proofs.Common.{◌≡◌, ◌∙◌, ◌≤◌, ℕ, Bool, true, false, List, [], ◌∷◌, ◌++◌, append-nil, append_assoc, length, length-append, sym, subst, inl, inr, arith, ap, ◌+◌}
+use Rattle.std.specs.Prelude.{MatchBool, IfOk, IsErrAnd, OnOk, Result, Ok, Err}
 use Rattle.grpc_base.specs.declared.event.Event.{Event}
 use Rattle.grpc_base.specs.declared.event.Event.TheVariants as event
 use Rattle.grpc_base.specs.declared.event.Entry.{Entry}
@@ -9,32 +8,51 @@ use Rattle.grpc_base.specs.declared.event.Reply.{Reply}
 use Rattle.grpc_base.specs.declared.event.Stamped.{Stamped}
 use Rattle.grpc_base.specs.Posts.{HasNoRoom}
 use Rattle.channel_core.specs.Applying.{can_drain_in}
-use Rattle.channel_core.specs.Core.{CoreSeen, IsFull, Runs, Steps}
+use Rattle.channel_core.specs.Core.{CoreSeen, IsFull, Steps}
 use Rattle.channel_core.specs.Sizes.{counted, journal_bytes}
+use Rattle.journal_room.specs.Posted.{IsPosted}
+use Rattle.journal_room.specs.Rooms.{HasRoom}
+use Rattle.journal_room.specs.Runs.{HasRunBy}
+use Rattle.journal_room.proofs.RunLaws.{step_has_run}
 use Rattle.load_plan.specs.declared.action.LoadAction.{LoadAction}
 use Rattle.load_plan.specs.declared.action.LoadStep.{LoadStep}
 use Rattle.load_plan.specs.declared.action.LoadStep.TheVariants as does
-use Rattle.load_session.specs.Playing.{ArriveAt, Does, Drained, Exchanges, ExchangesOn, Hears, Plays, Posts, Sends, Sides, Takes, TakesMore, is_more}
+use Rattle.load_session.specs.Playing.{ArriveAt, Does, Drained, Exchanges, ExchangesOn, Hears, Plays, Posts, Sends, Sides, Takes, TakesMore}
+use Rattle.load_session.specs.Steps.{GoesOn}
 use Rattle.load_session.specs.Stopping.{LacksRoom}
 use Rattle.load_session.specs.declared.fault.LoadFault.{LoadFault}
 use Rattle.load_session.specs.declared.fault.LoadFault.TheVariants as fault
 
--- some events were run
-abbrev pub Ran : CoreSeen → CoreSeen → Type 0
-Ran old new = (events : List Stamped) × Runs old events new
+-- ---- events behind those of a run
 
-pub Runs-join : (a b c : CoreSeen) (xs ys : List Stamped) → Runs a xs b → Runs b ys c → Runs a (xs ++ ys) c
-Runs-join a b c [] ys same more = subst (λ (x : CoreSeen). Runs x ys c) same more
-Runs-join a b c (s ∷ xs) ys runs more = (runs.0, runs.1, runs.2, Runs-join runs.0 b c xs ys runs.3 more)
+pub goes_on_none : (old new : CoreSeen) → new ≡ old → GoesOn old [] new
+goes_on_none old new same authority policies before run =
+    subst (λ (es : List Stamped). HasRunBy authority policies es new) (sym (append-nil before)) (subst (λ (x : CoreSeen). HasRunBy authority policies before x) (sym same) run)
+
+pub goes_on_step : (old new : CoreSeen) (s : Stamped) (r : Reply) → Steps old new s r → IsPosted s.event → HasRoom old.journal.entries s.event → GoesOn old (s ∷ []) new
+goes_on_step old new s r step posted room authority policies before run = step_has_run authority policies before old new s r run step posted room
+
+pub goes_on_join : (a b c : CoreSeen) (xs ys : List Stamped) → GoesOn a xs b → GoesOn b ys c → GoesOn a (xs ++ ys) c
+goes_on_join a b c xs ys first second authority policies before run =
+    subst (λ (es : List Stamped). HasRunBy authority policies es c) (append_assoc before xs ys) (second authority policies (before ++ xs) (first authority policies before run))
+
+-- ---- what a load plays
+
+-- some events more were given to a channel
+pub record Ran (old new : CoreSeen) : Type 0 where
+  pub more : List Stamped
+  pub goes_on : GoesOn old more new
 
 pub ran_none : (old new : CoreSeen) → new ≡ old → Ran old new
-ran_none old new same = ([], same)
+ran_none old new same = record { more = []; goes_on = goes_on_none old new same }
 
 pub ran_one : (moment : ℕ) (e : Event) (old new : CoreSeen) (r : Reply) → Posts moment e old new r → Ran old new
-ran_one moment e old new r posts = (record { moment = moment; word = 9223372036854775808; event = e } ∷ [], (new, r, posts, refl))
+ran_one moment e old new r posts =
+    let s : Stamped = record { moment = moment; word = 9223372036854775808; event = e } in
+    record { more = s ∷ []; goes_on = goes_on_step old new s r posts.steps posts.posted posts.room }
 
 pub ran_join : (a b c : CoreSeen) → Ran a b → Ran b c → Ran a c
-ran_join a b c first second = (first.0 ++ second.0, Runs-join a b c first.0 second.0 first.1 second.1)
+ran_join a b c first second = record { more = first.more ++ second.more; goes_on = goes_on_join a b c first.more second.more first.goes_on second.goes_on }
 
 ran_drained : (moment link : ℕ) (a b : Sides) → Drained moment link a b → Ran a.channel b.channel
 ran_drained moment link a b drained = ran_one moment (event.Drain link 65536) a.channel b.channel drained.reply drained.posts
@@ -90,18 +108,7 @@ full_of e entries bytes journal (inr much) n b = inr (omega (arith, much, b))
 pub lacks_room : (core : CoreSeen) (e : Event) (entries bytes : ℕ) → IsFull core e entries bytes → LacksRoom e core
 lacks_room core e entries bytes full = full_of e entries bytes core.journal.entries full.1 full.2 full.3
 
--- what made an entry had room for it
-pub had_room : {P : ℕ → ℕ → Type 0} → (core : CoreSeen) (e : Event) → core.spent ≡ false → ((entries bytes : ℕ) → IsFull core e entries bytes → P entries bytes) → ((entries bytes : ℕ) → P entries bytes → ⊥) → length core.journal.entries < 1048576
-had_room {P} core e spent told never = by_length (cases_lt (length core.journal.entries) 1048576)
-  where
-    by_length : (length core.journal.entries < 1048576) ⊎ (1048576 ≤ length core.journal.entries) → length core.journal.entries < 1048576
-    by_length (inl few) = few
-    by_length (inr many) = absurd (never _ _ (told (length core.journal.entries) (counted (journal_bytes core.journal.entries)) (spent, inl many, refl, refl)))
-
 -- ---- answers that are not a full journal
-
-pub ok_err : {X E : Type 0} → (x : X) (e : E) → Ok x ≡ Err e → ⊥
-ok_err x e same = (cc)
 
 pub not_ok : {X P : Type 0} → (x : X) → ◌≡◌ {A = Result X LoadFault} (Ok x) (Err fault.SessionFull) → P
 not_ok x same = absurd (cc)
@@ -137,4 +144,4 @@ on_ok_as (Err e) more holds = tt
 
 -- what a step adds to a journal
 pub one_longer : (moment : ℕ) (e : Event) (old new : CoreSeen) (r : Reply) → Posts moment e old new r → length new.journal.entries ≡ length old.journal.entries + 1
-one_longer moment e old new r posts = ap (λ (xs : List Entry). length xs) posts.journal ∙ length-append old.journal.entries _
+one_longer moment e old new r posts = ap (λ (xs : List Entry). length xs) posts.steps.journal ∙ length-append old.journal.entries _

@@ -6,6 +6,8 @@ use Rattle.grpc_base.specs.declared.event.Reply.{Reply}
 use Rattle.grpc_base.specs.declared.event.Reply.TheVariants as reply
 use Rattle.channel_core.specs.Applying.{can_drain_in}
 use Rattle.channel_core.specs.Core.{CoreSeen, Steps}
+use Rattle.journal_room.specs.Posted.{IsPosted}
+use Rattle.journal_room.specs.Rooms.{HasRoom}
 use Rattle.loop_server.specs.Drains.{CoreDrains}
 use Rattle.loop_server.specs.Server.{Core}
 use Rattle.loop_server.specs.Steps.{CoreArrives}
@@ -18,9 +20,12 @@ pub record Sides : Type 0 where
   pub channel : CoreSeen
   pub server : Core
 
--- the channel is given an event at a moment, with the word 2^63, and replies: the journal gains this entry
-abbrev pub Posts : ℕ → Event → CoreSeen → CoreSeen → Reply → Type 0
-Posts moment e old new r = Steps old new (record { moment = moment; word = 9223372036854775808; event = e }) r
+-- the channel is given an event such as its type allows at a moment, with the word 2^63, where its journal has room for it, and replies: the
+-- journal gains this entry
+pub record Posts (moment : ℕ) (e : Event) (old new : CoreSeen) (r : Reply) : Type 0 where
+  pub steps : Steps old new (record { moment = moment; word = 9223372036854775808; event = e }) r
+  pub posted : IsPosted e
+  pub room : HasRoom old.journal.entries e
 
 -- the bytes that a reply gives
 abbrev pub octets_in : Reply → List ℕ

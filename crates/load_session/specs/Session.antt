@@ -5,7 +5,8 @@ use Rattle.grpc_base.specs.declared.event.Stamped.{Stamped}
 use Rattle.attempt_ledger.specs.declared.journal.Journal.{Journal}
 use Rattle.attempt_ledger.specs.declared.ledger.Ledger.{Ledger}
 use Rattle.lb_policy.specs.Table.{PolicySeen}
-use Rattle.channel_core.specs.Core.{IsNewBy, Runs, ledger_in}
+use Rattle.channel_core.specs.Core.{IsNewBy, ledger_in}
+use Rattle.journal_room.specs.Runs.{HasRunBy}
 use Rattle.loop_server.specs.Script.{all_lines}
 use Rattle.loop_server.specs.Server.{new_core}
 use Rattle.load_plan.specs.Answers.{server_script}
@@ -23,14 +24,14 @@ pub record Begins (load : Load) (policies : List PolicySeen) (a : Sides) : Type 
   pub server : a.server ≡ new_core (all_lines (server_script load.seed load.calls))
 
 -- the session of a load: from there its actions were played, one behind the other and nothing else, by which the channel was given these
--- events; journal and ledger are those that it has then
+-- events, each where there was room; journal and ledger are those that it has then
 pub record IsSession (load : Load) (policies : List PolicySeen) (journal : Journal) (ledger : Ledger) : Type 0 where
   pub start : Sides
   pub end : Sides
   pub begins : Begins load policies start
   pub plays : Plays (actions_of load.seed load.calls) start end
   pub events : List Stamped
-  pub runs : Runs start.channel events end.channel
+  pub run : HasRunBy authority policies events end.channel
   pub journal_is : journal ≡ end.channel.journal
   pub ledger_is : ledger ≡ ledger_in end.channel
 

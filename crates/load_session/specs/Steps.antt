@@ -1,12 +1,15 @@
--- Nobody has to believe these steps: one Take, a session on a channel to its end or to a full journal, and how the ends of calls are
--- noted while the journal is read.
-use Rattle.std.specs.Prelude.{◌≡◌, ℕ, Bool, Option, Some, None, List, slice_get, slice_set}
+-- Nobody has to believe these steps: events behind those of a run, one Take, a session on a channel to its end or to a full journal, and how
+-- the ends of calls are noted while the journal is read.
+use Rattle.std.specs.Prelude.{◌≡◌, ℕ, Bool, Option, Some, None, List, ◌++◌, slice_get, slice_set}
 use Rattle.grpc_base.specs.declared.event.Entry.{Entry}
 use Rattle.grpc_base.specs.declared.event.Event.TheVariants as event
 use Rattle.grpc_base.specs.declared.event.Reply.{Reply}
+use Rattle.grpc_base.specs.declared.event.Stamped.{Stamped}
 use Rattle.attempt_ledger.specs.declared.journal.Journal.{Journal}
 use Rattle.attempt_ledger.specs.declared.ledger.Ledger.{Ledger}
 use Rattle.channel_core.specs.Core.{CoreSeen, ledger_in}
+use Rattle.journal_room.specs.Runs.{HasRunBy}
+use Rattle.lb_policy.specs.Table.{PolicySeen}
 use Rattle.loop_server.specs.Script.{all_lines}
 use Rattle.loop_server.specs.Server.{Core, new_core}
 use Rattle.load_plan.specs.Answers.{server_script}
@@ -31,6 +34,13 @@ noted_by _ _ ends = ends
 
 abbrev pub noted_entry : Entry → List (Option ℕ) → List (Option ℕ)
 noted_entry e ends = noted_by (call_taken e.event) (end_code e.reply) ends
+
+-- events that lead from one channel to another, each given where there was room: whatever run the first had come by, the second has come by
+-- that run and these
+abbrev pub GoesOn : CoreSeen → List Stamped → CoreSeen → Type 0
+GoesOn old events new =
+    (authority : List ℕ) (policies : List PolicySeen) (before : List Stamped) → HasRunBy authority policies before old
+    → HasRunBy authority policies (before ++ events) new
 
 -- a Take, and whether more may have come behind it
 pub record TakesOne (more : Bool) (moment call : ℕ) (old new : CoreSeen) : Type 0 where

@@ -1,5 +1,5 @@
 -- What a journal and its ledger come to.
-use Rattle.std.specs.Prelude.{ℕ, Bool, true, false, not, ◌==◌, ◌+◌, if◌then◌else◌, Option, Some, None, List, [], ◌∷◌, length, map}
+use Rattle.std.specs.Prelude.{ℕ, Bool, true, false, not, ◌==◌, if◌then◌else◌, Option, Some, None, List, [], ◌∷◌, length, map}
 use Rattle.std.specs.List.{count_by, range_with_len}
 use Rattle.std.specs.Option.{is_none, option_or}
 use Rattle.grpc_base.specs.Codes.{code_number}

@@ -1,5 +1,5 @@
 // One event for the channel, and the bytes of one link between the channel and the server.
-ghost use Rattle.std.specs.Prelude.{◌≡◌, ◌<◌, ℕ, Option, [], Err, IfOk, OnOk, length};
+ghost use Rattle.std.specs.Prelude.{◌≡◌, ℕ, Option, [], Err, IfOk, OnOk};
 ghost use Rattle.loop_server.specs.Steps.{CoreArrives};
 ghost use Rattle.load_session.specs.Playing.{ArriveAt, Hears, Posts, Sends, octets_in};
 ghost use Rattle.load_session.specs.Stopping.{LacksRoom, StopsHearing, StopsSending};
@@ -7,6 +7,7 @@ ghost use Rattle.load_session.specs.Stopping.{LacksRoom, StopsHearing, StopsSend
 use crate::fault::LoadFault;
 use channel_core::{ChannelCore, CoreError};
 use grpc_base::{Event, Moment, Octets, Reply, Stamped};
+use journal_room::keeps_its_types;
 use lb_policy::Balancer;
 use load_plan::EVENT_WORD;
 use loop_server::{ServerCore, ServerFault};
@@ -22,9 +23,9 @@ pub(crate) fn post<P: Balancer>(
     event: Event,
 ) -> Result<Reply, LoadFault>
     ensures ok { IfOk result (λ r. Posts moment event core.old core.new r) }
-    ensures room { OnOk result (length core.old.journal.entries < 1048576) }
     ensures full { result ≡ Err LoadFault.SessionFull → LacksRoom event core.old }
 {
+    keeps_its_types(&event);
     let stamped = Stamped {
         moment,
         word: EVENT_WORD,

@@ -1,4 +1,4 @@
-use Rattle.std.proofs.Common.{◌≡◌, ◌∙◌, ◌+◌, List, ap, map, sym, take}
+use Rattle.std.proofs.Common.{◌∙◌, ◌+◌, List, ap, map, sym, take}
 use Rattle.std.specs.List.{range_with_len}
 use Rattle.grpc_base.specs.declared.event.Entry.{Entry}
 use Rattle.load_session.specs.Sums.{first_end}

@@ -1,5 +1,5 @@
-use Rattle.std.proofs.Common.{◌≡◌, ◌∙◌, ap, map}
-use Rattle.std.specs.List.{count_by, range_with_len}
+use Rattle.std.proofs.Common.{◌∙◌, ap}
+use Rattle.std.specs.List.{count_by}
 use Rattle.load_session.specs.Sums.{first_end, has_outcome}
 use Rattle.load_session.specs.declared.ends.Outcome.TheVariants as outcome
 use Rattle.load_session.proofs.Noting.{are_few, behind_first}

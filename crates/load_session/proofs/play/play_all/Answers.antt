@@ -1,4 +1,4 @@
-use Rattle.load_session.proofs.Acts.{IsPlaying-done, IsPlaying-more, IsPlaying-new}
+use Rattle.load_session.proofs.Acts.{IsPlaying-more}
 use Rattle.load_session.proofs.Ran.{exit_full, exit_ok, not_ok}
 use Rattle.load_session.proofs.Stops.{stops_at}
 use Rattle.load_session.proofs.play.play_all.Goals as goal

@@ -1,9 +1,6 @@
-use Rattle.std.proofs.Common.{◌≡◌, ◌∙◌, ◌<◌, ℕ, arith, subst, sym}
-use Rattle.std.specs.Prelude.{flat_map}
-use Rattle.std.specs.List.{range_with_len}
+use Rattle.std.proofs.Common.{◌<◌, ℕ, subst}
 use Rattle.load_plan.specs.Batches.{batches_of}
 use Rattle.load_plan.specs.Plan.{batch_actions}
-use Rattle.load_session.specs.Playing.{Plays}
 use Rattle.load_session.proofs.Acts.{batches_more, batches_none}
 use Rattle.load_session.proofs.Ran.{exit_full, exit_ok, not_ok}
 use Rattle.load_session.proofs.Stops.{stops_in_batch}

@@ -1,4 +1,4 @@
-use Rattle.std.proofs.Common.{◌≡◌, ◌∙◌, [], arith, inl, refl, sym}
+use Rattle.std.proofs.Common.{◌∙◌, [], arith, inl, refl, sym}
 use Rattle.grpc_base.specs.declared.event.Event.TheVariants as event
 use Rattle.load_session.proofs.Acts.{IsTaking-done, IsTaking-more}
 use Rattle.load_session.proofs.Ran.{exit_full, exit_ok, not_ok, one_longer}

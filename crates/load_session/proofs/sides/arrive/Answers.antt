@@ -1,4 +1,4 @@
-use Rattle.std.proofs.Common.{◌≡◌, ◌∙◌, sym}
+use Rattle.std.proofs.Common.{◌∙◌, sym}
 use Rattle.std.proofs.lemmas.Bool.{true≢false}
 use Rattle.load_session.proofs.Acts.{arrive_none, arrive_some}
 use Rattle.load_session.proofs.Ran.{exit_full, exit_ok, not_ok}

@@ -1,4 +1,4 @@
-use Rattle.std.proofs.Common.{◌≡◌, ◌∙◌, ℕ, List, ap, subst}
+use Rattle.std.proofs.Common.{◌∙◌, ℕ, List, ap, subst}
 use Rattle.std.specs.Prelude.{Err, None, Some}
 use Rattle.loop_server.specs.Steps.{CoreArrives}
 use Rattle.loop_server.specs.declared.fault.ServerFault.{ServerFault}

@@ -1,18 +1,17 @@
-use Rattle.std.proofs.Common.{◌≡◌, ◌∙◌, ap, sym}
+use Rattle.std.proofs.Common.{◌≡◌, ◌∙◌, ap}
 use Rattle.std.specs.Prelude.{Err}
 use Rattle.channel_core.specs.declared.channel.CoreError.{CoreError}
 use Rattle.channel_core.specs.declared.channel.CoreError.TheVariants as failed
-use Rattle.load_session.proofs.Ran.{had_room, lacks_room, not_memory, not_ok, ok_err}
+use Rattle.journal_room.proofs.RoomLaws.{step_room}
+use Rattle.load_session.proofs.Ran.{lacks_room, not_memory, not_ok}
 use Rattle.load_session.proofs.sides.post.Goals as goal
 
 pub returns-in-Ok-clause-ok : goal.returns-in-Ok-clause-ok
-returns-in-Ok-clause-ok g c = c.in-Ok.ensures.ok
-
-pub returns-in-Ok-clause-room : goal.returns-in-Ok-clause-room
-returns-in-Ok-clause-room g c =
-    had_room {P = λ entries bytes. c.step.result ≡ Err (failed.SessionFull entries bytes)} c.args.core.now c.args.event c.in-Ok.ensures.ok.before
-    (λ entries bytes full. (c.step.ensures.full entries bytes).1 full)
-    (λ entries bytes told. ok_err _ _ (sym c.in-Ok.is ∙ told))
+returns-in-Ok-clause-ok g c = record {
+  steps = c.in-Ok.ensures.ok;
+  posted = c.keeps_its_types.ensures;
+  room = step_room c.args.core.now c.args.event c.step.result _ c.in-Ok.is c.in-Ok.ensures.ok.before c.step.ensures.full;
+}
 
 pub returns-in-Ok-clause-full : goal.returns-in-Ok-clause-full
 returns-in-Ok-clause-full g c = not_ok _

@@ -1,4 +1,4 @@
-use Rattle.std.proofs.Common.{◌≡◌, ◌∙◌, ℕ, List, subst, sym}
+use Rattle.std.proofs.Common.{◌∙◌, ℕ, List, subst, sym}
 use Rattle.std.specs.Prelude.{Option}
 use Rattle.loop_server.specs.Steps.{CoreArrives}
 use Rattle.load_session.proofs.Acts.{sends_none, sends_some}

@@ -1,4 +1,4 @@
-use Rattle.std.proofs.Common.{◌∙◌, List, ap}
+use Rattle.std.proofs.Common.{◌∙◌, ap}
 use Rattle.std.proofs.lemmas.Result.{IfOk-weaker}
 use Rattle.grpc_base.specs.declared.script.ServerScript.{ServerScript}
 use Rattle.loop_server.specs.Script.{all_lines}

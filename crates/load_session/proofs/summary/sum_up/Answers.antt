@@ -1,4 +1,4 @@
-use Rattle.load_session.proofs.Ran.{exit_full, exit_memory, exit_ok, exit_if, not_ok}
+use Rattle.load_session.proofs.Ran.{exit_full, exit_memory, exit_if, not_ok}
 use Rattle.load_session.proofs.summary.sum_up.Goals as goal
 
 pub returns-in_err-play_on-clause-ok : goal.returns-in_err-play_on-clause-ok
