@@ -1,0 +1,4 @@
+pub mod Commits
+pub mod Journals
+pub mod Shut
+pub mod Takes
