@@ -1,4 +1,4 @@
-// Tests of the public calls of the channel: the slow programs of its definitions and laws, and the top call.
+// Tests of the top call of the channel.
 #![tactic(auto)]
 
 #[cfg(test)]
@@ -11,7 +11,3 @@ mod load_tests;
 mod program;
 #[cfg(test)]
 mod serve_tests;
-#[cfg(test)]
-mod slow_channel_tests;
-#[cfg(test)]
-mod slow_laws_tests;

@@ -16,6 +16,7 @@ use Rattle.script_input.specs.declared.form.Form.TheVariants as form
 use Rattle.resolver_core.specs.declared.any_target.Target.{Target}
 use Rattle.script_input.specs.Scripts.{AreLines, IsScript, read_part, script_reads}
 use Rattle.script_lines.specs.Spelling.{script_of}
+use Rattle.lb_policy.specs.Table.{PolicySeen}
 use Rattle.channel_top.specs.Migrate.{IsMigrated}
 use Rattle.script_input.proofs.ScriptLaws.{AreMoved, script_again}
 use Rattle.resolver_core.specs.AnyTargets.{IsTarget}
@@ -60,7 +61,7 @@ session_again input target value events journal script entries = λ short.
     short
 
 -- a script has a line
-some_input : (f : Form) (target : List ℕ) (value : Target) (events : List Stamped) (texts records : List (List ℕ)) → pieces 10 [] ≡ (texts ++ records) ++ [] ∷ [] → AreLines f 1 texts (script_reads target value events) → ⊥
+pub some_input : (f : Form) (target : List ℕ) (value : Target) (events : List Stamped) (texts records : List (List ℕ)) → pieces 10 [] ≡ (texts ++ records) ++ [] ∷ [] → AreLines f 1 texts (script_reads target value events) → ⊥
 some_input f target value events [] records e t = t
 some_input f target value events (text ∷ texts) records e t = no_snoc (texts ++ records) [] (one_part [] text ((texts ++ records) ++ [] ∷ []) e)
   where
@@ -72,8 +73,8 @@ some_input f target value events (text ∷ texts) records e t = no_snoc (texts +
     no_snoc (x ∷ xs) y e = absurd ((cc))
 
 -- a script was read, and this is its report
-pub report_done : (left left' : Option (List ℕ)) (target : List ℕ) (value : Target) (events : List Stamped) (text : List ℕ) → ReadsScript form.Script left left' target value events → IsReport target value events text → IsDone left left' text
-report_done left left' target value events text read report = record {
+pub report_done : (policies : List PolicySeen) (left left' : Option (List ℕ)) (target : List ℕ) (value : Target) (events : List Stamped) (text : List ℕ) → ReadsScript form.Script left left' target value events → IsReport policies target value events text → IsDone policies left left' text
+report_done policies left left' target value events text read report = record {
   input = read.input;
   read = read.read;
   at_end = read.at_end;
@@ -92,8 +93,8 @@ report_done left left' target value events text read report = record {
 }
 
 -- the same where its journal is full
-pub report_ends : (left left' : Option (List ℕ)) (target : List ℕ) (value : Target) (events : List Stamped) (text : List ℕ) → ReadsScript form.Script left left' target value events → IsFullReport target value events text → EndsFull left left' text
-report_ends left left' target value events text read report = record {
+pub report_ends : (policies : List PolicySeen) (left left' : Option (List ℕ)) (target : List ℕ) (value : Target) (events : List Stamped) (text : List ℕ) → ReadsScript form.Script left left' target value events → IsFullReport policies target value events text → EndsFull policies left left' text
+report_ends policies left left' target value events text read report = record {
   input = read.input;
   target = target;
   value = value;
@@ -106,9 +107,9 @@ report_ends left left' target value events text read report = record {
 }
 
 -- either is the output of the mode
-pub replay_text : (left left' : Option (List ℕ)) (target : List ℕ) (value : Target) (events : List Stamped) (text : List ℕ) → ReadsScript form.Script left left' target value events → IsRunReport target value events text → IsReplayText left left' text
-replay_text left left' target value events text read (ran.Whole, report) = inl (inl (report_done left left' target value events text read report))
-replay_text left left' target value events text read (ran.Full, report) = inl (inr (report_ends left left' target value events text read report))
+pub replay_text : (policies : List PolicySeen) (left left' : Option (List ℕ)) (target : List ℕ) (value : Target) (events : List Stamped) (text : List ℕ) → ReadsScript form.Script left left' target value events → IsRunReport policies target value events text → IsReplayText policies left left' text
+replay_text policies left left' target value events text read (ran.Whole, report) = inl (inl (report_done policies left left' target value events text read report))
+replay_text policies left left' target value events text read (ran.Full, report) = inl (inr (report_ends policies left left' target value events text read report))
 
 -- the target of a script that was read is one
 target_of_lines : (f : Form) (texts : List (List ℕ)) (target : List ℕ) (value : Target) (events : List Stamped) → AreLines f 1 texts (script_reads target value events) → IsTarget value

@@ -1,37 +1,37 @@
--- A session, event by event: its journal has those that were given so far.
-use Rattle.std.proofs.Common.{◌≡◌, List, [], ◌∷◌, ◌++◌, refl, ap, ◌∙◌, sym, subst, append_assoc, append-nil}
-use Rattle.grpc_base.specs.declared.event.Reply.{Reply}
+-- A session, event by event: its channel was given those so far.
+use Rattle.std.proofs.Common.{◌≡◌, ℕ, List, [], ◌∷◌, ◌++◌, ap, append-nil, append_assoc, refl, subst, sym, true, ◌∙◌}
+use Rattle.std.specs.Global.{Global}
 use Rattle.grpc_base.specs.declared.event.Stamped.{Stamped}
-use Rattle.channel_core.specs.Core.{CoreSeen, Runs, Steps}
+use Rattle.channel_core.specs.Core.{CoreSeen, IsNewBy}
+use Rattle.journal_room.specs.Runs.{HasRunBy}
+use Rattle.journal_room.proofs.RunLaws.{new_has_run}
+use Rattle.lb_policy.specs.Table.{PolicySeen}
+use Rattle.load_session.specs.Steps.{GoesOn}
+use Rattle.load_session.proofs.Ran.{goes_on_join, goes_on_none, goes_on_step}
+use Rattle.policy_rack.specs.Kinds.{are_ready}
+use Rattle.session_text.specs.declared.ran.Ran.{Ran}
 use Rattle.session_text.specs.declared.ran.Ran.TheVariants as ran
-use Rattle.channel_top.specs.Runs.{FillsUp, StepsTo}
-
--- ---- the loop over the events
-
--- one event more at the end of a run
-pub Runs-one_more : (old mid new : CoreSeen) (events : List Stamped) (s : Stamped) (r : Reply) → Runs old events mid → Steps mid new s r → Runs old (events ++ s ∷ []) new
-Runs-one_more old mid new [] s r same step = (new, r, subst (λ (c : CoreSeen). Steps c new s r) same step, refl)
-Runs-one_more old mid new (e ∷ events) s r runs step = (runs.0, runs.1, runs.2, Runs-one_more runs.0 mid new events s r runs.3 step)
+use Rattle.channel_top.specs.Runs.{FillsUp, HasRun, RunsTo, StepsTo}
 
 -- the events so far, and those that are left
 pub record IsRunning (old : CoreSeen) (all : List Stamped) (core : CoreSeen) (left : List Stamped) : Type 0 where
   pub front : List Stamped
   pub parts : all ≡ front ++ left
-  pub runs : Runs old front core
+  pub goes_on : GoesOn old front core
 
 pub IsRunning-new : (old : CoreSeen) (all left : List Stamped) → left ≡ all → IsRunning old all old left
-IsRunning-new old all left same = record { front = []; parts = sym same; runs = refl }
+IsRunning-new old all left same = record { front = []; parts = sym same; goes_on = goes_on_none old old refl }
 
 pub IsRunning-step : (old : CoreSeen) (all : List Stamped) (core new : CoreSeen) (left rest : List Stamped) (s : Stamped) → IsRunning old all core left → left ≡ s ∷ rest → StepsTo ran.Whole core s new → IsRunning old all new rest
-IsRunning-step old all core new left rest s running e step = record {
+IsRunning-step old all core new left rest s running e (room, posted, reply, step) = record {
   front = running.front ++ s ∷ [];
   parts = running.parts ∙ ap (λ (xs : List Stamped). running.front ++ xs) e ∙ sym (append_assoc running.front (s ∷ []) rest);
-  runs = Runs-one_more old core new running.front s step.0 running.runs step.1;
+  goes_on = goes_on_join old core new running.front (s ∷ []) running.goes_on (goes_on_step core new s reply step posted room);
 }
 
-pub IsRunning-done : (old : CoreSeen) (all : List Stamped) (core : CoreSeen) (left : List Stamped) → IsRunning old all core left → left ≡ [] → Runs old all core
+pub IsRunning-done : (old : CoreSeen) (all : List Stamped) (core : CoreSeen) (left : List Stamped) → IsRunning old all core left → left ≡ [] → GoesOn old all core
 IsRunning-done old all core left running none =
-    subst (λ (xs : List Stamped). Runs old xs core) (sym (running.parts ∙ ap (λ (xs : List Stamped). running.front ++ xs) none ∙ append-nil running.front)) running.runs
+    subst (λ (xs : List Stamped). GoesOn old xs core) (sym (running.parts ∙ ap (λ (xs : List Stamped). running.front ++ xs) none ∙ append-nil running.front)) running.goes_on
 
 pub IsRunning-full : (old : CoreSeen) (all : List Stamped) (core new : CoreSeen) (left rest : List Stamped) (s : Stamped) → IsRunning old all core left → left ≡ s ∷ rest → StepsTo ran.Full core s new → FillsUp old all new
 IsRunning-full old all core new left rest s running e full =
@@ -41,6 +41,23 @@ IsRunning-full old all core new left rest s running e full =
       next = s;
       behind = rest;
       parts = running.parts ∙ ap (λ (xs : List Stamped). running.front ++ xs) e;
-      runs = running.runs;
+      goes_on = running.goes_on;
       full = full.0;
     })
+
+-- what a new channel was given
+pub has_run : (r : Ran) (alloc : Global) (authority text : List ℕ) (policies : List PolicySeen) (events : List Stamped) (new core : CoreSeen)
+    → text ≡ authority → are_ready policies ≡ true → IsNewBy alloc text policies new → RunsTo r new events core → HasRun r authority policies events core
+has_run r alloc authority text policies events new core same ready is_new runs =
+    by r (new_has_run alloc authority policies new (subst (λ (a : List ℕ). IsNewBy alloc a policies new) same is_new) ready) runs
+  where
+    by : (q : Ran) → HasRunBy authority policies [] new → RunsTo q new events core → HasRun q authority policies events core
+    by ran.Whole begun goes_on = goes_on authority policies [] begun
+    by ran.Full begun fills = record {
+      front = fills.front;
+      next = fills.next;
+      behind = fills.behind;
+      parts = fills.parts;
+      run = fills.goes_on authority policies [] begun;
+      full = fills.full;
+    }

@@ -15,7 +15,7 @@ use Rattle.channel_top.specs.declared.words.Mode.{Mode}
 use Rattle.channel_top.specs.declared.words.Mode.TheVariants as mode
 use Rattle.channel_top.specs.declared.words.ModeName.{ModeName}
 use Rattle.channel_top.specs.declared.words.ModeName.TheVariants as name
-use Rattle.channel_top.specs.Words.{AreWrong, AskForText, AskPlainly, IsAlone, IsAskWord, IsLiveBy, IsLoadBy, IsRelayBy, IsServeBy, Runs, RunsPlain, app_for, bare_for, dashes, kinds_at, kinds_of, mode_named, mode_of, name_text}
+use Rattle.channel_top.specs.Words.{AreWrong, AskForText, AskPlainly, IsAlone, IsAskWord, IsLiveBy, IsLoadBy, IsRelayBy, IsServeBy, Runs, RunsPlain, app_for, bare_for, dashes, kinds_at, kinds_of, mode_named, mode_of, name_of, name_text}
 
 -- each command is of the form whose answers clap tells exactly
 pub is_free : (m : Option ModeName) → is_simple_and_free (app_for m) ≡ true
@@ -95,7 +95,7 @@ runs_are_taken (mode.Live settings) words runs = ap (λ (o : Option ModeName). k
 runs_are_taken (mode.Relay settings) words runs = ap (λ (o : Option ModeName). kinds_at o words) runs.named ∙ runs.taken
 
 -- one kind, that of a text
-abbrev IsText : Kinds → Type 0
+abbrev pub IsText : Kinds → Type 0
 IsText kinds = (kinds ≡ kind.DisplayHelp ∷ []) ⊎ (kinds ≡ kind.DisplayVersion ∷ [])
 
 ask_alone : (word : List ℕ) → IsAskWord word → IsText (kinds_of (word ∷ []))
@@ -144,7 +144,7 @@ pub plain_are_text : (words : List (List ℕ)) → AskPlainly words → IsText (
 plain_are_text words p = by_place words p.0 p.1 p.2
 
 -- words that clap takes ask for no text
-no_text : (kinds : Kinds) → kinds ≡ [] → IsText kinds → ⊥
+pub no_text : (kinds : Kinds) → kinds ≡ [] → IsText kinds → ⊥
 no_text kinds none (inl e) = (cc)
 no_text kinds none (inr e) = (cc)
 
@@ -176,7 +176,7 @@ wrong_of_refused words k memory help version has = (
   (λ p. not_text k (kinds_of words) memory help version has (plain_are_text words p)),
 )
 
-the_some : {X : Type 0} (x y : X) → Some x ≡ Some y → x ≡ y
+pub the_some : {X : Type 0} (x y : X) → Some x ≡ Some y → x ≡ y
 the_some x y e = (cc)
 
 -- the mode of a name
@@ -229,17 +229,7 @@ alone_of_plain : (m : ModeName) (words : List (List ℕ)) → RunsPlain m words 
 alone_of_plain m words (inl e) = subst IsAlone (sym e) tt
 alone_of_plain m words (inr e) = subst IsAlone (sym e) refl
 
--- the name of a mode
-abbrev pub name_of : Mode → ModeName
-name_of mode.Replay = name.Replay
-name_of mode.Config = name.Config
-name_of mode.Migrate = name.Migrate
-name_of (mode.Serve port links) = name.Serve
-name_of (mode.Load load) = name.Load
-name_of (mode.Live settings) = name.Live
-name_of (mode.Relay settings) = name.Relay
-
-mode_of_runs : (m : Mode) (words : List (List ℕ)) → Runs m words → mode_of words ≡ Some (name_of m)
+pub mode_of_runs : (m : Mode) (words : List (List ℕ)) → Runs m words → mode_of words ≡ Some (name_of m)
 mode_of_runs mode.Replay words runs = mode_of_plain name.Replay words runs
 mode_of_runs mode.Config words runs = mode_of_plain name.Config words runs
 mode_of_runs mode.Migrate words runs = mode_of_plain name.Migrate words runs

@@ -1,10 +1,13 @@
+pub mod Complete
 pub mod ConfigMode
 pub mod Ending
+pub mod Inputs
 pub mod Links
 pub mod Live
 pub mod Load
 pub mod Migrate
 pub mod Modes
+pub mod Promise
 pub mod Relay
 pub mod Runs
 pub mod Serve

@@ -1,12 +1,13 @@
 -- What the program reads and writes for the words that it is given, by its status.
 use Rattle.std.specs.Prelude.{◌≡◌, ◌⊎◌, ℕ, Option, List}
-use Rattle.grpc_base.specs.Kinds.{KindsSeen}
+use Rattle.lb_policy.specs.Table.{PolicySeen}
+use Rattle.policy_rack.specs.Kinds.{kinds_of}
 use Rattle.channel_top.specs.Top.{EndsFull, IsDone, IsReplayText, StopsAtRead, TellsBadLine}
 use Rattle.channel_top.specs.ConfigMode.{IsConfigDone, IsConfigText, StopsInConfig, TellsConfigFault}
 use Rattle.live_mode.specs.Live.{StopsInCalls, TellsBadCall}
-use Rattle.channel_top.specs.Live.{EndsFullLawfully, IsLawfulLiveText, IsLivedLawfully}
+use Rattle.channel_top.specs.Live.{EndsFullAsPromised, IsLivedAsPromised, IsPromisedLiveText}
 use Rattle.relay_mode.specs.Relayed.{EndsUnrelayed, StopsAtRelay, TellsBadRelay}
-use Rattle.channel_top.specs.Relay.{EndsRelayLawfully, IsLawfulRelayText, IsRelayedLawfully}
+use Rattle.channel_top.specs.Relay.{EndsRelayAsPromised, IsPromisedRelayText, IsRelayedAsPromised}
 use Rattle.channel_top.specs.Migrate.{IsMigrateText, IsMigrated, StopsInReport, TellsBadReport}
 use Rattle.channel_top.specs.Serve.{EndsUnheard, IsServeText, IsServed, StopsInServer, TellsBadAnswer}
 use Rattle.channel_top.specs.Load.{FillsLoad, IsLoadDone, IsLoadText, RefusesLoad}
@@ -14,25 +15,26 @@ use Rattle.channel_top.specs.Words.{AreWrong, AskForText, Runs, words_fault_text
 use Rattle.channel_top.specs.declared.words.Mode.{Mode}
 use Rattle.channel_top.specs.declared.words.Mode.TheVariants as mode
 
--- a mode is done, and this is its text, where these kinds of policy are supported
-abbrev pub IsDoneIn : KindsSeen → Mode → Option (List ℕ) → Option (List ℕ) → List ℕ → Type 0
-IsDoneIn kinds mode.Replay left left' text = IsDone left left' text
-IsDoneIn kinds mode.Config left left' text = IsConfigDone kinds left left' text
-IsDoneIn kinds mode.Migrate left left' text = IsMigrated left left' text
-IsDoneIn kinds (mode.Serve port links) left left' text = IsServed links left left' text
-IsDoneIn kinds (mode.Load load) left left' text = (left' ≡ left) × IsLoadDone kinds load text
-IsDoneIn kinds (mode.Live settings) left left' text = IsLivedLawfully left left' text
-IsDoneIn kinds (mode.Relay settings) left left' text = IsRelayedLawfully settings.links left left' text
+-- a mode is done, and this is its text, where the program has these policies and the dialers of its world hold this for the links that they
+-- will open, where they tell
+abbrev pub IsDoneIn : List PolicySeen → List (Option (List (List ℕ))) → Mode → Option (List ℕ) → Option (List ℕ) → List ℕ → Type 0
+IsDoneIn policies held mode.Replay left left' text = IsDone policies left left' text
+IsDoneIn policies held mode.Config left left' text = IsConfigDone (kinds_of policies) left left' text
+IsDoneIn policies held mode.Migrate left left' text = IsMigrated left left' text
+IsDoneIn policies held (mode.Serve port links) left left' text = IsServed links left left' text
+IsDoneIn policies held (mode.Load load) left left' text = (left' ≡ left) × IsLoadDone policies load text
+IsDoneIn policies held (mode.Live settings) left left' text = IsLivedAsPromised policies held left left' text
+IsDoneIn policies held (mode.Relay settings) left left' text = IsRelayedAsPromised policies held settings.links left left' text
 
 -- this text of a mode tells the fault of its input
-abbrev pub TellsFaultIn : KindsSeen → Mode → Option (List ℕ) → Option (List ℕ) → List ℕ → Type 0
-TellsFaultIn kinds mode.Replay left left' text = TellsBadLine left left' text
-TellsFaultIn kinds mode.Config left left' text = TellsConfigFault kinds left left' text
-TellsFaultIn kinds mode.Migrate left left' text = TellsBadReport left left' text
-TellsFaultIn kinds (mode.Serve port links) left left' text = TellsBadAnswer left left' text
-TellsFaultIn kinds (mode.Load load) left left' text = ⊥
-TellsFaultIn kinds (mode.Live settings) left left' text = TellsBadCall left left' text
-TellsFaultIn kinds (mode.Relay settings) left left' text = TellsBadRelay left left' text
+abbrev pub TellsFaultIn : List PolicySeen → Mode → Option (List ℕ) → Option (List ℕ) → List ℕ → Type 0
+TellsFaultIn policies mode.Replay left left' text = TellsBadLine left left' text
+TellsFaultIn policies mode.Config left left' text = TellsConfigFault (kinds_of policies) left left' text
+TellsFaultIn policies mode.Migrate left left' text = TellsBadReport left left' text
+TellsFaultIn policies (mode.Serve port links) left left' text = TellsBadAnswer left left' text
+TellsFaultIn policies (mode.Load load) left left' text = ⊥
+TellsFaultIn policies (mode.Live settings) left left' text = TellsBadCall left left' text
+TellsFaultIn policies (mode.Relay settings) left left' text = TellsBadRelay left left' text
 
 -- a read failed in a mode
 abbrev pub StopsIn : Mode → Option (List ℕ) → Option (List ℕ) → Option (List ℕ) → Option (List ℕ) → ℕ → ℕ → Type 0
@@ -45,46 +47,46 @@ StopsIn (mode.Live settings) left left' taken taken' faults faults' = StopsInCal
 StopsIn (mode.Relay settings) left left' taken taken' faults faults' = StopsAtRelay left left' taken taken' faults faults'
 
 -- the output of a mode, by what it read
-abbrev pub IsOutputIn : KindsSeen → Mode → Option (List ℕ) → Option (List ℕ) → List ℕ → Type 0
-IsOutputIn kinds mode.Replay left left' text = IsReplayText left left' text
-IsOutputIn kinds mode.Config left left' text = IsConfigText kinds left left' text
-IsOutputIn kinds mode.Migrate left left' text = IsMigrateText left left' text
-IsOutputIn kinds (mode.Serve port links) left left' text = IsServeText links left left' text
-IsOutputIn kinds (mode.Load load) left left' text = (left' ≡ left) × IsLoadText kinds load text
-IsOutputIn kinds (mode.Live settings) left left' text = IsLawfulLiveText left left' text
-IsOutputIn kinds (mode.Relay settings) left left' text = IsLawfulRelayText settings.links left left' text
+abbrev pub IsOutputIn : List PolicySeen → List (Option (List (List ℕ))) → Mode → Option (List ℕ) → Option (List ℕ) → List ℕ → Type 0
+IsOutputIn policies held mode.Replay left left' text = IsReplayText policies left left' text
+IsOutputIn policies held mode.Config left left' text = IsConfigText (kinds_of policies) left left' text
+IsOutputIn policies held mode.Migrate left left' text = IsMigrateText left left' text
+IsOutputIn policies held (mode.Serve port links) left left' text = IsServeText links left left' text
+IsOutputIn policies held (mode.Load load) left left' text = (left' ≡ left) × IsLoadText policies load text
+IsOutputIn policies held (mode.Live settings) left left' text = IsPromisedLiveText policies held left left' text
+IsOutputIn policies held (mode.Relay settings) left left' text = IsPromisedRelayText policies held settings.links left left' text
 
 -- status 0: the mode that the words run is done, and this is its text; or the words ask for the text of help or of the version, and
 -- nothing is read
-abbrev pub Finishes : KindsSeen → List (List ℕ) → Option (List ℕ) → Option (List ℕ) → List ℕ → Type 0
-Finishes kinds words left left' text =
-    ((m : Mode) × Runs m words × IsDoneIn kinds m left left' text) ⊎ (AskForText words × (left' ≡ left))
+abbrev pub Finishes : List PolicySeen → List (Option (List (List ℕ))) → List (List ℕ) → Option (List ℕ) → Option (List ℕ) → List ℕ → Type 0
+Finishes policies held words left left' text =
+    ((m : Mode) × Runs m words × IsDoneIn policies held m left left' text) ⊎ (AskForText words × (left' ≡ left))
 
--- a mode wants a policy that is not among these kinds, and the text tells that as it tells wrong words
-abbrev pub RefusesIn : KindsSeen → Mode → Option (List ℕ) → Option (List ℕ) → List ℕ → Type 0
-RefusesIn kinds (mode.Load load) left left' text = (left' ≡ left) × RefusesLoad kinds text
-RefusesIn kinds m left left' text = ⊥
+-- a mode wants a policy of a kind that none of these is of, and the text tells that as it tells wrong words
+abbrev pub RefusesIn : List PolicySeen → Mode → Option (List ℕ) → Option (List ℕ) → List ℕ → Type 0
+RefusesIn policies (mode.Load load) left left' text = (left' ≡ left) × RefusesLoad (kinds_of policies) text
+RefusesIn policies m left left' text = ⊥
 
 -- status 2: the words are wrong, the text tells that, and nothing is read; or the mode that they run wants a policy that is not there
-abbrev pub RefusesWords : KindsSeen → List (List ℕ) → Option (List ℕ) → Option (List ℕ) → List ℕ → Type 0
-RefusesWords kinds words left left' text =
-    (AreWrong words × (left' ≡ left) × (text ≡ words_fault_text)) ⊎ ((m : Mode) × Runs m words × RefusesIn kinds m left left' text)
+abbrev pub RefusesWords : List PolicySeen → List (List ℕ) → Option (List ℕ) → Option (List ℕ) → List ℕ → Type 0
+RefusesWords policies words left left' text =
+    (AreWrong words × (left' ≡ left) × (text ≡ words_fault_text)) ⊎ ((m : Mode) × Runs m words × RefusesIn policies m left left' text)
 
 -- status 3: the text tells the fault of the input of the mode that the words run
-abbrev pub TellsFault : KindsSeen → List (List ℕ) → Option (List ℕ) → Option (List ℕ) → List ℕ → Type 0
-TellsFault kinds words left left' text = (m : Mode) × Runs m words × TellsFaultIn kinds m left left' text
+abbrev pub TellsFault : List PolicySeen → List (List ℕ) → Option (List ℕ) → Option (List ℕ) → List ℕ → Type 0
+TellsFault policies words left left' text = (m : Mode) × Runs m words × TellsFaultIn policies m left left' text
 
 -- the journal of a mode's session has no room for an event, and this text tells that
-abbrev pub FillsIn : Mode → Option (List ℕ) → Option (List ℕ) → List ℕ → Type 0
-FillsIn mode.Replay left left' text = EndsFull left left' text
-FillsIn (mode.Load load) left left' text = (left' ≡ left) × FillsLoad load text
-FillsIn (mode.Live settings) left left' text = EndsFullLawfully left left' text
-FillsIn (mode.Relay settings) left left' text = EndsRelayLawfully settings.links left left' text
-FillsIn m left left' text = ⊥
+abbrev pub FillsIn : List PolicySeen → List (Option (List (List ℕ))) → Mode → Option (List ℕ) → Option (List ℕ) → List ℕ → Type 0
+FillsIn policies held mode.Replay left left' text = EndsFull policies left left' text
+FillsIn policies held (mode.Load load) left left' text = (left' ≡ left) × FillsLoad policies load text
+FillsIn policies held (mode.Live settings) left left' text = EndsFullAsPromised policies held left left' text
+FillsIn policies held (mode.Relay settings) left left' text = EndsRelayAsPromised policies held settings.links left left' text
+FillsIn policies held m left left' text = ⊥
 
 -- status 7: the words run a mode whose journal got full
-abbrev pub EndsSession : List (List ℕ) → Option (List ℕ) → Option (List ℕ) → List ℕ → Type 0
-EndsSession words left left' text = (m : Mode) × Runs m words × FillsIn m left left' text
+abbrev pub EndsSession : List PolicySeen → List (Option (List (List ℕ))) → List (List ℕ) → Option (List ℕ) → Option (List ℕ) → List ℕ → Type 0
+EndsSession policies held words left left' text = (m : Mode) × Runs m words × FillsIn policies held m left left' text
 
 -- status 8: the words run a mode that listens, and a call of the listener failed
 abbrev pub UnheardIn : Mode → Option (List ℕ) → Option (List ℕ) → Option (List ℕ) → Option (List ℕ) → ℕ → ℕ → Type 0
@@ -100,7 +102,7 @@ abbrev pub StopsReading : List (List ℕ) → Option (List ℕ) → Option (List
 StopsReading words left left' taken taken' faults faults' = (m : Mode) × Runs m words × StopsIn m left left' taken taken' faults faults'
 
 -- the output of the program, by what it read: that of status 0, 2, 3 or 7
-abbrev pub IsOutput : KindsSeen → List (List ℕ) → Option (List ℕ) → Option (List ℕ) → List ℕ → Type 0
-IsOutput kinds words left left' text =
-    Finishes kinds words left left' text
-    ⊎ (RefusesWords kinds words left left' text ⊎ (TellsFault kinds words left left' text ⊎ EndsSession words left left' text))
+abbrev pub IsOutput : List PolicySeen → List (Option (List (List ℕ))) → List (List ℕ) → Option (List ℕ) → Option (List ℕ) → List ℕ → Type 0
+IsOutput policies held words left left' text =
+    Finishes policies held words left left' text
+    ⊎ (RefusesWords policies words left left' text ⊎ (TellsFault policies words left left' text ⊎ EndsSession policies held words left left' text))

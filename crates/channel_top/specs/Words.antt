@@ -185,6 +185,16 @@ Runs (mode.Load load) words = RunsByOptions name.Load (λ rows. IsLoadBy rows (m
 Runs (mode.Live settings) words = RunsByOptions name.Live (λ rows. IsLiveBy rows (mode.Live settings)) words
 Runs (mode.Relay settings) words = RunsByOptions name.Relay (λ rows. IsRelayBy rows (mode.Relay settings)) words
 
+-- the name of a mode
+abbrev pub name_of : Mode → ModeName
+name_of mode.Replay = name.Replay
+name_of mode.Config = name.Config
+name_of mode.Migrate = name.Migrate
+name_of (mode.Serve port links) = name.Serve
+name_of (mode.Load load) = name.Load
+name_of (mode.Live settings) = name.Live
+name_of (mode.Relay settings) = name.Relay
+
 -- clap answers the words with the text of help or of the version
 abbrev pub AskForText : List (List ℕ) → Type 0
 AskForText words = IsAmong kind.DisplayHelp (kinds_of words) ⊎ IsAmong kind.DisplayVersion (kinds_of words)

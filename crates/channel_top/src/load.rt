@@ -6,10 +6,10 @@ ghost use Rattle.session_text.specs.Writing.{WritesAll, WritesFront, WritesSome}
 ghost use Rattle.load_plan.specs.Lines.{summary_line};
 ghost use Rattle.policy_rack.specs.Kinds.{are_ready, kinds_of};
 
+use crate::promise::sessions_keep_the_promise;
 use crate::tell::WORDS_FAULT;
 use gate_io::{Sink, write_whole};
 use grpc_base::{Kind, NoMemory, Text};
-use lawful_channel::channels_are_lawful;
 use lb_policy::Balancer;
 use load_plan::{Load, LoadSummary};
 use load_session::{LoadFault, summarize};
@@ -35,18 +35,18 @@ pub fn run_load<P: Balancer, K: Sink>(
     report: &mut K,
 ) -> u8
     requires { are_ready (map P.seen policies.items) ≡ true }
-    ensures done { result ≡ 0 → WritesAll (IsLoadDone (kinds_of (map P.seen policies.items)) load) (K.taken report.old) (K.taken report.new) }
+    ensures done { result ≡ 0 → WritesAll (IsLoadDone (map P.seen policies.items) load) (K.taken report.old) (K.taken report.new) }
     ensures refused { result ≡ 2 → WritesAll (RefusesLoad (kinds_of (map P.seen policies.items))) (K.taken report.old) (K.taken report.new) }
-    ensures writing { result ≡ 5 → Rises (K.faults report.old) (K.faults report.new) × WritesFront (IsLoadText (kinds_of (map P.seen policies.items)) load) (K.taken report.old) (K.taken report.new) }
-    ensures memory { result ≡ 6 → WritesSome (IsLoadText (kinds_of (map P.seen policies.items)) load) (K.taken report.old) (K.taken report.new) }
-    ensures full { result ≡ 7 → WritesAll (FillsLoad load) (K.taken report.old) (K.taken report.new) }
+    ensures writing { result ≡ 5 → Rises (K.faults report.old) (K.faults report.new) × WritesFront (IsLoadText (map P.seen policies.items) load) (K.taken report.old) (K.taken report.new) }
+    ensures memory { result ≡ 6 → WritesSome (IsLoadText (map P.seen policies.items) load) (K.taken report.old) (K.taken report.new) }
+    ensures full { result ≡ 7 → WritesAll (FillsLoad (map P.seen policies.items) load) (K.taken report.old) (K.taken report.new) }
     ensures known { (result ≡ 0) ⊎ (result ≡ 2) ⊎ (result ≡ 5) ⊎ (result ≡ 6) ⊎ (result ≡ 7) }
 {
     let kinds = set_of(policies.as_slice());
     if !kinds.has(Kind::RoundRobin) {
         return tell_line(report, WORDS_FAULT, 2);
     }
-    channels_are_lawful();
+    sessions_keep_the_promise();
     match summarize(alloc, load, policies) {
         Ok(summary) => tell_summary(alloc, &summary, report),
         Err(fault) => match fault {

@@ -1,22 +1,22 @@
-// The mode `relay`, with the laws of its session.
+// The mode `relay`, with the promise of its session.
 ghost use Rattle.std.specs.Prelude.{◌≡◌, ◌⊎◌, ◌≢◌, map, true};
 ghost use Rattle.gate_io.specs.Outside.{Rises};
 ghost use Rattle.relay_mode.specs.Relayed.{EndsUnrelayed, StopsAtRelay, TellsBadRelay};
-ghost use Rattle.channel_top.specs.Relay.{EndsRelayLawfully, IsLawfulRelayText, IsRelayedLawfully};
+ghost use Rattle.channel_top.specs.Relay.{EndsRelayAsPromised, IsPromisedRelayText, IsRelayedAsPromised};
 ghost use Rattle.session_text.specs.Writing.{WritesAll, WritesFront, WritesSome};
 ghost use Rattle.policy_rack.specs.Kinds.{are_ready};
 
+use crate::promise::sessions_keep_the_promise;
 use dns_watch::NamedWorld;
 use gate_io::{Listener, Sink, Source};
-use lawful_channel::channels_are_lawful;
 use lb_policy::Balancer;
 use relay_mode::{RelaySettings, run_relay};
 use std::alloc::Global;
 use std::sync::Wait;
 use std::thread::Threads;
 
-/// Runs the mode, as `run_relay` does; the journal and the ledger that are reported are lawful. It may never return.
-pub fn relay_lawfully<
+/// Runs the mode, as `run_relay` does; the journal and the ledger that are reported keep the promise. It may never return.
+pub fn relay_as_promised<
     R: Threads + Wait + Sync,
     P: Balancer + Send,
     S: Source,
@@ -34,17 +34,17 @@ pub fn relay_lawfully<
     listener: &mut L,
 ) -> u8
     requires { are_ready (map P.seen policies.items) ≡ true }
-    ensures done { result ≡ 0 → WritesAll (IsRelayedLawfully settings.links (S.left script.old) (S.left script.new)) (K.taken report.old) (K.taken report.new) }
+    ensures done { result ≡ 0 → WritesAll (IsRelayedAsPromised (map P.seen policies.items) (W.held world) settings.links (S.left script.old) (S.left script.new)) (K.taken report.old) (K.taken report.new) }
     ensures line { result ≡ 3 → WritesAll (TellsBadRelay (S.left script.old) (S.left script.new)) (K.taken report.old) (K.taken report.new) }
     ensures reading { result ≡ 4 → StopsAtRelay (S.left script.old) (S.left script.new) (K.taken report.old) (K.taken report.new) (S.faults script.old) (S.faults script.new) }
-    ensures writing { result ≡ 5 → Rises (K.faults report.old) (K.faults report.new) × WritesFront (IsLawfulRelayText settings.links (S.left script.old) (S.left script.new)) (K.taken report.old) (K.taken report.new) }
-    ensures memory { result ≡ 6 → WritesSome (IsLawfulRelayText settings.links (S.left script.old) (S.left script.new)) (K.taken report.old) (K.taken report.new) }
-    ensures full { result ≡ 7 → WritesAll (EndsRelayLawfully settings.links (S.left script.old) (S.left script.new)) (K.taken report.old) (K.taken report.new) }
+    ensures writing { result ≡ 5 → Rises (K.faults report.old) (K.faults report.new) × WritesFront (IsPromisedRelayText (map P.seen policies.items) (W.held world) settings.links (S.left script.old) (S.left script.new)) (K.taken report.old) (K.taken report.new) }
+    ensures memory { result ≡ 6 → WritesSome (IsPromisedRelayText (map P.seen policies.items) (W.held world) settings.links (S.left script.old) (S.left script.new)) (K.taken report.old) (K.taken report.new) }
+    ensures full { result ≡ 7 → WritesAll (EndsRelayAsPromised (map P.seen policies.items) (W.held world) settings.links (S.left script.old) (S.left script.new)) (K.taken report.old) (K.taken report.new) }
     ensures unheard { result ≡ 8 → EndsUnrelayed (S.left script.old) (S.left script.new) (K.taken report.old) (K.taken report.new) (L.faults listener.old) (L.faults listener.new) }
     ensures heard { result ≢ 6 → result ≢ 8 → L.faults listener.new ≡ L.faults listener.old }
     ensures known { (result ≡ 0) ⊎ (result ≡ 3) ⊎ (result ≡ 4) ⊎ (result ≡ 5) ⊎ (result ≡ 6) ⊎ (result ≡ 7) ⊎ (result ≡ 8) }
 {
-    channels_are_lawful();
+    sessions_keep_the_promise();
     run_relay(
         rt, alloc, settings, policies, world, script, report, listener,
     )

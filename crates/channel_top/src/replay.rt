@@ -30,12 +30,12 @@ pub fn run_replay<P: Balancer, S: Source, K: Sink>(
     report: &mut K,
 ) -> u8
     requires { are_ready (map P.seen policies.items) ≡ true }
-    ensures done { result ≡ 0 → WritesAll (IsDone (S.left script.old) (S.left script.new)) (K.taken report.old) (K.taken report.new) }
+    ensures done { result ≡ 0 → WritesAll (IsDone (map P.seen policies.items) (S.left script.old) (S.left script.new)) (K.taken report.old) (K.taken report.new) }
     ensures line { result ≡ 3 → WritesAll (TellsBadLine (S.left script.old) (S.left script.new)) (K.taken report.old) (K.taken report.new) }
     ensures reading { result ≡ 4 → StopsAtRead (S.left script.old) (S.left script.new) (K.taken report.old) (K.taken report.new) (S.faults script.old) (S.faults script.new) }
-    ensures writing { result ≡ 5 → Rises (K.faults report.old) (K.faults report.new) × WritesFront (IsReplayText (S.left script.old) (S.left script.new)) (K.taken report.old) (K.taken report.new) }
-    ensures memory { result ≡ 6 → WritesSome (IsReplayText (S.left script.old) (S.left script.new)) (K.taken report.old) (K.taken report.new) }
-    ensures full { result ≡ 7 → WritesAll (EndsFull (S.left script.old) (S.left script.new)) (K.taken report.old) (K.taken report.new) }
+    ensures writing { result ≡ 5 → Rises (K.faults report.old) (K.faults report.new) × WritesFront (IsReplayText (map P.seen policies.items) (S.left script.old) (S.left script.new)) (K.taken report.old) (K.taken report.new) }
+    ensures memory { result ≡ 6 → WritesSome (IsReplayText (map P.seen policies.items) (S.left script.old) (S.left script.new)) (K.taken report.old) (K.taken report.new) }
+    ensures full { result ≡ 7 → WritesAll (EndsFull (map P.seen policies.items) (S.left script.old) (S.left script.new)) (K.taken report.old) (K.taken report.new) }
     ensures known { (result ≡ 0) ⊎ (result ≡ 3) ⊎ (result ≡ 4) ⊎ (result ≡ 5) ⊎ (result ≡ 6) ⊎ (result ≡ 7) }
 {
     match read_replay(alloc, script) {
@@ -58,10 +58,10 @@ fn report_script<P: Balancer, K: Sink>(
 ) -> u8
     requires ready { are_ready (map P.seen policies.items) ≡ true }
     requires target { IsTarget script.value }
-    ensures done { result ≡ 0 → WritesAll (IsReport script.target script.value script.events.items) (K.taken report.old) (K.taken report.new) }
-    ensures full { result ≡ 7 → WritesAll (IsFullReport script.target script.value script.events.items) (K.taken report.old) (K.taken report.new) }
-    ensures writing { result ≡ 5 → Rises (K.faults report.old) (K.faults report.new) × WritesFront (IsRunReport script.target script.value script.events.items) (K.taken report.old) (K.taken report.new) }
-    ensures memory { result ≡ 6 → WritesSome (IsRunReport script.target script.value script.events.items) (K.taken report.old) (K.taken report.new) }
+    ensures done { result ≡ 0 → WritesAll (IsReport (map P.seen policies.items) script.target script.value script.events.items) (K.taken report.old) (K.taken report.new) }
+    ensures full { result ≡ 7 → WritesAll (IsFullReport (map P.seen policies.items) script.target script.value script.events.items) (K.taken report.old) (K.taken report.new) }
+    ensures writing { result ≡ 5 → Rises (K.faults report.old) (K.faults report.new) × WritesFront (IsRunReport (map P.seen policies.items) script.target script.value script.events.items) (K.taken report.old) (K.taken report.new) }
+    ensures memory { result ≡ 6 → WritesSome (IsRunReport (map P.seen policies.items) script.target script.value script.events.items) (K.taken report.old) (K.taken report.new) }
     ensures known { (result ≡ 0) ⊎ (result ≡ 5) ⊎ (result ≡ 6) ⊎ (result ≡ 7) }
 {
     match report_session(alloc, policies, script, report) {

@@ -4,6 +4,7 @@ ghost use Rattle.channel_top.specs.Runs.{RunsTo, StepsTo};
 
 use channel_core::{ChannelCore, CoreError};
 use grpc_base::{NoMemory, Stamped};
+use journal_room::keeps_its_types;
 use lb_policy::Balancer;
 use session_text::Ran;
 
@@ -29,6 +30,7 @@ pub fn run_events<P: Balancer>(
 fn step_once<P: Balancer>(core: &mut ChannelCore<P>, stamped: Stamped) -> Result<Ran, NoMemory>
     ensures { IfOk result (λ ran. StepsTo ran core.old stamped core.new) }
 {
+    keeps_its_types(&stamped.event);
     match core.step(stamped) {
         Ok(_reply) => Ok(Ran::Whole),
         Err(error) => match error {

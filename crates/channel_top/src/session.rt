@@ -2,16 +2,17 @@
 ghost use Rattle.std.specs.Prelude.{◌≡◌, Err, IfOk, OnErr, map, true};
 ghost use Rattle.gate_io.specs.Outside.{Rises};
 ghost use Rattle.grpc_base.specs.Authorities.{IsAuthority};
-ghost use Rattle.channel_top.specs.Top.{HasRun, IsReportBy, IsRunReport};
+ghost use Rattle.channel_top.specs.Runs.{HasRun};
+ghost use Rattle.channel_top.specs.Top.{IsReportBy, IsRunReport};
 ghost use Rattle.session_text.specs.Writing.{WritesAll, WritesFront, WritesSome};
 ghost use Rattle.policy_rack.specs.Kinds.{are_ready};
 ghost use Rattle.resolver_core.specs.AnyTargets.{IsTarget, authority_of};
 
+use crate::promise::sessions_keep_the_promise;
 use crate::run::run_events;
 use channel_core::ChannelCore;
 use gate_io::Sink;
 use grpc_base::{NoMemory, Stamped, Text};
-use lawful_channel::channels_are_lawful;
 use lb_policy::Balancer;
 use resolver_core::Target;
 use script_input::Script;
@@ -36,16 +37,16 @@ pub fn report_session<P: Balancer, K: Sink>(
 ) -> Result<Ran, ReportFault>
     requires ready { are_ready (map P.seen policies.items) ≡ true }
     requires target { IsTarget script.value }
-    ensures ok { IfOk result (λ ran. WritesAll (IsReportBy ran script.target script.value script.events.items) (K.taken report.old) (K.taken report.new)) }
-    ensures err { OnErr result (WritesSome (IsRunReport script.target script.value script.events.items) (K.taken report.old) (K.taken report.new)) }
-    ensures write { (result ≡ Err ReportFault.Write) → Rises (K.faults report.old) (K.faults report.new) × WritesFront (IsRunReport script.target script.value script.events.items) (K.taken report.old) (K.taken report.new) }
+    ensures ok { IfOk result (λ ran. WritesAll (IsReportBy ran (map P.seen policies.items) script.target script.value script.events.items) (K.taken report.old) (K.taken report.new)) }
+    ensures err { OnErr result (WritesSome (IsRunReport (map P.seen policies.items) script.target script.value script.events.items) (K.taken report.old) (K.taken report.new)) }
+    ensures write { (result ≡ Err ReportFault.Write) → Rises (K.faults report.old) (K.faults report.new) × WritesFront (IsRunReport (map P.seen policies.items) script.target script.value script.events.items) (K.taken report.old) (K.taken report.new) }
 {
     let Script {
         target,
         value,
         events,
     } = script;
-    channels_are_lawful();
+    sessions_keep_the_promise();
     let session = run_session(alloc, policies, value, events)?;
     match write_session(alloc, &session.core, session.ran, &target, report) {
         Ok(()) => Ok(session.ran),
@@ -62,7 +63,7 @@ fn run_session<P: Balancer>(
 ) -> Result<Session<P>, NoMemory>
     requires ready { are_ready (map P.seen policies.items) ≡ true }
     requires target { IsTarget target }
-    ensures { IfOk result (λ s. HasRun s.ran (authority_of target) events.items s.core) }
+    ensures { IfOk result (λ s. HasRun s.ran (authority_of target) (map P.seen policies.items) events.items s.core) }
 {
     let authority = authority_of(alloc, target)?;
     let mut core = ChannelCore::new(alloc, authority, policies)?;

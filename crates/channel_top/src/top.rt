@@ -1,16 +1,22 @@
 // The top call of the program.
 ghost use Rattle.std.specs.Prelude.{◌≡◌, ◌≢◌, ◌⊎◌, Some, None, map, string_bytes, true};
-ghost use Rattle.gate_io.specs.Outside.{Rises};
+ghost use Rattle.gate_io.specs.Outside.{Rises, one_more};
+ghost use Rattle.channel_top.specs.Complete.{IsRunnable, IsShortScript};
+ghost use Rattle.channel_top.specs.Inputs.{HasSession, IsGivenItsInput, IsGivenOther};
+ghost use Rattle.channel_top.specs.Words.{AskForText, AskPlainly, Runs, RunsPlain, name_of};
+ghost use Rattle.channel_top.specs.declared.words.Mode.{Mode};
+ghost use Rattle.channel_top.specs.declared.words.ModeName.TheVariants as name;
 ghost use Rattle.channel_top.specs.Modes.{EndsSession, FillsIn, Finishes, IsDoneIn, IsOutput, IsOutputIn, RefusesIn, RefusesWords, StopsIn, StopsReading, TellsFault, TellsFaultIn, Unheard, UnheardIn};
 ghost use Rattle.session_text.specs.Writing.{WritesAll, WritesFront, WritesSome};
-ghost use Rattle.policy_rack.specs.Kinds.{are_ready, kinds_of};
+ghost use Rattle.policy_rack.specs.Kinds.{are_ready};
 
 use crate::config_mode::run_config;
 use crate::links::Place;
-use crate::live::run_lawfully;
+use crate::live::run_as_promised;
 use crate::load::run_load;
 use crate::migrate::run_migrate;
-use crate::relay::relay_lawfully;
+use crate::promise::sessions_keep_the_promise;
+use crate::relay::relay_as_promised;
 use crate::replay::run_replay;
 use crate::serve::run_serve;
 use crate::tell::WORDS_FAULT;
@@ -57,17 +63,30 @@ pub fn run_channel<R: Threads + Wait + Sync, S: Source, K: Sink, W: NamedWorld, 
     boxes: Vec<Box<dyn Policy>>,
 ) -> u8
     requires { are_ready (map (λ b. seen b) boxes.items) ≡ true }
-    ensures done { result ≡ 0 → WritesAll (Finishes (kinds_of (map (λ b. seen b) boxes.items)) (map string_bytes words.now) (S.left script.old) (S.left script.new)) (K.taken report.old) (K.taken report.new) }
-    ensures words { result ≡ 2 → WritesAll (RefusesWords (kinds_of (map (λ b. seen b) boxes.items)) (map string_bytes words.now) (S.left script.old) (S.left script.new)) (K.taken report.old) (K.taken report.new) }
-    ensures fault { result ≡ 3 → WritesAll (TellsFault (kinds_of (map (λ b. seen b) boxes.items)) (map string_bytes words.now) (S.left script.old) (S.left script.new)) (K.taken report.old) (K.taken report.new) }
+    ensures done { result ≡ 0 → WritesAll (Finishes (map (λ b. seen b) boxes.items) (W.held world) (map string_bytes words.now) (S.left script.old) (S.left script.new)) (K.taken report.old) (K.taken report.new) }
+    ensures words { result ≡ 2 → WritesAll (RefusesWords (map (λ b. seen b) boxes.items) (map string_bytes words.now) (S.left script.old) (S.left script.new)) (K.taken report.old) (K.taken report.new) }
+    ensures fault { result ≡ 3 → WritesAll (TellsFault (map (λ b. seen b) boxes.items) (map string_bytes words.now) (S.left script.old) (S.left script.new)) (K.taken report.old) (K.taken report.new) }
     ensures reading { result ≡ 4 → StopsReading (map string_bytes words.now) (S.left script.old) (S.left script.new) (K.taken report.old) (K.taken report.new) (S.faults script.old) (S.faults script.new) }
-    ensures writing { result ≡ 5 → Rises (K.faults report.old) (K.faults report.new) × WritesFront (IsOutput (kinds_of (map (λ b. seen b) boxes.items)) (map string_bytes words.now) (S.left script.old) (S.left script.new)) (K.taken report.old) (K.taken report.new) }
-    ensures memory { result ≡ 6 → WritesSome (IsOutput (kinds_of (map (λ b. seen b) boxes.items)) (map string_bytes words.now) (S.left script.old) (S.left script.new)) (K.taken report.old) (K.taken report.new) }
-    ensures full { result ≡ 7 → WritesAll (EndsSession (map string_bytes words.now) (S.left script.old) (S.left script.new)) (K.taken report.old) (K.taken report.new) }
+    ensures writing { result ≡ 5 → Rises (K.faults report.old) (K.faults report.new) × WritesFront (IsOutput (map (λ b. seen b) boxes.items) (W.held world) (map string_bytes words.now) (S.left script.old) (S.left script.new)) (K.taken report.old) (K.taken report.new) }
+    ensures memory { result ≡ 6 → WritesSome (IsOutput (map (λ b. seen b) boxes.items) (W.held world) (map string_bytes words.now) (S.left script.old) (S.left script.new)) (K.taken report.old) (K.taken report.new) }
+    ensures full { result ≡ 7 → WritesAll (EndsSession (map (λ b. seen b) boxes.items) (W.held world) (map string_bytes words.now) (S.left script.old) (S.left script.new)) (K.taken report.old) (K.taken report.new) }
     ensures unheard { result ≡ 8 → Unheard (map string_bytes words.now) (S.left script.old) (S.left script.new) (K.taken report.old) (K.taken report.new) (L.faults listener.old) (L.faults listener.new) }
     ensures heard { result ≢ 6 → result ≢ 8 → L.faults listener.new ≡ L.faults listener.old }
     ensures known { (result ≡ 0) ⊎ (result ≡ 2) ⊎ (result ≡ 3) ⊎ (result ≡ 4) ⊎ (result ≡ 5) ⊎ (result ≡ 6) ⊎ (result ≡ 7) ⊎ (result ≡ 8) }
+    // A script whose session is within the limits is run to its end, if no read or write fails and memory does not end.
+    ensures complete { RunsPlain name.Replay (map string_bytes words.now) → IsRunnable (map (λ b. seen b) boxes.items) (S.left script.old) → (Rises (S.faults script.old) (S.faults script.new) → ⊥) → (Rises (K.faults report.old) (K.faults report.new) → ⊥) → (result ≡ 0) ⊎ (result ≡ 6) }
+    // So is each script of few events.
+    ensures short { RunsPlain name.Replay (map string_bytes words.now) → IsShortScript (S.left script.old) → (Rises (S.faults script.old) (S.faults script.new) → ⊥) → (Rises (K.faults report.old) (K.faults report.new) → ⊥) → (result ≡ 0) ⊎ (result ≡ 6) }
+    // A mode that is given what it reads is done, if no device fails and memory does not end; the journal of its session may get full.
+    ensures good { (given : IsGivenItsInput (map (λ b. seen b) boxes.items) (map string_bytes words.now) (S.left script.old)) → (Rises (S.faults script.old) (S.faults script.new) → ⊥) → (Rises (K.faults report.old) (K.faults report.new) → ⊥) → (L.faults listener.new ≡ one_more (L.faults listener.old) → ⊥) → (result ≡ 0) ⊎ (result ≡ 6) ⊎ ((result ≡ 7) × HasSession (name_of given.mode)) }
+    // One that is given anything else tells its fault.
+    ensures bad { IsGivenOther (map (λ b. seen b) boxes.items) (map string_bytes words.now) (S.left script.old) → (Rises (S.faults script.old) (S.faults script.new) → ⊥) → (Rises (K.faults report.old) (K.faults report.new) → ⊥) → (result ≡ 3) ⊎ (result ≡ 6) }
+    // Words that ask for help or the version in the plain way get that text.
+    ensures asked { AskPlainly (map string_bytes words.now) → (Rises (K.faults report.old) (K.faults report.new) → ⊥) → (result ≡ 0) ⊎ (result ≡ 6) }
+    // Words that run no mode and ask for no text are refused.
+    ensures wrong { ((m : Mode) → Runs m (map string_bytes words.now) → ⊥) → (AskForText (map string_bytes words.now) → ⊥) → (Rises (K.faults report.old) (K.faults report.new) → ⊥) → (result ≡ 2) ⊎ (result ≡ 6) }
 {
+    sessions_keep_the_promise();
     run_words(rt, alloc, words, boxes, script, report, world, listener)
 }
 
@@ -90,13 +109,13 @@ fn run_words<
     listener: &mut L,
 ) -> u8
     requires { are_ready (map P.seen policies.items) ≡ true }
-    ensures done { result ≡ 0 → WritesAll (Finishes (kinds_of (map P.seen policies.items)) (map string_bytes words.now) (S.left script.old) (S.left script.new)) (K.taken report.old) (K.taken report.new) }
-    ensures words { result ≡ 2 → WritesAll (RefusesWords (kinds_of (map P.seen policies.items)) (map string_bytes words.now) (S.left script.old) (S.left script.new)) (K.taken report.old) (K.taken report.new) }
-    ensures fault { result ≡ 3 → WritesAll (TellsFault (kinds_of (map P.seen policies.items)) (map string_bytes words.now) (S.left script.old) (S.left script.new)) (K.taken report.old) (K.taken report.new) }
+    ensures done { result ≡ 0 → WritesAll (Finishes (map P.seen policies.items) (W.held world) (map string_bytes words.now) (S.left script.old) (S.left script.new)) (K.taken report.old) (K.taken report.new) }
+    ensures words { result ≡ 2 → WritesAll (RefusesWords (map P.seen policies.items) (map string_bytes words.now) (S.left script.old) (S.left script.new)) (K.taken report.old) (K.taken report.new) }
+    ensures fault { result ≡ 3 → WritesAll (TellsFault (map P.seen policies.items) (map string_bytes words.now) (S.left script.old) (S.left script.new)) (K.taken report.old) (K.taken report.new) }
     ensures reading { result ≡ 4 → StopsReading (map string_bytes words.now) (S.left script.old) (S.left script.new) (K.taken report.old) (K.taken report.new) (S.faults script.old) (S.faults script.new) }
-    ensures writing { result ≡ 5 → Rises (K.faults report.old) (K.faults report.new) × WritesFront (IsOutput (kinds_of (map P.seen policies.items)) (map string_bytes words.now) (S.left script.old) (S.left script.new)) (K.taken report.old) (K.taken report.new) }
-    ensures memory { result ≡ 6 → WritesSome (IsOutput (kinds_of (map P.seen policies.items)) (map string_bytes words.now) (S.left script.old) (S.left script.new)) (K.taken report.old) (K.taken report.new) }
-    ensures full { result ≡ 7 → WritesAll (EndsSession (map string_bytes words.now) (S.left script.old) (S.left script.new)) (K.taken report.old) (K.taken report.new) }
+    ensures writing { result ≡ 5 → Rises (K.faults report.old) (K.faults report.new) × WritesFront (IsOutput (map P.seen policies.items) (W.held world) (map string_bytes words.now) (S.left script.old) (S.left script.new)) (K.taken report.old) (K.taken report.new) }
+    ensures memory { result ≡ 6 → WritesSome (IsOutput (map P.seen policies.items) (W.held world) (map string_bytes words.now) (S.left script.old) (S.left script.new)) (K.taken report.old) (K.taken report.new) }
+    ensures full { result ≡ 7 → WritesAll (EndsSession (map P.seen policies.items) (W.held world) (map string_bytes words.now) (S.left script.old) (S.left script.new)) (K.taken report.old) (K.taken report.new) }
     ensures unheard { result ≡ 8 → Unheard (map string_bytes words.now) (S.left script.old) (S.left script.new) (K.taken report.old) (K.taken report.new) (L.faults listener.old) (L.faults listener.new) }
     ensures heard { result ≢ 6 → result ≢ 8 → L.faults listener.new ≡ L.faults listener.old }
     ensures known { (result ≡ 0) ⊎ (result ≡ 2) ⊎ (result ≡ 3) ⊎ (result ≡ 4) ⊎ (result ≡ 5) ⊎ (result ≡ 6) ⊎ (result ≡ 7) ⊎ (result ≡ 8) }
@@ -144,13 +163,13 @@ fn run_mode<
     listener: &mut L,
 ) -> u8
     requires { are_ready (map P.seen policies.items) ≡ true }
-    ensures done { result ≡ 0 → WritesAll (IsDoneIn (kinds_of (map P.seen policies.items)) mode (S.left script.old) (S.left script.new)) (K.taken report.old) (K.taken report.new) }
-    ensures words { result ≡ 2 → WritesAll (RefusesIn (kinds_of (map P.seen policies.items)) mode (S.left script.old) (S.left script.new)) (K.taken report.old) (K.taken report.new) }
-    ensures fault { result ≡ 3 → WritesAll (TellsFaultIn (kinds_of (map P.seen policies.items)) mode (S.left script.old) (S.left script.new)) (K.taken report.old) (K.taken report.new) }
+    ensures done { result ≡ 0 → WritesAll (IsDoneIn (map P.seen policies.items) (W.held world) mode (S.left script.old) (S.left script.new)) (K.taken report.old) (K.taken report.new) }
+    ensures words { result ≡ 2 → WritesAll (RefusesIn (map P.seen policies.items) mode (S.left script.old) (S.left script.new)) (K.taken report.old) (K.taken report.new) }
+    ensures fault { result ≡ 3 → WritesAll (TellsFaultIn (map P.seen policies.items) mode (S.left script.old) (S.left script.new)) (K.taken report.old) (K.taken report.new) }
     ensures reading { result ≡ 4 → StopsIn mode (S.left script.old) (S.left script.new) (K.taken report.old) (K.taken report.new) (S.faults script.old) (S.faults script.new) }
-    ensures writing { result ≡ 5 → Rises (K.faults report.old) (K.faults report.new) × WritesFront (IsOutputIn (kinds_of (map P.seen policies.items)) mode (S.left script.old) (S.left script.new)) (K.taken report.old) (K.taken report.new) }
-    ensures memory { result ≡ 6 → WritesSome (IsOutputIn (kinds_of (map P.seen policies.items)) mode (S.left script.old) (S.left script.new)) (K.taken report.old) (K.taken report.new) }
-    ensures full { result ≡ 7 → WritesAll (FillsIn mode (S.left script.old) (S.left script.new)) (K.taken report.old) (K.taken report.new) }
+    ensures writing { result ≡ 5 → Rises (K.faults report.old) (K.faults report.new) × WritesFront (IsOutputIn (map P.seen policies.items) (W.held world) mode (S.left script.old) (S.left script.new)) (K.taken report.old) (K.taken report.new) }
+    ensures memory { result ≡ 6 → WritesSome (IsOutputIn (map P.seen policies.items) (W.held world) mode (S.left script.old) (S.left script.new)) (K.taken report.old) (K.taken report.new) }
+    ensures full { result ≡ 7 → WritesAll (FillsIn (map P.seen policies.items) (W.held world) mode (S.left script.old) (S.left script.new)) (K.taken report.old) (K.taken report.new) }
     ensures unheard { result ≡ 8 → UnheardIn mode (S.left script.old) (S.left script.new) (K.taken report.old) (K.taken report.new) (L.faults listener.old) (L.faults listener.new) }
     ensures heard { result ≢ 6 → result ≢ 8 → L.faults listener.new ≡ L.faults listener.old }
     ensures known { (result ≡ 0) ⊎ (result ≡ 2) ⊎ (result ≡ 3) ⊎ (result ≡ 4) ⊎ (result ≡ 5) ⊎ (result ≡ 6) ⊎ (result ≡ 7) ⊎ (result ≡ 8) }
@@ -164,9 +183,9 @@ fn run_mode<
         }
         Mode::Load(load) => run_load(alloc, load, policies, report),
         Mode::Live { settings } => {
-            run_lawfully(rt, alloc, settings, policies, world, script, report)
+            run_as_promised(rt, alloc, settings, policies, world, script, report)
         }
-        Mode::Relay { settings } => relay_lawfully(
+        Mode::Relay { settings } => relay_as_promised(
             rt, alloc, settings, policies, world, script, report, listener,
         ),
     }
@@ -184,12 +203,18 @@ pub fn run_steady<R: Threads + Wait + Sync, W: NamedWorld, L: Listener>(
     boxes: Vec<Box<dyn Policy>>,
 ) -> u8
     requires { are_ready (map (λ b. seen b) boxes.items) ≡ true }
-    ensures done { result ≡ 0 → WritesAll (Finishes (kinds_of (map (λ b. seen b) boxes.items)) (map string_bytes words.now) (Some script.old) (Some script.new)) None None }
-    ensures words { result ≡ 2 → WritesAll (RefusesWords (kinds_of (map (λ b. seen b) boxes.items)) (map string_bytes words.now) (Some script.old) (Some script.new)) None None }
-    ensures fault { result ≡ 3 → WritesAll (TellsFault (kinds_of (map (λ b. seen b) boxes.items)) (map string_bytes words.now) (Some script.old) (Some script.new)) None None }
-    ensures full { result ≡ 7 → WritesAll (EndsSession (map string_bytes words.now) (Some script.old) (Some script.new)) None None }
+    ensures done { result ≡ 0 → WritesAll (Finishes (map (λ b. seen b) boxes.items) (W.held world) (map string_bytes words.now) (Some script.old) (Some script.new)) None None }
+    ensures words { result ≡ 2 → WritesAll (RefusesWords (map (λ b. seen b) boxes.items) (map string_bytes words.now) (Some script.old) (Some script.new)) None None }
+    ensures fault { result ≡ 3 → WritesAll (TellsFault (map (λ b. seen b) boxes.items) (map string_bytes words.now) (Some script.old) (Some script.new)) None None }
+    ensures full { result ≡ 7 → WritesAll (EndsSession (map (λ b. seen b) boxes.items) (W.held world) (map string_bytes words.now) (Some script.old) (Some script.new)) None None }
     ensures unheard { result ≡ 8 → Unheard (map string_bytes words.now) (Some script.old) (Some script.new) None None (L.faults listener.old) (L.faults listener.new) }
     ensures known { (result ≡ 0) ⊎ (result ≡ 2) ⊎ (result ≡ 3) ⊎ (result ≡ 6) ⊎ (result ≡ 7) ⊎ (result ≡ 8) }
+    ensures complete { RunsPlain name.Replay (map string_bytes words.now) → IsRunnable (map (λ b. seen b) boxes.items) (Some script.old) → (result ≡ 0) ⊎ (result ≡ 6) }
+    ensures short { RunsPlain name.Replay (map string_bytes words.now) → IsShortScript (Some script.old) → (result ≡ 0) ⊎ (result ≡ 6) }
+    ensures good { (given : IsGivenItsInput (map (λ b. seen b) boxes.items) (map string_bytes words.now) (Some script.old)) → (L.faults listener.new ≡ one_more (L.faults listener.old) → ⊥) → (result ≡ 0) ⊎ (result ≡ 6) ⊎ ((result ≡ 7) × HasSession (name_of given.mode)) }
+    ensures bad { IsGivenOther (map (λ b. seen b) boxes.items) (map string_bytes words.now) (Some script.old) → (result ≡ 3) ⊎ (result ≡ 6) }
+    ensures asked { AskPlainly (map string_bytes words.now) → (result ≡ 0) ⊎ (result ≡ 6) }
+    ensures wrong { ((m : Mode) → Runs m (map string_bytes words.now) → ⊥) → (AskForText (map string_bytes words.now) → ⊥) → (result ≡ 2) ⊎ (result ≡ 6) }
 {
     run_channel(rt, alloc, words, script, report, world, listener, boxes)
 }

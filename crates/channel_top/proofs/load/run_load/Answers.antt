@@ -8,7 +8,7 @@ use Rattle.policy_rack.specs.Kinds.{kinds_of}
 use Rattle.channel_top.specs.Load.{FillsLoad, IsLoadDone, RefusesLoad}
 use Rattle.session_text.specs.Sessions.{session_full_text}
 use Rattle.channel_top.specs.Words.{words_fault_text}
-use Rattle.channel_top.proofs.LoadLaws.{load_lawful}
+use Rattle.channel_top.proofs.LoadLaws.{load_promise}
 use Rattle.channel_top.proofs.load.run_load.Goals as goal
 
 pub returns-then-not-has : goal.returns-then-not-has
@@ -26,14 +26,12 @@ returns-then-not-has g c =
 
 pub returns-in-Ok : goal.returns-in-Ok
 returns-in-Ok g c =
-    let done : IsLoadDone (kinds_of (map g.P.Balancer.seen c.args.policies.items)) c.args.load (summary_line c.in-Ok.summary ++ 10 ∷ []) =
+    let done : IsLoadDone (map g.P.Balancer.seen c.args.policies.items) c.args.load (summary_line c.in-Ok.summary ++ 10 ∷ []) =
     record {
-      policies = map g.P.Balancer.seen c.args.policies.items;
-      kinds_are = refl;
       wanted = sym (c.has.ensures ∙ ap (λ (k : KindsSeen). has_kind k kind.RoundRobin) (c.set_of-kinds.ensures ∙ ap (λ ps. kinds_of (map g.P.Balancer.seen ps)) c.as_slice.ensures.value)) ∙ c.if-not-has.false;
       summary = c.in-Ok.summary;
       sums = c.in-Ok.ensures.ok;
-      lawful = load_lawful c.channels_are_lawful.ensures.lawful c.args.load (map g.P.Balancer.seen c.args.policies.items) c.in-Ok.summary c.in-Ok.ensures.ok;
+      promise = load_promise c.sessions_keep_the_promise.ensures c.args.load (map g.P.Balancer.seen c.args.policies.items) c.in-Ok.summary c.in-Ok.ensures.ok;
       text_is = refl;
     } in
     record {
@@ -47,8 +45,8 @@ returns-in-Ok g c =
 
 pub returns-in-SessionFull : goal.returns-in-SessionFull
 returns-in-SessionFull g c =
-    let fills : FillsLoad c.args.load session_full_text =
-    (map g.P.Balancer.seen c.args.policies.items, c.summarize.ensures.full (c.in-Err.is ∙ ap (λ (e : LoadFault). Err e) c.in-SessionFull.is), refl) in
+    let fills : FillsLoad (map g.P.Balancer.seen c.args.policies.items) c.args.load session_full_text =
+    (c.summarize.ensures.full (c.in-Err.is ∙ ap (λ (e : LoadFault). Err e) c.in-SessionFull.is), refl) in
     record {
       done = search rules;
       refused = search rules;

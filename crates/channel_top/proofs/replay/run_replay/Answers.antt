@@ -1,4 +1,4 @@
-use Rattle.std.proofs.Common.{List, ℕ, inr, refl, rules, subst}
+use Rattle.std.proofs.Common.{List, map, ℕ, inr, refl, rules, subst}
 use Rattle.script_input.specs.declared.fault.InputFault.{InputFault}
 use Rattle.script_input.specs.declared.form.Form.TheVariants as form
 use Rattle.script_input.specs.Reading.{GivesNone}
@@ -14,12 +14,12 @@ report_script-requires-clause-target g c =
 
 pub returns-in-Ok : goal.returns-in-Ok
 returns-in-Ok g c =
-    let done : (text : List ℕ) → _ → IsDone (g.S.Source.left c.args.script.now) (g.S.Source.left c.read_replay.new.source) text = λ text is.
-    report_done _ _ c.in-Ok.read.target c.in-Ok.read.value c.in-Ok.read.events.items text c.in-Ok.ensures.ok is in
-    let ends : (text : List ℕ) → _ → EndsFull (g.S.Source.left c.args.script.now) (g.S.Source.left c.read_replay.new.source) text = λ text is.
-    report_ends _ _ c.in-Ok.read.target c.in-Ok.read.value c.in-Ok.read.events.items text c.in-Ok.ensures.ok is in
-    let told : (text : List ℕ) → IsRunReport c.in-Ok.read.target c.in-Ok.read.value c.in-Ok.read.events.items text → IsReplayText (g.S.Source.left c.args.script.now) (g.S.Source.left c.read_replay.new.source) text = λ text is.
-    replay_text _ _ c.in-Ok.read.target c.in-Ok.read.value c.in-Ok.read.events.items text c.in-Ok.ensures.ok is in
+    let done : (text : List ℕ) → _ → IsDone (map g.P.Balancer.seen c.args.policies.items) (g.S.Source.left c.args.script.now) (g.S.Source.left c.read_replay.new.source) text = λ text is.
+    report_done _ _ _ c.in-Ok.read.target c.in-Ok.read.value c.in-Ok.read.events.items text c.in-Ok.ensures.ok is in
+    let ends : (text : List ℕ) → _ → EndsFull (map g.P.Balancer.seen c.args.policies.items) (g.S.Source.left c.args.script.now) (g.S.Source.left c.read_replay.new.source) text = λ text is.
+    report_ends _ _ _ c.in-Ok.read.target c.in-Ok.read.value c.in-Ok.read.events.items text c.in-Ok.ensures.ok is in
+    let told : (text : List ℕ) → IsRunReport (map g.P.Balancer.seen c.args.policies.items) c.in-Ok.read.target c.in-Ok.read.value c.in-Ok.read.events.items text → IsReplayText (map g.P.Balancer.seen c.args.policies.items) (g.S.Source.left c.args.script.now) (g.S.Source.left c.read_replay.new.source) text = λ text is.
+    replay_text _ _ _ c.in-Ok.read.target c.in-Ok.read.value c.in-Ok.read.events.items text c.in-Ok.ensures.ok is in
     record {
       done = λ zero. all_as _ _ _ _ done (c.report_script.ensures.done zero);
       line = search rules;

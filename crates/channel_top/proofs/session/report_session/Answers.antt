@@ -1,4 +1,4 @@
-use Rattle.std.proofs.Common.{◌≡◌, inr}
+use Rattle.std.proofs.Common.{◌≡◌, inr, map}
 use Rattle.script_text.specs.declared.report.ReportFault.TheVariants as unwritten_by
 use Rattle.channel_core.specs.Core.{ledger_in}
 use Rattle.session_text.specs.Sessions.{run_text}
@@ -9,7 +9,7 @@ use Rattle.channel_top.proofs.session.report_session.Goals as goal
 pub returns-in-Ok-clause-ok : goal.returns-in-Ok-clause-ok
 returns-in-Ok-clause-ok g c = (
   run_text c.in_ok-session.session.ran c.args.script.target c.in_ok-session.session.core.journal (ledger_in c.in_ok-session.session.core),
-  report_by c.channels_are_lawful.ensures.lawful c.in_ok-session.session.ran c.args.script.target c.args.script.value c.in_ok-session.session.core c.args.script.events.items c.in_ok-session.ensures,
+  report_by c.sessions_keep_the_promise.ensures c.in_ok-session.session.ran (map g.P.Balancer.seen c.args.policies.items) c.args.script.target c.args.script.value c.in_ok-session.session.core c.args.script.events.items c.in_ok-session.ensures,
   c.in-Ok.ensures.ok,
 )
 
@@ -18,7 +18,7 @@ returns-clause-err g c = inr (
   run_text c.in_ok-session.session.ran c.args.script.target c.in_ok-session.session.core.journal (ledger_in c.in_ok-session.session.core),
   (
     c.in_ok-session.session.ran,
-    report_by c.channels_are_lawful.ensures.lawful c.in_ok-session.session.ran c.args.script.target c.args.script.value c.in_ok-session.session.core c.args.script.events.items c.in_ok-session.ensures,
+    report_by c.sessions_keep_the_promise.ensures c.in_ok-session.session.ran (map g.P.Balancer.seen c.args.policies.items) c.args.script.target c.args.script.value c.in_ok-session.session.core c.args.script.events.items c.in_ok-session.ensures,
   ),
   c.in-Err.ensures.err,
 )
@@ -31,7 +31,7 @@ returns-clause-write g c = λ failed.
         run_text c.in_ok-session.session.ran c.args.script.target c.in_ok-session.session.core.journal (ledger_in c.in_ok-session.session.core),
         (
           c.in_ok-session.session.ran,
-          report_by c.channels_are_lawful.ensures.lawful c.in_ok-session.session.ran c.args.script.target c.args.script.value c.in_ok-session.session.core c.args.script.events.items c.in_ok-session.ensures,
+          report_by c.sessions_keep_the_promise.ensures c.in_ok-session.session.ran (map g.P.Balancer.seen c.args.policies.items) c.args.script.target c.args.script.value c.in_ok-session.session.core c.args.script.events.items c.in_ok-session.ensures,
         ),
         c.in-Err.ensures.err,
       ),

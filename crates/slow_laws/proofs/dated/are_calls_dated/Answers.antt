@@ -1,8 +1,0 @@
-use Rattle.link_laws.specs.Stamps.{IsDatedCall, moment_at}
-use Rattle.slow_laws.proofs.EachLaws.{by_numbers}
-use Rattle.slow_laws.proofs.dated.are_calls_dated.Goals as goal
-
-pub returns : goal.returns
-returns c =
-    let k = by_numbers (IsDatedCall (moment_at c.args.entries.now)) c.args.calls.now in
-    (λ t. k.0 (λ number thing there. c.each_keeps.ensures.0 t number thing there), λ h. c.each_keeps.ensures.1 (λ number thing there. k.1 h number thing there))
