@@ -1,2 +1,4 @@
+pub mod Hearing
+pub mod Holds
 pub mod Serves
 pub mod Serving
