@@ -1,7 +1,9 @@
 -- What reads of a link and dials do to the bytes that are left, and when their counts rise.
-use Rattle.std.specs.Prelude.{◌≡◌, ◌≤◌, ◌<◌, ℕ, Option, Some, None, List, ◌∷◌, take}
+use Rattle.std.specs.Prelude.{◌≡◌, ◌≤◌, ◌<◌, ℕ, Bool, true, Option, Some, None, List, ◌∷◌, take}
 use Rattle.gate_io.specs.declared.link.Dialed.{Dialed}
 use Rattle.gate_io.specs.declared.link.Dialed.TheVariants as dialed
+use Rattle.gate_io.specs.declared.link.Happened.{Happened}
+use Rattle.gate_io.specs.declared.link.Happened.TheVariants as happened
 use Rattle.gate_io.specs.declared.link.LinkRead.{LinkRead}
 use Rattle.gate_io.specs.declared.link.LinkRead.TheVariants as link
 use Rattle.gate_io.specs.Outside.{IsAtEnd, Takes, one_more}
@@ -23,7 +25,7 @@ abbrev pub CountsQuiet : ℕ → ℕ → LinkRead → Type 0
 CountsQuiet before after link.Quiet = after ≡ one_more before
 CountsQuiet before after _ = after ≡ before
 
--- the next link had these bytes left, where the bytes of the links to come are reported
+-- the next link had these bytes left, where the bytes of the links to come are known
 abbrev pub TakesLink : Option (List (List ℕ)) → Option (List (List ℕ)) → Option (List ℕ) → Type 0
 TakesLink (Some before) (Some after) (Some bytes) = before ≡ bytes ∷ after
 TakesLink None None left = Unit {0}
@@ -39,6 +41,14 @@ abbrev pub AcceptCounts : {I O : Type 0} → ℕ → ℕ → Dialed I O → Type
 AcceptCounts faults faults_after (dialed.Open input output) = faults_after ≡ faults
 AcceptCounts faults faults_after dialed.Failed = faults_after ≡ one_more faults
 
--- what a dialer says of the links to come that reports nothing of them
+-- what a dialer shows of the links to come that says nothing of them
 abbrev pub untold : {D : Type 0} → D → Option (List (List ℕ))
 untold dialer = None
+
+-- of what happens at a listener only an accept fails, which raises the count of faults by one, and nothing else changes it
+abbrev pub HappensSo : {I O : Type 0} → Bool → ℕ → ℕ → Happened I O → Type 0
+HappensSo accepts faults faults_after happened.Failed = (accepts ≡ true) × (faults_after ≡ one_more faults)
+HappensSo accepts faults faults_after (happened.Came input output) = faults_after ≡ faults
+HappensSo accepts faults faults_after (happened.At number) = faults_after ≡ faults
+HappensSo accepts faults faults_after happened.Anywhere = faults_after ≡ faults
+HappensSo accepts faults faults_after happened.Nothing = faults_after ≡ faults

@@ -1,4 +1,4 @@
-// Links over TCP, the trusted edge: they report no bytes and count faults and quiet reads.
+// Links over TCP, the trusted edge: they show no bytes, and count faults and quiet reads.
 ghost use Rattle.std.specs.Prelude.{◌≡◌, ◌<◌, ◌≤◌, ℕ, None, Some, IfSome, length, false, true};
 ghost use Rattle.gate_io.specs.declared.wire.Received.TheVariants as received;
 
@@ -11,7 +11,7 @@ use std::io;
 use std::net::TcpStream;
 use std::sync::{Arc, Mutex};
 
-/// What comes over a TCP connection. A read waits at most 5 ms, and less where it is reported so; it is quiet as long as the connection does
+/// What comes over a TCP connection. A read waits at most 5 ms, and less where it is asked to; it is quiet as long as the connection does
 /// not stand yet, and fails where it can't be made.
 #[derive(Drop)]
 pub struct TcpIn {
@@ -33,7 +33,7 @@ pub struct TcpOut {
 }
 
 /// Both ends of a connection that was accepted, and waits, or of one that was dialled. Small frames are sent at once. Where one waits for
-/// the links of a dialer, it is reported when this one is closed.
+/// the links of a dialer, it is notified when this one is closed.
 pub(crate) fn link_over(
     alloc: Global,
     stream: TcpStream,
@@ -42,10 +42,23 @@ pub(crate) fn link_over(
     sleeper: Option<Arc<Sleeper>>,
 ) -> io::Result<(TcpIn, TcpOut)> {
     let wire = Wire::new(alloc, stream, waits, answer, sleeper)?;
+    ends_of(alloc, wire, Pause::Long)
+}
+
+/// Both ends of a connection that was accepted and does not wait, since it is waited for with others. Its reads are quiet as long as its
+/// peer did not take what is held.
+pub(crate) fn polled_link_over(alloc: Global, stream: TcpStream) -> io::Result<(TcpIn, TcpOut)> {
+    let mut wire = Wire::new(alloc, stream, false, FirstAnswer::new(None), None)?;
+    wire.read_last();
+    ends_of(alloc, wire, Pause::None)
+}
+
+/// Both ends of a connection, whose reads wait so long.
+fn ends_of(alloc: Global, wire: Wire, pause: Pause) -> io::Result<(TcpIn, TcpOut)> {
     let wire = Arc::new(alloc, Mutex::new(wire))?;
     let input = TcpIn {
         wire: wire.clone()?,
-        pause: Pause::Long,
+        pause,
         faults: 0,
         quiet: 0,
     };
@@ -104,7 +117,7 @@ impl LinkIn for TcpIn {
         if pause == self.pause {
             return;
         }
-        // Where it cannot be distinguished, reads wait as before.
+        // Where it cannot be set, reads wait as before.
         if let Some(wire) = self.wire.try_lock() {
             if wire.wait_at_most(pause) {
                 self.pause = pause;

@@ -1,2 +1,4 @@
+pub mod Holds
+pub mod Listening
 pub mod Serves
 pub mod Serving

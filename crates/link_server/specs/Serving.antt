@@ -1,14 +1,14 @@
 -- What a server reports of its links: the pieces that it was given, what it gave, and how often it refused a piece.
-use Rattle.std.specs.Prelude.{◌≡◌, ◌≢◌, ℕ, Option, Some, None, Result, Ok, Err, List, [], ◌∷◌, ◌++◌}
+use Rattle.std.specs.Prelude.{◌≡◌, ◌≢◌, ℕ, Option, Some, None, Result, Ok, Err, List, ◌++◌}
 use Rattle.grpc_base.specs.Counts.{one_more}
 use Rattle.loop_server.specs.declared.fault.ServerFault.{ServerFault}
 use Rattle.loop_server.specs.declared.fault.ServerFault.TheVariants as fault
 
--- of each link the pieces in order, where they are reported
+-- of each link the pieces in order, where they are known
 abbrev pub Report : Type 0
 Report = ℕ → Option (List (List ℕ))
 
--- these pieces stand after those before, where they are reported
+-- these pieces stand after those before, where they are known
 abbrev pub AddsAll : Option (List (List ℕ)) → Option (List (List ℕ)) → List (List ℕ) → Type 0
 AddsAll (Some before) after pieces = after ≡ Some (before ++ pieces)
 AddsAll None after pieces = after ≡ None

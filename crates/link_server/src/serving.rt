@@ -7,10 +7,10 @@ use loop_server::ServerFault;
 
 /// A server that is given the bytes of its links and gives the bytes to send.
 pub trait Serving {
-    /// The pieces that it was given for a link, in order, where it reports them.
+    /// The pieces that it was given for a link, in order, where it shows them.
     ghost given: { Self → ℕ → Option (List (List ℕ)) };
 
-    /// The octets that it gave for a link, drain by drain, where it reports them.
+    /// The octets that it gave for a link, drain by drain, where it shows them.
     ghost drained: { Self → ℕ → Option (List (List ℕ)) };
 
     /// How often it answered that a link is broken.
@@ -33,4 +33,13 @@ pub trait Serving {
         ensures drained { IfOk result (λ octets. Gains (drained self.old) (drained self.new) link (octets ∷ [])) }
         ensures kept { OnErr result (IsSame (drained self.old) (drained self.new)) }
         ensures breaks { (breaks self.new ≡ breaks self.old) × (last_code self.new ≡ last_code self.old) };
+
+    /// Whether what was done since this was last asked may let the server give something on other links.
+    fn frees_others(&mut self) -> bool
+        ensures given { IsSame (given self.old) (given self.new) }
+        ensures drained { IsSame (drained self.old) (drained self.new) }
+        ensures breaks { (breaks self.new ≡ breaks self.old) × (last_code self.new ≡ last_code self.old) }
+    {
+        false
+    }
 }
