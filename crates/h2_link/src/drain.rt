@@ -12,6 +12,9 @@ use bytes::BytesMut;
 use grpc_base::{NoMemory, Octets};
 use std::alloc::Global;
 
+/// Room that most drains find enough, so that their memory is taken once.
+const FIRST_ROOM: usize = 512;
+
 impl State {
     /// Sends all that may be sent and fits.
     pub(crate) fn send_all<F: Feed>(
@@ -24,7 +27,7 @@ impl State {
         ensures drains { IfOk result (λ out. Drains room self.old (F.lines feed.old) out.items self.new (F.lines feed.new)) }
         ensures same { F.same feed.old feed.new }
     {
-        let mut out = BytesMut::new(alloc);
+        let mut out = BytesMut::with_capacity(alloc, FIRST_ROOM)?;
         loop {
             let left = u64::from(room) - out.len() as u64;
             if !self.send_one(alloc, left, feed, &mut out)? {
@@ -43,8 +46,8 @@ impl Link {
         self.state.broken.is_none() && self.state.can_send(feed)
     }
 
-    /// Gives whole frames within the room, as many as fit: the preface with the client's SETTINGS, once; the queued
-    /// frames; HEADERS of the tags that wait, the least first, while the peer allows more streams; and DATA of the
+    /// Gives whole frames within the room, as many as fit. First comes the preface with the client's SETTINGS, once, then the queued
+    /// frames. Then come HEADERS of the tags that wait, the least first, while the peer allows more streams, and DATA of the
     /// stream with the lowest number that may send. It stops exactly where nothing may be sent, or what stands next does
     /// not fit.
     ///
