@@ -25,9 +25,9 @@ CannotGoOn core = IsNearlyFull core.journal.entries ⊎ (core.spent ≡ true)
 abbrev pub ShowsView : CoreSeen → View → Type 0
 ShowsView core view = (view ≡ view_of core) ⊎ (CannotGoOn core × (view ≡ record (view_of core) { state = conn.Shutdown }))
 
--- a step that makes no entry leaves the channel as before, but for one that ran out of memory half way
+-- a step that makes no entry leaves the channel as before, but for one that ran out of memory half way. A channel that is spent is said to be so
 abbrev pub Fails : Event → CoreSeen → PostError → CoreSeen → Type 0
-Fails e old (failed.NoMemory false) new = new ≡ old
+Fails e old (failed.NoMemory false) new = (new ≡ old) × (old.spent ≡ false)
 Fails e old (failed.NoMemory true) new = (new.spent ≡ true) × (new.journal ≡ old.journal)
 Fails e old (failed.SessionFull entries octets) new = (new ≡ old) × IsFull old e entries octets
 
@@ -65,7 +65,7 @@ pub record TakesPlace (may_give : ℕ → Type 0) (word : ℕ) (event : Event) (
   pub parts : after.parts ≡ before.parts
   pub found : StartsWith after.found before.found
 
--- A look: what it reports is so of the channel under the lock, whose history begins with all that the handle had seen, and is then seen
+-- A look: what it shows is so of the channel under the lock, whose history begins with all that the handle had seen, and is then seen
 pub record Looks (reports_that : CoreSeen → Type 0) (before after : SeatSeen Entry) : Type 0 where
   pub core : CoreSeen
   pub reported : reports_that core
@@ -91,7 +91,7 @@ abbrev pub words_of : ℕ → (ℕ → ℕ) → ℕ → ℕ
 words_of next words zero = next
 words_of next words (suc k) = words k
 
--- what a look at a call reports
+-- what a look at a call shows
 abbrev pub CanTake : ℕ → Bool → CoreSeen → Type 0
 CanTake call answer core = (answer ≡ false) ↔ WouldReply core (event.Take call) reply.NotYet
 
