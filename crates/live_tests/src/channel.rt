@@ -1,4 +1,4 @@
-// A channel in memory: it makes an entry of each event, and replies by what it is reported.
+// A channel in memory: it makes an entry of each event, and replies as it is made to.
 ghost use Rattle.std.specs.Prelude.{◌≡◌, ◌++◌, ◌∷◌, [], IfOk, OnErr, Some, false};
 ghost use Rattle.grpc_base.specs.Counts.{one_more};
 ghost use Rattle.grpc_base.specs.Posts.{AddsEntry, CountsErrors, MayReply, Posts, is_not_yet};
@@ -202,7 +202,7 @@ impl Channel {
         Ok(given)
     }
 
-    /// Posts an event that gets this reply.
+    /// Posts an event that gets this reply, unless each post fails.
     fn give(&mut self, event: Event, reply: &Reply) -> Result<Reply, PostError>
         requires { MayReply event reply.now }
         ensures made { Posts self.old.entries self.new.entries event result }
@@ -210,6 +210,12 @@ impl Channel {
         ensures errors { CountsErrors self.old.errors self.new.errors self.old.last_error self.new.last_error result }
         ensures looks { (self.new.looks ≡ self.old.looks) × (self.new.last_look ≡ self.old.last_look) }
     {
+        if self.plan.fails {
+            return Err(self.fail(PostError::NoMemory { spent: true }));
+        }
+        if self.plan.full {
+            return Err(self.fail(FULL));
+        }
         match self.enter(event, reply) {
             Ok(reply) => Ok(reply),
             Err(NoMemory) => Err(self.fail(PostError::NoMemory { spent: false })),
@@ -262,12 +268,6 @@ impl Post for Channel {
     ghost share = { λ c. [] };
 
     fn post(&mut self, event: Event) -> Result<Reply, PostError> {
-        if self.plan.fails {
-            return Err(self.fail(PostError::NoMemory { spent: true }));
-        }
-        if self.plan.full {
-            return Err(self.fail(FULL));
-        }
         let reply = self.plan.reply_to(&event);
         self.give(event, &reply)
     }
