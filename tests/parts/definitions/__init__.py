@@ -9,6 +9,7 @@
     scripts.py      scripts and reports become events, and what the definitions give becomes a report
     sessions.py     a session: the actions of a script, and whether a list of actions or a report is one
     changing.py     changed reports, journals and lists of actions
+    by_hand.py      sessions worked by hand, tests/by-hand.txt
     showing.py      actions for people
 
 It is a test of the definitions and no proof: nobody proved that the transcription means what the language means.
